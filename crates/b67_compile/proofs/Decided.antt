@@ -1,20 +1,34 @@
 -- The tests of a program's declarations and statements decide whether it is built.
-use Rattle.std.proofs.Common.{◌≡◌, ◌⊎◌, ℕ, ◌&&◌, ◌||◌, Bool, true, false, List, [], ◌∷◌, Option, Some, None, refl, subst, if◌then◌else◌}
+use Rattle.std.proofs.Common.{◌≡◌, ℕ, ◌&&◌, ◌||◌, Bool, true, false, List, [], ◌∷◌, Option, Some, None, refl, sym, ap, ◌∙◌, subst, if◌then◌else◌}
 use Rattle.std.specs.Bool.{Decides}
-use Rattle.std.specs.List.{list_all}
-use Rattle.std.proofs.lemmas.Bool.Decides.{Decides-at, Decides-and, Decides-or, Decides-by_and}
+use Rattle.std.specs.List.{AllByRecursion, list_all}
+use Rattle.std.proofs.lemmas.Bool.Decides.{Decides-at, Decides-and}
 use Rattle.algol_tree.specs.declared.token.Spot.{Spot}
 use Rattle.algol_tree.specs.declared.tree.Heading.{Heading}
 use Rattle.algol_tree.specs.declared.tree.Named.{Named}
-use Rattle.algol_tree.specs.declared.tree.Spec.{Spec}
-use Rattle.algol_tree.specs.declared.tree.Spec.TheVariants as spec
-use Rattle.algol_tree.specs.Classes.{Class, unknown, is_simple, is_array}
+use Rattle.algol_tree.specs.Accepted.{Accepted, check_faults, scope_faults, sites_of}
+use Rattle.algol_tree.specs.Ascending.{IsInOrder}
+use Rattle.algol_tree.specs.Blocks.{blocks_of_program}
+use Rattle.algol_tree.specs.Classes as class
+use Rattle.algol_tree.specs.Classes.{Class}
 use Rattle.algol_tree.specs.Plain as tree
-use Rattle.algol_tree.specs.Plain.{PStmt, PStmts, PDecl, PDecls}
-use Rattle.algol_tree.specs.Sorts.{class_by, class_in, is_named_in, specified_by}
+use Rattle.algol_tree.specs.Plain.{PStmt, PStmts, PDecl, PDecls, PProgram}
+use Rattle.algol_tree.specs.Sites as site
+use Rattle.algol_tree.specs.Sites.{Part, Site}
+use Rattle.algol_tree.specs.Sorts.{class_in, is_named_in, same_name}
+use Rattle.algol_tree.specs.Surroundings.{Surroundings, body_of}
+use Rattle.algol_sorts.specs.Sorts.{parameter_by}
+use Rattle.algol_frames.specs.declared.scopes.Declared as laid
+use Rattle.algol_frames.specs.declared.scopes.Scopes.{Scopes}
+use Rattle.algol_scope.specs.Resolved.{AreOf, declaration_of}
+use Rattle.algol_told.proofs.Lists.{all-both}
 use Rattle.b67_fitting.specs.Built.{HeadingBuilt, DeclBuilt, DeclsBuilt, StmtBuilt, StmtsBuilt, IsBuilt}
-use Rattle.b67_compile.specs.Specified.{first_spec}
-use Rattle.b67_compile.specs.Built.{is_built_by, is_parameter_built, is_heading_built, is_decl_built, decls_are_built, is_stmt_built, stmts_are_built}
+use Rattle.b67_fitting.proofs.Clean.{IsClean}
+use Rattle.b67_fitting.proofs.Cleaned.{cleaned}
+use Rattle.b67_compile.specs.Built.{is_built_as, is_sort_built, is_parameter_built, is_heading_built, is_decl_built, decls_are_built, is_stmt_built, stmts_are_built}
+use Rattle.b67_compile.proofs.Declarations.{DeclsHave, HasAt, InDecl, PartHas, StmtHas, StmtsHave, in_program}
+use Rattle.b67_compile.proofs.Forwards.{HasBody, are_built_in, built_before, forward_has_body, heading_decided, is_built_in, is_class_built}
+use Rattle.b67_compile.proofs.ParametersFound.{IsTold, PassesAt, TellsParameter, all_pass, procedure_told}
 
 yes : Decides true (Unit {0})
 yes = (λ e. tt, λ p. refl)
@@ -22,89 +36,135 @@ yes = (λ e. tt, λ p. refl)
 no : Decides false ⊥
 no = (λ e. absurd (let clash : false ≡ true = e in cc), λ p. absurd p)
 
-itself_decided : (b : Bool) → Decides b (b ≡ true)
-itself_decided b = (λ e. e, λ e. e)
+-- ---- parameters
 
--- what a name is declared as by its first specification
-abbrev class_of : Option Spec → Class
-class_of None = unknown
-class_of (Some s) = class_by s
+sort_tested : (c : Class) (by_value : Bool) → is_sort_built (parameter_by c by_value) ≡ is_class_built c by_value
+sort_tested (class.simple kind) true = refl
+sort_tested (class.simple kind) false = refl
+sort_tested (class.array kind subscripts) true = refl
+sort_tested (class.array kind subscripts) false = refl
+sort_tested class.event true = refl
+sort_tested class.event false = refl
+sort_tested class.task true = refl
+sort_tested class.task false = refl
+sort_tested class.label true = refl
+sort_tested class.label false = refl
+sort_tested class.file true = refl
+sort_tested class.file false = refl
+sort_tested (class.procedure h) true = refl
+sort_tested (class.procedure h) false = refl
+sort_tested class.unknown true = refl
+sort_tested class.unknown false = refl
 
-class_first : (specs : List Spec) (name : List ℕ) → class_of (first_spec specs name) ≡ class_in specs name
-class_first [] name = refl
-class_first (s ∷ specs) name = by (specified_by s name) (class_first specs name)
-  where
-    by : (b : Bool) → class_of (first_spec specs name) ≡ class_in specs name →
-        class_of (if b then Some s else first_spec specs name) ≡ (if b then class_by s else class_in specs name)
-    by true later = refl
-    by false later = later
+module _ (s : Scopes) where
+  parameter_tested : (h : Heading) (n : Named) → TellsParameter s h n → is_parameter_built s n ≡ is_built_in h n.name
+  parameter_tested h n t =
+      ap (λ (o : Option laid.Declared). is_built_as o) t.answers ∙ ap is_sort_built t.sort ∙ sort_tested (class_in h.specs n.name) (is_named_in h.values n.name)
 
-abbrev ParameterBuilt : Class → Bool → Type 0
-ParameterBuilt class by_value = ((is_simple class ≡ true) × (by_value ≡ true)) ⊎ (is_array class ≡ true)
+  parameters_tested : (h : Heading) (ns : List Named) → AllByRecursion (TellsParameter s h) ns → list_all (is_parameter_built s) ns ≡ are_built_in h ns
+  parameters_tested h [] t = refl
+  parameters_tested h (n ∷ ns) t =
+      ap (λ (b : Bool). b && list_all (is_parameter_built s) ns) (parameter_tested h n t.0) ∙ ap (λ (b : Bool). is_built_in h n.name && b) (parameters_tested h ns t.1)
 
-spec_decided : (o : Option Spec) (by_value : Bool) → Decides (is_built_by o by_value) (ParameterBuilt (class_of o) by_value)
-spec_decided o by_value =
-    Decides-at (is_built_by o by_value) (is_simple (class_of o) && by_value || is_array (class_of o)) (same o)
-    (Decides-or (is_simple (class_of o) && by_value) (is_array (class_of o))
-    (Decides-and (is_simple (class_of o)) by_value (itself_decided (is_simple (class_of o))) (itself_decided by_value))
-    (itself_decided (is_array (class_of o))))
-  where
-    or_not : (b : Bool) → b ≡ (b || false)
-    or_not true = refl
-    or_not false = refl
+  told_decided : (h : Heading) → IsTold s h → Decides (is_heading_built s h) (HeadingBuilt h)
+  told_decided h t = Decides-at (is_heading_built s h) (are_built_in h h.params) (parameters_tested h h.params t.parameters) (heading_decided h)
 
-    same : (o : Option Spec) → is_built_by o by_value ≡ (is_simple (class_of o) && by_value || is_array (class_of o))
-    same None = refl
-    same (Some (spec.Simple kind ns)) = or_not by_value
-    same (Some (spec.Events ns)) = refl
-    same (Some (spec.Arrays kind ns lows)) = refl
+  -- ---- declarations and statements
 
-parameter_decided : (h : Heading) (n : Named) → Decides (is_parameter_built h n) (ParameterBuilt (class_in h.specs n.name) (is_named_in h.values n.name))
-parameter_decided h n =
-    subst (λ (class : Class). Decides (is_parameter_built h n) (ParameterBuilt class (is_named_in h.values n.name))) (class_first h.specs n.name)
-    (spec_decided (first_spec h.specs n.name) (is_named_in h.values n.name))
+  -- what is known of a declaration before others
+  abbrev Known : PDecl → PDecls → Type 0
+  Known (tree.procedure h b) later = IsTold s h
+  Known (tree.forward h) later = HasBody h later
+  Known _ later = Unit {0}
 
-heading_decided : (h : Heading) → Decides (is_heading_built h) (HeadingBuilt h)
-heading_decided h =
-    Decides-by_and (is_parameter_built h) (λ (n : Named). ParameterBuilt (class_in h.specs n.name) (is_named_in h.values n.name)) (list_all (is_parameter_built h))
-    (parameter_decided h) refl (λ _ _. refl) h.params
+  -- a heading with a body is among declarations that are built
+  built_body : (name : List ℕ) (ds : PDecls) (g : Heading) → body_of name ds ≡ Some g → DeclsBuilt ds → HeadingBuilt g
+  built_body name tree.no_decls g e b = absurd (let clash : None ≡ Some g = e in cc)
+  built_body name (tree.decls (tree.procedure h t) ds) g e b = by (same_name h.name.name name) e (λ q. built_body name ds g q b.1)
+    where
+      by : (c : Bool) → (if c then Some h else body_of name ds) ≡ Some g → (body_of name ds ≡ Some g → HeadingBuilt g) → HeadingBuilt g
+      by true q on = (let same : h ≡ g = cc in subst HeadingBuilt same b.0.0)
+      by false q on = on q
+  built_body name (tree.decls (tree.simple kind ns) ds) g e b = built_body name ds g e b.1
+  built_body name (tree.decls (tree.files ns) ds) g e b = built_body name ds g e b.1
+  built_body name (tree.decls (tree.events ns) ds) g e b = built_body name ds g e b.1
+  built_body name (tree.decls (tree.tasks ns) ds) g e b = built_body name ds g e b.1
+  built_body name (tree.decls (tree.labels ns) ds) g e b = built_body name ds g e b.1
+  built_body name (tree.decls (tree.arrays kind ns pairs) ds) g e b = built_body name ds g e b.1
+  built_body name (tree.decls (tree.forward h) ds) g e b = built_body name ds g e b.1
 
-mutual
-  decl_decided : (d : PDecl) → Decides (is_decl_built d) (DeclBuilt d)
-  decl_decided (tree.simple kind ns) = yes
-  decl_decided (tree.files ns) = yes
-  decl_decided (tree.events ns) = no
-  decl_decided (tree.tasks ns) = no
-  decl_decided (tree.labels ns) = no
-  decl_decided (tree.arrays kind ns pairs) = yes
-  decl_decided (tree.forward h) = heading_decided h
-  decl_decided (tree.procedure h s) = Decides-and (is_heading_built h) (is_stmt_built s) (heading_decided h) (stmt_decided s)
+  forward_decided : (h : Heading) (ds : PDecls) → HasBody h ds → Decides (decls_are_built s ds) (DeclsBuilt ds) → Decides (decls_are_built s ds) (HeadingBuilt h × DeclsBuilt ds)
+  forward_decided h ds has d =
+      (λ e. let b = d.0 e in (built_before h has.heading has.same (built_body h.name.name ds has.heading has.found b), b), λ p. d.1 p.1)
 
-  decls_decided : (ds : PDecls) → Decides (decls_are_built ds) (DeclsBuilt ds)
-  decls_decided tree.no_decls = yes
-  decls_decided (tree.decls d ds) = Decides-and (is_decl_built d) (decls_are_built ds) (decl_decided d) (decls_decided ds)
+  mutual
+    decls_decided : (ds : PDecls) → DeclsHave Known ds → Decides (decls_are_built s ds) (DeclsBuilt ds)
+    decls_decided tree.no_decls k = yes
+    decls_decided (tree.decls (tree.forward h) ds) k = forward_decided h ds k.0 (decls_decided ds k.1.1)
+    decls_decided (tree.decls (tree.procedure h b) ds) k =
+        Decides-and (is_decl_built s (tree.procedure h b)) (decls_are_built s ds)
+        (Decides-and (is_heading_built s h) (is_stmt_built s b) (told_decided h k.0) (stmt_decided b k.1.0)) (decls_decided ds k.1.1)
+    decls_decided (tree.decls (tree.simple kind ns) ds) k = Decides-and true (decls_are_built s ds) yes (decls_decided ds k.1.1)
+    decls_decided (tree.decls (tree.files ns) ds) k = Decides-and true (decls_are_built s ds) yes (decls_decided ds k.1.1)
+    decls_decided (tree.decls (tree.events ns) ds) k = Decides-and false (decls_are_built s ds) no (decls_decided ds k.1.1)
+    decls_decided (tree.decls (tree.tasks ns) ds) k = Decides-and false (decls_are_built s ds) no (decls_decided ds k.1.1)
+    decls_decided (tree.decls (tree.labels ns) ds) k = Decides-and false (decls_are_built s ds) no (decls_decided ds k.1.1)
+    decls_decided (tree.decls (tree.arrays kind ns pairs) ds) k = Decides-and true (decls_are_built s ds) yes (decls_decided ds k.1.1)
 
-  stmt_decided : (s : PStmt) → Decides (is_stmt_built s) (StmtBuilt s)
-  stmt_decided tree.empty = yes
-  stmt_decided (tree.label n s) = stmt_decided s
-  stmt_decided (tree.assign v e) = yes
-  stmt_decided (tree.call_of c) = yes
-  stmt_decided (tree.go_to n) = yes
-  stmt_decided (tree.block (tree.body spot ds ss)) = Decides-and (decls_are_built ds) (stmts_are_built ss) (decls_decided ds) (stmts_decided ss)
-  stmt_decided (tree.if_then c x) = stmt_decided x
-  stmt_decided (tree.if_else c x y) = Decides-and (is_stmt_built x) (is_stmt_built y) (stmt_decided x) (stmt_decided y)
-  stmt_decided (tree.while c b) = stmt_decided b
-  stmt_decided (tree.until b c) = stmt_decided b
-  stmt_decided (tree.for v a s l b) = stmt_decided b
-  stmt_decided (tree.thru e b) = stmt_decided b
-  stmt_decided (tree.case e ss) = stmts_decided ss
-  stmt_decided (tree.process c task) = no
-  stmt_decided (tree.event act e) = yes
-  stmt_decided (tree.write n spot phrases es) = yes
+    stmt_decided : (t : PStmt) → StmtHas Known t → Decides (is_stmt_built s t) (StmtBuilt t)
+    stmt_decided tree.empty k = yes
+    stmt_decided (tree.label n t) k = stmt_decided t k
+    stmt_decided (tree.assign v e) k = yes
+    stmt_decided (tree.call_of c) k = yes
+    stmt_decided (tree.go_to n) k = yes
+    stmt_decided (tree.block (tree.body spot ds ss)) k = Decides-and (decls_are_built s ds) (stmts_are_built s ss) (decls_decided ds k.0) (stmts_decided ss k.1)
+    stmt_decided (tree.if_then c x) k = stmt_decided x k
+    stmt_decided (tree.if_else c x y) k = Decides-and (is_stmt_built s x) (is_stmt_built s y) (stmt_decided x k.0) (stmt_decided y k.1)
+    stmt_decided (tree.while c b) k = stmt_decided b k
+    stmt_decided (tree.until b c) k = stmt_decided b k
+    stmt_decided (tree.for v a step l b) k = stmt_decided b k
+    stmt_decided (tree.thru e b) k = stmt_decided b k
+    stmt_decided (tree.case e ss) k = stmts_decided ss k
+    stmt_decided (tree.process c task) k = no
+    stmt_decided (tree.event act e) k = yes
+    stmt_decided (tree.write n spot phrases es) k = yes
 
-  stmts_decided : (ss : PStmts) → Decides (stmts_are_built ss) (StmtsBuilt ss)
-  stmts_decided tree.no_stmts = yes
-  stmts_decided (tree.stmts s ss) = Decides-and (is_stmt_built s) (stmts_are_built ss) (stmt_decided s) (stmts_decided ss)
+    stmts_decided : (ss : PStmts) → StmtsHave Known ss → Decides (stmts_are_built s ss) (StmtsBuilt ss)
+    stmts_decided tree.no_stmts k = yes
+    stmts_decided (tree.stmts t ss) k = Decides-and (is_stmt_built s t) (stmts_are_built s ss) (stmt_decided t k.0) (stmts_decided ss k.1)
 
-pub built_decided : (spot : Spot) (ds : PDecls) (ss : PStmts) → Decides (decls_are_built ds && stmts_are_built ss) (IsBuilt (tree.program (tree.body spot ds ss)))
-built_decided spot ds ss = Decides-and (decls_are_built ds) (stmts_are_built ss) (decls_decided ds) (stmts_decided ss)
+-- ---- a program
+
+module _ (p : PProgram) (s : Scopes) (are : AreOf p s) where
+  abbrev Clean : Site → Type 0
+  Clean x = IsClean (blocks_of_program p) x
+
+  decl_known : (d : PDecl) (later : PDecls) (a : Surroundings) → PassesAt p s are (record { part = site.declaration d later; around = a }) →
+      Clean (record { part = site.declaration d later; around = a }) → Known s d later
+  decl_known (tree.procedure h b) later a k c = procedure_told p s are h b later a k
+  decl_known (tree.forward h) later a k c = forward_has_body h later a c.known c.typed
+  decl_known (tree.simple kind ns) later a k c = tt
+  decl_known (tree.files ns) later a k c = tt
+  decl_known (tree.events ns) later a k c = tt
+  decl_known (tree.tasks ns) later a k c = tt
+  decl_known (tree.labels ns) later a k c = tt
+  decl_known (tree.arrays kind ns pairs) later a k c = tt
+
+  part_known : (x : Part) (a : Surroundings) → PassesAt p s are (record { part = x; around = a }) → Clean (record { part = x; around = a }) → PartHas (Known s) x
+  part_known (site.declaration d later) a k c = decl_known d later a k c
+  part_known x a k c = tt
+
+  all_clean : Accepted p → AllByRecursion Clean (sites_of p)
+  unfolding scope_faults check_faults
+  all_clean accepted = cleaned p (blocks_of_program p) (sites_of p) accepted.scoped accepted.checked
+
+  all_known : Accepted p → IsInOrder p → AllByRecursion (HasAt (Known s)) (sites_of p)
+  all_known accepted order =
+      all-both (PassesAt p s are) Clean (HasAt (Known s)) (λ x k c. part_known x.part x.around k c) (sites_of p) (all_pass p s are order) (all_clean accepted)
+
+pub built_decided : (s : Scopes) (spot : Spot) (ds : PDecls) (ss : PStmts) → AreOf (tree.program (tree.body spot ds ss)) s → Accepted (tree.program (tree.body spot ds ss)) →
+    IsInOrder (tree.program (tree.body spot ds ss)) → Decides (decls_are_built s ds && stmts_are_built s ss) (IsBuilt (tree.program (tree.body spot ds ss)))
+built_decided s spot ds ss are accepted order =
+    let p = tree.program (tree.body spot ds ss) in
+    let known = in_program (Known s) (blocks_of_program p) spot ds ss (all_known p s are accepted order) in
+    Decides-and (decls_are_built s ds) (stmts_are_built s ss) (decls_decided s ds known.0) (stmts_decided s ss known.1)

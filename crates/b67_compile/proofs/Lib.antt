@@ -1,4 +1,8 @@
+pub mod Declarations
+pub mod ParametersFound
+pub mod Forwards
 pub mod Decided
+pub mod Specifying
 pub mod LowerBounds
 pub mod Couples
 pub mod Matching

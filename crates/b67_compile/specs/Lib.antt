@@ -1,3 +1,2 @@
-pub mod Specified
 pub mod Built
 pub mod Lows

@@ -2,36 +2,50 @@
 
 ghost use Rattle.std.specs.Prelude.{◌≡◌, ◌↔◌, IsTrue};
 ghost use Rattle.algol_tree.specs.Image.{decl, decls, program, stmt, stmts};
-ghost use Rattle.b67_compile.specs.Built.{is_parameter_built, is_heading_built, is_decl_built, decls_are_built, is_stmt_built, stmts_are_built};
+ghost use Rattle.b67_compile.specs.Built.{is_sort_built, is_parameter_built, is_heading_built, is_decl_built, decls_are_built, is_stmt_built, stmts_are_built};
 ghost use Rattle.b67_fitting.specs.Built.{IsBuilt};
 
-use crate::specified::{first_spec, is_named_in};
-use algol_tree::{Decl, Heading, Named, Program, Spec, Stmt};
+use algol_front::Checked;
+use algol_scope::Scopes;
+use algol_sorts::Sort;
+use algol_tree::{Decl, Heading, Named, Stmt};
 
-/// Tests that a parameter is specified as a simple one, and is by value, or as an array.
-fn is_parameter_built(h: &Heading, n: &Named) -> bool
-    ensures { result ≡ is_parameter_built h.now n.now }
+/// Tests that a parameter of this sort is simple and by value, or stands for an array.
+fn is_sort_built(sort: Sort) -> bool
+    ensures { result ≡ is_sort_built sort }
 {
-    match first_spec(h.specs.items(), &n.name) {
-        Some(Spec::Simple(_, _)) => is_named_in(h.values.items(), &n.name),
-        Some(Spec::Arrays(_, _, _)) => true,
-        Some(Spec::Events(_)) => false,
+    match sort {
+        Sort::Variable(_) => true,
+        Sort::FormalArray(_, _) => true,
+        _ => false,
+    }
+}
+
+/// Tests the same of the parameter whose name stands there.
+fn is_parameter_built(scopes: &Scopes, n: &Named) -> bool
+    ensures { result ≡ is_parameter_built scopes.now n.now }
+{
+    match scopes.declaration(n.spot) {
         None => false,
+        Some(parameter) => is_sort_built(parameter.sort),
     }
 }
 
 /// Tests the same of each parameter.
-fn is_heading_built(h: &Heading) -> bool
-    ensures { result ≡ is_heading_built h.now }
+fn is_heading_built(scopes: &Scopes, h: &Heading) -> bool
+    ensures { result ≡ is_heading_built scopes.now h.now }
 {
-    h.params.items().iter().all(|n| is_parameter_built(h, n))
+    h.params
+        .items()
+        .iter()
+        .all(|n| is_parameter_built(scopes, n))
 }
 
 /// Tests that a declaration is of simple variables, of files, of arrays or of a procedure whose parameters are simple and by value, or
-/// arrays, and so is each within it.
+/// arrays, and so is each within it. What FORWARD says of a procedure is what the heading with its body says.
 #[cycle(statements)]
-fn is_decl_built(d: &Decl) -> bool
-    ensures { result ≡ is_decl_built (decl d.now) }
+fn is_decl_built(scopes: &Scopes, d: &Decl) -> bool
+    ensures { result ≡ is_decl_built scopes.now (decl d.now) }
 {
     match d {
         Decl::Simple(_, _) => true,
@@ -40,17 +54,17 @@ fn is_decl_built(d: &Decl) -> bool
         Decl::Tasks(_) => false,
         Decl::Labels(_) => false,
         Decl::Arrays(_, _, _) => true,
-        Decl::Forward(h) => is_heading_built(h),
-        Decl::Procedure(h, s) => is_heading_built(h) && is_stmt_built(s),
+        Decl::Forward(_) => true,
+        Decl::Procedure(h, s) => is_heading_built(scopes, h) && is_stmt_built(scopes, s),
     }
 }
 
 #[cycle(statements)]
-fn decls_are_built(ds: &[Decl]) -> bool
-    ensures { result ≡ decls_are_built (decls ds.now) }
+fn decls_are_built(scopes: &Scopes, ds: &[Decl]) -> bool
+    ensures { result ≡ decls_are_built scopes.now (decls ds.now) }
 {
     'decls: for d in ds {
-        if !is_decl_built(d) {
+        if !is_decl_built(scopes, d) {
             return false;
         }
     }
@@ -59,19 +73,21 @@ fn decls_are_built(ds: &[Decl]) -> bool
 
 /// Tests the same of each declaration within a statement, and that no process is started in it.
 #[cycle(statements)]
-fn is_stmt_built(s: &Stmt) -> bool
-    ensures { result ≡ is_stmt_built (stmt s.now) }
+fn is_stmt_built(scopes: &Scopes, s: &Stmt) -> bool
+    ensures { result ≡ is_stmt_built scopes.now (stmt s.now) }
 {
     match s {
-        Stmt::Label(_, s) => is_stmt_built(s),
-        Stmt::Block(b) => decls_are_built(b.decls.items()) && stmts_are_built(b.stmts.items()),
-        Stmt::If(_, x, None) => is_stmt_built(x),
-        Stmt::If(_, x, Some(y)) => is_stmt_built(x) && is_stmt_built(y),
-        Stmt::While(_, b) => is_stmt_built(b),
-        Stmt::Until(b, _) => is_stmt_built(b),
-        Stmt::For(_, _, _, _, b) => is_stmt_built(b),
-        Stmt::Thru(_, b) => is_stmt_built(b),
-        Stmt::Case(_, ss) => stmts_are_built(ss.items()),
+        Stmt::Label(_, s) => is_stmt_built(scopes, s),
+        Stmt::Block(b) => {
+            decls_are_built(scopes, b.decls.items()) && stmts_are_built(scopes, b.stmts.items())
+        }
+        Stmt::If(_, x, None) => is_stmt_built(scopes, x),
+        Stmt::If(_, x, Some(y)) => is_stmt_built(scopes, x) && is_stmt_built(scopes, y),
+        Stmt::While(_, b) => is_stmt_built(scopes, b),
+        Stmt::Until(b, _) => is_stmt_built(scopes, b),
+        Stmt::For(_, _, _, _, b) => is_stmt_built(scopes, b),
+        Stmt::Thru(_, b) => is_stmt_built(scopes, b),
+        Stmt::Case(_, ss) => stmts_are_built(scopes, ss.items()),
         Stmt::Process(_, _) => false,
         Stmt::Empty => true,
         Stmt::Assign(_, _) => true,
@@ -83,21 +99,23 @@ fn is_stmt_built(s: &Stmt) -> bool
 }
 
 #[cycle(statements)]
-fn stmts_are_built(ss: &[Stmt]) -> bool
-    ensures { result ≡ stmts_are_built (stmts ss.now) }
+fn stmts_are_built(scopes: &Scopes, ss: &[Stmt]) -> bool
+    ensures { result ≡ stmts_are_built scopes.now (stmts ss.now) }
 {
     'statements: for s in ss {
-        if !is_stmt_built(s) {
+        if !is_stmt_built(scopes, s) {
             return false;
         }
     }
     true
 }
 
-/// Tests that a program is built: all that it declares are simple variables, files, arrays and procedures whose parameters are simple and
-/// by value, or arrays, in whatever block, and it starts no process.
-pub fn is_built(tree: &Program) -> bool
-    ensures { IsTrue result ↔ IsBuilt (program tree.now) }
+/// Tests that an accepted program is built: all that it declares are simple variables, files, arrays and procedures whose parameters are
+/// simple and by value, or arrays, in whatever block, and it starts no process.
+pub fn is_built(checked: &Checked) -> bool
+    ensures { IsTrue result ↔ IsBuilt (program checked.now.program) }
 {
-    decls_are_built(tree.body.decls.items()) && stmts_are_built(tree.body.stmts.items())
+    let scopes = &checked.scopes;
+    let body = &checked.program.body;
+    decls_are_built(scopes, body.decls.items()) && stmts_are_built(scopes, body.stmts.items())
 }

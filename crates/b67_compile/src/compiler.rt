@@ -45,7 +45,7 @@ fn code_of<E: ExprEmitter>(
     ensures short { IfOk result (IsShort (plain.program program.now)) }
     ensures listable { IfOk result IsListable }
 {
-    let lows = lows_of_program(alloc, program)?;
+    let lows = lows_of_program(alloc, program, scopes)?;
     let names = Names::new(scopes, lows);
     let (segments, formats) = emit_program(alloc, exprs, &names, &program.body)?;
     Ok(Code {

@@ -4,7 +4,6 @@
 mod built;
 mod compiler;
 mod lows;
-mod specified;
 
 pub use built::is_built;
 pub use compiler::compile;

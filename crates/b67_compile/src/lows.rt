@@ -6,12 +6,12 @@ ghost use Rattle.algol_tree.specs.Ascending.{IsInOrder};
 ghost use Rattle.algol_tree.specs.Blocks.{blocks_of_program};
 ghost use Rattle.algol_tree.specs.Image as plain;
 ghost use Rattle.algol_paths.specs.Arrays as arrays;
+ghost use Rattle.algol_scope.specs.Resolved.{AreOf, declaration_of};
 ghost use Rattle.b67_emitter.specs.Values.{told};
-ghost use Rattle.b67_compile.specs.Specified.{first_spec};
-ghost use Rattle.b67_compile.specs.Lows.{Adds, lows_begun, lows_given, lows_in_body, lows_in_decl, lows_in_decls, lows_in_stmt, lows_in_stmts, lows_made, lows_named, lows_of_parameters, lows_there, own_lows, under};
+ghost use Rattle.b67_compile.specs.Lows.{Adds, lows_begun, lows_in_body, lows_in_decl, lows_in_decls, lows_in_stmt, lows_in_stmts, lows_made, lows_meant, lows_named, lows_of_names, lows_of_spec, lows_of_specs, lows_there, own_lows, under};
 
-use crate::specified::first_spec;
-use algol_tree::{Body, Decl, Heading, Named, Pair, Program, Spec, Spot, Stmt};
+use algol_scope::Scopes;
+use algol_tree::{Body, Decl, Named, Pair, Program, Spec, Spot, Stmt};
 use b67_emitter::Lows;
 use b67_list::List;
 use std::alloc::{AllocError, Global};
@@ -67,43 +67,80 @@ fn add_names(
     Ok(())
 }
 
-/// The same of a parameter, if it is specified as an array.
+/// The same of the parameter that a name means, which is specified as an array with these lower bounds.
 fn add_parameter(
     table: &mut Table,
     alloc: Global,
-    specs: &[Spec],
+    scopes: &Scopes,
     n: &Named,
+    lows: &[i64],
 ) -> Result<(), AllocError>
-    ensures { OnOk result (Adds table.old table.new (lows_given (first_spec specs.now n.now.name) n.now.spot)) }
+    ensures { OnOk result (Adds table.old table.new (lows_meant (declaration_of scopes.now n.now.spot) lows.now)) }
 {
-    match first_spec(specs, &n.name) {
-        Some(Spec::Arrays(_, _, lows)) => {
-            add(table, n.spot, formal_lows(alloc, lows.items().as_slice())?)
-        }
-        Some(Spec::Simple(_, _)) => Ok(()),
-        Some(Spec::Events(_)) => Ok(()),
+    match scopes.declaration(n.spot) {
         None => Ok(()),
+        Some(parameter) => add(table, parameter.spot, formal_lows(alloc, lows)?),
     }
 }
 
-/// The same of the parameters of a heading.
+/// The same of the parameters that these names mean.
 fn add_parameters(
     table: &mut Table,
     alloc: Global,
-    specs: &[Spec],
-    params: &[Named],
+    scopes: &Scopes,
+    names: &[Named],
+    lows: &[i64],
 ) -> Result<(), AllocError>
-    ensures { OnOk result (Adds table.old table.new (lows_of_parameters specs.now params.now)) }
+    ensures { OnOk result (Adds table.old table.new (lows_of_names scopes.now names.now lows.now)) }
 {
-    'parameters: for n in params {
-        add_parameter(table, alloc, specs, n)?;
+    'names: for n in names {
+        add_parameter(table, alloc, scopes, n, lows)?;
+    }
+    Ok(())
+}
+
+/// The same of the parameters that a specification names, if it is one of arrays.
+fn add_spec(
+    table: &mut Table,
+    alloc: Global,
+    scopes: &Scopes,
+    spec: &Spec,
+) -> Result<(), AllocError>
+    ensures { OnOk result (Adds table.old table.new (lows_of_spec scopes.now spec.now)) }
+{
+    match spec {
+        Spec::Arrays(_, ns, lows) => {
+            add_parameters(
+                table,
+                alloc,
+                scopes,
+                ns.items().as_slice(),
+                lows.items().as_slice(),
+            )
+        }
+        Spec::Simple(_, _) => Ok(()),
+        Spec::Events(_) => Ok(()),
+    }
+}
+
+/// The same of what the specifications of a heading name.
+fn add_specs(
+    table: &mut Table,
+    alloc: Global,
+    scopes: &Scopes,
+    specs: &[Spec],
+) -> Result<(), AllocError>
+    ensures { OnOk result (Adds table.old table.new (lows_of_specs scopes.now specs.now)) }
+{
+    'specs: for spec in specs {
+        add_spec(table, alloc, scopes, spec)?;
     }
     Ok(())
 }
 
 /// The same of the arrays that a declaration makes, or of the parameters of the procedure that it declares.
-fn add_made(table: &mut Table, alloc: Global, d: &Decl) -> Result<(), AllocError>
-    ensures { OnOk result (Adds table.old table.new (lows_made (plain.decl d.now))) }
+fn add_made(table: &mut Table, alloc: Global, scopes: &Scopes, d: &Decl) -> Result<(), AllocError>
+    ensures { OnOk result (Adds table.old table.new (lows_made scopes.now (plain.decl d.now))) }
 {
     match d {
         Decl::Arrays(_, ns, pairs) => {
@@ -114,14 +151,7 @@ fn add_made(table: &mut Table, alloc: Global, d: &Decl) -> Result<(), AllocError
                 pairs.items().as_slice(),
             )
         }
-        Decl::Procedure(h, _) => {
-            add_parameters(
-                table,
-                alloc,
-                h.specs.items().as_slice(),
-                h.params.items().as_slice(),
-            )
-        }
+        Decl::Procedure(h, _) => add_specs(table, alloc, scopes, h.specs.items().as_slice()),
         Decl::Simple(_, _) => Ok(()),
         Decl::Files(_) => Ok(()),
         Decl::Events(_) => Ok(()),
@@ -132,66 +162,93 @@ fn add_made(table: &mut Table, alloc: Global, d: &Decl) -> Result<(), AllocError
 }
 
 /// The same of what declarations make and declare.
-fn add_declared(table: &mut Table, alloc: Global, ds: &[Decl]) -> Result<(), AllocError>
-    ensures { OnOk result (Adds table.old table.new (lows_begun (plain.decls ds.now))) }
+fn add_declared(
+    table: &mut Table,
+    alloc: Global,
+    scopes: &Scopes,
+    ds: &[Decl],
+) -> Result<(), AllocError>
+    ensures { OnOk result (Adds table.old table.new (lows_begun scopes.now (plain.decls ds.now))) }
 {
     'declarations: for d in ds {
-        add_made(table, alloc, d)?;
+        add_made(table, alloc, scopes, d)?;
     }
     Ok(())
 }
 
 /// The same of what is declared in a statement.
 #[cycle(statements)]
-fn add_in_stmt(table: &mut Table, alloc: Global, s: &Stmt) -> Result<(), AllocError>
-    ensures { OnOk result (Adds table.old table.new (lows_in_stmt (plain.stmt s.now))) }
+fn add_in_stmt(
+    table: &mut Table,
+    alloc: Global,
+    scopes: &Scopes,
+    s: &Stmt,
+) -> Result<(), AllocError>
+    ensures { OnOk result (Adds table.old table.new (lows_in_stmt scopes.now (plain.stmt s.now))) }
 {
     match s {
-        Stmt::Label(_, s) => add_in_stmt(table, alloc, s),
-        Stmt::Block(b) => add_in_body(table, alloc, b),
-        Stmt::If(_, x, None) => add_in_stmt(table, alloc, x),
-        Stmt::If(_, x, Some(y)) => {
-            add_in_stmt(table, alloc, x)?;
-            add_in_stmt(table, alloc, y)
+        Stmt::Label(_, s) => add_in_stmt(table, alloc, scopes, s),
+        Stmt::Block(b) => add_in_body(table, alloc, scopes, b),
+        Stmt::If(_, x, y) => {
+            add_in_stmt(table, alloc, scopes, x)?;
+            match y {
+                None => Ok(()),
+                Some(y) => add_in_stmt(table, alloc, scopes, y),
+            }
         }
-        Stmt::While(_, b) => add_in_stmt(table, alloc, b),
-        Stmt::Until(b, _) => add_in_stmt(table, alloc, b),
-        Stmt::For(_, _, _, _, b) => add_in_stmt(table, alloc, b),
-        Stmt::Thru(_, b) => add_in_stmt(table, alloc, b),
-        Stmt::Case(_, ss) => add_in_stmts(table, alloc, ss.items().as_slice()),
+        Stmt::While(_, b) => add_in_stmt(table, alloc, scopes, b),
+        Stmt::Until(b, _) => add_in_stmt(table, alloc, scopes, b),
+        Stmt::For(_, _, _, _, b) => add_in_stmt(table, alloc, scopes, b),
+        Stmt::Thru(_, b) => add_in_stmt(table, alloc, scopes, b),
+        Stmt::Case(_, ss) => add_in_stmts(table, alloc, scopes, ss.items().as_slice()),
         _ => Ok(()),
     }
 }
 
 /// The same of what is declared in statements.
 #[cycle(statements)]
-fn add_in_stmts(table: &mut Table, alloc: Global, ss: &[Stmt]) -> Result<(), AllocError>
-    ensures { OnOk result (Adds table.old table.new (lows_in_stmts (plain.stmts ss.now))) }
+fn add_in_stmts(
+    table: &mut Table,
+    alloc: Global,
+    scopes: &Scopes,
+    ss: &[Stmt],
+) -> Result<(), AllocError>
+    ensures { OnOk result (Adds table.old table.new (lows_in_stmts scopes.now (plain.stmts ss.now))) }
 {
     'statements: for s in ss {
-        add_in_stmt(table, alloc, s)?;
+        add_in_stmt(table, alloc, scopes, s)?;
     }
     Ok(())
 }
 
 /// The same of what is declared in the procedure of a declaration.
 #[cycle(statements)]
-fn add_in_decl(table: &mut Table, alloc: Global, d: &Decl) -> Result<(), AllocError>
-    ensures { OnOk result (Adds table.old table.new (lows_in_decl (plain.decl d.now))) }
+fn add_in_decl(
+    table: &mut Table,
+    alloc: Global,
+    scopes: &Scopes,
+    d: &Decl,
+) -> Result<(), AllocError>
+    ensures { OnOk result (Adds table.old table.new (lows_in_decl scopes.now (plain.decl d.now))) }
 {
     match d {
-        Decl::Procedure(_, s) => add_in_stmt(table, alloc, s),
+        Decl::Procedure(_, s) => add_in_stmt(table, alloc, scopes, s),
         _ => Ok(()),
     }
 }
 
 /// The same of what is declared in the procedures of declarations.
 #[cycle(statements)]
-fn add_in_decls(table: &mut Table, alloc: Global, ds: &[Decl]) -> Result<(), AllocError>
-    ensures { OnOk result (Adds table.old table.new (lows_in_decls (plain.decls ds.now))) }
+fn add_in_decls(
+    table: &mut Table,
+    alloc: Global,
+    scopes: &Scopes,
+    ds: &[Decl],
+) -> Result<(), AllocError>
+    ensures { OnOk result (Adds table.old table.new (lows_in_decls scopes.now (plain.decls ds.now))) }
 {
     'declarations: for d in ds {
-        add_in_decl(table, alloc, d)?;
+        add_in_decl(table, alloc, scopes, d)?;
     }
     Ok(())
 }
@@ -199,22 +256,28 @@ fn add_in_decls(table: &mut Table, alloc: Global, ds: &[Decl]) -> Result<(), All
 /// The same of what a BEGIN declares, and of what is in it.
 #[cycle(statements)]
 #[tactic(auto, using(crate::proofs::LowerBounds::body_laws))]
-fn add_in_body(table: &mut Table, alloc: Global, b: &Body) -> Result<(), AllocError>
-    ensures { OnOk result (Adds table.old table.new (lows_in_body (plain.body b.now))) }
+fn add_in_body(
+    table: &mut Table,
+    alloc: Global,
+    scopes: &Scopes,
+    b: &Body,
+) -> Result<(), AllocError>
+    ensures { OnOk result (Adds table.old table.new (lows_in_body scopes.now (plain.body b.now))) }
 {
     let ds = b.decls.items().as_slice();
-    add_declared(table, alloc, ds)?;
-    add_in_decls(table, alloc, ds)?;
-    add_in_stmts(table, alloc, b.stmts.items().as_slice())
+    add_declared(table, alloc, scopes, ds)?;
+    add_in_decls(table, alloc, scopes, ds)?;
+    add_in_stmts(table, alloc, scopes, b.stmts.items().as_slice())
 }
 
 /// The lower bounds of the arrays of a program, in whatever block, and of the parameters that stand for arrays, by the places where their
 /// names are declared.
-pub fn lows_of_program(alloc: Global, tree: &Program) -> Result<Table, AllocError>
-    requires { IsInOrder (plain.program tree.now) }
+pub fn lows_of_program(alloc: Global, tree: &Program, scopes: &Scopes) -> Result<Table, AllocError>
+    requires resolved { AreOf (plain.program tree.now) scopes.now }
+    requires order { IsInOrder (plain.program tree.now) }
     ensures { IfOk result (λ table. (spot : token.Spot) → under table spot ≡ arrays.lows_at (blocks_of_program (plain.program tree.now)) spot) }
 {
     let mut table = BTreeMap::new(alloc);
-    add_in_body(&mut table, alloc, &tree.body)?;
+    add_in_body(&mut table, alloc, scopes, &tree.body)?;
     Ok(table)
 }

@@ -144,7 +144,7 @@ pub fn answer_tree(
     if let Words::Check = command {
         return accept_source(alloc);
     }
-    if !is_built(&checked.program) {
+    if !is_built(checked) {
         let start = Spot { line: 1, column: 1 };
         return refuse(alloc, start, Code::OfSource(SourceCode::Unbuilt));
     }

@@ -7,10 +7,10 @@ use Rattle.b67_compile.proofs.lows.+statements.Given as goal
 
 abbrev pub invariant-add_in_stmts-statements : goal.invariant-add_in_stmts-statements
 invariant-add_in_stmts-statements l =
-    (spot : Spot) → or_lows (under l.table spot) (lows_in_stmts (stmts (drop l.s-index l.ss)) spot) ≡
-    or_lows (under l.initial.table spot) (lows_in_stmts (stmts l.ss) spot)
+    (spot : Spot) → or_lows (under l.table spot) (lows_in_stmts l.scopes (stmts (drop l.s-index l.ss)) spot) ≡
+    or_lows (under l.initial.table spot) (lows_in_stmts l.scopes (stmts l.ss) spot)
 
 abbrev pub invariant-add_in_decls-declarations : goal.invariant-add_in_decls-declarations
 invariant-add_in_decls-declarations l =
-    (spot : Spot) → or_lows (under l.table spot) (lows_in_decls (decls (drop l.d-index l.ds)) spot) ≡
-    or_lows (under l.initial.table spot) (lows_in_decls (decls l.ds) spot)
+    (spot : Spot) → or_lows (under l.table spot) (lows_in_decls l.scopes (decls (drop l.d-index l.ds)) spot) ≡
+    or_lows (under l.initial.table spot) (lows_in_decls l.scopes (decls l.ds) spot)

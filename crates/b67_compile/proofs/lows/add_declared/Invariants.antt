@@ -7,5 +7,5 @@ use Rattle.b67_compile.proofs.lows.add_declared.Given as goal
 
 abbrev pub invariant-declarations : goal.invariant-declarations
 invariant-declarations l =
-    (spot : Spot) → or_lows (under l.table spot) (lows_begun (decls (drop l.d-index l.ds)) spot) ≡
-    or_lows (under l.initial.table spot) (lows_begun (decls l.ds) spot)
+    (spot : Spot) → or_lows (under l.table spot) (lows_begun l.scopes (decls (drop l.d-index l.ds)) spot) ≡
+    or_lows (under l.initial.table spot) (lows_begun l.scopes (decls l.ds) spot)

@@ -10,5 +10,5 @@ pub returns-in-Arrays : goal.returns-in-Arrays
 returns-in-Arrays c =
     let a = c.in-Arrays in
     subst (λ (found : Spot → Option Lows). OnOk c.add_names.result (Adds c.args.table.now c.add_names.new.table found))
-    (arrays_made c.args.d.now a.field-0 a.ns a.pairs c.as_slice.result.now c.as_slice-in-Arrays.result.now a.is (c.as_slice.ensures.value ∙ c.items.ensures) (c.as_slice-in-Arrays.ensures.value ∙ c.items-in-Arrays.ensures))
+    (arrays_made c.args.scopes.now c.args.d.now a.field-0 a.ns a.pairs c.as_slice.result.now c.as_slice-in-Arrays.result.now a.is (c.as_slice.ensures.value ∙ c.items.ensures) (c.as_slice-in-Arrays.ensures.value ∙ c.items-in-Arrays.ensures))
     c.add_names.ensures
