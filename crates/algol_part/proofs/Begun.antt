@@ -47,53 +47,62 @@ by_start d spot (starts.Opens opener) = Some (takes (nests d) (behind_word opene
 by_start d spot (starts.Acts verb) = Some (takes plain (behind_verb verb))
 by_start d spot starts.Nothing = None
 
-start_turn : (d : ℕ) (spot : Spot) (k : TokenKind) (x : Turn) → by_start d spot (start_of k) ≡ Some x → turn_statement d spot k ≡ x
-start_turn d spot (kinds.Word reserved.Begin) x e = cc
-start_turn d spot (kinds.Word reserved.If) x e = cc
-start_turn d spot (kinds.Word reserved.While) x e = cc
-start_turn d spot (kinds.Word reserved.Do) x e = cc
-start_turn d spot (kinds.Word reserved.For) x e = cc
-start_turn d spot (kinds.Word reserved.Thru) x e = cc
-start_turn d spot (kinds.Word reserved.Case) x e = cc
-start_turn d spot (kinds.Word reserved.Go) x e = cc
-start_turn d spot (kinds.Word reserved.Process) x e = cc
-start_turn d spot (kinds.Word reserved.Write) x e = cc
-start_turn d spot (kinds.Word reserved.Cause) x e = cc
-start_turn d spot (kinds.Word reserved.Reset) x e = cc
-start_turn d spot (kinds.Word reserved.Wait) x e = cc
-start_turn d spot (kinds.Word reserved.Procure) x e = cc
-start_turn d spot (kinds.Word reserved.Liberate) x e = cc
-start_turn d spot k x e = cc
+abbrev Starts : Option Turn → Turn → Type 0
+Starts (Some x) y = y ≡ x
+Starts None y = Unit
+
+start_turns : (d : ℕ) (spot : Spot) (k : TokenKind) → Starts (by_start d spot (start_of k)) (turn_statement d spot k)
+start_turns d spot (kinds.Word reserved.Begin) = refl
+start_turns d spot (kinds.Word reserved.If) = refl
+start_turns d spot (kinds.Word reserved.While) = refl
+start_turns d spot (kinds.Word reserved.Do) = refl
+start_turns d spot (kinds.Word reserved.For) = refl
+start_turns d spot (kinds.Word reserved.Thru) = refl
+start_turns d spot (kinds.Word reserved.Case) = refl
+start_turns d spot (kinds.Word reserved.Go) = refl
+start_turns d spot (kinds.Word reserved.Process) = refl
+start_turns d spot (kinds.Word reserved.Write) = refl
+start_turns d spot (kinds.Word reserved.Cause) = refl
+start_turns d spot (kinds.Word reserved.Reset) = refl
+start_turns d spot (kinds.Word reserved.Wait) = refl
+start_turns d spot (kinds.Word reserved.Procure) = refl
+start_turns d spot (kinds.Word reserved.Liberate) = refl
+start_turns d spot k = tt
 
 pub starting : (d : ℕ) {tokens : List Token} {t : Token} {ts : List Token} → tokens ≡ t ∷ ts → (s : Start) → start_of t.kind ≡ s → (x : Turn) → by_start d t.spot s ≡ Some x →
     turn (statement d) t.spot t.kind ≡ x
-starting d {t = t} at_ s e x p = start_turn d t.spot t.kind x (ap (by_start d t.spot) e ∙ p)
+starting d {t = t} at_ s e x p = subst (λ o. Starts o (turn_statement d t.spot t.kind)) (ap (by_start d t.spot) e ∙ p) (start_turns d t.spot t.kind)
 
 pub not_end_start : (k : TokenKind) (s : Start) → start_of k ≡ s → (starts.Nothing ≡ s → ⊥) → k ≡ kinds.End → ⊥
 not_end_start k s e f q = f (sym (ap start_of q) ∙ e)
 
-empty_turn : (d : ℕ) (spot : Spot) (k : TokenKind) → name_in k ≡ None → start_of k ≡ starts.Nothing → turn_statement d spot k ≡ makes (put (stmt trees.empty))
-empty_turn d spot (kinds.Name name) e f = cc
-empty_turn d spot (kinds.Word reserved.Begin) e f = cc
-empty_turn d spot (kinds.Word reserved.If) e f = cc
-empty_turn d spot (kinds.Word reserved.While) e f = cc
-empty_turn d spot (kinds.Word reserved.Do) e f = cc
-empty_turn d spot (kinds.Word reserved.For) e f = cc
-empty_turn d spot (kinds.Word reserved.Thru) e f = cc
-empty_turn d spot (kinds.Word reserved.Case) e f = cc
-empty_turn d spot (kinds.Word reserved.Go) e f = cc
-empty_turn d spot (kinds.Word reserved.Process) e f = cc
-empty_turn d spot (kinds.Word reserved.Write) e f = cc
-empty_turn d spot (kinds.Word reserved.Cause) e f = cc
-empty_turn d spot (kinds.Word reserved.Reset) e f = cc
-empty_turn d spot (kinds.Word reserved.Wait) e f = cc
-empty_turn d spot (kinds.Word reserved.Procure) e f = cc
-empty_turn d spot (kinds.Word reserved.Liberate) e f = cc
-empty_turn d spot k e f = refl
+abbrev Empties : Option (List ℕ) → Start → Turn → Type 0
+Empties None starts.Nothing x = x ≡ makes (put (stmt trees.empty))
+Empties name s x = Unit
+
+empty_turns : (d : ℕ) (spot : Spot) (k : TokenKind) → Empties (name_in k) (start_of k) (turn_statement d spot k)
+empty_turns d spot (kinds.Name name) = tt
+empty_turns d spot (kinds.Word reserved.Begin) = tt
+empty_turns d spot (kinds.Word reserved.If) = tt
+empty_turns d spot (kinds.Word reserved.While) = tt
+empty_turns d spot (kinds.Word reserved.Do) = tt
+empty_turns d spot (kinds.Word reserved.For) = tt
+empty_turns d spot (kinds.Word reserved.Thru) = tt
+empty_turns d spot (kinds.Word reserved.Case) = tt
+empty_turns d spot (kinds.Word reserved.Go) = tt
+empty_turns d spot (kinds.Word reserved.Process) = tt
+empty_turns d spot (kinds.Word reserved.Write) = tt
+empty_turns d spot (kinds.Word reserved.Cause) = tt
+empty_turns d spot (kinds.Word reserved.Reset) = tt
+empty_turns d spot (kinds.Word reserved.Wait) = tt
+empty_turns d spot (kinds.Word reserved.Procure) = tt
+empty_turns d spot (kinds.Word reserved.Liberate) = tt
+empty_turns d spot k = refl
 
 pub empty_here : (d : ℕ) {tokens : List Token} {t : Token} {ts : List Token} → tokens ≡ t ∷ ts → name_in t.kind ≡ None → start_of t.kind ≡ starts.Nothing →
     turn (statement d) t.spot t.kind ≡ makes (put (stmt trees.empty))
-empty_here d {t = t} at_ e f = empty_turn d t.spot t.kind e f
+empty_here d {t = t} at_ e f = subst (λ name. Empties name starts.Nothing (turn_statement d t.spot t.kind)) e
+    (subst (λ s. Empties (name_in t.kind) s (turn_statement d t.spot t.kind)) f (empty_turns d t.spot t.kind))
 
 name_of : (k : TokenKind) (name : List ℕ) → name_in k ≡ Some name → k ≡ kinds.Name name
 name_of (kinds.Name n) name e = let same : n ≡ name = cc in ap kinds.Name same
@@ -113,25 +122,34 @@ module _ (n : Named) (d : ℕ) {tokens : List Token} {t : Token} {ts : List Toke
   pub square_takes : is_symbol symbols.OpenSquare t.kind ≡ true → turn (behind_start n d) t.spot t.kind ≡ takes plain (element_in n)
   square_takes e = ap (turn_behind_start n d) (symbol_from t.kind symbols.OpenSquare e)
 
-call_turn : (n : Named) (d : ℕ) (t : Token) (ts : List Token) (due_ : List Due) (vs : List Value) (k : TokenKind) → t.kind ≡ k → is_symbol symbols.Colon k ≡ false →
-    is_symbol symbols.Becomes k ≡ false → is_symbol symbols.OpenSquare k ≡ false →
+-- without a parenthesis both the statement and its actuals are done
+silent : (n : Named) (d : ℕ) (spot : Spot) (k : TokenKind) → is_symbol symbols.Colon k ≡ false → is_symbol symbols.Becomes k ≡ false →
+    is_symbol symbols.OpenSquare k ≡ false → is_symbol symbols.OpenRound k ≡ false →
+    (turn_behind_start n d k ≡ makes (put (stmt (trees.call_of (called n none))))) × (turn actuals_part spot k ≡ makes (put (due.many none)))
+silent n d spot (kinds.Symbol symbols.Colon) a b c e = cc
+silent n d spot (kinds.Symbol symbols.Becomes) a b c e = cc
+silent n d spot (kinds.Symbol symbols.OpenSquare) a b c e = cc
+silent n d spot (kinds.Symbol symbols.OpenRound) a b c e = cc
+silent n d spot k a b c e = (refl, refl)
+
+call_turn : (n : Named) (d : ℕ) (t : Token) (ts : List Token) (due_ : List Due) (vs : List Value) (o : Bool) → is_symbol symbols.OpenRound t.kind ≡ o →
+    is_symbol symbols.Colon t.kind ≡ false → is_symbol symbols.Becomes t.kind ≡ false → is_symbol symbols.OpenSquare t.kind ≡ false →
     read 0 (t ∷ ts) (behind_start n d ∷ due_) vs ≡ read 0 (t ∷ ts) (actuals_part ∷ make (calling n) ∷ due_) vs
-call_turn n d t ts due_ vs (kinds.Symbol symbols.Colon) e a b c = cc
-call_turn n d t ts due_ vs (kinds.Symbol symbols.Becomes) e a b c = cc
-call_turn n d t ts due_ vs (kinds.Symbol symbols.OpenSquare) e a b c = cc
-call_turn n d t ts due_ vs (kinds.Symbol symbols.OpenRound) e a b c =
-    takes_step 0 t ts (behind_start n d) (wholes_in ++ symbol symbols.CloseRound ∷ make (calling n) ∷ []) due_ vs (ap (turn_behind_start n d) e)
-    ∙ sym (takes_step 0 t ts actuals_part (wholes_in ++ symbol symbols.CloseRound ∷ []) (make (calling n) ∷ due_) vs (ap (turn actuals_part t.spot) e))
-call_turn n d t ts due_ vs k e a b c =
-    makes_step 0 t ts (behind_start n d) due_ vs (put (stmt (trees.call_of (called n none)))) (ap (turn_behind_start n d) e)
-    ∙ sym (makes_step 0 t ts actuals_part (make (calling n) ∷ due_) vs (put (due.many none)) (ap (turn actuals_part t.spot) e)
+call_turn n d t ts due_ vs true e a b c =
+    let k = symbol_from t.kind symbols.OpenRound e in
+    takes_step 0 t ts (behind_start n d) (wholes_in ++ symbol symbols.CloseRound ∷ make (calling n) ∷ []) due_ vs (ap (turn_behind_start n d) k)
+    ∙ sym (takes_step 0 t ts actuals_part (wholes_in ++ symbol symbols.CloseRound ∷ []) (make (calling n) ∷ due_) vs (ap (turn actuals_part t.spot) k))
+call_turn n d t ts due_ vs false e a b c =
+    let q = silent n d t.spot t.kind a b c e in
+    makes_step 0 t ts (behind_start n d) due_ vs (put (stmt (trees.call_of (called n none)))) q.0
+    ∙ sym (makes_step 0 t ts actuals_part (make (calling n) ∷ due_) vs (put (due.many none)) q.1
     ∙ make_step 0 (t ∷ ts) (calling n) due_ (due.many none ∷ vs))
 
 pub call_there : (n : Named) (d : ℕ) {us : List Value} {tokens : List Token} {t : Token} {ts : List Token} → tokens ≡ t ∷ ts → is_symbol symbols.Colon t.kind ≡ false →
     is_symbol symbols.Becomes t.kind ≡ false → is_symbol symbols.OpenSquare t.kind ≡ false →
     Reaches (behind_start n d ∷ []) us tokens (actuals_part ∷ make (calling n) ∷ []) us tokens
 call_there n d {us = us} {t = t} {ts = ts} at_ a b c = subst (λ x. Reaches (behind_start n d ∷ []) us x (actuals_part ∷ make (calling n) ∷ []) us x) (sym at_)
-    (record { run = λ due_ vs. call_turn n d t ts due_ (us ++ vs) t.kind refl a b c })
+    (record { run = λ due_ vs. call_turn n d t ts due_ (us ++ vs) (is_symbol symbols.OpenRound t.kind) refl a b c })
 
 -- a label's colon
 
@@ -194,13 +212,22 @@ pub record Lister (k : TokenKind) : Type 0 where
   pub is : (ns : List Named) → listing k ns ≡ Some (of ns)
   pub turns : (d : ℕ) → turn_declarations d k ≡ takes plain ((names_in ++ make (names_declared of) ∷ symbol symbols.Semicolon ∷ []) ++ declarations d ∷ [])
 
+abbrev Listed : Bool → Bool → Bool → TokenKind → Type 0
+Listed true false false k = Lister k
+Listed lists array file k = Unit
+
+listers : (k : TokenKind) → Listed (lists_names k) (is_word reserved.Array k) (is_word reserved.File k) k
+listers (kinds.Word reserved.Event) = record { of = trees.events; is = λ ns. refl; turns = λ d. refl }
+listers (kinds.Word reserved.Task) = record { of = trees.tasks; is = λ ns. refl; turns = λ d. refl }
+listers (kinds.Word reserved.Label) = record { of = trees.labels; is = λ ns. refl; turns = λ d. refl }
+listers (kinds.Word reserved.Array) = tt
+listers (kinds.Word reserved.File) = tt
+listers k = tt
+
 pub lister : (k : TokenKind) → lists_names k ≡ true → is_word reserved.Array k ≡ false → is_word reserved.File k ≡ false → Lister k
-lister (kinds.Word reserved.Event) a b c = record { of = trees.events; is = λ ns. refl; turns = λ d. refl }
-lister (kinds.Word reserved.Task) a b c = record { of = trees.tasks; is = λ ns. refl; turns = λ d. refl }
-lister (kinds.Word reserved.Label) a b c = record { of = trees.labels; is = λ ns. refl; turns = λ d. refl }
-lister (kinds.Word reserved.Array) a b c = cc
-lister (kinds.Word reserved.File) a b c = cc
-lister k a b c = cc
+lister k a b c = subst (λ file. Listed true false file k) c
+    (subst (λ array. Listed true array (is_word reserved.File k) k) b
+    (subst (λ lists. Listed lists (is_word reserved.Array k) (is_word reserved.File k) k) a (listers k)))
 
 pub some_same : {A : Type 0} {x y : A} {o : Option A} → Some x ≡ o → o ≡ Some y → x ≡ y
 some_same p q = let r = p ∙ q in cc
@@ -212,15 +239,19 @@ pub procedure_declared : (d : ℕ) {tokens : List Token} {t : Token} {ts : List 
     turn (declarations d) t.spot t.kind ≡ takes plain (procedure_in None d ++ declarations d ∷ [])
 procedure_declared d {t = t} at_ e = ap (turn_declarations d) (word_from t.kind reserved.Procedure e)
 
-type_turn : (d : ℕ) (k : TokenKind) (kind : Kind) → type_of k ≡ Some kind → turn_declarations d k ≡ takes plain (typed kind d ∷ declarations d ∷ [])
-type_turn d (kinds.Word reserved.Integer) kind e = let same : types.Number ≡ kind = cc in ap (λ kind. takes plain (typed kind d ∷ declarations d ∷ [])) same
-type_turn d (kinds.Word reserved.Real) kind e = let same : types.Number ≡ kind = cc in ap (λ kind. takes plain (typed kind d ∷ declarations d ∷ [])) same
-type_turn d (kinds.Word reserved.Boolean) kind e = let same : types.Truth ≡ kind = cc in ap (λ kind. takes plain (typed kind d ∷ declarations d ∷ [])) same
-type_turn d k kind e = cc
+abbrev Types : ℕ → Option Kind → Turn → Type 0
+Types d (Some kind) x = x ≡ takes plain (typed kind d ∷ declarations d ∷ [])
+Types d None x = Unit
+
+type_turns : (d : ℕ) (k : TokenKind) → Types d (type_of k) (turn_declarations d k)
+type_turns d (kinds.Word reserved.Integer) = refl
+type_turns d (kinds.Word reserved.Real) = refl
+type_turns d (kinds.Word reserved.Boolean) = refl
+type_turns d k = tt
 
 pub type_declared : (d : ℕ) {tokens : List Token} {t : Token} {ts : List Token} → tokens ≡ t ∷ ts → (kind : Kind) → type_of t.kind ≡ Some kind →
     turn (declarations d) t.spot t.kind ≡ takes plain (typed kind d ∷ declarations d ∷ [])
-type_declared d {t = t} at_ kind e = type_turn d t.kind kind e
+type_declared d {t = t} at_ kind e = subst (λ o. Types d o (turn_declarations d t.kind)) e (type_turns d t.kind)
 
 none_turn : (d : ℕ) (k : TokenKind) → is_word reserved.Procedure k ≡ false → type_of k ≡ None → lists_names k ≡ false → turn_declarations d k ≡ skips
 none_turn d (kinds.Word reserved.File) a b c = cc
@@ -271,25 +302,34 @@ data Enters (d : ℕ) : Turn → Turn → Type 0 where
   flat : (ds : List Due) → Enters d (takes plain ds) (takes (nests d) (ds ++ behind_body))
   nested : (ds : List Due) → Enters d (takes (nests (d + 1)) ds) (takes (nests (d + 1)) (ds ++ behind_body))
 
+abbrev EntersWhere : Bool → Bool → ℕ → Turn → Turn → Type 0
+EntersWhere false true d x y = Enters d x y
+EntersWhere semicolon begins d x y = Unit
+
+entering : (d : ℕ) (spot : Spot) (k : TokenKind) →
+    EntersWhere (is_symbol symbols.Semicolon k) (begins_body k) d (turn_statement (d + 1) spot k) (turn_procedure_body d spot k)
+entering d spot (kinds.Name n) = flat _
+entering d spot (kinds.Word reserved.Begin) = nested _
+entering d spot (kinds.Word reserved.If) = nested _
+entering d spot (kinds.Word reserved.While) = nested _
+entering d spot (kinds.Word reserved.Do) = nested _
+entering d spot (kinds.Word reserved.For) = nested _
+entering d spot (kinds.Word reserved.Thru) = nested _
+entering d spot (kinds.Word reserved.Case) = nested _
+entering d spot (kinds.Word reserved.Go) = flat _
+entering d spot (kinds.Word reserved.Process) = flat _
+entering d spot (kinds.Word reserved.Write) = flat _
+entering d spot (kinds.Word reserved.Cause) = flat _
+entering d spot (kinds.Word reserved.Reset) = flat _
+entering d spot (kinds.Word reserved.Wait) = flat _
+entering d spot (kinds.Word reserved.Procure) = flat _
+entering d spot (kinds.Word reserved.Liberate) = flat _
+entering d spot (kinds.Symbol symbols.Semicolon) = tt
+entering d spot k = tt
+
 enters : (d : ℕ) (spot : Spot) (k : TokenKind) → is_symbol symbols.Semicolon k ≡ false → begins_body k ≡ true → Enters d (turn_statement (d + 1) spot k) (turn_procedure_body d spot k)
-enters d spot (kinds.Name n) a b = flat _
-enters d spot (kinds.Word reserved.Begin) a b = nested _
-enters d spot (kinds.Word reserved.If) a b = nested _
-enters d spot (kinds.Word reserved.While) a b = nested _
-enters d spot (kinds.Word reserved.Do) a b = nested _
-enters d spot (kinds.Word reserved.For) a b = nested _
-enters d spot (kinds.Word reserved.Thru) a b = nested _
-enters d spot (kinds.Word reserved.Case) a b = nested _
-enters d spot (kinds.Word reserved.Go) a b = flat _
-enters d spot (kinds.Word reserved.Process) a b = flat _
-enters d spot (kinds.Word reserved.Write) a b = flat _
-enters d spot (kinds.Word reserved.Cause) a b = flat _
-enters d spot (kinds.Word reserved.Reset) a b = flat _
-enters d spot (kinds.Word reserved.Wait) a b = flat _
-enters d spot (kinds.Word reserved.Procure) a b = flat _
-enters d spot (kinds.Word reserved.Liberate) a b = flat _
-enters d spot (kinds.Symbol symbols.Semicolon) a b = cc
-enters d spot k a b = cc
+enters d spot k a b = subst (λ begins. EntersWhere false begins d (turn_statement (d + 1) spot k) (turn_procedure_body d spot k)) b
+    (subst (λ semicolon. EntersWhere semicolon (begins_body k) d (turn_statement (d + 1) spot k) (turn_procedure_body d spot k)) a (entering d spot k))
 
 module _ (d : ℕ) (t : Token) (ts : List Token) where
   entered_read : (x y : Turn) → Enters d x y → turn (statement (d + 1)) t.spot t.kind ≡ x → turn (procedure_body d) t.spot t.kind ≡ y → d < MOST_NESTING →
