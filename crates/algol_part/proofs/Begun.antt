@@ -28,9 +28,9 @@ use Rattle.algol_part.specs.declared.start.Start.{Start}
 use Rattle.algol_part.specs.declared.start.Start.TheVariants as starts
 use Rattle.algol_part.specs.Starts.{start_of, begins_body}
 use Rattle.algol_part.specs.Openings.{behind_word, behind_verb}
-use Rattle.algol_tree.specs.Plain.{PDecl}
 use Rattle.algol_tree.specs.DueDecl.{names_in}
-use Rattle.algol_part.specs.Phrases.{element_in, lists_names, listing, printers_in}
+use Rattle.algol_part.specs.declared.declaration.Listed.{Listed}
+use Rattle.algol_part.specs.Phrases.{element_in, lists_names, listed_by, listed_in}
 use Rattle.algol_expr.proofs.Reading.{Takes, taken, read-at}
 use Rattle.algol_part.proofs.Chains.{here, too_deep_here}
 use Rattle.algol_part.proofs.Specs.{names_there}
@@ -202,35 +202,37 @@ pub array_declared : (d : ℕ) {tokens : List Token} {t : Token} {ts : List Toke
     turn (declarations d) t.spot t.kind ≡ takes plain ((segment_in types.Number ++ symbol symbols.Semicolon ∷ []) ++ declarations d ∷ [])
 array_declared d {t = t} at_ e = ap (turn_declarations d) (word_from t.kind reserved.Array e)
 
-pub file_declared : (d : ℕ) {tokens : List Token} {t : Token} {ts : List Token} → tokens ≡ t ∷ ts → is_word reserved.File t.kind ≡ true →
-    turn (declarations d) t.spot t.kind ≡ takes plain (printers_in ++ declarations d ∷ [])
-file_declared d {t = t} at_ e = ap (turn_declarations d) (word_from t.kind reserved.File e)
+-- names that are declared by the word before them
+abbrev ListedTurn : Option Listed → ℕ → Turn → Type 0
+ListedTurn (Some l) d x = x ≡ takes plain (listed_in l ++ declarations d ∷ [])
+ListedTurn None d x = Unit
 
--- the names after EVENT, TASK or LABEL
-pub record Lister (k : TokenKind) : Type 0 where
-  pub of : List Named → PDecl
-  pub is : (ns : List Named) → listing k ns ≡ Some (of ns)
-  pub turns : (d : ℕ) → turn_declarations d k ≡ takes plain ((names_in ++ make (names_declared of) ∷ symbol symbols.Semicolon ∷ []) ++ declarations d ∷ [])
+listed_turns : (d : ℕ) (k : TokenKind) → ListedTurn (listed_by k) d (turn_declarations d k)
+listed_turns d (kinds.Word reserved.File) = refl
+listed_turns d (kinds.Word reserved.Event) = refl
+listed_turns d (kinds.Word reserved.Task) = refl
+listed_turns d (kinds.Word reserved.Label) = refl
+listed_turns d k = tt
 
-abbrev Listed : Bool → Bool → Bool → TokenKind → Type 0
-Listed true false false k = Lister k
-Listed lists array file k = Unit
+pub listed_declared : (d : ℕ) {tokens : List Token} {t : Token} {ts : List Token} → tokens ≡ t ∷ ts → (l : Listed) → listed_by t.kind ≡ Some l →
+    turn (declarations d) t.spot t.kind ≡ takes plain (listed_in l ++ declarations d ∷ [])
+listed_declared d {t = t} at_ l e = subst (λ o. ListedTurn o d (turn_declarations d t.kind)) e (listed_turns d t.kind)
 
-listers : (k : TokenKind) → Listed (lists_names k) (is_word reserved.Array k) (is_word reserved.File k) k
-listers (kinds.Word reserved.Event) = record { of = trees.events; is = λ ns. refl; turns = λ d. refl }
-listers (kinds.Word reserved.Task) = record { of = trees.tasks; is = λ ns. refl; turns = λ d. refl }
-listers (kinds.Word reserved.Label) = record { of = trees.labels; is = λ ns. refl; turns = λ d. refl }
-listers (kinds.Word reserved.Array) = tt
-listers (kinds.Word reserved.File) = tt
-listers k = tt
+-- ARRAY is the other word
+abbrev ArrayElse : Bool → Option Listed → TokenKind → Type 0
+ArrayElse true None k = is_word reserved.Array k ≡ true
+ArrayElse lists o k = Unit
 
-pub lister : (k : TokenKind) → lists_names k ≡ true → is_word reserved.Array k ≡ false → is_word reserved.File k ≡ false → Lister k
-lister k a b c = subst (λ file. Listed true false file k) c
-    (subst (λ array. Listed true array (is_word reserved.File k) k) b
-    (subst (λ lists. Listed lists (is_word reserved.Array k) (is_word reserved.File k) k) a (listers k)))
+arrays_else : (k : TokenKind) → ArrayElse (lists_names k) (listed_by k) k
+arrays_else (kinds.Word reserved.Array) = refl
+arrays_else (kinds.Word reserved.File) = tt
+arrays_else (kinds.Word reserved.Event) = tt
+arrays_else (kinds.Word reserved.Task) = tt
+arrays_else (kinds.Word reserved.Label) = tt
+arrays_else k = tt
 
-pub some_same : {A : Type 0} {x y : A} {o : Option A} → Some x ≡ o → o ≡ Some y → x ≡ y
-some_same p q = let r = p ∙ q in cc
+pub array_else : (k : TokenKind) → lists_names k ≡ true → listed_by k ≡ None → is_word reserved.Array k ≡ true
+array_else k a b = subst (λ o. ArrayElse true o k) b (subst (λ lists. ArrayElse lists (listed_by k) k) a (arrays_else k))
 
 pub not_end_lists : (k : TokenKind) → lists_names k ≡ true → k ≡ kinds.End → ⊥
 not_end_lists k e q = let no : false ≡ true = sym (ap lists_names q) ∙ e in cc

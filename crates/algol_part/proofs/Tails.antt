@@ -1,13 +1,15 @@
 -- Results that are returned as they are.
-use Rattle.std.proofs.Common.{◌≡◌, ℕ, sym, subst, List, [], ◌∷◌, ◌++◌, Result, Ok, Err, IfErr, arith}
+use Rattle.std.proofs.Common.{◌≡◌, ℕ, Bool, sym, subst, List, [], ◌∷◌, ◌++◌, Result, Ok, Err, IfErr, arith}
 use Rattle.std.specs.Result.{IfOk}
 use Rattle.std.proofs.lemmas.Result.{IfOk-weaker}
 use Rattle.algol_tree.specs.declared.token.Token.{Token}
 use Rattle.algol_tree.specs.declared.refusal.Refusal.{Refusal}
-use Rattle.algol_tree.specs.Due.{Value, Due, declarations}
+use Rattle.algol_tree.specs.declared.tree.Named.{Named}
+use Rattle.algol_tree.specs.Due.{Value, names, Due, declarations}
 use Rattle.algol_tree.specs.Found.{IsRest, Finds, Completes, Lists, Refuses}
 use Rattle.algol_expr.proofs.Chain.{Reaches, via, completing}
 use Rattle.algol_part.specs.Brings.{Brings, Adds, AddsNone, Repeats}
+use Rattle.algol_part.specs.Phrases.{names_of}
 use Rattle.algol_part.proofs.Chains.{bringing, listing, adding, refusing_all, refusing_on, rest_of}
 
 pub if_err : {T E : Type 0} (r : Result T E) (P Q : E → Type 0) → ((e : E) → P e → Q e) → IfErr r P → IfErr r Q
@@ -87,3 +89,12 @@ lists_by r left v end part b a h = IfOk-weaker r _ _ (λ x f. record { run = (li
 pub lists_here : {T : Type 0} (r : Result T Refusal) (left v : Value) (end : T → List Token) {tokens : List Token} {from : List Due} (part : List Due) →
     Reaches from (left ∷ []) tokens (part ++ []) (left ∷ []) tokens → IfOk r (λ x. Lists part tokens left v (end x)) → IfOk r (λ x. Lists from tokens left v (end x))
 lists_here r left v end part a h = IfOk-weaker r _ _ (λ x f. record { run = (listing a f).run; behind = f.behind }) h
+
+-- names or files, by the test that told them apart
+module _ {T : Type 0} (r : Result T Refusal) {b files : Bool} (is : b ≡ files) (tokens : List Token) where
+  pub names_brought : (found : T → List Named) (end : T → List Token) → IfOk r (λ x. Brings (names_of files) tokens (names (found x)) (end x)) →
+      IfOk r (λ x. Brings (names_of b) tokens (names (found x)) (end x))
+  names_brought found end h = subst (λ y. IfOk r (λ x. Brings (names_of y) tokens (names (found x)) (end x))) (sym is) h
+
+  pub names_refused : IfErr r (λ e. Refuses (names_of files) [] tokens e) → IfErr r (λ e. Refuses (names_of b) [] tokens e)
+  names_refused h = subst (λ y. IfErr r (λ e. Refuses (names_of y) [] tokens e)) (sym is) h

@@ -9,6 +9,8 @@ use Rattle.algol_tree.specs.declared.token.Symbol.TheVariants as symbols
 use Rattle.algol_tree.specs.declared.tree.Kind.{Kind}
 use Rattle.algol_tree.specs.declared.tree.Named.{Named}
 use Rattle.algol_tree.specs.declared.tree.EventAct.{EventAct}
+use Rattle.algol_part.specs.declared.declaration.Listed.{Listed}
+use Rattle.algol_part.specs.declared.declaration.Listed.TheVariants as sorts
 use Rattle.algol_tree.specs.Plain.{PDecl, simple, files, events, tasks, labels, no_stmts}
 use Rattle.algol_tree.specs.Tokens.{is_word}
 use Rattle.algol_tree.specs.Headings.{type_of}
@@ -25,13 +27,29 @@ names_before s = names_in ++ symbol s ∷ []
 abbrev pub closed_names : List Due
 closed_names = names_before symbols.Semicolon
 
+-- what names are declared as, where nothing else is told of them
+abbrev pub declares : Listed → List Named → PDecl
+declares (sorts.Simple kind) = simple kind
+declares sorts.Files = files
+declares sorts.Events = events
+declares sorts.Tasks = tasks
+declares sorts.Labels = labels
+
+abbrev pub are_files : Listed → Bool
+are_files sorts.Files = true
+are_files l = false
+
+abbrev pub names_of : Bool → List Due
+names_of true = files_in
+names_of false = names_in
+
+-- names that are declared so, up to the semicolon
+abbrev pub listed_in : Listed → List Due
+listed_in l = names_of (are_files l) ++ make (names_declared (declares l)) ∷ symbol symbols.Semicolon ∷ []
+
 -- the names after a type
 abbrev pub simples_in : Kind → List Due
 simples_in kind = names_in ++ make (names_declared (simple kind)) ∷ symbol symbols.Semicolon ∷ []
-
--- the files after FILE
-abbrev pub printers_in : List Due
-printers_in = files_in ++ make (names_declared files) ∷ symbol symbols.Semicolon ∷ []
 
 abbrev pub closed_wholes : Symbol → List Due
 closed_wholes closing = wholes_in ++ symbol closing ∷ []
@@ -118,9 +136,10 @@ lists_names (kinds.Word reserved.Label) = true
 lists_names (kinds.Word reserved.Array) = true
 lists_names k = false
 
--- the declaration of names after EVENT, TASK or LABEL
-abbrev pub listing : TokenKind → List Named → Option PDecl
-listing (kinds.Word reserved.Event) ns = Some (events ns)
-listing (kinds.Word reserved.Task) ns = Some (tasks ns)
-listing (kinds.Word reserved.Label) ns = Some (labels ns)
-listing k ns = None
+-- what the names after such a word are declared as
+abbrev pub listed_by : TokenKind → Option Listed
+listed_by (kinds.Word reserved.File) = Some sorts.Files
+listed_by (kinds.Word reserved.Event) = Some sorts.Events
+listed_by (kinds.Word reserved.Task) = Some sorts.Tasks
+listed_by (kinds.Word reserved.Label) = Some sorts.Labels
+listed_by k = None

@@ -1,23 +1,31 @@
 //! Declarations in which no statement stands.
 
-ghost use Rattle.std.specs.Prelude.{◌≡◌, [], ◌∷◌, ◌++◌, ℕ, true, false, Some, IfOk, IfErr};
+ghost use Rattle.std.specs.Prelude.{◌≡◌, [], ◌∷◌, ◌++◌, ℕ, true, IfOk, IfErr};
 ghost use Rattle.algol_tree.specs.Ended.{EndsOnce};
-ghost use Rattle.algol_tree.specs.Due.{pairs, declared, declarations};
+ghost use Rattle.algol_tree.specs.Due.{pairs, names, declared, declarations};
 ghost use Rattle.algol_tree.specs.DueStmt.{pair_in, decl_behind};
-ghost use Rattle.algol_tree.specs.Tokens.{is_word};
-ghost use Rattle.algol_tree.specs.declared.token.Reserved.TheVariants as reserved;
 ghost use Rattle.algol_tree.specs.Image as image;
 ghost use Rattle.algol_tree.specs.Image.{decls as decls_of};
 ghost use Rattle.algol_tree.specs.Found.{Lists, Refuses};
 ghost use Rattle.algol_part.specs.Brings.{Brings, Adds, AddsNone, Repeats};
-ghost use Rattle.algol_part.specs.Phrases.{pairs_in, one_segment, arrays_in, lists_names, listing, printers_in, simples_in};
+ghost use Rattle.algol_part.specs.Phrases.{pairs_in, one_segment, arrays_in, lists_names, listed_by, listed_in, names_of, are_files, declares, simples_in};
 
-use crate::make::{arrays, pair, printers, simple};
+use crate::make::{arrays, pair};
 use crate::names::{read_files, read_names, read_names_before};
 use crate::take::read_literal;
-use algol_expr::{expect_symbol, first_of, is_symbol, is_word, read_whole};
+use algol_expr::{expect_symbol, first_of, is_symbol, read_whole};
 use algol_tree::{Decl, Kind, List, Named, Pair, Refusal, Reserved, Symbol, Token, TokenKind};
 use std::alloc::Global;
+
+/// What names are declared as, where nothing else is told of them.
+#[derive(Clone, Copy)]
+pub(crate) enum Listed {
+    Simple(Kind),
+    Files,
+    Events,
+    Tasks,
+    Labels,
+}
 
 /// segment { "," segment } ";", after ARRAY
 pub fn read_arrays<'a>(
@@ -112,15 +120,9 @@ pub fn read_listed<'a>(
     ensures found { IfOk result (λ rest. (d : ℕ) → Repeats (declarations d) (first.now ∷ behind.now) (declared (decls_of decls.old.items)) (declared (decls_of decls.new.items)) rest.now) }
     ensures refused { IfErr result (λ e. (d : ℕ) → Refuses (declarations d ∷ []) (declared (decls_of decls.old.items) ∷ []) (first.now ∷ behind.now) e) }
 {
-    if is_word(first, Reserved::Array) {
-        read_arrays(alloc, Kind::Number, decls, behind)
-    } else if is_word(first, Reserved::File) {
-        read_printers(alloc, decls, behind)
-    } else {
-        let (names, rest) = read_names(alloc, behind)?;
-        let rest = expect_symbol(rest, Symbol::Semicolon)?;
-        decls.push(listing(first, names))?;
-        Ok(rest)
+    match listed_by(first) {
+        Some(listed) => read_declared(alloc, listed, decls, behind),
+        None => read_arrays(alloc, Kind::Number, decls, behind),
     }
 }
 
@@ -135,40 +137,74 @@ pub fn read_simples<'a>(
     ensures found { IfOk result (λ rest. Lists (simples_in kind) tokens.now (declared (decls_of decls.old.items)) (declared (decls_of decls.new.items)) rest.now) }
     ensures refused { IfErr result (λ e. Refuses (simples_in kind) (declared (decls_of decls.old.items) ∷ []) tokens.now e) }
 {
-    let (names, rest) = read_names(alloc, tokens)?;
-    let rest = expect_symbol(rest, Symbol::Semicolon)?;
-    decls.push(simple(kind, names))?;
-    Ok(rest)
+    read_declared(alloc, Listed::Simple(kind), decls, tokens)
 }
 
-/// files ";", after FILE
-fn read_printers<'a>(
+/// names ";", or files ";", which are declared so
+fn read_declared<'a>(
     alloc: Global,
+    listed: Listed,
     decls: &mut Vec<Decl>,
     tokens: &'a [Token],
 ) -> Result<&'a [Token], Refusal>
     requires ended { EndsOnce tokens.now }
-    ensures found { IfOk result (λ rest. Lists printers_in tokens.now (declared (decls_of decls.old.items)) (declared (decls_of decls.new.items)) rest.now) }
-    ensures refused { IfErr result (λ e. Refuses printers_in (declared (decls_of decls.old.items) ∷ []) tokens.now e) }
+    ensures found { IfOk result (λ rest. Lists (listed_in listed) tokens.now (declared (decls_of decls.old.items)) (declared (decls_of decls.new.items)) rest.now) }
+    ensures refused { IfErr result (λ e. Refuses (listed_in listed) (declared (decls_of decls.old.items) ∷ []) tokens.now e) }
 {
-    let (files, rest) = read_files(alloc, tokens)?;
+    let (names, rest) = read_listed_names(alloc, listed, tokens)?;
     let rest = expect_symbol(rest, Symbol::Semicolon)?;
-    decls.push(printers(files))?;
+    decls.push(listing(listed, names))?;
     Ok(rest)
 }
 
-/// The declaration of the names after EVENT, TASK or LABEL
-fn listing(word: &Token, names: List<Named>) -> Decl
-    requires word { lists_names word.now.kind ≡ true }
-    requires array { is_word reserved.Array word.now.kind ≡ false }
-    requires file { is_word reserved.File word.now.kind ≡ false }
-    ensures { Some (image.decl result) ≡ listing word.now.kind names }
+/// names, or files
+fn read_listed_names(
+    alloc: Global,
+    listed: Listed,
+    tokens: &[Token],
+) -> Result<(List<Named>, &[Token]), Refusal>
+    requires ended { EndsOnce tokens.now }
+    ensures found { IfOk result (λ r. Brings (names_of (are_files listed)) tokens.now (names r.0) r.1.now) }
+    ensures refused { IfErr result (λ e. Refuses (names_of (are_files listed)) [] tokens.now e) }
 {
-    if is_word(word, Reserved::Event) {
-        Decl::Events(names)
-    } else if is_word(word, Reserved::Task) {
-        Decl::Tasks(names)
+    if are_files(listed) {
+        read_files(alloc, tokens)
     } else {
-        Decl::Labels(names)
+        read_names(alloc, tokens)
+    }
+}
+
+fn are_files(listed: Listed) -> bool
+    ensures { result ≡ are_files listed }
+{
+    match listed {
+        Listed::Files => true,
+        _ => false,
+    }
+}
+
+/// What the names after the token are declared as, where nothing else is told of them.
+fn listed_by(token: &Token) -> Option<Listed>
+    ensures { result ≡ listed_by token.now.kind }
+{
+    match token.kind {
+        TokenKind::Word(Reserved::File) => Some(Listed::Files),
+        TokenKind::Word(Reserved::Event) => Some(Listed::Events),
+        TokenKind::Word(Reserved::Task) => Some(Listed::Tasks),
+        TokenKind::Word(Reserved::Label) => Some(Listed::Labels),
+        _ => None,
+    }
+}
+
+/// The declaration of names as that
+fn listing(listed: Listed, names: List<Named>) -> Decl
+    ensures { image.decl result ≡ declares listed names }
+{
+    match listed {
+        Listed::Simple(kind) => Decl::Simple(kind, names),
+        Listed::Files => Decl::Files(names),
+        Listed::Events => Decl::Events(names),
+        Listed::Tasks => Decl::Tasks(names),
+        Listed::Labels => Decl::Labels(names),
     }
 }

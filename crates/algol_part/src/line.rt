@@ -29,8 +29,7 @@ pub(crate) fn read_write(alloc: Global, tokens: &[Token]) -> Result<(Stmt, &[Tok
 {
     let rest = expect_symbol(tokens, Symbol::OpenRound)?;
     let (file, rest) = read_name_before(alloc, rest, Symbol::Comma)?;
-    let (statement, rest) = read_format(alloc, file, rest)?;
-    Ok((statement, rest))
+    read_format(alloc, file, rest)
 }
 
 /// "<" phrase { "," phrase } ">" [ "," expr { "," expr } ] ")", after the name of the file

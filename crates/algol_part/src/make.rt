@@ -33,18 +33,6 @@ pub(crate) fn writing(file: Named, spot: Spot, phrases: List<PhraseText>, items:
     Stmt::Write(file, spot, phrases, items)
 }
 
-pub(crate) fn simple(kind: Kind, names: List<Named>) -> Decl
-    ensures { image.decl result ≡ trees.simple kind names }
-{
-    Decl::Simple(kind, names)
-}
-
-pub(crate) fn printers(files: List<Named>) -> Decl
-    ensures { image.decl result ≡ trees.files files }
-{
-    Decl::Files(files)
-}
-
 pub(crate) fn arrays(kind: Kind, names: List<Named>, pairs: List<Pair>) -> Decl
     ensures { image.decl result ≡ trees.arrays kind names (image.pairs pairs) }
 {

@@ -5,13 +5,12 @@ ghost use Rattle.algol_tree.specs.Ended.{EndsOnce};
 ghost use Rattle.algol_tree.specs.declared.refusal.Code.TheVariants as codes;
 ghost use Rattle.algol_tree.specs.declared.refusal.Refusal.TheVariants as refusals;
 ghost use Rattle.algol_tree.specs.Due as due;
-ghost use Rattle.algol_tree.specs.Due.{one, stmt, make};
-ghost use Rattle.algol_tree.specs.DueStmt.{calling};
+ghost use Rattle.algol_tree.specs.Due.{one, stmt};
 ghost use Rattle.algol_tree.specs.Image as image;
 ghost use Rattle.algol_tree.specs.Image.{stmt as plain};
 ghost use Rattle.algol_tree.specs.Found.{Refuses};
 ghost use Rattle.algol_part.specs.Brings.{Brings};
-ghost use Rattle.algol_part.specs.Phrases.{choice_in, value_in};
+ghost use Rattle.algol_part.specs.Phrases.{choice_in};
 ghost use Rattle.algol_part.specs.Openings.{behind_for, behind_word, behind_verb, still_due, so_far, ComesTo, Begins};
 
 use crate::exprs::read_actuals;
@@ -103,36 +102,16 @@ fn read_behind_name(
             behind,
         ))
     } else if is_symbol(first, Symbol::Becomes) {
-        let (assignment, rest) = read_value(alloc, name, behind)?;
-        Ok((Beginning::Whole(assignment), rest))
+        let (value, rest) = read_whole(alloc, behind, 0)?;
+        let subs = List::of(Vec::new(alloc));
+        Ok((Beginning::Whole(assignment(name, subs, value)), rest))
     } else if is_symbol(first, Symbol::OpenSquare) {
         let (element, rest) = read_element(alloc, name, behind)?;
         Ok((Beginning::Whole(element), rest))
     } else {
-        let (call, rest) = read_call(alloc, name, tokens)?;
-        Ok((Beginning::Whole(call), rest))
+        let (actuals, rest) = read_actuals(alloc, tokens)?;
+        Ok((Beginning::Whole(called(name, actuals)), rest))
     }
-}
-
-/// expr, after a name and ":="
-fn read_value(alloc: Global, name: Named, tokens: &[Token]) -> Result<(Stmt, &[Token]), Refusal>
-    requires ended { EndsOnce tokens.now }
-    ensures found { IfOk result (λ r. Brings (value_in name) tokens.now (stmt (plain r.0)) r.1.now) }
-    ensures refused { IfErr result (λ e. Refuses (value_in name) [] tokens.now e) }
-{
-    let (value, rest) = read_whole(alloc, tokens, 0)?;
-    let subs = List::of(Vec::new(alloc));
-    Ok((assignment(name, subs, value), rest))
-}
-
-/// [ "(" expr { "," expr } ")" ], after a name
-fn read_call(alloc: Global, name: Named, tokens: &[Token]) -> Result<(Stmt, &[Token]), Refusal>
-    requires ended { EndsOnce tokens.now }
-    ensures found { IfOk result (λ r. ComesTo (due.actuals_part ∷ make (calling name) ∷ []) [] tokens.now [] (stmt (plain r.0) ∷ []) r.1.now) }
-    ensures refused { IfErr result (λ e. Refuses (due.actuals_part ∷ make (calling name) ∷ []) [] tokens.now e) }
-{
-    let (actuals, rest) = read_actuals(alloc, tokens)?;
-    Ok((called(name, actuals), rest))
 }
 
 /// How many levels are open after a label at that place, which opens one

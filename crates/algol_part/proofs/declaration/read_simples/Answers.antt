@@ -1,18 +1,7 @@
-use Rattle.std.proofs.Common.{[], ◌∷◌, refl, sym, ap, ◌∙◌}
-use Rattle.algol_expr.proofs.Chain.{past, making}
-use Rattle.algol_part.proofs.Chains.{begun, bringing, failing, refusing_all, left_as, listed, rest_of, valued}
-use Rattle.algol_part.proofs.Loops.{one_decl}
-use Rattle.algol_part.specs.Phrases.{simples_in}
-use Rattle.algol_tree.specs.DueStmt.{decl_behind}
-use Rattle.algol_tree.specs.Due.{declared}
-use Rattle.algol_tree.specs.Plain as trees
 use Rattle.algol_part.proofs.declaration.read_simples.Goals as goal
 
-pub returns-in_err-names-clause-refused : goal.returns-in_err-names-clause-refused
-returns-in_err-names-clause-refused c = left_as _ _ _ c.from_residual.ensures.1 (refusing_all _ (begun (simples_in c.args.kind) (declared _ ∷ []) _) c.in_err-names.ensures.refused)
-
-pub returns-in_err-rest-clause-refused : goal.returns-in_err-rest-clause-refused
-returns-in_err-rest-clause-refused c = left_as _ _ _ c.from_residual-in_err-rest.ensures.1 (failing {ws = declared (decl_behind _ (trees.simple c.args.kind _)) ∷ []} (making {xs = declared (decl_behind _ (trees.simple c.args.kind _)) ∷ []} (bringing (begun (simples_in c.args.kind) (declared _ ∷ []) _) c.in_ok-names.ensures.found) (λ vs. refl)) c.in_err-rest.ensures.fails)
-
 pub returns-clause-found : goal.returns-clause-found
-returns-clause-found c = listed (valued {ws = []} (past {ws = declared (decl_behind _ (trees.simple c.args.kind _)) ∷ []} (making {xs = declared (decl_behind _ (trees.simple c.args.kind _)) ∷ []} (bringing (begun (simples_in c.args.kind) (declared _ ∷ []) _) c.in_ok-names.ensures.found) (λ vs. refl)) c.in_ok-rest.ensures.passes) (ap declared (sym (ap (decl_behind _) (sym c.simple.ensures) ∙ one_decl _ _ _ c.in_ok-push.ensures.items)))) refl (rest_of c.in_ok-names.ensures.found.behind c.in_ok-rest.ensures.passes.behind)
+returns-clause-found c = c.read_declared.ensures.found
+
+pub returns-clause-refused : goal.returns-clause-refused
+returns-clause-refused c = c.read_declared.ensures.refused
