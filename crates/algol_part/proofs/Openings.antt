@@ -1,7 +1,8 @@
 -- How a statement that is opened goes on.
-use Rattle.std.proofs.Common.{◌≡◌, ◌≤◌, ℕ, List, [], ◌∷◌, ◌++◌, length, Result, IfErr, refl, sym, subst, ap, ◌∙◌, append_assoc, arith}
+use Rattle.std.proofs.Common.{◌≡◌, ◌≤◌, ◌<◌, ℕ, List, [], ◌∷◌, ◌++◌, length, Result, IfErr, refl, sym, subst, ap, ◌∙◌, append_assoc, arith}
 use Rattle.std.specs.Result.{IfOk}
 use Rattle.std.proofs.lemmas.Result.{IfOk-weaker}
+use Rattle.algol_tree.specs.declared.TheConstants.{MOST_NESTING}
 use Rattle.algol_tree.specs.declared.token.Spot.{Spot}
 use Rattle.algol_tree.specs.declared.token.Token.{Token}
 use Rattle.algol_tree.specs.declared.tree.Stmt.{Stmt}
@@ -143,3 +144,10 @@ module _ {T : Type 0} (r : Result T Refusal) where
   pub range_refused : {o p : Opener} → o ≡ p → (spot : Spot) (tokens : List Token) → IfErr r (λ e. (i : ℕ) → Refuses (behind_word p spot i) [] tokens e) →
       IfErr r (λ e. (i : ℕ) → Refuses (behind_word o spot i) [] tokens e)
   range_refused is spot tokens h = subst (λ y. IfErr r (λ e. (i : ℕ) → Refuses (behind_word y spot i) [] tokens e)) (sym is) h
+
+-- the beginning that a label is
+pub label_begins : {T : Type 0} (r : Result T Refusal) (begun_as : T → Beginning) (end : T → List Token) {s : Due} {tokens ts : List Token} {o : Opening} {d i : ℕ} →
+    (d < MOST_NESTING → Opens s tokens o i ts) → IfOk r (λ x. (d < MOST_NESTING) × (begun_as x ≡ beginnings.Open o i) × (end x ≡ ts)) →
+    IfOk r (λ x. Begins s tokens (begun_as x) (end x))
+label_begins r begun_as end {s = s} {tokens = tokens} {o = o} {i = i} opens h = IfOk-weaker r _ _
+    (λ x f. subst (λ b. Begins s tokens b (end x)) (sym f.1) (subst (λ rest. Opens s tokens o i rest) (sym f.2) (opens f.0))) h

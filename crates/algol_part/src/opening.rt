@@ -10,6 +10,9 @@ ghost use Rattle.algol_tree.specs.Image as image;
 ghost use Rattle.algol_tree.specs.Image.{stmt as plain};
 ghost use Rattle.algol_tree.specs.Found.{Refuses};
 ghost use Rattle.algol_part.specs.Brings.{Brings};
+ghost use Rattle.algol_part.specs.declared.opening.Beginning.TheVariants as beginnings;
+ghost use Rattle.algol_part.specs.declared.opening.Lead.TheVariants as leads;
+ghost use Rattle.algol_part.specs.declared.opening.Opening.TheVariants as openings;
 ghost use Rattle.algol_part.specs.Phrases.{choice_in};
 ghost use Rattle.algol_part.specs.Openings.{behind_for, behind_word, behind_verb, still_due, so_far, ComesTo, Begins};
 
@@ -17,14 +20,10 @@ use crate::exprs::read_actuals;
 use crate::line::read_write;
 use crate::make::empty;
 use crate::names::read_name_before;
-use crate::simple::{
-    assignment, called, read_act, read_before, read_element, read_go, read_process,
-};
+use crate::simple::{assigned, called, read_act, read_before, read_element, read_go, read_process};
 use crate::start::{Opener, Start, Verb, start_of};
 use algol_expr::{expect_word, first_of, is_symbol, name_in, named, opened, read_whole};
-use algol_tree::{
-    Code, Expr, List, MOST_NESTING, Named, Refusal, Reserved, Spot, Stmt, Symbol, Token,
-};
+use algol_tree::{Code, Expr, MOST_NESTING, Named, Refusal, Reserved, Spot, Stmt, Symbol, Token};
 use std::alloc::Global;
 
 /// What stands before one statement and makes another of it: a label, WHILE, THRU or FOR with its range.
@@ -96,15 +95,10 @@ fn read_behind_name(
 {
     let (first, behind) = first_of(tokens);
     if is_symbol(first, Symbol::Colon) {
-        let inner = labelled_level(name.spot, depth)?;
-        Ok((
-            Beginning::Open(Opening::Led(Lead::Label(name)), inner),
-            behind,
-        ))
+        labelled(name, behind, depth)
     } else if is_symbol(first, Symbol::Becomes) {
         let (value, rest) = read_whole(alloc, behind, 0)?;
-        let subs = List::of(Vec::new(alloc));
-        Ok((Beginning::Whole(assignment(name, subs, value)), rest))
+        Ok((Beginning::Whole(assigned(alloc, name, value)), rest))
     } else if is_symbol(first, Symbol::OpenSquare) {
         let (element, rest) = read_element(alloc, name, behind)?;
         Ok((Beginning::Whole(element), rest))
@@ -114,16 +108,17 @@ fn read_behind_name(
     }
 }
 
-/// How many levels are open after a label at that place, which opens one
-fn labelled_level(spot: Spot, depth: u32) -> Result<u32, Refusal>
-    ensures opens { IfOk result (λ inner. (depth < MOST_NESTING) × (inner ≡ depth + 1)) }
-    ensures deep { IfErr result (λ e. (MOST_NESTING ≤ depth) × (e ≡ refusals.At spot codes.TooDeep)) }
+/// What a name and a colon open: a level more, so that it is refused at the name where as many are open as may be
+fn labelled(name: Named, behind: &[Token], depth: u32) -> Result<(Beginning, &[Token]), Refusal>
+    ensures opens { IfOk result (λ r. (depth < MOST_NESTING) × (r.0 ≡ beginnings.Open (openings.Led (leads.Label name)) (depth + 1)) × (r.1.now ≡ behind.now)) }
+    ensures deep { IfErr result (λ e. (MOST_NESTING ≤ depth) × (e ≡ refusals.At name.spot codes.TooDeep)) }
 {
     if depth < MOST_NESTING {
-        Ok(depth + 1)
+        let opening = Opening::Led(Lead::Label(name));
+        Ok((Beginning::Open(opening, depth + 1), behind))
     } else {
         Err(Refusal::At {
-            spot,
+            spot: name.spot,
             code: Code::TooDeep,
         })
     }

@@ -25,10 +25,17 @@ use algol_tree::{
 use std::alloc::Global;
 
 /// The value goes to the variable of that name, with its subscripts where it has some.
-pub(crate) fn assignment(name: Named, subs: List<Expr>, value: Expr) -> Stmt
+fn assignment(name: Named, subs: List<Expr>, value: Expr) -> Stmt
     ensures { plain result ≡ trees.assign (trees.subscripted name (image.exprs subs)) (image.expr value) }
 {
     Stmt::Assign(Variable { name, subs }, value)
+}
+
+/// The value goes to the simple variable of that name.
+pub(crate) fn assigned(alloc: Global, name: Named, value: Expr) -> Stmt
+    ensures { plain result ≡ trees.assign (trees.subscripted name trees.none) (image.expr value) }
+{
+    assignment(name, List::of(Vec::new(alloc)), value)
 }
 
 /// A call of that name, with its actuals where it has some.

@@ -1,4 +1,4 @@
-use Rattle.std.proofs.Common.{◌∷◌, sym, ◌∙◌}
+use Rattle.std.proofs.Common.{sym, ◌∙◌}
 use Rattle.algol_part.proofs.Chains.{behind_it, takes_all, here}
 use Rattle.algol_part.proofs.Begun.{array_declared, listed_declared, array_else, not_end_lists}
 use Rattle.algol_part.specs.Phrases.{arrays_in, listed_in}

@@ -1,4 +1,4 @@
-use Rattle.std.proofs.Common.{[], ◌∷◌, refl, ap}
+use Rattle.std.proofs.Common.{[], ◌∷◌, refl}
 use Rattle.algol_expr.proofs.Chain.{past, making}
 use Rattle.algol_part.proofs.Chains.{begun, bringing, failing, refusing_all, left_as, listed, rest_of, rest_on}
 use Rattle.algol_part.proofs.Openings.{coming}

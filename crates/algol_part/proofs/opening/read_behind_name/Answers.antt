@@ -2,25 +2,24 @@ use Rattle.std.proofs.Common.{[], refl, sym, ap, ◌∙◌, arith}
 use Rattle.algol_expr.proofs.Chain.{via, making, completing}
 use Rattle.algol_part.proofs.Chains.{bringing, refusing, refusing_all, left_as, completed, takes_all, behind_symbol, rest_of}
 use Rattle.algol_part.proofs.Begun.{becomes_takes, square_takes, call_there, colon_opens, colon_too_deep}
-use Rattle.algol_part.proofs.Openings.{opens_here}
+use Rattle.algol_part.proofs.Openings.{opens_here, label_begins}
+use Rattle.algol_part.proofs.Tails.{if_err}
 use Rattle.algol_part.specs.Phrases.{element_in, value_in}
 use Rattle.algol_tree.specs.declared.token.Symbol.TheVariants as symbols
 use Rattle.algol_tree.specs.Due as due
-use Rattle.algol_tree.specs.Image as image
-use Rattle.algol_tree.specs.Plain as trees
 use Rattle.algol_part.proofs.opening.read_behind_name.Goals as goal
 
-pub returns-in_err-inner-clause-refused : goal.returns-in_err-inner-clause-refused
-returns-in_err-inner-clause-refused c = left_as _ _ _ c.from_residual.ensures.1 (colon_too_deep c.args.name c.args.depth c.first_of.ensures (sym c.is_symbol.ensures ∙ c.if-is_symbol.true) _ c.in_err-inner.ensures.deep.0 c.in_err-inner.ensures.deep.1)
+pub returns-then-is_symbol-clause-found : goal.returns-then-is_symbol-clause-found
+returns-then-is_symbol-clause-found c = label_begins c.labelled.result (λ x. x.0) (λ x. x.1.now) (λ o. opens_here (colon_opens c.args.name c.args.depth c.first_of.ensures (sym c.is_symbol.ensures ∙ c.if-is_symbol.true) _ o refl) (behind_symbol c.first_of.ensures symbols.Colon c.requires.ended (sym c.is_symbol.ensures ∙ c.if-is_symbol.true))) c.labelled.ensures.opens
 
-pub returns-in_ok-inner-clause-found : goal.returns-in_ok-inner-clause-found
-returns-in_ok-inner-clause-found c = opens_here (colon_opens c.args.name c.args.depth c.first_of.ensures (sym c.is_symbol.ensures ∙ c.if-is_symbol.true) _ c.in_ok-inner.ensures.opens.0 c.in_ok-inner.ensures.opens.1) (behind_symbol c.first_of.ensures symbols.Colon c.requires.ended (sym c.is_symbol.ensures ∙ c.if-is_symbol.true))
+pub returns-then-is_symbol-clause-refused : goal.returns-then-is_symbol-clause-refused
+returns-then-is_symbol-clause-refused c = if_err c.labelled.result _ _ (λ e f. colon_too_deep c.args.name c.args.depth c.first_of.ensures (sym c.is_symbol.ensures ∙ c.if-is_symbol.true) e f.0 f.1) c.labelled.ensures.deep
 
 pub returns-in_err-value-clause-refused : goal.returns-in_err-value-clause-refused
-returns-in_err-value-clause-refused c = left_as _ _ _ c.from_residual-in_err-value.ensures.1 (refusing (takes_all c.first_of.ensures (due.behind_start c.args.name c.args.depth) (value_in c.args.name) {us = []} (becomes_takes c.args.name c.args.depth c.first_of.ensures (sym c.is_symbol-else-is_symbol.ensures ∙ c.if-is_symbol-2.true))) c.in_err-value.ensures.fails)
+returns-in_err-value-clause-refused c = left_as _ _ _ c.from_residual.ensures.1 (refusing (takes_all c.first_of.ensures (due.behind_start c.args.name c.args.depth) (value_in c.args.name) {us = []} (becomes_takes c.args.name c.args.depth c.first_of.ensures (sym c.is_symbol-else-is_symbol.ensures ∙ c.if-is_symbol-2.true))) c.in_err-value.ensures.fails)
 
 pub returns-in_ok-value-clause-found : goal.returns-in_ok-value-clause-found
-returns-in_ok-value-clause-found c = let b = rest_of (behind_symbol c.first_of.ensures symbols.Becomes c.requires.ended (sym c.is_symbol-else-is_symbol.ensures ∙ c.if-is_symbol-2.true)) c.in_ok-value.ensures.found.behind in completed (making (via (takes_all c.first_of.ensures (due.behind_start c.args.name c.args.depth) (value_in c.args.name) {us = []} (becomes_takes c.args.name c.args.depth c.first_of.ensures (sym c.is_symbol-else-is_symbol.ensures ∙ c.if-is_symbol-2.true))) c.in_ok-value.ensures.found) (λ vs. refl)) (ap due.stmt (c.assignment.ensures ∙ ap (λ xs. trees.assign (trees.subscripted c.args.name (image.exprs xs)) (image.expr c.in_ok-value.value)) (c.of-subs.ensures ∙ c.new.ensures.items))) b.ended (omega (arith, b.shorter))
+returns-in_ok-value-clause-found c = let b = rest_of (behind_symbol c.first_of.ensures symbols.Becomes c.requires.ended (sym c.is_symbol-else-is_symbol.ensures ∙ c.if-is_symbol-2.true)) c.in_ok-value.ensures.found.behind in completed (making (via (takes_all c.first_of.ensures (due.behind_start c.args.name c.args.depth) (value_in c.args.name) {us = []} (becomes_takes c.args.name c.args.depth c.first_of.ensures (sym c.is_symbol-else-is_symbol.ensures ∙ c.if-is_symbol-2.true))) c.in_ok-value.ensures.found) (λ vs. refl)) (ap due.stmt c.assigned.ensures) b.ended (omega (arith, b.shorter))
 
 pub returns-in_err-element-clause-refused : goal.returns-in_err-element-clause-refused
 returns-in_err-element-clause-refused c = left_as _ _ _ c.from_residual-in_err-element.ensures.1 (refusing_all [] (takes_all c.first_of.ensures (due.behind_start c.args.name c.args.depth) (element_in c.args.name) {us = []} (square_takes c.args.name c.args.depth c.first_of.ensures (sym c.is_symbol-else-is_symbol-2.ensures ∙ c.if-is_symbol-3.true))) c.in_err-element.ensures.refused)
