@@ -1,2 +1,3 @@
+mod Closing
 mod Folds
 mod Public

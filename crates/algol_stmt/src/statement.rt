@@ -244,13 +244,11 @@ fn read_procedure(
     let (heading, rest) = read_heading(alloc, kind, tokens)?;
     let (first, behind) = first_of(rest);
     if is_word(first, Reserved::Forward) {
-        let (forward, rest) = closed_forward(heading, behind)?;
-        Ok((forward, rest))
+        closed_forward(heading, behind)
     } else if begins_body(first) {
         let inner = opened(first, behind, depth)?;
         let (statement, rest) = read_statement(alloc, rest, inner)?;
-        let (procedure, rest) = closed_procedure(alloc, heading, statement, rest)?;
-        Ok((procedure, rest))
+        closed_procedure(alloc, heading, statement, rest)
     } else {
         Err(unexpected(first))
     }

@@ -1,6 +1,6 @@
 use Rattle.std.proofs.Common.{[], ◌∷◌, ◌++◌, length, refl, sym, ap, ◌∙◌, arith, Some, None}
 use Rattle.algol_expr.proofs.Chain.{completing, extending, making, past}
-use Rattle.algol_part.proofs.Chains.{added, adding, begun, behind_it, behind_symbol, behind_word, bringing, brought, failing, left_as, listed, listing, makes_it, no_memory, refuses_here, refusing, refusing_all, refusing_on, rest_of, rest_on, rest_within, skips_it, takes_all, takes_it, then, valued}
+use Rattle.algol_part.proofs.Chains.{adding, begun, behind_it, behind_symbol, behind_word, bringing, brought, failing, left_as, listed, listing, makes_it, no_memory, refuses_here, refusing, refusing_all, refusing_on, rest_of, rest_on, rest_within, skips_it, takes_all, takes_it, then, valued}
 use Rattle.algol_part.proofs.Loops.{goes_on, one_decl, one_stmt, goes_to, goes_as, refused_as_other, extends_all}
 use Rattle.algol_part.proofs.Tails.{lists_by, lists_here, refuses_on}
 use Rattle.algol_part.proofs.Begun.{body_refuses, body_starts, body_too_deep, else_off, else_on, forward_takes, more_stmts, none_declared, procedure_declared, stmts_off, stmts_on, type_declared, typed_arrays, typed_list, typed_procedure}
@@ -16,6 +16,7 @@ use Rattle.algol_tree.specs.Due as due
 use Rattle.algol_tree.specs.Image as image
 use Rattle.algol_tree.specs.Plain as trees
 use Rattle.algol_part.specs.declared.opening.Opening.TheVariants as openings
+use Rattle.algol_stmt.proofs.Closing.{closes_found, closes_refused}
 use Rattle.algol_stmt.proofs.statement.+statements.Goals as goal
 
 pub read_statement-returns-in_err-beginning-clause-refused : goal.read_statement-returns-in_err-beginning-clause-refused
@@ -153,11 +154,11 @@ read_declarations-declarations-init t c = goes_on (valued {ws = []} (begun ((due
 pub read_procedure-returns-in_err-heading-clause-refused : goal.read_procedure-returns-in_err-heading-clause-refused
 read_procedure-returns-in_err-heading-clause-refused t c = left_as _ _ _ c.from_residual.ensures.1 (λ xs. refusing_all _ (begun (procedure_in c.args.kind c.args.depth) (due.declared xs ∷ []) _) c.in_err-heading.ensures.refused)
 
-pub read_procedure-returns-in_err-forward-clause-refused : goal.read_procedure-returns-in_err-forward-clause-refused
-read_procedure-returns-in_err-forward-clause-refused t c = left_as _ _ _ c.from_residual-in_err-forward.ensures.1 (λ xs. refusing {ws = due.declared (decl_behind xs (trees.forward _)) ∷ []} (making {xs = due.declared (decl_behind xs (trees.forward _)) ∷ []} (then (bringing (begun (procedure_in c.args.kind c.args.depth) (due.declared xs ∷ []) _) c.in_ok-heading.ensures.found) (takes_all c.first_of.ensures (due.procedure_body c.args.depth) _ (forward_takes c.args.depth c.first_of.ensures (sym c.is_word.ensures ∙ c.if-is_word.true)))) (λ vs. refl)) c.in_err-forward.ensures.refused)
+pub read_procedure-returns-then-is_word-clause-found : goal.read_procedure-returns-then-is_word-clause-found
+read_procedure-returns-then-is_word-clause-found t c = closes_found c.closed_forward.result (λ x. image.decl x.0) (λ x. x.1.now) (λ xs. making {xs = due.declared (decl_behind xs (trees.forward c.in_ok-heading.heading)) ∷ []} (then (bringing (begun (procedure_in c.args.kind c.args.depth) (due.declared xs ∷ []) _) c.in_ok-heading.ensures.found) (takes_all c.first_of.ensures (due.procedure_body c.args.depth) _ (forward_takes c.args.depth c.first_of.ensures (sym c.is_word.ensures ∙ c.if-is_word.true)))) (λ vs. refl)) (rest_of c.in_ok-heading.ensures.found.behind (behind_word c.first_of.ensures reserved.Forward c.in_ok-heading.ensures.found.behind.ended (sym c.is_word.ensures ∙ c.if-is_word.true))) c.closed_forward.ensures.passes c.closed_forward.ensures.built
 
-pub read_procedure-returns-in_ok-forward-clause-found : goal.read_procedure-returns-in_ok-forward-clause-found
-read_procedure-returns-in_ok-forward-clause-found t c = added (λ xs. valued {ws = []} (past {ws = due.declared (decl_behind xs (trees.forward _)) ∷ []} (making {xs = due.declared (decl_behind xs (trees.forward _)) ∷ []} (then (bringing (begun (procedure_in c.args.kind c.args.depth) (due.declared xs ∷ []) _) c.in_ok-heading.ensures.found) (takes_all c.first_of.ensures (due.procedure_body c.args.depth) _ (forward_takes c.args.depth c.first_of.ensures (sym c.is_word.ensures ∙ c.if-is_word.true)))) (λ vs. refl)) c.in_ok-forward.ensures.passes) (ap (λ d. due.declared (decl_behind xs d)) c.in_ok-forward.ensures.built)) (rest_of c.in_ok-heading.ensures.found.behind (rest_of (behind_word c.first_of.ensures reserved.Forward c.in_ok-heading.ensures.found.behind.ended (sym c.is_word.ensures ∙ c.if-is_word.true)) c.in_ok-forward.ensures.passes.behind))
+pub read_procedure-returns-then-is_word-clause-refused : goal.read_procedure-returns-then-is_word-clause-refused
+read_procedure-returns-then-is_word-clause-refused t c = closes_refused c.closed_forward.result (λ xs. making {xs = due.declared (decl_behind xs (trees.forward c.in_ok-heading.heading)) ∷ []} (then (bringing (begun (procedure_in c.args.kind c.args.depth) (due.declared xs ∷ []) _) c.in_ok-heading.ensures.found) (takes_all c.first_of.ensures (due.procedure_body c.args.depth) _ (forward_takes c.args.depth c.first_of.ensures (sym c.is_word.ensures ∙ c.if-is_word.true)))) (λ vs. refl)) c.closed_forward.ensures.refused
 
 pub read_procedure-returns-in_err-inner-clause-refused : goal.read_procedure-returns-in_err-inner-clause-refused
 read_procedure-returns-in_err-inner-clause-refused t c = left_as _ _ _ c.from_residual-in_err-inner.ensures.1 (λ xs. refusing (bringing (begun (procedure_in c.args.kind c.args.depth) (due.declared xs ∷ []) _) c.in_ok-heading.ensures.found) (body_too_deep c.args.depth [] c.first_of.ensures _ (sym c.begins_body.ensures ∙ c.if-begins_body.true) c.in_err-inner.ensures.deep.0 c.in_err-inner.ensures.deep.2))
@@ -165,11 +166,11 @@ read_procedure-returns-in_err-inner-clause-refused t c = left_as _ _ _ c.from_re
 pub read_procedure-returns-in_err-statement-clause-refused : goal.read_procedure-returns-in_err-statement-clause-refused
 read_procedure-returns-in_err-statement-clause-refused t c = left_as _ _ _ c.from_residual-in_err-statement.ensures.1 (λ xs. refusing (then (bringing (begun (procedure_in c.args.kind c.args.depth) (due.declared xs ∷ []) _) c.in_ok-heading.ensures.found) (body_starts c.args.depth _ c.first_of.ensures (sym c.begins_body.ensures ∙ c.if-begins_body.true) c.in_ok-inner.ensures.opens.0 c.in_ok-inner.ensures.opens.1)) c.in_err-statement.ensures.refused)
 
-pub read_procedure-returns-in_err-procedure-clause-refused : goal.read_procedure-returns-in_err-procedure-clause-refused
-read_procedure-returns-in_err-procedure-clause-refused t c = left_as _ _ _ c.from_residual-in_err-procedure.ensures.1 (λ xs. refusing {ws = due.declared (decl_behind xs (trees.procedure _ _)) ∷ []} (making {xs = due.declared (decl_behind xs (trees.procedure _ _)) ∷ []} (completing (then (bringing (begun (procedure_in c.args.kind c.args.depth) (due.declared xs ∷ []) _) c.in_ok-heading.ensures.found) (body_starts c.args.depth _ c.first_of.ensures (sym c.begins_body.ensures ∙ c.if-begins_body.true) c.in_ok-inner.ensures.opens.0 c.in_ok-inner.ensures.opens.1)) c.in_ok-statement.ensures.found) (λ vs. refl)) c.in_err-procedure.ensures.refused)
+pub read_procedure-returns-in_ok-statement-clause-found : goal.read_procedure-returns-in_ok-statement-clause-found
+read_procedure-returns-in_ok-statement-clause-found t c = closes_found c.closed_procedure.result (λ x. image.decl x.0) (λ x. x.1.now) (λ xs. making {xs = due.declared (decl_behind xs (trees.procedure c.in_ok-heading.heading (image.stmt c.in_ok-statement.statement))) ∷ []} (completing (then (bringing (begun (procedure_in c.args.kind c.args.depth) (due.declared xs ∷ []) _) c.in_ok-heading.ensures.found) (body_starts c.args.depth _ c.first_of.ensures (sym c.begins_body.ensures ∙ c.if-begins_body.true) c.in_ok-inner.ensures.opens.0 c.in_ok-inner.ensures.opens.1)) c.in_ok-statement.ensures.found) (λ vs. refl)) (rest_on c.in_ok-heading.ensures.found.behind c.in_ok-statement.ensures.found.ended c.in_ok-statement.ensures.found.no_longer) c.closed_procedure.ensures.passes c.closed_procedure.ensures.built
 
-pub read_procedure-returns-in_ok-procedure-clause-found : goal.read_procedure-returns-in_ok-procedure-clause-found
-read_procedure-returns-in_ok-procedure-clause-found t c = added (λ xs. valued {ws = []} (past {ws = due.declared (decl_behind xs (trees.procedure _ _)) ∷ []} (making {xs = due.declared (decl_behind xs (trees.procedure _ _)) ∷ []} (completing (then (bringing (begun (procedure_in c.args.kind c.args.depth) (due.declared xs ∷ []) _) c.in_ok-heading.ensures.found) (body_starts c.args.depth _ c.first_of.ensures (sym c.begins_body.ensures ∙ c.if-begins_body.true) c.in_ok-inner.ensures.opens.0 c.in_ok-inner.ensures.opens.1)) c.in_ok-statement.ensures.found) (λ vs. refl)) c.in_ok-procedure.ensures.passes) (ap (λ d. due.declared (decl_behind xs d)) c.in_ok-procedure.ensures.built)) (rest_of (rest_on c.in_ok-heading.ensures.found.behind c.in_ok-statement.ensures.found.ended c.in_ok-statement.ensures.found.no_longer) c.in_ok-procedure.ensures.passes.behind)
+pub read_procedure-returns-in_ok-statement-clause-refused : goal.read_procedure-returns-in_ok-statement-clause-refused
+read_procedure-returns-in_ok-statement-clause-refused t c = closes_refused c.closed_procedure.result (λ xs. making {xs = due.declared (decl_behind xs (trees.procedure c.in_ok-heading.heading (image.stmt c.in_ok-statement.statement))) ∷ []} (completing (then (bringing (begun (procedure_in c.args.kind c.args.depth) (due.declared xs ∷ []) _) c.in_ok-heading.ensures.found) (body_starts c.args.depth _ c.first_of.ensures (sym c.begins_body.ensures ∙ c.if-begins_body.true) c.in_ok-inner.ensures.opens.0 c.in_ok-inner.ensures.opens.1)) c.in_ok-statement.ensures.found) (λ vs. refl)) c.closed_procedure.ensures.refused
 
 pub read_procedure-returns-else-begins_body-clause-refused : goal.read_procedure-returns-else-begins_body-clause-refused
 read_procedure-returns-else-begins_body-clause-refused t c = λ xs. refusing (bringing (begun (procedure_in c.args.kind c.args.depth) (due.declared xs ∷ []) _) c.in_ok-heading.ensures.found) (refuses_here c.first_of.ensures _ (due.procedure_body c.args.depth) [] [] _ refl (body_refuses c.args.depth c.first_of.ensures (sym c.is_word.ensures ∙ c.if-is_word.false) (sym c.begins_body.ensures ∙ c.if-begins_body.false)) c.unexpected.ensures)
