@@ -95,5 +95,3 @@ module _ (sc : Scopes) (w : World) (p : ℕ) where
       under : (parts : List Part) → is_nil parts ≡ false → chosen actions.Fault (failing w p kind) ≡ performed_by sc w p (process_at w p) parts (effects.Fails kind)
       under [] h = cc
       under (part ∷ outer) h = refl
-
-pub ruleset effect_laws = (goes, stores, stores_element, evaluates, leaves, writes, makes_arrays, fails)

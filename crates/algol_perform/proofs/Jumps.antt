@@ -131,9 +131,7 @@ module _ (sc : Scopes) (w : World) (p : ℕ) (n : Named) (i : ℕ) where
         by None e s = cc
         by (Some x) e s = goes_back_to x has cut (sym e)
 
-pub ruleset jump_laws = (goes_nowhere, goes_past_critical)
-
-pub ruleset back_laws = (goes_to_nothing, goes_back)
+pub ruleset jump_laws = goes_nowhere
 
 -- ---- events
 

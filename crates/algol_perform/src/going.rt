@@ -60,7 +60,6 @@ fn rest_from<'p>(
 }
 
 /// GO TO leaves these parts, on which no process depends.
-#[tactic(auto, using(crate::proofs::Jumps::back_laws))]
 fn go_back<'p>(
     world: &mut World<'p>,
     alloc: Global,
@@ -134,6 +133,6 @@ pub fn perform_event<'p>(
         cell: Cell::Event(event),
     })?;
     let instance = innermost(world, process);
-    world.make(alloc, process, instance, cells)?;
-    Ok(Acted::alone(alloc, Action::MakeEvent))
+    let went = world.make(alloc, process, instance, cells);
+    went.and(Ok(Acted::alone(alloc, Action::MakeEvent)))
 }

@@ -17,7 +17,7 @@ use b67_num::FaultKind;
 use std::alloc::{AllocError, Global};
 
 /// The innermost part of a process goes on with this answer.
-#[tactic(auto, using(crate::proofs::Effects::effect_laws))]
+#[tactic(auto, using(crate::proofs::Effects::goes))]
 pub fn perform_goes<'p>(
     world: &mut World<'p>,
     alloc: Global,
@@ -29,12 +29,12 @@ pub fn perform_goes<'p>(
     ensures performed { IfOk result (λ a. acted_choice a (world_of world.new) ≡ performed (scoped world.old.scopes) (world_of world.old) process (effects.Goes action answer.entry)) }
     ensures same { world.new.scopes ≡ world.old.scopes }
 {
-    world.goes(alloc, process, answer)?;
-    Ok(Acted::alone(alloc, action))
+    let went = world.goes(alloc, process, answer);
+    went.and(Ok(Acted::alone(alloc, action)))
 }
 
 /// A value is stored in a simple cell.
-#[tactic(auto, using(crate::proofs::Effects::effect_laws))]
+#[tactic(auto, using(crate::proofs::Effects::stores))]
 pub fn perform_store<'p>(
     world: &mut World<'p>,
     alloc: Global,
@@ -46,12 +46,12 @@ pub fn perform_store<'p>(
     ensures performed { IfOk result (λ a. acted_choice a (world_of world.new) ≡ performed (scoped world.old.scopes) (world_of world.old) process (effects.Stores r.entry v)) }
     ensures same { world.new.scopes ≡ world.old.scopes }
 {
-    world.store(alloc, process, r, v)?;
-    Ok(Acted::alone(alloc, Action::Store))
+    let went = world.store(alloc, process, r, v);
+    went.and(Ok(Acted::alone(alloc, Action::Store)))
 }
 
 /// A value is stored in an element.
-#[tactic(auto, using(crate::proofs::Effects::effect_laws))]
+#[tactic(auto, using(crate::proofs::Effects::stores_element))]
 pub fn perform_store_element<'p>(
     world: &mut World<'p>,
     alloc: Global,
@@ -64,12 +64,12 @@ pub fn perform_store_element<'p>(
     ensures performed { IfOk result (λ a. acted_choice a (world_of world.new) ≡ performed (scoped world.old.scopes) (world_of world.old) process (effects.StoresElement r.entry subscripts v)) }
     ensures same { world.new.scopes ≡ world.old.scopes }
 {
-    world.store_element(alloc, process, r, subscripts.items(), v)?;
-    Ok(Acted::alone(alloc, Action::ElementStore))
+    let went = world.store_element(alloc, process, r, subscripts.items(), v);
+    went.and(Ok(Acted::alone(alloc, Action::ElementStore)))
 }
 
 /// A part that evaluates a name comes to be inside the innermost part.
-#[tactic(auto, using(crate::proofs::Effects::effect_laws))]
+#[tactic(auto, using(crate::proofs::Effects::evaluates))]
 pub fn perform_evaluation<'p>(
     world: &mut World<'p>,
     alloc: Global,
@@ -80,12 +80,12 @@ pub fn perform_evaluation<'p>(
     ensures performed { IfOk result (λ a. acted_choice a (world_of world.new) ≡ performed (scoped world.old.scopes) (world_of world.old) process (effects.Evaluates inner.entry)) }
     ensures same { world.new.scopes ≡ world.old.scopes }
 {
-    world.opens(alloc, process, inner)?;
-    Ok(Acted::alone(alloc, Action::Enter))
+    let went = world.opens(alloc, process, inner);
+    went.and(Ok(Acted::alone(alloc, Action::Enter)))
 }
 
 /// The innermost part of a process, which is able, is left with what it gives; the last one ends the process.
-#[tactic(auto, using(crate::proofs::Effects::effect_laws))]
+#[tactic(auto, using(crate::proofs::Effects::leaves))]
 pub fn perform_leaving<'p>(
     world: &mut World<'p>,
     alloc: Global,
@@ -117,7 +117,7 @@ pub fn perform_act<'p>(
 }
 
 /// A line is written.
-#[tactic(auto, using(crate::proofs::Effects::effect_laws))]
+#[tactic(auto, using(crate::proofs::Effects::writes))]
 pub fn perform_line<'p>(
     world: &mut World<'p>,
     alloc: Global,
@@ -129,12 +129,12 @@ pub fn perform_line<'p>(
     ensures same { world.new.scopes ≡ world.old.scopes }
 {
     append(&mut world.output, line)?;
-    world.goes(alloc, process, Answer::Done)?;
-    Ok(Acted::alone(alloc, Action::Line))
+    let went = world.goes(alloc, process, Answer::Done);
+    went.and(Ok(Acted::alone(alloc, Action::Line)))
 }
 
 /// Arrays are made in the instance in which the innermost part goes on.
-#[tactic(auto, using(crate::proofs::Effects::effect_laws))]
+#[tactic(auto, using(crate::proofs::Effects::makes_arrays))]
 pub fn perform_arrays<'p>(
     world: &mut World<'p>,
     alloc: Global,
@@ -146,12 +146,12 @@ pub fn perform_arrays<'p>(
     ensures same { world.new.scopes ≡ world.old.scopes }
 {
     let instance = innermost(world, process);
-    world.make(alloc, process, instance, cells)?;
-    Ok(Acted::alone(alloc, Action::MakeArrays))
+    let went = world.make(alloc, process, instance, cells);
+    went.and(Ok(Acted::alone(alloc, Action::MakeArrays)))
 }
 
 /// A fault ends the run.
-#[tactic(auto, using(crate::proofs::Effects::effect_laws))]
+#[tactic(auto, using(crate::proofs::Effects::fails))]
 pub fn perform_fault<'p>(
     world: &mut World<'p>,
     alloc: Global,
