@@ -10,3 +10,4 @@ pub mod OwnWords
 pub mod Ready
 pub mod Released
 pub mod Releasing
+pub mod Upper

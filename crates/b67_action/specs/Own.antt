@@ -19,9 +19,13 @@ use Rattle.b67_reach.specs.Answers.{after}
 use Rattle.b67_reach.specs.Images.{Own, with_own}
 use Rattle.b67_action.specs.Among.{with_all, Comes}
 
--- the private part of a process with these registers
+-- a process with these registers, and the words of its stack from a base on
+abbrev pub part_from : ℕ → Stacks → Registers → Private
+part_from base stacks r = record { regs = r; words = reverse (drop base (words_of stacks r.stack)) }
+
+-- its private part
 abbrev pub part_of : Stacks → Registers → Private
-part_of stacks r = record { regs = r; words = reverse (drop (floor r) (words_of stacks r.stack)) }
+part_of stacks r = part_from (floor r) stacks r
 
 abbrev pub stop_by : PartStop → Stop
 stop_by (parts.Fault kind) = Fault kind

@@ -1,30 +1,50 @@
-// Private operators, performed on a copy of the private part.
-ghost use Rattle.std.specs.Prelude.{◌≡◌, ◌+◌, ◌≤◌, ◌++◌, IfSome, IsSome, length, reverse, take, vec_capacity};
+// Private operators, performed on a copy of the upper words of a private part.
+ghost use Rattle.std.specs.Prelude.{◌≡◌, ◌+◌, ◌<◌, ◌≤◌, ◌++◌, IfSome, IsSome, length, reverse, take, vec_capacity};
+ghost use Rattle.b67_control.specs.Display.{levels};
 ghost use Rattle.b67_list.specs.Numbered.{numbered};
 ghost use Rattle.b67_ops.specs.Spelling.{Fits};
 ghost use Rattle.b67_store.specs.Store.{stack_at, words_of, with_stack, stack_limit};
+ghost use Rattle.b67_table.specs.Private.{floor};
 ghost use Rattle.b67_linkage.specs.Held.{IsLinked};
 ghost use Rattle.b67_operators.specs.Leaves.{IsLinkedIn};
 ghost use Rattle.b67_private.specs.Parts.{IsPart};
 ghost use Rattle.b67_reach.specs.Images.{own};
-ghost use Rattle.b67_action.specs.Own.{part_of, stop_by, DoesOwn, DoesOwnIn};
+ghost use Rattle.b67_action.specs.Own.{part_from, part_of, stop_by, DoesOwn, DoesOwnIn};
 
 use b67_linkage::{cut_words, push_word};
 use b67_ops::Operator;
-use b67_private::operate;
+use b67_private::{REACH, operate};
 use b67_reach::{Registers, Stop, floor};
 use b67_store::Core;
 use b67_table::Private;
 use b67_word::Place;
 
-/// The private part of a process is copied: its registers, and the words at its floor and above.
-pub fn take_part<C: Core>(core: &C, regs: &Registers, part: &mut Private)
-    requires { IsLinked (C.Core.stacks core.now) (C.Core.rows core.now) regs.now }
-    ensures { part.new ≡ part_of (C.Core.stacks core.now) regs.now }
+/// The base from which on at most so many words of a private part are copied: so many, or all of it.
+pub fn base_of(regs: &Registers, most: u32) -> u32
+    requires level { regs.now.ll < levels }
+    requires above { floor regs.now ≤ regs.now.s }
+    ensures above { floor regs.now ≤ result }
+    ensures within { result ≤ regs.now.s }
+    ensures few { regs.now.s ≤ result + most }
+    ensures enough { floor regs.now < result → result + most ≡ regs.now.s }
+{
+    let base = floor(regs);
+    if regs.s - base > most {
+        regs.s - most
+    } else {
+        base
+    }
+}
+
+/// The registers of a process are copied, and the words of its stack from a base on.
+pub fn take_part<C: Core>(core: &C, regs: &Registers, base: u32, part: &mut Private)
+    requires linked { IsLinked (C.Core.stacks core.now) (C.Core.rows core.now) regs.now }
+    requires within { base ≤ regs.now.s }
+    ensures { part.new ≡ part_from base (C.Core.stacks core.now) regs.now }
 {
     let length = part.words.len();
     part.words.cut(length);
-    let mut at = floor(regs);
+    let mut at = base;
     'words: while at < regs.s {
         let place = Place {
             stack: regs.stack,
@@ -36,7 +56,7 @@ pub fn take_part<C: Core>(core: &C, regs: &Registers, part: &mut Private)
     part.regs = *regs;
 }
 
-/// A private part is put back: the words of its stack from a place on give way to its own.
+/// A part is put back: the words of its stack from its base on give way to its own.
 pub fn put_part<C: Core>(core: &mut C, regs: &mut Registers, base: u32, part: &Private)
     requires open { IsSome (stack_at (C.Core.stacks core.old) part.now.regs.stack) }
     requires room { base + length part.now.words ≤ stack_limit }
@@ -66,7 +86,7 @@ fn stop_by(stop: b67_private::Stop) -> Stop
     }
 }
 
-/// A private operator is performed, by way of a copy of the private part.
+/// A private operator is performed on a copy of the words that it can take off. What lies below them costs nothing.
 pub fn perform_own<C: Core>(
     core: &mut C,
     regs: &mut Registers,
@@ -79,8 +99,8 @@ pub fn perform_own<C: Core>(
     requires fits { Fits regs.old.ll op.now }
     ensures { DoesOwn op.now next (own (C.Core.stacks core.old) (C.Core.rows core.old) regs.old) (own (C.Core.stacks core.new) (C.Core.rows core.new) regs.new) result }
 {
-    let base = floor(regs);
-    take_part(core, regs, part);
+    let base = base_of(regs, REACH);
+    take_part(core, regs, base, part);
     match operate(part, op, next) {
         Ok(()) => {
             put_part(core, regs, base, part);

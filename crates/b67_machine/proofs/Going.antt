@@ -56,7 +56,7 @@ one_of code a b n (go {n = m} e rest) most h =
     let none : m ≡ 0 = omega (arith, most) in
     ap (λ (k : ℕ). nat_eq (k + 1) 1) none ∙ sym (ap is_new e)
 
-pub plain_by_one : (code : Code) (img : Image) (p : ℕ) (r : Registers) (b : Private) (n : ℕ) → IsValid code img → is_live (numbered img.states p) ≡ true → numbered img.regs p ≡ Some r
-    → PlainParts code (private_of img r) n b → n ≤ 1 → (n < 1 → is_plain code b ≡ false) → nat_eq n 1 ≡ plain code img p
-plain_by_one code img p r b n v live has plains most h =
-    one_of code (private_of img r) b n plains most h ∙ sym (operators_are_own code img p r (valid_stands code img p r v live has)).plain_is
+pub plain_by_one : (code : Code) (img : Image) (p : ℕ) (r : Registers) (a b : Private) (n : ℕ) → IsValid code img → is_live (numbered img.states p) ≡ true → numbered img.regs p ≡ Some r
+    → is_plain code a ≡ is_plain code (private_of img r) → PlainParts code a n b → n ≤ 1 → (n < 1 → is_plain code b ≡ false) → nat_eq n 1 ≡ plain code img p
+plain_by_one code img p r a b n v live has same plains most h =
+    one_of code a b n plains most h ∙ same ∙ sym (operators_are_own code img p r (valid_stands code img p r v live has)).plain_is

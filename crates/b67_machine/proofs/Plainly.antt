@@ -1,6 +1,6 @@
 -- What plain operators of a process leave as it is.
 use Rattle.std.specs.Prelude.{◌&&◌}
-use Rattle.std.proofs.Common.{◌≡◌, refl, sym, ap, subst, ◌∙◌, ℕ, ◌+◌, ◌-◌, ◌<◌, ◌≤◌, Bool, true, false, List, length, set, take, ◌++◌, Option, Some, None, IsSome, arith, length-append}
+use Rattle.std.proofs.Common.{◌≡◌, true≢false, refl, sym, ap, subst, ◌∙◌, ℕ, ◌+◌, ◌-◌, ◌<◌, ◌≤◌, Bool, true, false, List, length, set, take, ◌++◌, Option, Some, None, IsSome, arith, length-append}
 use Rattle.std.specs.Prelude.{reverse}
 use Rattle.std.proofs.lemmas.List.{length-reverse, length-take-le}
 use Rattle.b67_list.specs.Numbered.{numbered, set_numbered}
@@ -25,10 +25,11 @@ use Rattle.b67_table.proofs.Lists.{numbered_set, numbered_within}
 use Rattle.b67_table.proofs.OwnValid.{words_here}
 use Rattle.b67_table.specs.Privacy.{Keeps as RegistersKeep}
 use Rattle.b67_table.proofs.Privacy.{private_is_private}
-use Rattle.b67_private.specs.Parts.{PlainParts, is_plain}
+use Rattle.b67_private.specs.Parts.{PlainParts, is_plain, is_short}
+use Rattle.b67_private.specs.Parts as parts
 use Rattle.b67_private.proofs.Plains.{stretches_are_own}
 use Rattle.b67_action.proofs.Ready.{registers_there}
-use Rattle.b67_machine.specs.Stepping.{IsStretched}
+use Rattle.b67_machine.specs.Stepping.{IsPiece, IsStretched}
 
 pub live_of : (o : Option ProcessState) → is_able o ≡ true → is_live o ≡ true
 live_of None e = cc
@@ -123,11 +124,38 @@ module _ (code : Code) (img : Image) (p : ℕ) (r : Registers) (v : IsValid code
       (set_here img.regs p q (counted p r img.regs has) ∙ ap (λ (z : Registers). set_numbered img.regs p z) u)
 
   -- what is put back is the process's stretch
-  pub stretched : (put : Image) (most : ℕ) → put ≡ with_private img p (floor r) part → (n < most → is_plain code part ≡ false) → IsStretched code p n most img put
-  stretched put most e h =
+  pub piece_is : (put : Image) (most : ℕ) (short : Bool) → put ≡ with_private img p (floor r) part → (short ≡ false → n < most → is_plain code part ≡ false)
+      → IsPiece code p n most short img put
+  piece_is put most short e h =
       let k = stretches_are_own code img p r v live has part n plains in
-      subst (λ (x : Image). IsStretched code p n most img x) (sym e) (record {
+      subst (λ (x : Image). IsPiece code p n most short img x) (sym e) (record {
         performed = k.performed;
-        stops = λ less. k.next ∙ h less;
+        stops = λ enough less. k.next ∙ h enough less;
         valid = kept.valid;
       })
+
+-- ---- pieces, one after another
+
+-- where a word is missed that was not missed before, an operator was performed
+pub some_performed : (code : Code) (a b : Private) (n : ℕ) → is_short a ≡ false → is_short b ≡ true → PlainParts code a n b → 0 < n
+some_performed code a b n enough short parts.stay = absurd (true≢false (sym short ∙ enough))
+some_performed code a b n enough short (parts.go e rest) = omega arith
+
+plains_then : (code : Code) (p : ℕ) (a b c : Image) (m n : ℕ) → Plains code p a m b → Plains code p b n c → Plains code p a (m + n) c
+plains_then code p a b c m n stay more = subst (λ (k : ℕ). Plains code p a k c) (omega arith) more
+plains_then code p a b c m n (go {b = d} {n = l} e t rest) more =
+    let there : l + n + 1 ≡ l + 1 + n = omega arith in
+    subst (λ (k : ℕ). Plains code p a k c) there (go e t (plains_then code p d b c l n rest more))
+
+module _ (code : Code) (p : ℕ) (a b c : Image) (m n most : ℕ) (short : Bool) (s : IsStretched code p m m a b) (k : IsPiece code p n most short b c) where
+  -- another piece
+  pub piece_more : IsStretched code p (m + n) (m + n) a c
+  piece_more = record { performed = plains_then code p a b c m n s.performed k.performed; stops = λ less. absurd (omega (arith, less)); valid = k.valid }
+
+  -- the last piece
+  pub piece_last : (all : ℕ) → short ≡ false → most ≡ all - m → IsStretched code p (m + n) all a c
+  piece_last all enough left = record {
+    performed = plains_then code p a b c m n s.performed k.performed;
+    stops = λ less. k.stops enough (omega (arith, less, left));
+    valid = k.valid;
+  }

@@ -1,8 +1,7 @@
 // Plain operators of a process, on the machine.
-ghost use Rattle.std.specs.Prelude.{◌≡◌, ◌+◌, ◌<◌, ◌≤◌, ◌^◌, List, IfSome, None, false, true};
+ghost use Rattle.std.specs.Prelude.{◌≡◌, ◌+◌, ◌<◌, ◌≤◌, ◌^◌, List, None, false, true};
 ghost use Rattle.b67_list.specs.Numbered.{numbered};
 ghost use Rattle.b67_events.specs.Events.{Event};
-ghost use Rattle.b67_segment.specs.Decoded.{AreDecoded};
 ghost use Rattle.b67_table.specs.Image.{is_able};
 ghost use Rattle.b67_table.specs.Runs.{Plains};
 ghost use Rattle.b67_table.specs.Table.{plain};
@@ -10,40 +9,84 @@ ghost use Rattle.b67_table.specs.Valid.{IsValid};
 ghost use Rattle.b67_reach.specs.Images.{image_of};
 ghost use Rattle.b67_machine.specs.Kept.{counted};
 ghost use Rattle.b67_machine.specs.Reads.{machine_end};
-ghost use Rattle.b67_machine.specs.Stepping.{Goes, IsStretched};
+ghost use Rattle.b67_machine.specs.Stepping.{Goes, IsPiece, IsStretched};
+ghost use Rattle.b67_machine.specs.Tables.{AreTables};
 
 use crate::Machine;
 use crate::counting::count;
-use crate::tables::{decoded, prepare};
-use b67_action::{put_part, take_part};
+use crate::tables::{Levels, decoded, prepare};
+use b67_action::{base_of, put_part, take_part};
 use b67_intrinsics::registers;
-use b67_private::burst;
-use b67_reach::{Parts, floor};
-use b67_segment::Decoded;
+use b67_private::{REACH, burst, is_short};
+use b67_reach::Parts;
 use b67_store::Core;
 use b67_table::Private;
 
-// The plain operators that come next in a process, at most so many, performed on a copy of its private part.
+// The most words of a private part that are copied at once: more than an operator takes off, so that few stretches need a second copy.
+const MOST_COPIED: u32 = 8;
+
+// What was performed of a stretch.
+#[derive(Clone, Copy)]
+struct Piece {
+    // How many plain operators.
+    performed: u32,
+    // Whether the operator after them may have missed a word that was not copied.
+    is_short: bool,
+}
+
+// Plain operators that come next in a process, at most so many, performed on a copy of its upper words.
+fn perform_piece<C: Core>(
+    core: &mut C,
+    parts: &mut Parts,
+    process: u32,
+    tables: &Vec<Levels>,
+    part: &mut Private,
+    most: u32,
+) -> Piece
+    requires valid { (events : List Event) × IsValid parts.old.code (image_of (C.Core.stacks core.old) (C.Core.rows core.old) events parts.old) }
+    requires able { is_able (numbered parts.old.states.items process) ≡ true }
+    requires tables { AreTables parts.old.code tables.now.items }
+    ensures goes { (events : List Event) → IsValid parts.old.code (image_of (C.Core.stacks core.old) (C.Core.rows core.old) events parts.old) → IsPiece parts.old.code process result.performed most result.is_short (image_of (C.Core.stacks core.old) (C.Core.rows core.old) events parts.old) (image_of (C.Core.stacks core.new) (C.Core.rows core.new) events parts.new) }
+    ensures most { result.performed ≤ most }
+    ensures some { result.is_short ≡ true → 0 < result.performed }
+    ensures others { parts.new ≡ record parts.old { regs = parts.new.regs } }
+{
+    let regs = registers(&parts.regs, process);
+    let table = decoded(tables, regs.segment, regs.ll);
+    let base = base_of(regs, MOST_COPIED);
+    take_part(core, regs, base, part);
+    let performed = burst(part, &parts.code, table, most);
+    put_part(core, &mut parts.regs[process as usize - 1], base, part);
+    Piece {
+        performed,
+        is_short: is_short(part),
+    }
+}
+
+// The plain operators that come next in a process, at most so many. What lies below the words that they take off costs nothing.
 fn perform_stretch<C: Core>(
     core: &mut C,
     parts: &mut Parts,
     process: u32,
-    table: Option<&Decoded>,
+    tables: &Vec<Levels>,
     part: &mut Private,
     most: u32,
 ) -> u32
     requires valid { (events : List Event) × IsValid parts.old.code (image_of (C.Core.stacks core.old) (C.Core.rows core.old) events parts.old) }
     requires able { is_able (numbered parts.old.states.items process) ≡ true }
-    requires table { IfSome (numbered parts.old.regs.items process) (λ r. IfSome table (λ t. AreDecoded parts.old.code r.segment r.ll t.now)) }
+    requires tables { AreTables parts.old.code tables.now.items }
     ensures stretched { (events : List Event) → IsValid parts.old.code (image_of (C.Core.stacks core.old) (C.Core.rows core.old) events parts.old) → IsStretched parts.old.code process result most (image_of (C.Core.stacks core.old) (C.Core.rows core.old) events parts.old) (image_of (C.Core.stacks core.new) (C.Core.rows core.new) events parts.new) }
     ensures most { result ≤ most }
     ensures others { parts.new ≡ record parts.old { regs = parts.new.regs } }
 {
-    let regs = registers(&parts.regs, process);
-    let base = floor(regs);
-    take_part(core, regs, part);
-    let performed = burst(part, &parts.code, table, most);
-    put_part(core, &mut parts.regs[process as usize - 1], base, part);
+    let mut performed = 0;
+    'pieces: while performed < most {
+        let piece = perform_piece(core, parts, process, tables, part, most - performed);
+        performed += piece.performed;
+        if !piece.is_short {
+            return performed;
+        }
+    }
     performed
 }
 
@@ -66,7 +109,7 @@ impl<C: Core> Machine<C> {
             &mut self.core,
             &mut self.parts,
             process,
-            decoded(&self.tables, segment, level),
+            &self.tables,
             &mut self.part,
             most,
         );
@@ -82,7 +125,8 @@ impl<C: Core> Machine<C> {
         ensures same { self.new ≡ self.old }
     {
         let regs = registers(&self.parts.regs, process);
-        take_part(&self.core, regs, &mut self.part);
+        let base = base_of(regs, REACH);
+        take_part(&self.core, regs, base, &mut self.part);
         burst(&mut self.part, &self.parts.code, None, 1) == 1
     }
 }

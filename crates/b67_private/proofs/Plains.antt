@@ -1,5 +1,5 @@
 -- So many plain operators of a private part are so many plain operators of its process.
-use Rattle.std.proofs.Common.{◌≡◌, refl, sym, ap, subst, ◌∙◌, ℕ, zero, suc, ◌+◌, ◌-◌, ◌<◌, ◌≤◌, true, List, ◌++◌, length, take, drop, set, Option, Some, None, take-append-drop, arith}
+use Rattle.std.proofs.Common.{◌≡◌, refl, sym, ap, subst, ◌∙◌, ℕ, zero, suc, ◌+◌, ◌-◌, ◌<◌, ◌≤◌, true, false, List, ◌++◌, length, take, drop, set, Option, Some, None, take-append-drop, arith}
 use Rattle.std.specs.Prelude.{reverse}
 use Rattle.std.proofs.lemmas.List.{reverse-reverse, length-drop, length-take-le}
 use Rattle.b67_list.specs.Numbered.{numbered, set_numbered}
@@ -11,7 +11,7 @@ use Rattle.b67_segment.specs.declared.code.Code.{Code}
 use Rattle.b67_segment.specs.Decoded.{found}
 use Rattle.b67_store.specs.Store.{words_of, stack_limit}
 use Rattle.b67_table.specs.declared.Private.{Private}
-use Rattle.b67_table.specs.Outcome.{Outcome, gives, faults, interrupts, limit}
+use Rattle.b67_table.specs.Outcome.{gives}
 use Rattle.b67_table.specs.Private.{floor}
 use Rattle.b67_table.specs.Image.{Image, private_of, with_private, is_live}
 use Rattle.b67_table.specs.Privacy.{Keeps, Stands}
@@ -27,13 +27,13 @@ use Rattle.b67_table.proofs.PrivateAll.{private_op_kept}
 use Rattle.b67_table.proofs.PrivateKept as kept
 use Rattle.b67_table.proofs.PrivateValid.{part_is, put_valid}
 use Rattle.b67_table.proofs.Stacks.{set_set_here}
-use Rattle.b67_private.specs.Parts.{outcome_by, own_next, is_new, is_plain, PlainParts, stay, go}
+use Rattle.b67_private.specs.Parts.{outcome_by, own_next, is_new, is_short, is_plain, PlainParts, stay, go}
 use Rattle.b67_private.specs.Laws.{IsStretch, StretchesAreOwn}
-use Rattle.b67_private.proofs.Deeper.{IsWhole, deep}
+use Rattle.b67_private.proofs.Deeper.{deep, whole_is_enough}
 use Rattle.b67_private.proofs.Floors.{private_op_rises}
 use Rattle.b67_private.proofs.Own.{own_operator}
 use Rattle.b67_private.proofs.Stepping.{fits_of, given_of}
-use Rattle.b67_private.proofs.Stretching.{deeper, own_next_deep, from_deeper, upper_words, put_back}
+use Rattle.b67_private.proofs.Stretching.{own_next_deep, plain_deep, from_deeper, upper_words, put_back}
 
 numbered_twice : {X : Type 0} (xs : List X) (p : ℕ) (a b : X) → set_numbered (set_numbered xs p a) p b ≡ set_numbered xs p b
 numbered_twice xs zero a b = refl
@@ -114,8 +114,8 @@ module _ (code : Code) (img : Image) (p : ℕ) (r : Registers) (v : IsValid code
     a_is : deep lower m ≡ a
     a_is = ap (λ (ws : List Word). record a { words = ws }) (take-append-drop n a.words)
 
-    whole : IsWhole m
-    whole = omega (arith, length-take-le n a.words (omega (arith, parts)), f.part.above)
+    whole : is_short m ≡ false
+    whole = whole_is_enough m (omega (arith, length-take-le n a.words (omega (arith, parts)), f.part.above))
 
     x : Image
     x = image_of a
@@ -151,19 +151,10 @@ module _ (code : Code) (img : Image) (p : ℕ) (r : Registers) (v : IsValid code
     m_is : private_of (image_of a) a.regs ≡ m
     m_is = ap (λ (ws : List Word). record a { words = ws }) upper
 
-    new_deeper : (ws : List Word) (o : Outcome Private) → is_new (deeper ws o) ≡ is_new o
-    new_deeper ws (gives q) = refl
-    new_deeper ws (faults kind) = refl
-    new_deeper ws (interrupts kind) = refl
-    new_deeper ws limit = refl
-
-    next_deeper : own_next code a ≡ deeper lower (own_next code m)
-    next_deeper = ap (own_next code) (sym a_is) ∙ own_next_deep lower code m whole
-
     pub plain_alike : plain code (image_of a) p ≡ is_plain code a
     plain_alike =
         (own_operator code (image_of a) p a.regs stands_x).plain_is ∙ ap (is_plain code) m_is
-        ∙ sym (ap is_new next_deeper ∙ new_deeper lower (own_next code m))
+        ∙ sym (ap (is_plain code) (sym a_is) ∙ plain_deep lower code m whole)
 
     module _ (b : Private) (e : own_next code a ≡ gives b) where
       new_upper : (q : Private) × (own_next code m ≡ gives q) × (deep lower q ≡ b)

@@ -1,5 +1,5 @@
--- So many plain operators of a private part are so many plain operators of its process.
-use Rattle.std.proofs.Common.{◌≡◌, refl, sym, ap, ◌∙◌, ℕ, ◌+◌, Bool, true, false, cond, List, ◌++◌, length, take, drop, Option, Some, None, append_assoc, length-append, arith}
+-- Plain operators of a private part are as many where more words lie below.
+use Rattle.std.proofs.Common.{◌≡◌, ◌⊎◌, inl, inr, refl, sym, ap, ◌∙◌, ℕ, ◌+◌, Bool, true, false, cond, List, ◌++◌, length, take, drop, Option, Some, None, append_assoc, length-append, arith}
 use Rattle.std.specs.Prelude.{reverse, nat_le}
 use Rattle.std.proofs.lemmas.List.{reverse-append, reverse-reverse, length-reverse}
 use Rattle.std.proofs.Math.Seq.{drop-append-add, take-append_seam}
@@ -11,11 +11,12 @@ use Rattle.b67_store.specs.Store.{stack_limit}
 use Rattle.b67_table.specs.declared.Private.{Private}
 use Rattle.b67_table.specs.Effect.{Effect}
 use Rattle.b67_table.specs.Effect as effects
+use Rattle.b67_table.specs.declared.InterruptKind.TheVariants.{StackUnderflow}
 use Rattle.b67_table.specs.Outcome.{Outcome, gives, faults, interrupts, limit, limited}
 use Rattle.b67_table.specs.Table.{private_op}
 use Rattle.b67_table.proofs.PrivateWords.{cut_is}
-use Rattle.b67_private.specs.Parts.{length_of, outcome_by, own_next}
-use Rattle.b67_private.proofs.Deeper.{IsWhole, deep, deepened, private_op_deep}
+use Rattle.b67_private.specs.Parts.{length_of, own_outcome, outcome_by, own_next, is_new, is_short, is_plain, PlainParts, stay, go}
+use Rattle.b67_private.proofs.Deeper.{Lacks, deep, deepened, Deepens, private_op_deep, lacks_none}
 
 -- ---- more words below
 
@@ -35,14 +36,58 @@ module _ (lower : List Word) where
   limited_deep (effects.faults kind) = refl
   limited_deep (effects.interrupts kind) = refl
 
-  outcome_deep : (o : Option (Operator × ℕ)) (m : Private) → IsWhole m → outcome_by o (deep lower m) ≡ deeper (outcome_by o m)
-  outcome_deep None m k = refl
-  outcome_deep (Some f) m k =
-      ap (limited length_of) (private_op_deep lower f.0 m.regs.place f.1 m k) ∙ limited_deep (private_op f.0 m.regs.place f.1 m)
+  -- the same with more words below, or a word is missed
+  abbrev pub Deepens_outcome : Private → Outcome Private → Outcome Private → Type 0
+  Deepens_outcome m e f = (e ≡ deeper f) ⊎ ((f ≡ interrupts StackUnderflow) × Lacks 2 m)
 
-  pub own_next_deep : (code : Code) (m : Private) → IsWhole m → own_next code (deep lower m) ≡ deeper (own_next code m)
+  limited_by : (m : Private) (e f : Effect Private) → Deepens lower 2 m e f → Deepens_outcome m (limited length_of e) (limited length_of f)
+  limited_by m e f (inl same) = inl (ap (limited length_of) same ∙ limited_deep f)
+  limited_by m e f (inr l) = inr (ap (limited length_of) l.0, l.1)
+
+  pub own_outcome_deep : (op : Operator) (next : ℕ) (m : Private) → Deepens_outcome m (own_outcome op next (deep lower m)) (own_outcome op next m)
+  own_outcome_deep op next m =
+      limited_by m (private_op op m.regs.place next (deep lower m)) (private_op op m.regs.place next m) (private_op_deep lower op m.regs.place next m)
+
+  outcome_deep : (o : Option (Operator × ℕ)) (m : Private) → Deepens_outcome m (outcome_by o (deep lower m)) (outcome_by o m)
+  outcome_deep None m = inl refl
+  outcome_deep (Some f) m = own_outcome_deep f.0 f.1 m
+
+  next_deep : (code : Code) (m : Private) → Deepens_outcome m (own_next code (deep lower m)) (own_next code m)
   unfolding own_next
-  own_next_deep code m k = outcome_deep (found code m.regs.segment m.regs.ll m.regs.place) m k
+  next_deep code m = outcome_deep (found code m.regs.segment m.regs.ll m.regs.place) m
+
+  same_by : (m : Private) (e f : Outcome Private) → is_short m ≡ false → Deepens_outcome m e f → e ≡ deeper f
+  same_by m e f k (inl same) = same
+  same_by m e f k (inr l) = absurd (lacks_none m k l.1)
+
+  goes_by : (m q : Private) (e f : Outcome Private) → f ≡ gives q → Deepens_outcome m e f → e ≡ gives (deep lower q)
+  goes_by m q e f g (inl same) = same ∙ ap deeper g
+  goes_by m q e f g (inr l) = let none : interrupts StackUnderflow ≡ gives q = sym l.0 ∙ g in cc
+
+  pub own_outcome_same : (op : Operator) (next : ℕ) (m : Private) → is_short m ≡ false → own_outcome op next (deep lower m) ≡ deeper (own_outcome op next m)
+  own_outcome_same op next m k = same_by m (own_outcome op next (deep lower m)) (own_outcome op next m) k (own_outcome_deep op next m)
+
+  pub own_outcome_goes : (op : Operator) (next : ℕ) (m q : Private) → own_outcome op next m ≡ gives q → own_outcome op next (deep lower m) ≡ gives (deep lower q)
+  own_outcome_goes op next m q e = goes_by m q (own_outcome op next (deep lower m)) (own_outcome op next m) e (own_outcome_deep op next m)
+
+  pub own_next_deep : (code : Code) (m : Private) → is_short m ≡ false → own_next code (deep lower m) ≡ deeper (own_next code m)
+  own_next_deep code m k = same_by m (own_next code (deep lower m)) (own_next code m) k (next_deep code m)
+
+  new_deeper : (o : Outcome Private) → is_new (deeper o) ≡ is_new o
+  new_deeper (gives q) = refl
+  new_deeper (faults kind) = refl
+  new_deeper (interrupts kind) = refl
+  new_deeper limit = refl
+
+  -- the next operator is plain for both alike
+  pub plain_deep : (code : Code) (m : Private) → is_short m ≡ false → is_plain code (deep lower m) ≡ is_plain code m
+  plain_deep code m k = ap is_new (own_next_deep code m k) ∙ new_deeper (own_next code m)
+
+  -- so many plain operators are as many with more words below
+  pub plains_deep : (code : Code) (a b : Private) (n : ℕ) → PlainParts code a n b → PlainParts code (deep lower a) n (deep lower b)
+  plains_deep code a b n stay = stay
+  plains_deep code a b n (go {b = c} e rest) =
+      go (goes_by a c (own_next code (deep lower a)) (own_next code a) e (next_deep code a)) (plains_deep code c b _ rest)
 
   pub from_deeper : (o : Outcome Private) (b : Private) → deeper o ≡ gives b → (q : Private) × (o ≡ gives q) × (deep lower q ≡ b)
   from_deeper (gives q) b e = (q, refl, cc)

@@ -15,6 +15,10 @@ use b67_table::InterruptKind;
 pub use laws::{operators_are_own, parts_of_valid_images, stretches_are_own};
 pub use operators::operate;
 pub use stretch::{burst, next_operator};
+pub use taking::is_short;
+
+/// The most words that an operator of a private part takes off.
+pub const REACH: u32 = 2;
 
 /// Why an operator has no effect.
 #[derive(Clone, Copy, PartialEq, Eq, Debug)]

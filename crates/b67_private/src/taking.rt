@@ -1,10 +1,11 @@
 // The words on top of a private part, and words in their place.
 ghost use Rattle.std.specs.Prelude.{◌≡◌, ◌+◌, ◌<◌, ◌≤◌, length};
+ghost use Rattle.b67_control.specs.Display.{levels};
 ghost use Rattle.b67_store.specs.Store.{stack_limit};
-ghost use Rattle.b67_private.specs.Parts.{IsPart};
+ghost use Rattle.b67_private.specs.Parts.{IsPart, is_short};
 ghost use Rattle.b67_private.specs.Performing.{TakesOne, TakesTwo, replaced, lowered};
 
-use crate::Stop;
+use crate::{REACH, Stop};
 use b67_table::{InterruptKind, Private, floor};
 use b67_word::Word;
 
@@ -66,4 +67,14 @@ pub fn lower(p: &mut Private, count: u32, next: u16)
     p.words.cut(count);
     p.regs.s -= count;
     p.regs.place = next;
+}
+
+/// Tests that an operator may miss a word that its process has: fewer are there than it may take off, and they do not reach down
+/// to the floor.
+pub fn is_short(p: &Private) -> bool
+    requires { p.now.regs.ll < levels }
+    ensures { result ≡ is_short p.now }
+{
+    let length = p.words.len();
+    length < REACH && floor(&p.regs) + length < p.regs.s
 }

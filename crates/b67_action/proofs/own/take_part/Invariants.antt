@@ -1,13 +1,12 @@
 use Rattle.std.proofs.Common.{◌≡◌, ◌≤◌, ◌-◌, drop, take, reverse}
 use Rattle.b67_store.specs.Store.{words_of}
-use Rattle.b67_table.specs.Private.{floor}
 use Rattle.b67_action.proofs.own.take_part.Given as goal
 
 abbrev pub invariant-words : goal.invariant-words
 invariant-words g l = record {
-  low : floor l.fn.regs ≤ l.at;
+  low : l.fn.base ≤ l.at;
   high : l.at ≤ l.fn.regs.s;
-  words : l.part.words ≡ reverse (drop (floor l.fn.regs) (take l.at (words_of (g.C.Core.stacks l.fn.core) l.fn.regs.stack)));
+  words : l.part.words ≡ reverse (drop l.fn.base (take l.at (words_of (g.C.Core.stacks l.fn.core) l.fn.regs.stack)));
 }
 
 abbrev pub decreases-words : goal.decreases-words

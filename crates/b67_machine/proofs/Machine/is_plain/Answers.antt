@@ -1,4 +1,4 @@
-use Rattle.std.proofs.Common.{◌≡◌, sym, ap, subst, ◌∙◌, true, Option, None}
+use Rattle.std.proofs.Common.{◌≡◌, sym, ap, subst, ◌∙◌, true, Option, None, arith}
 use Rattle.b67_list.specs.Numbered.{numbered}
 use Rattle.b67_table.specs.declared.Private.{Private}
 use Rattle.b67_table.specs.Image.{is_able}
@@ -7,6 +7,8 @@ use Rattle.b67_linkage.proofs.Linked.{live_are_linked}
 use Rattle.b67_private.specs.Parts.{IsPart, PlainParts}
 use Rattle.b67_private.proofs.ValidParts.{valid_part}
 use Rattle.b67_reach.specs.Images.{image_of}
+use Rattle.b67_action.specs.Own.{part_from}
+use Rattle.b67_action.proofs.Upper.{upper_part, upper_enough, upper_plain}
 use Rattle.b67_machine.specs.declared.Failure.{Failure}
 use Rattle.b67_machine.specs.Kept.{Kept}
 use Rattle.b67_machine.specs.Machines.{with_failure}
@@ -16,8 +18,20 @@ use Rattle.b67_machine.proofs.Going.{plain_by_one}
 use Rattle.b67_machine.proofs.Plainly.{live_of}
 use Rattle.b67_machine.proofs.Machine.is_plain.Goals as goal
 
-pub take_part-requires : goal.take_part-requires
-take_part-requires g c =
+pub base_of-base-requires-clause-level : goal.base_of-base-requires-clause-level
+base_of-base-requires-clause-level g c =
+    let able = subst (λ (k : Kept). is_able (numbered k.image.states c.args.process) ≡ true) (sym c.self.view_is) c.requires.able in
+    (live_are_linked c.self.inside.parts.code (image_of (g.C.Core.stacks c.self.inside.core) (g.C.Core.rows c.self.inside.core) c.self.inside.kernel.events c.self.inside.parts)
+    c.args.process c.registers-regs.result.now c.self.invariant.0 (live_of (numbered c.self.inside.parts.states.items c.args.process) able) c.registers-regs.ensures).level
+
+pub base_of-base-requires-clause-above : goal.base_of-base-requires-clause-above
+base_of-base-requires-clause-above g c =
+    let able = subst (λ (k : Kept). is_able (numbered k.image.states c.args.process) ≡ true) (sym c.self.view_is) c.requires.able in
+    (live_are_linked c.self.inside.parts.code (image_of (g.C.Core.stacks c.self.inside.core) (g.C.Core.rows c.self.inside.core) c.self.inside.kernel.events c.self.inside.parts)
+    c.args.process c.registers-regs.result.now c.self.invariant.0 (live_of (numbered c.self.inside.parts.states.items c.args.process) able) c.registers-regs.ensures).above
+
+pub take_part-requires-clause-linked : goal.take_part-requires-clause-linked
+take_part-requires-clause-linked g c =
     let able = subst (λ (k : Kept). is_able (numbered k.image.states c.args.process) ≡ true) (sym c.self.view_is) c.requires.able in
     live_are_linked c.self.inside.parts.code (image_of (g.C.Core.stacks c.self.inside.core) (g.C.Core.rows c.self.inside.core) c.self.inside.kernel.events c.self.inside.parts)
     c.args.process c.registers-regs.result.now c.self.invariant.0 (live_of (numbered c.self.inside.parts.states.items c.args.process) able) c.registers-regs.ensures
@@ -25,9 +39,12 @@ take_part-requires g c =
 pub burst-requires-clause-part : goal.burst-requires-clause-part
 burst-requires-clause-part g c =
     let able = subst (λ (k : Kept). is_able (numbered k.image.states c.args.process) ≡ true) (sym c.self.view_is) c.requires.able in
+    let linked = live_are_linked c.self.inside.parts.code (image_of (g.C.Core.stacks c.self.inside.core) (g.C.Core.rows c.self.inside.core) c.self.inside.kernel.events c.self.inside.parts)
+    c.args.process c.registers-regs.result.now c.self.invariant.0 (live_of (numbered c.self.inside.parts.states.items c.args.process) able) c.registers-regs.ensures in
     subst IsPart (sym c.take_part.ensures)
+    (upper_part (g.C.Core.stacks c.self.inside.core) c.registers-regs.result.now c.base_of-base.result c.base_of-base.ensures.above c.base_of-base.ensures.within linked.size
     (valid_part c.self.inside.parts.code (image_of (g.C.Core.stacks c.self.inside.core) (g.C.Core.rows c.self.inside.core) c.self.inside.kernel.events c.self.inside.parts)
-    c.args.process c.registers-regs.result.now c.self.invariant.0 (live_of (numbered c.self.inside.parts.states.items c.args.process) able) c.registers-regs.ensures)
+    c.args.process c.registers-regs.result.now c.self.invariant.0 (live_of (numbered c.self.inside.parts.states.items c.args.process) able) c.registers-regs.ensures))
 
 pub returns-clause-value : goal.returns-clause-value
 returns-clause-value g c =
@@ -35,8 +52,14 @@ returns-clause-value g c =
     let base = image_of (g.C.Core.stacks c.self.inside.core) (g.C.Core.rows c.self.inside.core) c.self.inside.kernel.events c.self.inside.parts in
     let none : c.self.inside.failure ≡ None =
     none_kept c.self.inside.failure (ap (λ (k : Kept). k.image.fault) c.self.view_is ∙ (goes_on c.args.self.now c.requires.going).fault) in
-    plain_by_one c.self.inside.parts.code base c.args.process c.registers-regs.result.now c.burst.new.p c.burst.result c.self.invariant.0
+    let linked = live_are_linked c.self.inside.parts.code base c.args.process c.registers-regs.result.now c.self.invariant.0 (live_of (numbered c.self.inside.parts.states.items c.args.process) able) c.registers-regs.ensures in
+    let st = g.C.Core.stacks c.self.inside.core in
+    let r = c.registers-regs.result.now in
+    let from = c.base_of-base.result in
+    let enough = upper_enough st r from c.base_of-base.ensures.above c.base_of-base.ensures.within linked.size 2 (omega arith) c.base_of-base.ensures.enough in
+    plain_by_one c.self.inside.parts.code base c.args.process r (part_from from st r) c.burst.new.p c.burst.result c.self.invariant.0
     (live_of (numbered c.self.inside.parts.states.items c.args.process) able) c.registers-regs.ensures
+    (upper_plain st r from c.base_of-base.ensures.above c.base_of-base.ensures.within linked.size c.self.inside.parts.code enough)
     (subst (λ (q : Private). PlainParts c.self.inside.parts.code q c.burst.result c.burst.new.p) c.take_part.ensures c.burst.ensures.plain) c.burst.ensures.most c.burst.ensures.stops
     ∙ ap (λ (f : Option Failure). plain c.self.inside.parts.code (with_failure base f) c.args.process) (sym none)
     ∙ ap (λ (k : Kept). plain k.code k.image c.args.process) c.self.view_is

@@ -1,15 +1,12 @@
-use Rattle.std.specs.Prelude.{IfSome}
 use Rattle.std.proofs.Common.{◌≡◌, refl, sym, ap, subst, ◌∙◌, true, Option, None, arith}
 use Rattle.b67_list.specs.Numbered.{numbered}
-use Rattle.b67_control.specs.declared.Registers.{Registers}
 use Rattle.b67_segment.specs.declared.code.Code.{Code}
-use Rattle.b67_segment.specs.Decoded.{AreDecoded}
 use Rattle.b67_table.specs.Image.{is_able}
 use Rattle.b67_table.specs.Valid.{IsValid}
 use Rattle.b67_table.proofs.Lists.{numbered_within}
 use Rattle.b67_linkage.proofs.Linked.{live_are_linked}
 use Rattle.b67_reach.specs.Images.{image_of}
-use Rattle.b67_action.proofs.Ready.{registers_there, if_some}
+use Rattle.b67_action.proofs.Ready.{registers_there}
 use Rattle.b67_machine.specs.declared.Failure.{Failure}
 use Rattle.b67_machine.specs.Kept.{Kept, Counts}
 use Rattle.b67_machine.specs.Machines.{with_failure}
@@ -39,11 +36,6 @@ prepare-requires-clause-level g c =
 
 pub perform_stretch-performed-requires-clause-valid : goal.perform_stretch-performed-requires-clause-valid
 perform_stretch-performed-requires-clause-valid g c = (c.self.inside.kernel.events, c.self.invariant.0)
-
-pub perform_stretch-performed-requires-clause-table : goal.perform_stretch-performed-requires-clause-table
-perform_stretch-performed-requires-clause-table g c =
-    if_some (λ (r : Registers). IfSome c.decoded.result (λ t. AreDecoded c.self.inside.parts.code r.segment r.ll t.now)) (numbered c.self.inside.parts.regs.items c.args.process)
-    c.registers-regs.result.now c.registers-regs.ensures (c.decoded.ensures c.self.inside.parts.code c.prepare.ensures)
 
 pub count-requires-clause-most : goal.count-requires-clause-most
 count-requires-clause-most g c =
