@@ -1,12 +1,13 @@
 //! Codes on the machine, entry by entry.
 
-use crate::code::code_in;
-use crate::shown::{done_words, push_end, push_output};
+ghost use Rattle.std.specs.Prelude.{◌≤◌, All, length};
+ghost use Rattle.b67_table.specs.Limits.{segment_limit};
+
+use crate::told::{done_words, end, lines, number, say};
 use crate::turns::numbers_of;
-use b67_list::push_number;
 use b67_machine::{Machine, Performed};
+use b67_segment::Code;
 use b67_store::{Core, ListCore};
-use case_sheet::Case;
 use std::alloc::{AllocError, Global};
 
 /// One entry of a process of at most so many operators, none where it can not be performed.
@@ -35,43 +36,44 @@ fn turn<C: Core>(
 }
 
 /// Appends the line of a turn.
-fn push_turn(text: &mut Vec<u8>, word: &str, turned: Option<Performed>) -> Result<(), AllocError> {
-    text.extend_from_slice(word.as_bytes())?;
+fn push_turn(text: &mut Vec<u8>, word: &str, turned: Option<Performed>) {
+    say(text, word.as_bytes());
     match turned {
         Some(performed) => {
-            push_number(text, b" PLAIN ", performed.plain)?;
+            number(text, b" PLAIN ", u64::from(performed.plain));
             if let Some(done) = performed.done {
-                text.extend_from_slice(b" ")?;
-                text.extend_from_slice(done_words(done))?;
+                say(text, b" ");
+                say(text, done_words(done));
             }
         }
-        None => text.extend_from_slice(b" MIXED")?,
+        None => say(text, b" MIXED"),
     }
-    text.extend_from_slice(b"\n")
+    say(text, b"\n");
 }
 
-/// Appends what comes of the turns on a machine.
-fn push_turns<C: Core>(
-    text: &mut Vec<u8>,
-    machine: &mut Machine<C>,
-    words: &[String],
-) -> Result<(), AllocError> {
+/// Appends what comes of turns on a machine.
+fn push_turns<C: Core>(text: &mut Vec<u8>, machine: &mut Machine<C>, words: &[String]) {
     for word in words {
         let (process, most, times) = numbers_of(word.as_str());
         let turned = turn(machine, process, most, times);
-        push_turn(text, word.as_str(), turned)?;
+        push_turn(text, word.as_str(), turned);
     }
-    push_end(text, machine.end())?;
-    push_number(text, b"OPERATORS ", machine.count(1))?;
-    text.extend_from_slice(b"\n")?;
-    push_output(text, machine.output())
+    end(text, machine.end());
+    number(text, b"OPERATORS ", machine.count(1));
+    say(text, b"\n");
+    lines(text, machine.output());
 }
 
-/// The answer to a case.
-pub(crate) fn entries_text(alloc: Global, case: &Case) -> Result<Vec<u8>, AllocError> {
-    let code = code_in(alloc, case.input.as_slice())?;
+/// What comes of the turns of a case.
+pub(crate) fn entries_text(
+    alloc: Global,
+    code: Code,
+    words: &[String],
+) -> Result<Vec<u8>, AllocError>
+    requires { All (λ segment. length segment.words ≤ segment_limit) code.segments }
+{
     let mut machine = Machine::load(alloc, code, ListCore::new(alloc))?;
     let mut text = Vec::new(alloc);
-    push_turns(&mut text, &mut machine, case.words.as_slice())?;
+    push_turns(&mut text, &mut machine, words);
     Ok(text)
 }

@@ -1,23 +1,22 @@
 //! Codes from the first image, operator by operator.
 
-ghost use Rattle.std.specs.Prelude.{◌≡◌, [], IfOk};
+ghost use Rattle.std.specs.Prelude.{◌≡◌, ◌≤◌, [], All, IfOk, length};
+ghost use Rattle.b67_table.specs.Limits.{segment_limit};
 ghost use Rattle.b67_table.specs.Valid.{IsValid};
 ghost use Rattle.b67_reach.specs.Images.{image_of};
 ghost use Rattle.b67_action.specs.Done.{HasRoom};
 
-use crate::code::code_in;
-use crate::registers::first_registers;
-use crate::shown::{done_words, push_bits, push_output};
+use crate::told::{bits, done_words, lines, number, say};
 use crate::turns::numbers_of;
 use b67_action::{Done, action};
+use b67_control::{Display, Registers};
 use b67_events::Kernel;
-use b67_list::push_number;
 use b67_load::load;
 use b67_reach::{Parts, ProcessState};
+use b67_segment::Code;
 use b67_store::{Core, ListCore};
 use b67_table::{Private, Words, first_image_is_valid};
 use b67_word::Place;
-use case_sheet::Case;
 use std::alloc::{AllocError, Global};
 
 /// A process performs so many operators: what each of them came to, or none where one came to something else or the process
@@ -55,15 +54,33 @@ fn perform<C: Core>(
 }
 
 /// The first image of a code.
-fn begin<C: Core>(alloc: Global, core: &mut C, text: &[u8]) -> Result<(Kernel, Parts), AllocError>
+fn begin<C: Core>(alloc: Global, core: &mut C, code: Code) -> Result<(Kernel, Parts), AllocError>
     requires stacks { C.Core.stacks core.old ≡ [] }
     requires rows { C.Core.rows core.old ≡ [] }
+    requires short { All (λ segment. length segment.words ≤ segment_limit) code.segments }
     ensures valid { IfOk result (λ made. IsValid made.1.code (image_of (C.Core.stacks core.new) (C.Core.rows core.new) made.0.events made.1)) }
     ensures room { IfOk result (λ made. HasRoom made.0 made.1) }
 {
     first_image_is_valid();
-    let code = code_in(alloc, text)?;
     load(alloc, core, code)
+}
+
+/// Where private operators are performed, with nothing in it.
+fn blank(alloc: Global) -> Result<Private, AllocError> {
+    let regs = Registers {
+        stack: 0,
+        s: 0,
+        f: 0,
+        ll: 0,
+        display: Display::new(),
+        cells: 0,
+        segment: 0,
+        place: 0,
+        task: None,
+        critical: None,
+    };
+    let words = Words::new(alloc)?;
+    Ok(Private { regs, words })
 }
 
 /// What is there of a process: S, F, the place, and the tag and the bits on top of its stack.
@@ -78,72 +95,71 @@ fn then<C: Core>(core: &C, parts: &Parts, process: u32) -> Option<(u32, u16, u16
 }
 
 /// Appends what is there of the process that was last, of arrays, events and output.
-fn push_left<C: Core>(
-    text: &mut Vec<u8>,
-    core: &C,
-    kernel: &Kernel,
-    parts: &Parts,
-    last: u32,
-) -> Result<(), AllocError> {
+fn push_left<C: Core>(text: &mut Vec<u8>, core: &C, kernel: &Kernel, parts: &Parts, last: u32) {
     match then(core, parts, last) {
-        Some((s, f, place, (tag, bits))) => {
-            push_number(text, b"S ", s)?;
-            push_number(text, b" F ", f)?;
-            push_number(text, b" PLACE ", place)?;
-            push_number(text, b" TOP ", tag)?;
-            push_bits(text, bits)?;
+        Some((s, f, place, (tag, top))) => {
+            number(text, b"S ", u64::from(s));
+            number(text, b" F ", u64::from(f));
+            number(text, b" PLACE ", u64::from(place));
+            number(text, b" TOP ", u64::from(tag));
+            bits(text, top);
         }
-        None => text.extend_from_slice(b"GONE")?,
+        None => say(text, b"GONE"),
     }
-    push_number(text, b"\nELEMENTS ", core.counted())?;
-    let is_open = kernel.is_open(Place { stack: 1, at: 2 });
-    text.extend_from_slice(if is_open {
-        b"\nEVENT\n"
+    number(text, b"\nELEMENTS ", u64::from(core.counted()));
+    if kernel.is_open(Place { stack: 1, at: 2 }) {
+        say(text, b"\nEVENT\n");
     } else {
-        b"\nNO EVENT\n"
-    })?;
-    push_output(text, parts.output.as_slice())
+        say(text, b"\nNO EVENT\n");
+    }
+    lines(text, parts.output.as_slice());
 }
 
 /// Appends the line of a turn.
-fn push_turn(text: &mut Vec<u8>, word: &str, turned: Option<Done>) -> Result<(), AllocError> {
-    text.extend_from_slice(word.as_bytes())?;
-    text.extend_from_slice(b" ")?;
+fn push_turn(text: &mut Vec<u8>, word: &str, turned: Option<Done>) {
+    say(text, word.as_bytes());
+    say(text, b" ");
     match turned {
-        Some(done) => text.extend_from_slice(done_words(done))?,
-        None => text.extend_from_slice(b"MIXED")?,
+        Some(done) => say(text, done_words(done)),
+        None => say(text, b"MIXED"),
     }
-    text.extend_from_slice(b"\n")
+    say(text, b"\n");
 }
 
-/// Appends what comes of the turns on an empty store.
+/// Appends what comes of turns on an empty store.
 fn push_turns<C: Core>(
     text: &mut Vec<u8>,
     alloc: Global,
     core: &mut C,
-    case: &Case,
+    code: Code,
+    words: &[String],
 ) -> Result<(), AllocError>
     requires stacks { C.Core.stacks core.old ≡ [] }
     requires rows { C.Core.rows core.old ≡ [] }
+    requires short { All (λ segment. length segment.words ≤ segment_limit) code.segments }
 {
-    let (mut kernel, mut parts) = begin(alloc, core, case.input.as_slice())?;
-    let mut part = Private {
-        regs: first_registers(),
-        words: Words::new(alloc)?,
-    };
+    let mut part = blank(alloc)?;
+    let (mut kernel, mut parts) = begin(alloc, core, code)?;
     let mut last = 1;
-    'turns: for word in &case.words {
+    'turns: for word in words {
         let (process, count, _) = numbers_of(word.as_str());
         let turned = perform(core, &mut kernel, &mut parts, &mut part, (process, count));
-        push_turn(text, word.as_str(), turned)?;
+        push_turn(text, word.as_str(), turned);
         last = process;
     }
-    push_left(text, core, &kernel, &parts, last)
+    push_left(text, core, &kernel, &parts, last);
+    Ok(())
 }
 
-/// The answer to a case.
-pub(crate) fn operators_text(alloc: Global, case: &Case) -> Result<Vec<u8>, AllocError> {
+/// What comes of the turns of a case.
+pub(crate) fn operators_text(
+    alloc: Global,
+    code: Code,
+    words: &[String],
+) -> Result<Vec<u8>, AllocError>
+    requires { All (λ segment. length segment.words ≤ segment_limit) code.segments }
+{
     let mut text = Vec::new(alloc);
-    push_turns(&mut text, alloc, &mut ListCore::new(alloc), case)?;
+    push_turns(&mut text, alloc, &mut ListCore::new(alloc), code, words)?;
     Ok(text)
 }

@@ -4,7 +4,6 @@ use crate::lines::push_line;
 use std::alloc::{AllocError, Global};
 
 /// A case of a sheet.
-#[derive(Drop)]
 pub struct Case {
     /// Its name.
     pub name: String,
@@ -22,6 +21,22 @@ pub struct Case {
     is_end: bool,
     /// The lines that are to be repeated.
     repeated: Repeated,
+}
+
+/// A case is let go by a call, so that the proofs of the programs do not go through its parts.
+impl Drop for Case {
+    fn drop(self) {
+        let Case {
+            name: _name,
+            words: _words,
+            setting: _setting,
+            input: _input,
+            status: _,
+            answer: _answer,
+            is_end: _,
+            repeated: _repeated,
+        } = self;
+    }
 }
 
 /// Lines that are to be repeated, and the first and the last number.

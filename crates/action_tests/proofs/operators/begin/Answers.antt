@@ -22,4 +22,4 @@ made_is_valid code stacks rows (Err error) valid short e f = tt {0}
 
 pub returns-clause-valid : goal.returns-clause-valid
 returns-clause-valid g c =
-    made_is_valid c.in_ok-code.code (g.C.Core.stacks c.load.new.core) (g.C.Core.rows c.load.new.core) c.load.result c.first_image_is_valid.ensures c.in_ok-code.ensures c.load.ensures.image c.load.ensures.code
+    made_is_valid c.args.code (g.C.Core.stacks c.load.new.core) (g.C.Core.rows c.load.new.core) c.load.result c.first_image_is_valid.ensures c.requires.short c.load.ensures.image c.load.ensures.code

@@ -1,11 +1,43 @@
-//! Answers of the machine in words.
+//! Parts of an answer. Where memory lacks for one it is missing, so that its case is not met.
 
 use b67_action::Done;
 use b67_list::{Line, push_number};
 use b67_machine::End;
 use b67_num::FaultKind;
 use b67_reach::InterruptKind;
-use std::alloc::AllocError;
+
+/// Appends words.
+pub(crate) fn say(text: &mut Vec<u8>, words: &[u8]) {
+    let _ = text.extend_from_slice(words);
+}
+
+/// Appends words and a number.
+pub(crate) fn number(text: &mut Vec<u8>, words: &[u8], value: u64) {
+    let _ = push_number(text, words, value);
+}
+
+/// Appends a blank and the bits of a word, as 12 hexadecimal digits.
+pub(crate) fn bits(text: &mut Vec<u8>, bits: u64) {
+    say(text, b" ");
+    for digit in 0..12u32 {
+        let nibble = (bits >> (44 - 4 * digit)) & 15;
+        let sign = match nibble as u8 {
+            small @ 0..=9 => b'0' + small,
+            great => b'A' + (great & 15) - 10,
+        };
+        let _ = text.push(sign);
+    }
+}
+
+/// Appends the number of lines, and the lines.
+pub(crate) fn lines(text: &mut Vec<u8>, written: &[Line]) {
+    number(text, b"OUTPUT ", written.len() as u64);
+    say(text, b"\n");
+    for line in written {
+        say(text, line.bytes());
+        say(text, b"\n");
+    }
+}
 
 /// The words of a fault.
 fn fault_words(kind: FaultKind) -> &'static [u8] {
@@ -47,46 +79,21 @@ pub(crate) fn done_words(done: Done) -> &'static [u8] {
 }
 
 /// Appends the line of an end.
-pub(crate) fn push_end(text: &mut Vec<u8>, end: Option<End>) -> Result<(), AllocError> {
-    text.extend_from_slice(b"END ")?;
+pub(crate) fn end(text: &mut Vec<u8>, end: Option<End>) {
+    say(text, b"END ");
     match end {
-        Some(End::Finished) => text.extend_from_slice(b"FINISHED")?,
-        Some(End::AllWaiting) => text.extend_from_slice(b"ALL WAITING")?,
+        Some(End::Finished) => say(text, b"FINISHED"),
+        Some(End::AllWaiting) => say(text, b"ALL WAITING"),
         Some(End::Fault { kind, process }) => {
-            text.extend_from_slice(b"FAULT ")?;
-            text.extend_from_slice(fault_words(kind))?;
-            push_number(text, b" IN ", process)?;
+            say(text, b"FAULT ");
+            say(text, fault_words(kind));
+            number(text, b" IN ", u64::from(process));
         }
         Some(End::StackLimit { process, words }) => {
-            push_number(text, b"STACK LIMIT IN ", process)?;
-            push_number(text, b" WORDS ", words)?;
+            number(text, b"STACK LIMIT IN ", u64::from(process));
+            number(text, b" WORDS ", u64::from(words));
         }
-        None => text.extend_from_slice(b"NONE")?,
+        None => say(text, b"NONE"),
     }
-    text.extend_from_slice(b"\n")
-}
-
-/// Appends lines that were written.
-pub(crate) fn push_output(text: &mut Vec<u8>, lines: &[Line]) -> Result<(), AllocError> {
-    push_number(text, b"OUTPUT ", lines.len())?;
-    text.extend_from_slice(b"\n")?;
-    for line in lines {
-        text.extend_from_slice(line.bytes())?;
-        text.extend_from_slice(b"\n")?;
-    }
-    Ok(())
-}
-
-/// Appends a blank and the bits of a word, as 12 hexadecimal digits.
-pub(crate) fn push_bits(text: &mut Vec<u8>, bits: u64) -> Result<(), AllocError> {
-    text.extend_from_slice(b" ")?;
-    for digit in 0..12u32 {
-        let nibble = (bits >> (44 - 4 * digit)) & 15;
-        let sign = match nibble as u8 {
-            small @ 0..=9 => b'0' + small,
-            great => b'A' + (great & 15) - 10,
-        };
-        text.push(sign)?;
-    }
-    Ok(())
+    say(text, b"\n");
 }
