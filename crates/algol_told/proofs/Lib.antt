@@ -8,3 +8,5 @@ pub mod Places
 pub mod Held
 pub mod Headings
 pub mod Told
+pub mod Declarations
+pub mod Parameters

@@ -6,7 +6,7 @@ use Rattle.algol_tree.specs.declared.token.Spot.{Spot}
 use Rattle.algol_tree.specs.Blocks.{same_spot}
 use Rattle.algol_tree.specs.Accepted.{is_before}
 use Rattle.algol_tree.specs.Ascending.{Ascends}
-use Rattle.algol_told.proofs.Lists.{IsIn, in-left, in-right, of-in, all-append, all-right, all-weaker}
+use Rattle.algol_told.proofs.Lists.{IsIn, in-left, in-right, of-in, all-append, all-left, all-right, all-weaker}
 
 abbrev pub IsBefore : Spot → Spot → Type 0
 IsBefore s t = is_before s t ≡ true
@@ -33,6 +33,9 @@ behind-apart a b h = grind arith
 
 pub spot-itself : (a : Spot) → same_spot a a ≡ true
 spot-itself a = grind arith
+
+pub apart-turned : (a b : Spot) → IsApart a b → IsApart b a
+apart-turned a b h = grind arith
 
 pub ordered : (ss : List Spot) → Ascends ss → Ordered ss
 ordered [] h = tt
@@ -133,6 +136,17 @@ pub flat-fit : {X : Type 0} (f : X → List Spot) (xs ys : List X) (us vs : List
 flat-fit f xs ys us vs h k =
     let P : List Spot → Type 0 = λ zs. Fits zs (us ++ vs) in
     subst P (sym (flat_map-append f xs ys)) (both-fit (flat_map f xs) (flat_map f ys) us vs h k)
+
+pub ascending-apart : (us : List Spot) → Ascends us → AreApart us
+ascending-apart us h = (all-fit us).apart (ordered us h)
+
+pub apart-left : (us vs : List Spot) → AreApart (us ++ vs) → AreApart us
+apart-left [] vs h = tt
+apart-left (u ∷ us) vs h = (all-left (IsApart u) us vs h.0, apart-left us vs h.1)
+
+pub apart-right : (us vs : List Spot) → AreApart (us ++ vs) → AreApart vs
+apart-right [] vs h = h
+apart-right (u ∷ us) vs h = apart-right us vs h.1
 
 -- ---- some of the places of a list, in its order
 

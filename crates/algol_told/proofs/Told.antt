@@ -36,7 +36,7 @@ use Rattle.algol_told.proofs.Unbroken.{named, not-unknown}
 
 -- ---- what holds of all that are known holds of what is found
 
-all-found : (P : Declared → Type 0) (ds : List Declared) (name : List ℕ) (d : Declared) → AllByRecursion P ds → look_up ds name ≡ Some d → P d
+pub all-found : (P : Declared → Type 0) (ds : List Declared) (name : List ℕ) (d : Declared) → AllByRecursion P ds → look_up ds name ≡ Some d → P d
 all-found P [] name d h e = absurd (let clash : None ≡ Some d = e in cc)
 all-found P (x ∷ ds) name d h e = decide (same_name x.name name) e (all-found P ds name d h.1)
   where
@@ -79,7 +79,7 @@ number-there n (b ∷ bs) spot h = decide (same_spot b.spot spot) h (number-ther
 
 -- ---- one name
 
-meaning-there : (p : PProgram) (spot : Spot) (d : Declared) → known_there (names_known p) spot ≡ Some d →
+pub meaning-there : (p : PProgram) (spot : Spot) (d : Declared) → known_there (names_known p) spot ≡ Some d →
     meaning_at p spot ≡ Some (record { block = d.block; sort = sort_of d })
 unfolding meaning_at
 meaning-there p spot d h = ap meant h
@@ -114,6 +114,7 @@ module _ (p : PProgram) (s : Scopes) (are : AreOf p s) where
         answers = e;
         spot = ap (λ (z : Located). z.spot) placed;
         block = ap (λ (z : Meaning). z.block) means;
+        level = ap (λ (z : Located). z.level) placed;
         sort = ap (λ (z : Meaning). z.sort) means;
         heading =
             λ h c.
@@ -158,7 +159,7 @@ module _ (p : PProgram) (s : Scopes) (are : AreOf p s) where
 -- ---- all parts
 
 module _ (p : PProgram) where
-  abbrev Passes : Site → Type 0
+  abbrev pub Passes : Site → Type 0
   Passes x = held.Passes (blocks_of_program p) (names_known p) x
 
   begins : (spot : Spot) (a : Surroundings) → Carries p a → Carries p (record { block = number_at (blocks_of_program p) spot; depth = a.depth + 1; known = a.known })
@@ -181,7 +182,7 @@ module _ (p : PProgram) where
         headings = enters-at (blocks_of_program p) h (knowing (blocks_of_program p) (tree.procedure h s) ds a) k.headings;
       }
 
-  all-pass : IsInOrder p → (s : Scopes) → AreOf p s → AllByRecursion Passes (sites_of p)
+  pub all-pass : IsInOrder p → (s : Scopes) → AreOf p s → AllByRecursion Passes (sites_of p)
   all-pass o s are =
       let blocks = blocks_of_program p in
       let n = named p are.unbroken in

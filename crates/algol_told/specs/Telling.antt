@@ -8,6 +8,7 @@ use Rattle.algol_tree.specs.Classes as class
 use Rattle.algol_tree.specs.Sorts.{Declared, formals_of}
 use Rattle.algol_tree.specs.Surroundings.{Surroundings, declared_as}
 use Rattle.algol_tree.specs.Sites.{Site}
+use Rattle.algol_tree.specs.Cells.{level_at}
 use Rattle.algol_tree.specs.Scopes.{names_in}
 use Rattle.algol_tree.specs.Accepted.{sites_of}
 use Rattle.algol_tree.specs.Ascending.{IsInOrder}
@@ -29,6 +30,7 @@ pub record Tells (s : Scopes) (a : Surroundings) (n : Named) : Type 0 where
   pub answers : declaration_of s n.spot ≡ Some told
   pub spot : told.spot ≡ declared.spot
   pub block : told.block ≡ declared.block
+  pub level : told.level ≡ level_at declared.depth
   pub sort : told.sort ≡ sort_of declared
   pub heading : (h : Heading) → declared.class ≡ class.procedure h → TellsHeading s declared h
 
