@@ -1,0 +1,3 @@
+pub mod Specifying
+pub mod LowerBounds
+pub mod Formals
