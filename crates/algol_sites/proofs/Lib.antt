@@ -18,3 +18,4 @@ pub mod Opened
 pub mod Headed
 pub mod Stood
 pub mod Checked
+pub mod Forwards
