@@ -144,7 +144,12 @@ fn add_specs(
 }
 
 /// The same of the arrays that a declaration makes, or of the parameters of the procedure that it declares.
-fn add_made(table: &mut LowsByPlace, alloc: Global, scopes: &Scopes, d: &Decl) -> Result<(), AllocError>
+fn add_made(
+    table: &mut LowsByPlace,
+    alloc: Global,
+    scopes: &Scopes,
+    d: &Decl,
+) -> Result<(), AllocError>
     ensures { OnOk result (Adds table.old table.new (lows_made scopes.now (plain.decl d.now))) }
 {
     match d {
@@ -277,7 +282,11 @@ fn add_in_body(
 
 /// The lower bounds of the arrays of a program, in whatever block, and of the parameters that stand for arrays, by the places where their
 /// names are declared.
-pub fn lows_of_program(alloc: Global, tree: &Program, scopes: &Scopes) -> Result<LowsByPlace, AllocError>
+pub fn lows_of_program(
+    alloc: Global,
+    tree: &Program,
+    scopes: &Scopes,
+) -> Result<LowsByPlace, AllocError>
     requires resolved { AreOf (plain.program tree.now) scopes.now }
     requires order { IsInOrder (plain.program tree.now) }
     ensures { IfOk result (λ table. (spot : token.Spot) → under table spot ≡ arrays.lows_at (blocks_of_program (plain.program tree.now)) spot) }

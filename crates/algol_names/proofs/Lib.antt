@@ -1,13 +1,8 @@
 pub mod Tables
 pub mod Specified
 pub mod Trees
-pub mod Walking
 pub mod Using
-pub mod Making
-pub mod Ahead
-pub mod Stating
-pub mod Simply
-pub mod Nested
-pub mod Bodies
-pub mod Declarations
+pub mod Parts
+pub mod Clear
+pub mod Meant
 pub mod Together

@@ -1,5 +1,5 @@
 -- What a heading says of its parameters, found name by name.
-use Rattle.std.proofs.Common.{◌≡◌, ℕ, ◌+◌, ◌-◌, ◌<◌, Bool, true, false, cond, List, [], ◌∷◌, length, drop, get_or, Option, Some, refl, ap, sym, ◌∙◌, add-one, arith, suc, drop-cons}
+use Rattle.std.proofs.Common.{◌≡◌, ℕ, ◌+◌, ◌<◌, Bool, true, false, cond, List, [], ◌∷◌, length, drop, get_or, Option, Some, refl, ap, sym, ◌∙◌, add-one, arith, suc, drop-cons}
 use Rattle.std.specs.Prelude.{if◌then◌else◌}
 use Rattle.std.specs.Str.{bytes_eq}
 use Rattle.algol_tree.specs.declared.tree.Named.{Named}
@@ -12,7 +12,6 @@ use Rattle.algol_tree.specs.Sorts.{is_named_in, sort_in, sort_by, specified_by}
 use Rattle.algol_rest.specs.SeenScope.{sort}
 use Rattle.algol_rest.specs.declared.scope.Sort.{Sort}
 use Rattle.algol_rest.specs.declared.scope.Sort.TheVariants as sorts
-use Rattle.algol_rest.specs.declared.scope.Parameter.{Parameter}
 use Rattle.algol_names.specs.Specified.{or_variable, valued}
 use Rattle.algol_names.proofs.Tables.{same}
 

@@ -1,24 +1,11 @@
--- Tables of names after an entry was put in.
-use Rattle.std.proofs.Common.{◌≡◌, ℕ, List, [], ◌∷◌, Some, refl, ap}
+-- Names as tables compare them.
+use Rattle.std.proofs.Common.{◌≡◌, ℕ, List, [], ◌∷◌, refl, ap}
 use Rattle.std.specs.Prelude.{◌==◌, ◌&&◌}
-use Rattle.std.specs.Borrow.{Bor}
-use Rattle.std.specs.Ordering.{nat_cmp}
-use Rattle.std.specs.Cmp.Lexicographic.{slice_cmp}
-use Rattle.std.specs.BTreeMap as tree
-use Rattle.std.proofs.lemmas.Map.Text.{btree_map_updates_str}
 use Rattle.std.specs.Str.{bytes_eq}
 use Rattle.algol_tree.specs.Sorts.{same_name}
-use Rattle.algol_names.specs.declared.known.Entry.{Entry}
-use Rattle.algol_names.specs.Known.{Table, Puts}
 
 pub same : (xs ys : List ℕ) → same_name xs ys ≡ bytes_eq xs ys
 same [] [] = refl
 same (x ∷ xs) (y ∷ ys) = ap (λ b. (x == y) && b) (same xs ys)
 same [] (y ∷ ys) = refl
 same (x ∷ xs) [] = refl
-
-pub puts_entry : (name : Bor (List ℕ)) (old new : Table) (entry : Entry) →
-    tree.UpdatesBy (λ x y. slice_cmp nat_cmp x.now y.now) (λ k. slice_cmp nat_cmp name.now k.now) old new (Some entry) → Puts old new name.now entry
-puts_entry name old new entry u = λ q. btree_map_updates_str name.now old new (Some entry) u q
-
-pub ruleset puts = puts_entry

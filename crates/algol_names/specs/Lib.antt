@@ -1,6 +1,5 @@
 pub mod Blocks
 pub mod Tables
 pub mod Specified
-pub mod Known
-pub mod Seeing
-pub mod Declaring
+pub mod Found
+pub mod Meant

@@ -20,7 +20,7 @@ pub enum Begin {
 }
 
 /// This spot, and others after it.
-fn with_first(alloc: Global, first: Spot, others: &[Spot]) -> Result<Vec<Spot>, AllocError>
+pub fn with_first(alloc: Global, first: Spot, others: &[Spot]) -> Result<Vec<Spot>, AllocError>
     ensures { IfOk result (λ all. all.items ≡ first ∷ others.now) }
 {
     let mut all = Vec::new(alloc);

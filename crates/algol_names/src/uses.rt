@@ -1,35 +1,47 @@
-//! The uses of names in expressions.
+//! The uses of names, from what the scopes of the tree tell of them.
 
-ghost use Rattle.std.specs.Prelude.{◌≡◌, ◌++◌, map, OnOk, IfOk};
-ghost use Rattle.algol_tree.specs.Image.{expr, exprs, pairs};
+ghost use Rattle.std.specs.Prelude.{◌≡◌, ◌++◌, map, IfOk, OnOk};
 ghost use Rattle.algol_tree.specs.Scopes as scoping;
-ghost use Rattle.algol_tree.specs.Surroundings.{Surroundings};
-ghost use Rattle.algol_rest.specs.SeenScope.{used};
-ghost use Rattle.algol_names.specs.declared.known.Seen.TheVariants as seens;
-ghost use Rattle.algol_names.specs.Seeing.{Sees, Adds, used_by, expr_uses, list_uses, pairs_uses};
+ghost use Rattle.algol_rest.specs.SeenScope.{sort, used};
+ghost use Rattle.algol_scope.specs.Resolved.{declaration_of};
+ghost use Rattle.algol_lows.specs.Lows.{under};
+ghost use Rattle.algol_names.specs.Blocks.{blocks_in};
+ghost use Rattle.algol_names.specs.Meant.{formal_sort, left_or, use_told, used_by, uses_told, sort_told};
 
-use crate::known::{Around, Seen};
-use algol_rest::{Sort, Use};
-use algol_rules::{boxed_expr, exprs_in};
-use algol_tree::{Expr, Named, Pair};
-use std::alloc::AllocError;
+use crate::found::Found;
+use algol_lows::LowsByPlace;
+use algol_rest::{Blocks, Sort, Use};
+use algol_scope::{Declared, Scopes};
+use algol_sorts::Sort as DeclaredSort;
+use algol_tree::Spot;
+use std::alloc::{AllocError, Global};
 
-/// The use of a name, none where the name is not known.
-fn use_of<'p>(n: &Named, around: &Around<'p>, seen: Seen) -> Option<Use<'p>>
-    ensures { (a : Surroundings) → Sees around.now seen a → used_by result ≡ scoping.used a n.now }
+/// A parameter that stands for an array, with the lower bounds that are kept under its place.
+fn formal_array<'p>(lows: &'p LowsByPlace, spot: Spot) -> Sort<'p>
+    ensures { sort result ≡ formal_sort (under lows.now spot) }
 {
-    match around.find(n.name.bytes(), seen) {
-        None => None,
-        Some(entry) => {
-            let depth = around.above.as_slice().len();
-            let up = depth.saturating_sub(entry.depth);
-            Some(Use {
-                spot: n.spot,
-                block: entry.block,
-                up,
-                sort: entry.sort,
-            })
-        }
+    match lows.get(&spot) {
+        None => Sort::FormalArray(&[]),
+        Some(lows) => Sort::FormalArray(lows.list.items().as_slice()),
+    }
+}
+
+/// What a declaration declares.
+fn sort_of<'p>(declared: &Declared, lows: &'p LowsByPlace, blocks: &Blocks<'p>) -> Sort<'p>
+    ensures { sort result ≡ sort_told (under lows.now) (blocks_in blocks.now) declared.now }
+{
+    match declared.sort {
+        DeclaredSort::Variable(_) => Sort::Variable,
+        DeclaredSort::ByName(_) => Sort::ByName,
+        DeclaredSort::Array(_, _) => Sort::Array,
+        DeclaredSort::FormalArray(_, _) => formal_array(lows, declared.spot),
+        DeclaredSort::Event => Sort::Event,
+        DeclaredSort::Task => Sort::Event,
+        DeclaredSort::FormalEvent => Sort::FormalEvent,
+        DeclaredSort::Label => Sort::Label,
+        DeclaredSort::File => Sort::File,
+        DeclaredSort::Procedure(_) => Sort::Procedure(blocks.number_at(declared.spot)),
+        DeclaredSort::Unspecified => Sort::Variable,
     }
 }
 
@@ -48,13 +60,35 @@ fn left_use<'p>(u: Use<'p>) -> Use<'p>
     }
 }
 
-/// The same of a use, if there is one.
-fn left_of<'p>(u: Option<Use<'p>>) -> Option<Use<'p>>
-    ensures { used_by result ≡ scoping.left_uses (used_by u.entry) }
+/// The same of a name that stands on the left, or not.
+fn left_if<'p>(is_left: bool, u: Use<'p>) -> Use<'p>
+    ensures { used result ≡ left_or is_left (used u.entry) }
 {
-    match u {
+    if is_left { left_use(u) } else { u }
+}
+
+/// The use of a name that is found in a tree, none where the scopes tell no declaration of it. The block of level n has n - 1 blocks around
+/// what stands in it.
+fn use_of<'p>(
+    found: Found,
+    scopes: &Scopes,
+    lows: &'p LowsByPlace,
+    blocks: &Blocks<'p>,
+) -> Option<Use<'p>>
+    ensures { used_by result ≡ use_told (declaration_of scopes.now) (under lows.now) (blocks_in blocks.now) found }
+{
+    match scopes.declaration(found.spot) {
         None => None,
-        Some(u) => Some(left_use(u)),
+        Some(declared) => {
+            let around = (declared.level as usize).saturating_sub(1);
+            let own = Use {
+                spot: found.spot,
+                block: declared.block,
+                up: found.around.saturating_sub(around),
+                sort: sort_of(declared, lows, blocks),
+            };
+            Some(left_if(found.is_left, own))
+        }
     }
 }
 
@@ -68,93 +102,19 @@ fn push<'p>(uses: &mut Vec<Use<'p>>, u: Option<Use<'p>>) -> Result<(), AllocErro
     Ok(())
 }
 
-/// The use of a name, after others.
-pub fn add<'p>(
-    uses: &mut Vec<Use<'p>>,
-    n: &Named,
-    around: &Around<'p>,
-    seen: Seen,
-) -> Result<(), AllocError>
-    ensures { OnOk result (Adds around.now seen uses.old.items uses.new.items (λ (a : Surroundings). scoping.used a n.now)) }
+/// The uses of names that are found in a tree.
+pub fn uses_of<'p>(
+    alloc: Global,
+    names: &[Found],
+    scopes: &Scopes,
+    lows: &'p LowsByPlace,
+    blocks: &Blocks<'p>,
+) -> Result<Vec<Use<'p>>, AllocError>
+    ensures { IfOk result (λ uses. map used uses.items ≡ uses_told (declaration_of scopes.now) (under lows.now) (blocks_in blocks.now) names.now) }
 {
-    push(uses, use_of(n, around, seen))
-}
-
-/// The use of a name on the left, after others.
-pub fn add_left<'p>(
-    uses: &mut Vec<Use<'p>>,
-    n: &Named,
-    around: &Around<'p>,
-) -> Result<(), AllocError>
-    ensures { OnOk result (Adds around.now seens.All uses.old.items uses.new.items (λ (a : Surroundings). scoping.left_uses (scoping.used a n.now))) }
-{
-    push(uses, left_of(use_of(n, around, Seen::All)))
-}
-
-/// The uses in an expression, after others.
-#[cycle(expressions)]
-pub fn add_in_expr<'p>(
-    uses: &mut Vec<Use<'p>>,
-    e: &Expr,
-    around: &Around<'p>,
-    seen: Seen,
-) -> Result<(), AllocError>
-    ensures { OnOk result (Adds around.now seen uses.old.items uses.new.items (expr_uses (expr e.now))) }
-{
-    match e {
-        Expr::Number(_, _) => Ok(()),
-        Expr::Truth(_, _) => Ok(()),
-        Expr::Variable(v) => {
-            add(uses, &v.name, around, seen)?;
-            add_in_exprs(uses, exprs_in(&v.subs), around, seen)
-        }
-        Expr::Call(c) => {
-            add(uses, &c.name, around, seen)?;
-            add_in_exprs(uses, exprs_in(&c.actuals), around, seen)
-        }
-        Expr::Happened(n, _) => add(uses, &n.name, around, seen),
-        Expr::Paren(e, _) => add_in_expr(uses, boxed_expr(e), around, seen),
-        Expr::Plus(e, _) => add_in_expr(uses, boxed_expr(e), around, seen),
-        Expr::Neg(e, _) => add_in_expr(uses, boxed_expr(e), around, seen),
-        Expr::Not(e, _) => add_in_expr(uses, boxed_expr(e), around, seen),
-        Expr::Two(_, x, y) => {
-            add_in_expr(uses, boxed_expr(x), around, seen)?;
-            add_in_expr(uses, boxed_expr(y), around, seen)
-        }
-        Expr::If(c, x, y, _) => {
-            add_in_expr(uses, boxed_expr(c), around, seen)?;
-            add_in_expr(uses, boxed_expr(x), around, seen)?;
-            add_in_expr(uses, boxed_expr(y), around, seen)
-        }
+    let mut uses = Vec::new(alloc);
+    'names: for found in names {
+        push(&mut uses, use_of(*found, scopes, lows, blocks))?;
     }
-}
-
-/// The uses in expressions, after others.
-#[cycle(expressions)]
-pub fn add_in_exprs<'p>(
-    uses: &mut Vec<Use<'p>>,
-    es: &[Expr],
-    around: &Around<'p>,
-    seen: Seen,
-) -> Result<(), AllocError>
-    ensures { OnOk result (Adds around.now seen uses.old.items uses.new.items (list_uses (exprs es.now))) }
-{
-    'expressions: for e in es {
-        add_in_expr(uses, e, around, seen)?;
-    }
-    Ok(())
-}
-
-/// The uses in the bounds of arrays, which see what stands before the declarations of their block.
-pub fn add_in_pairs<'p>(
-    uses: &mut Vec<Use<'p>>,
-    bounds: &[Pair],
-    around: &Around<'p>,
-) -> Result<(), AllocError>
-    ensures { OnOk result (Adds around.now seens.BeforeDeclarations uses.old.items uses.new.items (pairs_uses (pairs bounds.now))) }
-{
-    'pairs: for pair in bounds {
-        add_in_expr(uses, &pair.high, around, Seen::BeforeDeclarations)?;
-    }
-    Ok(())
+    Ok(uses)
 }

@@ -6,17 +6,17 @@ use crate::runs::{push_followed, push_run};
 use crate::tokens::{tokens_of, tokens_text};
 use algol_front::{Checked, front};
 use algol_scope::Scopes;
-use algol_tree::{MOST_SOURCE_BYTES, Program, Refusal};
+use algol_tree::{MOST_SOURCE_BYTES, Refusal};
 use b67_list::discard;
 use case_sheet::Case;
 use std::alloc::{AllocError, Global};
 
-/// What comes of a program under a schedule.
-fn run_text(alloc: Global, program: &Program, words: &[String]) -> Result<Vec<u8>, AllocError> {
+/// What comes of an accepted source under a schedule.
+fn run_text(alloc: Global, checked: &Checked, words: &[String]) -> Result<Vec<u8>, AllocError> {
     let entries = entries_of(alloc, words)?;
     let mut text = Vec::new(alloc);
-    push_run(&mut text, alloc, program, entries.as_slice())?;
-    push_followed(&mut text, alloc, program, entries.as_slice())?;
+    push_run(&mut text, alloc, checked, entries.as_slice())?;
+    push_followed(&mut text, alloc, checked, entries.as_slice())?;
     Ok(text)
 }
 
@@ -38,7 +38,7 @@ fn accepted_text(
 ) -> Result<Vec<u8>, AllocError> {
     match sheet {
         "names" => names_text(alloc, &checked.scopes, case.input.as_slice()),
-        _ => run_text(alloc, &checked.program, case.words.as_slice()),
+        _ => run_text(alloc, checked, case.words.as_slice()),
     }
 }
 

@@ -1,17 +1,38 @@
 //! Runs, step by step and by a whole schedule.
 
+ghost use Rattle.std.specs.Prelude.{◌≡◌, IfOk};
+ghost use Rattle.algol_tree.specs.declared.token.Spot as token;
+ghost use Rattle.algol_tree.specs.Blocks.{blocks_of_program};
+ghost use Rattle.algol_tree.specs.Image.{program as plain};
+ghost use Rattle.algol_paths.specs.Arrays.{lows_at};
+ghost use Rattle.algol_lows.specs.Lows.{under};
+
+use algol_front::Checked;
+use algol_lows::{LowsByPlace, lows_of_program};
 use algol_names::scopes_of;
 use algol_perform::start;
 use algol_run::{End, Stepped, end_of, follow, step};
-use algol_tree::Program;
 use algol_world::World;
 use b67_list::{discard, push_number};
 use b67_num::FaultKind;
 use std::alloc::{AllocError, Global};
 
-/// The world in which the run of a program begins.
-fn first<'p>(alloc: Global, program: &'p Program) -> Result<World<'p>, AllocError> {
-    let scopes = scopes_of(alloc, program)?;
+/// The lower bounds of the arrays of an accepted source.
+fn lows_of(alloc: Global, checked: &Checked) -> Result<LowsByPlace, AllocError>
+    ensures { IfOk result (λ lows. (spot : token.Spot) → under lows spot ≡ lows_at (blocks_of_program (plain checked.now.program)) spot) }
+{
+    lows_of_program(alloc, &checked.program, &checked.scopes)
+}
+
+/// The world in which the run of an accepted source begins.
+fn first<'p>(
+    alloc: Global,
+    checked: &'p Checked,
+    lows: &'p LowsByPlace,
+) -> Result<World<'p>, AllocError>
+    requires { (spot : token.Spot) → under lows.now spot ≡ lows_at (blocks_of_program (plain checked.now.program)) spot }
+{
+    let scopes = scopes_of(alloc, &checked.program, &checked.scopes, lows)?;
     start(alloc, scopes)
 }
 
@@ -93,10 +114,11 @@ fn push_steps(
 pub(crate) fn push_run(
     text: &mut Vec<u8>,
     alloc: Global,
-    program: &Program,
+    checked: &Checked,
     entries: &[usize],
 ) -> Result<(), AllocError> {
-    let mut world = first(alloc, program)?;
+    let lows = lows_of(alloc, checked)?;
+    let mut world = first(alloc, checked, &lows)?;
     let pushed = push_steps(text, &mut world, alloc, entries);
     discard(world);
     pushed
@@ -106,10 +128,11 @@ pub(crate) fn push_run(
 pub(crate) fn push_followed(
     text: &mut Vec<u8>,
     alloc: Global,
-    program: &Program,
+    checked: &Checked,
     entries: &[usize],
 ) -> Result<(), AllocError> {
-    let mut world = first(alloc, program)?;
+    let lows = lows_of(alloc, checked)?;
+    let mut world = first(alloc, checked, &lows)?;
     let went = follow(&mut world, alloc, entries);
     discard(world);
     push_number(text, b"LEGAL ", went?)?;
