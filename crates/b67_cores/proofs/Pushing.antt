@@ -1,6 +1,5 @@
 -- What a fragment pushes, and operators without operands one after another.
 use Rattle.std.proofs.Common.{◌≡◌, refl, subst, ℕ, ◌+◌, Bool, true, false, ℤ, pos, List, [], ◌∷◌, arith}
-use Rattle.algol_tree.specs.declared.tree.Kind.{Kind}
 use Rattle.algol_tree.specs.declared.tree.Named.{Named}
 use Rattle.algol_tree.specs.Scopes.{Scopes}
 use Rattle.algol_meaning.specs.Value.{number, truth}
@@ -21,7 +20,7 @@ use Rattle.b67_templates.specs.Contexts.{Context}
 use Rattle.b67_table.specs.PrivateRows as rows
 use Rattle.b67_table.specs.Rows.{row, pushes}
 use Rattle.b67_templates.specs.Fragments.{Has, AllAt, NumberAt, IntrinsicAt, EntryAt, code_at, IsLiteral, zero_pushed, one_pushed, byte, two_bytes, whole_word, truth_literal}
-use Rattle.b67_templates.specs.Code.{ReferenceAt, BegunAt}
+use Rattle.b67_templates.specs.Code.{BegunAt}
 use Rattle.b67_standing.specs.Stepping.{Slot, operand, reference, intrinsic, control, mark, HasRoom}
 use Rattle.b67_cores.specs.Cores.{Core}
 use Rattle.b67_cores.specs.Slots.{Known, IsTruth}
@@ -81,10 +80,6 @@ module _ (sc : Scopes) (known : List Known) (context : Context) (code : Code) (p
   pub control_at : (from next : ℕ) (c : Pcw) (x : List Slot) → Has ps level from (ops.Mpcw (pcw_word c).bits) next → HasRoom most x 1 → Gets from x next (control c ∷ x)
   control_at from next c x at room =
       pushed sc known code ps level most bound core st from next (ops.Mpcw (pcw_word c).bits) (control c) x (pcw_word c) at (control_row c from) refl refl room
-
-  pub push_name : (from next : ℕ) (n : Named) (k : Kind) (x : List Slot) (at : ReferenceAt sc context ps level n k from next) → HasRoom most x 1
-      → Gets from x next (reference at.0 ∷ x)
-  push_name from next n k x at room = reference_at from next at.0 x at.2 room
 
   -- the start of a call of an intrinsic: a mark and its reference
   pub push_intrinsic : (from next : ℕ) (name : Intrinsic) (x : List Slot) → IntrinsicAt ps level name from next → HasRoom most x 2

@@ -12,7 +12,7 @@ use Rattle.b67_templates.specs.Contexts.{Context}
 use Rattle.b67_table.specs.PrivateRows.{negated, complemented}
 use Rattle.b67_table.specs.Rows.{row}
 use Rattle.b67_templates.specs.Fragments.{operator_for}
-use Rattle.b67_standing.specs.Stepping.{Slot, ready, Step, Leads, push_number, push_truth, push_name, push_array, stuff, move, exchange, calculate, negate, invert, false_stays, false_goes, true_stays, true_goes, go, call, announce, summon, drop, counts, spent, within, past, within_literal, past_literal, there, first}
+use Rattle.b67_standing.specs.Stepping.{Slot, ready, Step, Leads, push_number, push_truth, push_reference, stuff, move, exchange, calculate, negate, invert, false_stays, false_goes, true_stays, true_goes, go, call, announce, summon, drop, counts, spent, within, past, within_literal, past_literal, there, first}
 use Rattle.b67_cores.specs.Cores.{Core}
 use Rattle.b67_cores.specs.Slots.{Known}
 use Rattle.b67_cores.specs.Stretches.{Sees}
@@ -44,8 +44,7 @@ module _ (sc : Scopes) (known : List Known) (context : Context) (code : Code) (p
   unfolding row
   stepped from to x y (push_number z at room) = plain (pushing.push_number sc known context code ps level most bound core st from to z x at room)
   stepped from to x y (push_truth b at room) = plain (pushing.push_truth sc known context code ps level most bound core st from to b x at room)
-  stepped from to x y (push_name n k at room) = plain (pushing.push_name sc known context code ps level most bound core st from to n k x at room)
-  stepped from to x y (push_array n a c is at room) = plain (pushing.reference_at sc known context code ps level most bound core st from to c x at room)
+  stepped from to x y (push_reference c at room) = plain (pushing.reference_at sc known context code ps level most bound core st from to c x at room)
   stepped from to x y (stuff {from = before} {below = below} held c is named stands) =
       stuffing code ps level most bound core st sc known context held c is before from to named stands below sees
   stepped from to x y (move {below = below} low i at whole room forward) =

@@ -10,7 +10,7 @@ use Rattle.b67_ops.specs.declared.PlainKind.TheVariants as kinds
 use Rattle.b67_segment.specs.Operators.{size}
 use Rattle.b67_segment.specs.Building.{Built, level_set}
 use Rattle.b67_templates.specs.Contexts.{Context}
-use Rattle.b67_templates.specs.Cells.{IsProcedure}
+use Rattle.b67_templates.specs.Cells.{IsProcedure, of_variable}
 use Rattle.b67_templates.specs.Code.{NameAt, BegunAt, without, reads, calls}
 use Rattle.b67_templates.specs.Fragments.{Has}
 use Rattle.b67_templates.specs.Emitting.{Emitted}
@@ -34,7 +34,7 @@ module _ (s : Names) (n : Named) (a b : Built) (c : Couple) (known : couples s n
       by scopes context kind (inl ((d, is, v), f)) =
           let same : d ≡ c = cc (is, known) in
           let H : Couple → Type 0 = λ x. Emitted a b (λ qs. Has qs level (size a.operators) (ops.Valc x) (size b.operators)) in
-          weaker (λ qs. NameAt scopes context qs level kind n (size a.operators) (size b.operators)) (subst H (sym same) h) (λ qs x. reads (d, v, x))
+          weaker (λ qs. NameAt scopes context qs level kind n (size a.operators) (size b.operators)) (subst H (sym same) h) (λ qs x. reads (d, of_variable v, x))
       by scopes context kind (inr (callee, p, alone, is)) = absurd (untyped (results s n.spot) _ kind none p.typed is)
 
   -- between the beginning of the call and its entry nothing was appended

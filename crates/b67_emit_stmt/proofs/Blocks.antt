@@ -1,5 +1,5 @@
 -- The code of a block: its cells, its arrays, its statements, whose exits go to the place after them, and EXIT; and that of a block within another.
-use Rattle.std.proofs.Common.{◌≡◌, ℕ, ◌+◌, ◌≤◌, [], ◌∷◌, length, take, drop, refl, sym, ap, ◌∙◌, subst, arith}
+use Rattle.std.proofs.Common.{◌≡◌, ℕ, ◌+◌, ◌≤◌, List, [], ◌∷◌, length, take, drop, append-nil, refl, sym, ap, ◌∙◌, subst, arith}
 use Rattle.std.specs.Prelude.{unwrap_or, Option, Some, IsSome}
 use Rattle.std.proofs.lemmas.List.{take_at}
 use Rattle.algol_tree.specs.Plain.{PDecls, PStmts}
@@ -7,11 +7,14 @@ use Rattle.b67_ops.specs.declared.Operator.TheVariants as ops
 use Rattle.b67_ops.specs.declared.PlainKind.TheVariants as kinds
 use Rattle.b67_ops.specs.declared.BranchKind.TheVariants.{Brun}
 use Rattle.b67_segment.specs.declared.TheConstants.{MOST_SEGMENT_SYLLABLES}
-use Rattle.b67_segment.specs.Operators.{size}
+use Rattle.b67_segment.specs.Operators.{Placed, size}
+use Rattle.b67_segment.specs.declared.code.Format.{Format}
 use Rattle.b67_segment.specs.Building.{Built, level_set}
-use Rattle.b67_templates.specs.Cells.{control_segments}
+use Rattle.b67_templates.specs.Cells.{control_segments, Actual, actuals_in_block}
+use Rattle.b67_templates.specs.Code as code
+use Rattle.b67_templates.specs.Code.{RoutinesAt, control_pcws}
 use Rattle.b67_templates.specs.Emitting.{AreExits, Emitted, EmittedWithExits}
-use Rattle.b67_templates.specs.Fragments.{Has, BranchAt, EntryAt, over, stop}
+use Rattle.b67_templates.specs.Fragments.{Has, BranchAt, EntryAt, over, stop, procedure_controls}
 use Rattle.b67_emitter.specs.Aiming.{Aimed}
 use Rattle.b67_emit_stmt.specs.declared.draft.Draft.{Draft}
 use Rattle.b67_emit_stmt.specs.declared.draft.Known.{Known}
@@ -19,13 +22,14 @@ use Rattle.b67_emit_stmt.specs.Bodies.{BlockAt, EmitsBegin, EmitsBlock, EmitsInn
 use Rattle.b67_emit_stmt.specs.Drafts.{Emits, IsAt, IsReady}
 use Rattle.b67_emit_stmt.specs.Emits.{EmitsStmts, HaveFit, stmts_syllables}
 use Rattle.b67_emit_stmt.specs.Fits.{InsideFits, StmtsFit}
-use Rattle.b67_emit_stmt.specs.Places.{Place, CellsAt, StmtsAt}
+use Rattle.b67_emit_stmt.specs.Places.{Place, CellsAt, StmtsAt, context_in}
 use Rattle.b67_emit_stmt.proofs.Aims.{exits_lie, hole_as}
 use Rattle.b67_emit_stmt.proofs.Drafts.{at_level, closed, emits_then, emits_weaker, hole_closed, hole_there, level_after, level_same, piece}
 use Rattle.b67_emit_stmt.proofs.Levels.{set_back}
 use Rattle.b67_emit_stmt.proofs.Matched.{ready_behind}
 use Rattle.b67_emit_stmt.proofs.Parts.{leveled, plain_at, set_same}
 use Rattle.b67_emit_stmt.proofs.Ready.{ready_after}
+use Rattle.b67_emit_stmt.proofs.Unnamed.{none_inside}
 
 -- ---- at the level that is set
 
@@ -73,6 +77,18 @@ module _ (s : Known) (level many : ℕ) (ds : PDecls) (ss : PStmts) (a b : Draft
           let whole = emits_then (begun fits.0 fits.1.0 fits.1.1) (performed fits.0 fits.1) in
           es ∙ ap (take first) whole.code.added ∙ take_at a.exits.items whole.code.exits first (sym is)
 
+-- no actual has code or a cell
+no_routines : (sc : Place) (formats : List Format) (qs : List Placed) (level : ℕ) (actuals : List Actual) → actuals ≡ [] →
+    RoutinesAt sc.scopes (context_in sc formats level) qs (level + 1) actuals []
+no_routines sc formats qs level actuals none = subst (λ (as' : List Actual). RoutinesAt sc.scopes (context_in sc formats level) qs (level + 1) as' []) (sym none) refl
+
+no_controls : (sc : Place) (formats : List Format) (qs : List Placed) (level many : ℕ) (ds : PDecls) (actuals : List Actual) → actuals ≡ [] → (f t : ℕ) →
+    CellsAt sc formats qs level many (control_segments sc.scopes ds) f t →
+    code.CellsAt sc.scopes (context_in sc formats level) qs level many (control_pcws sc.scopes sc.segment level ds actuals []) f t
+no_controls sc formats qs level many ds actuals none f t h =
+    subst (λ (as' : List Actual). code.CellsAt sc.scopes (context_in sc formats level) qs level many (control_pcws sc.scopes sc.segment level ds as' []) f t) (sym none)
+    (subst (λ pcws. code.CellsAt sc.scopes (context_in sc formats level) qs level many pcws f t) (sym (append-nil (procedure_controls level (control_segments sc.scopes ds)))) h)
+
 -- the block ends after that
 module _ (s : Known) (level : ℕ) (ds : PDecls) (ss : PStmts) (a d : Draft) (at : IsAt level a) (many : ℕ) (is : many ≡ variables_in ds) (inside : EmitsInside s level a d many ds ss) where
   pub exit_set : (fits : (sc : Place) × InsideFits sc s level ds ss) → IsSome a.out.level → IsSome d.out.level
@@ -91,7 +107,18 @@ module _ (s : Known) (level : ℕ) (ds : PDecls) (ss : PStmts) (a d : Draft) (at
       emits_weaker (λ formats qs target. BlockAt sc formats qs level ds ss (size a.out.operators)) (emits_then front last) (omega (arith, is))
       (λ formats qs target hi p.
       let C : ℕ → Type 0 = λ n. CellsAt sc formats qs level n (control_segments sc.scopes ds) (size a.out.operators) p.0.0 in
-      (p.0.0, p.0.1, size d.out.operators, size e.out.operators, subst C is p.0.2, p.0.3, p.0.4, p.1))
+      let none = none_inside sc s level ds ss fit in (
+        [],
+        p.0.0,
+        p.0.1,
+        size d.out.operators,
+        size e.out.operators,
+        no_routines sc formats qs level (actuals_in_block sc.scopes ds ss) none,
+        no_controls sc formats qs level (variables_in ds) ds (actuals_in_block sc.scopes ds ss) none (size a.out.operators) p.0.0 (subst C is p.0.2),
+        p.0.3,
+        p.0.4,
+        p.1,
+      ))
 
 -- ---- one level further in
 

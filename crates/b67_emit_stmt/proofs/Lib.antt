@@ -25,6 +25,7 @@ pub mod Numbered
 pub mod Walks
 pub mod Stores
 pub mod Bounds
+pub mod Unnamed
 pub mod ArrayLists
 pub mod Blocks
 pub mod Begins

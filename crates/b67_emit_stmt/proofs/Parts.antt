@@ -8,7 +8,7 @@ use Rattle.algol_tree.specs.declared.tree.Named.{Named}
 use Rattle.algol_tree.specs.Plain as tree
 use Rattle.algol_tree.specs.Plain.{PExpr}
 use Rattle.b67_emit_stmt.specs.Places.{Place, context_in, AssignAt, ExprAt, ReadAt, ReferenceAt}
-use Rattle.b67_templates.specs.Code.{reads}
+use Rattle.b67_templates.specs.Code.{own, reads}
 use Rattle.b67_emit_stmt.specs.declared.draft.Known.{Known}
 use Rattle.algol_meaning.specs.Statements.{alone}
 use Rattle.b67_ops.specs.declared.Couple.{Couple}
@@ -21,7 +21,7 @@ use Rattle.b67_segment.specs.declared.code.Format.{Format}
 use Rattle.b67_segment.specs.Operators.{Placed, size}
 use Rattle.b67_segment.specs.Building.{Built, level_set}
 use Rattle.b67_templates.specs.Fragments.{Has, IntrinsicAt}
-use Rattle.b67_templates.specs.Cells.{IsVariable}
+use Rattle.b67_templates.specs.Cells.{IsVariable, of_variable}
 use Rattle.b67_templates.specs.Emitting.{Emitted}
 use Rattle.b67_emit_stmt.specs.Fits.{ExprFits, VariableFits}
 use Rattle.b67_emitter.specs.Values.{HasCode, ValueEmitted}
@@ -77,7 +77,7 @@ pub read_part : (sc : Place) (formats : List Format) (k : Kind) (n : Named) (c :
     Emitted a b (λ qs. Has qs (level_set a) (size a.operators) (ops.Valc c) (size b.operators)) →
     Emitted a b (λ qs. ReadAt sc formats qs (level_set a) n k (size a.operators) (size b.operators))
 read_part sc formats k n c a b v h =
-    weaker (λ qs. ReadAt sc formats qs (level_set a) n k (size a.operators) (size b.operators)) h (λ qs p. (c, v, p))
+    weaker (λ qs. ReadAt sc formats qs (level_set a) n k (size a.operators) (size b.operators)) h (λ qs p. (c, of_variable v, p))
 
 module _ (sc : Place) (formats : List Format) (level : ℕ) where
   pub assign_part : (k : Kind) (n : Named) (e : PExpr) (a b c d : Built) →
@@ -87,7 +87,7 @@ module _ (sc : Place) (formats : List Format) (level : ℕ) where
       Emitted a d (λ qs. AssignAt sc formats qs level n e (size a.operators) (size d.operators))
   assign_part k n e a b c d h i j =
       weaker (λ qs. AssignAt sc formats qs level n e (size a.operators) (size d.operators)) (then (then h i) j)
-      (λ qs p. (k, size b.operators, size c.operators, p.0.0, p.0.1, p.1))
+      (λ qs p. (k, size b.operators, size c.operators, own p.0.0, p.0.1, p.1))
 
   pub difference_part : (n : Named) (e : PExpr) (a b c d : Built) →
       Emitted a b (λ qs. ReadAt sc formats qs level n types.Number (size a.operators) (size b.operators)) →
@@ -109,7 +109,7 @@ module _ (sc : Place) (formats : List Format) (level : ℕ) where
       weaker (λ qs. AssignAt sc formats qs level n (tree.two operators.Add (alone n) e) (size a.operators) (size y.operators))
       (then h (then (then (then i j) k) l))
       (λ qs p.
-      (types.Number, size b.operators, size x.operators, p.0, (size c.operators, size c.operators, size d.operators, refl, reads p.1.0.0.0, refl, p.1.0.0.1, p.1.0.1), p.1.1))
+      (types.Number, size b.operators, size x.operators, own p.0, (size c.operators, size c.operators, size d.operators, refl, reads p.1.0.0.0, refl, p.1.0.0.1, p.1.0.1), p.1.1))
 
 -- ---- answers
 

@@ -16,9 +16,9 @@ use Rattle.b67_segment.specs.Syllables.{Spells}
 use Rattle.b67_segment.specs.declared.code.Format.{Format}
 use Rattle.b67_segment.specs.declared.code.Segment.{Segment}
 use Rattle.b67_templates.specs.Contexts.{yields_of, Context}
-use Rattle.b67_templates.specs.Fragments.{Has}
-use Rattle.b67_templates.specs.Cells.{Simple, parameter_cells, variables, result_of, procedures}
-use Rattle.b67_templates.specs.Code.{CellsAt, DeclsAt, StmtsAt, ResultAt, control_pcws}
+use Rattle.b67_templates.specs.Fragments.{Has, procedure_controls}
+use Rattle.b67_templates.specs.Cells.{Simple, parameter_cells, variables, result_of, procedures, control_segments}
+use Rattle.b67_templates.specs.Code.{CellsAt, DeclsAt, StmtsAt, ResultAt}
 use Rattle.b67_templates.specs.Fitting.{DeclsFit, StmtsFit}
 use Rattle.b67_emitter.specs.Values.{couples, lows, results}
 use Rattle.b67_emit_stmt.specs.Texts.{Text}
@@ -70,7 +70,7 @@ context_of sc formats t =
 abbrev pub TextAt : Scopes → List Format → List Placed → Text → Type 0
 TextAt sc formats ps t =
     (b : ℕ) × (d : ℕ) × (e : ℕ)
-    × CellsAt sc (context_of sc formats t) ps t.level (length (zeros_of t)) (control_pcws sc t.level t.decls) 0 b
+    × CellsAt sc (context_of sc formats t) ps t.level (length (zeros_of t)) (procedure_controls t.level (control_segments sc t.decls)) 0 b
     × DeclsAt sc (context_of sc formats t) ps t.level t.decls b d
     × StmtsAt sc (context_of sc formats t) ps t.level t.stmts d e e
     × EndAt sc (context_of sc formats t) ps t.level t.result t.name e

@@ -1,5 +1,5 @@
 -- Each name that is used as an array has its couple and the lower bounds of its declaration.
-use Rattle.std.proofs.Common.{arith, ◌≡◌, ℕ, ◌+◌, ◌-◌, ◌≤◌, false, List, length, Option, Some, refl, sym, ap, ◌∙◌, subst}
+use Rattle.std.proofs.Common.{arith, ◌≡◌, ℕ, ◌+◌, ◌-◌, ◌≤◌, false, List, [], length, Option, Some, refl, sym, ap, ◌∙◌, subst}
 use Rattle.std.proofs.lemmas.List.{length-map}
 use Rattle.std.specs.List.{flat_map}
 use Rattle.algol_tree.specs.declared.token.Spot.{Spot}
@@ -17,8 +17,9 @@ use Rattle.algol_tree.specs.Sorts.{Sort, Declared, is_formal}
 use Rattle.algol_tree.specs.Surroundings.{Surroundings}
 use Rattle.algol_paths.specs.Arrays.{Lows, shape_of, lows_of, lows_at, Made, an_array}
 use Rattle.b67_ops.specs.declared.Couple.{Couple}
-use Rattle.b67_templates.specs.Cells.{Simple, declared, made_of, made_from, simple_cells, procedures, found_from}
+use Rattle.b67_templates.specs.Cells.{Simple, declared, made_of, made_from, simple_cells, procedures, found_from, Actual, actuals_of, actual_base}
 use Rattle.b67_fitting.specs.Fitted.{spelled}
+use Rattle.b67_fitting.proofs.Apart.{IsIn}
 use Rattle.b67_fitting.proofs.Blocked.{numbered}
 use Rattle.b67_fitting.proofs.Coupled.{the_use, IsProgram, scopes, simples_of, own_couple}
 use Rattle.b67_fitting.proofs.Framing.{simple_is}
@@ -27,6 +28,11 @@ use Rattle.b67_fitting.proofs.Known.{IsRowed}
 use Rattle.b67_fitting.proofs.LowsFound.{lows_found}
 use Rattle.b67_fitting.proofs.Placed.{RowFits}
 use Rattle.b67_fitting.proofs.TypedBounds.{dimensions_of}
+use Rattle.b67_fitting.proofs.Unnamed.{AreUnnamed, none_by_name, no_actuals}
+
+-- no actual has a cell before what actions make
+past_actuals : (m n : ℕ) (actuals : List Actual) → actuals ≡ [] → m + n ≡ m + length actuals + n
+past_actuals m n actuals none = let none_long : length actuals ≡ 0 = ap length none in omega (arith, none_long)
 
 module _ (blocks : List Block) (all : List Site) (is : IsProgram blocks all) where
   module _ (known results : Spot → Option Couple) (lows : Spot → Option Lows)
@@ -48,6 +54,8 @@ module _ (blocks : List Block) (all : List Site) (is : IsProgram blocks all) whe
         let up : length b.outer + 2 + (a.depth - d.depth) ≡ level = omega (arith, at, h.within, h.depth_is) in
         let other : is_one_of (result_names_of b) n.name ≡ false =
         subst (λ (z : Block). is_one_of (result_names_of z) n.name ≡ false) (ap (block_numbered blocks) h.block_is ∙ numbered blocks b is.blocks_apart h.there) h.other in
+        let home_of = block_numbered blocks ((use_of sc n).block) in
+        let unnamed : (c : Block) → IsIn c blocks → AreUnnamed c.decls = λ c there. (is.homes c there).unnamed in
         let cells_are : simple_cells sc (block_numbered blocks ((use_of sc n).block)) ≡ simples_of blocks all is b = ap (simple_cells sc) block_is ∙ simple_is blocks b home sc.uses in
         record {
           shape = shape_of h.array;
@@ -66,7 +74,8 @@ module _ (blocks : List Block) (all : List Site) (is : IsProgram blocks all) whe
                 level_is = ap (λ (z : Use). length b.outer + 2 + z.up) u ∙ up;
                 index_is =
                     ap (λ (z : List Simple). 2 + length z + length (procedures b.decls) + h.arrayed.number) (sym cells_are)
-                    ∙ ap (λ (z : Block). 2 + length (simple_cells sc (block_numbered blocks ((use_of sc n).block))) + length (procedures z.decls) + h.arrayed.number) (sym block_is);
+                    ∙ ap (λ (z : Block). 2 + length (simple_cells sc (block_numbered blocks ((use_of sc n).block))) + length (procedures z.decls) + h.arrayed.number) (sym block_is)
+                    ∙ past_actuals (actual_base sc home_of) h.arrayed.number (actuals_of sc home_of) (no_actuals sc (none_by_name blocks unnamed sc.uses) home_of);
               };
             });
             lows_are =

@@ -23,13 +23,15 @@ use Rattle.b67_fitting.proofs.Lists.{each_back, each_both, each_of}
 use Rattle.b67_fitting.proofs.OnlyArrays.{typed_arrays}
 use Rattle.b67_fitting.proofs.Looked.{all_blocks}
 use Rattle.b67_fitting.proofs.Started.{HasCallees}
+use Rattle.b67_fitting.proofs.Unnamed.{AreUnnamed, typed_unnamed}
 
--- a block whose parameters and declarations are apart from one another and from its own place, whose procedures have their blocks, and which
--- makes arrays only
+-- a block whose parameters and declarations are apart from one another and from its own place, whose procedures have their blocks and no
+-- parameters by name, and which makes arrays only
 pub record IsHome (blocks : List Block) (b : Block) : Type 0 where
   pub apart : Apart (b.spot ∷ (spots_of_names (named_of blocks b) ++ spots_of_decls b.decls))
   pub callees : HasCallees blocks b b.decls
   pub made : made_of b.decls ≡ map an_array (arrays_of b.decls)
+  pub unnamed : AreUnnamed b.decls
 
 pub all_homes : (blocks : List Block) {k : ℕ} {spots : List Spot} {own : List Cell} {bs : List Block} {xs : List Site} → Listed blocks k spots own bs xs → AllByRecursion (IsHome blocks) bs
 all_homes blocks (over k) = tt
@@ -38,8 +40,8 @@ all_homes blocks (site k x f l) = all_homes blocks l
 all_homes blocks (left k a n e listed b g l) = all_homes blocks l
 all_homes blocks (declared k x names new f l) = all_homes blocks l
 all_homes blocks (both k {bs = bs} {cs = cs} i j) = each_both (IsHome blocks) bs cs (all_homes blocks i) (all_homes blocks j)
-all_homes blocks (block k b e i l) = (record { apart = i.apart; callees = i.callees; made = typed_arrays blocks i.begin i.begin.known b.decls i.declares }, all_homes blocks l)
-all_homes blocks (procedure k x b more f i l) = (record { apart = i.apart; callees = i.callees; made = typed_arrays blocks i.begin i.begin.known b.decls i.declares }, all_homes blocks l)
+all_homes blocks (block k b e i l) = (record { apart = i.apart; callees = i.callees; made = typed_arrays blocks i.begin i.begin.known b.decls i.declares; unnamed = typed_unnamed blocks i.begin i.begin.known b.decls i.declares }, all_homes blocks l)
+all_homes blocks (procedure k x b more f i l) = (record { apart = i.apart; callees = i.callees; made = typed_arrays blocks i.begin i.begin.known b.decls i.declares; unnamed = typed_unnamed blocks i.begin i.begin.known b.decls i.declares }, all_homes blocks l)
 
 -- the place is among these, and apart from the blocks
 pub record IsFar (spots : List Spot) (bs : List Block) (spot : Spot) : Type 0 where

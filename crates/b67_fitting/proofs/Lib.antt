@@ -17,6 +17,7 @@ pub mod Given
 pub mod Arrayed
 pub mod Stated
 pub mod OnlyArrays
+pub mod Unnamed
 pub mod Known
 pub mod ResultsApart
 pub mod Later

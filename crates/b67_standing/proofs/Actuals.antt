@@ -2,15 +2,14 @@
 use Rattle.std.proofs.Common.{◌≡◌, refl, sym, ◌∙◌, subst, ℕ, ◌+◌, ◌≤◌, arith, List, [], ◌∷◌, ◌++◌, length, length-append, append_assoc}
 use Rattle.algol_tree.specs.declared.tree.Kind.{Kind}
 use Rattle.algol_tree.specs.declared.tree.Named.{Named}
-use Rattle.algol_tree.specs.Plain.{PExprs}
+use Rattle.algol_tree.specs.Plain.{PExpr, PExprs}
 use Rattle.algol_tree.specs.Sorts.{Sort, is_formal, procedure_in}
 use Rattle.algol_tree.specs.Scopes.{Scopes}
-use Rattle.algol_meaning.specs.Value as cells
 use Rattle.algol_meaning.specs.Value.{Value}
 use Rattle.algol_meaning.specs.Rest as rests
-use Rattle.algol_meaning.specs.Rest.{Given, valued, passed, refers, Actuals, Half, val, busy, HalfGiven, given}
-use Rattle.algol_meaning.specs.Settle.{valued_of, alone_of, sort_at, settle_actuals}
-use Rattle.algol_paths.specs.Arrays.{Shape, shape_of}
+use Rattle.algol_meaning.specs.Rest.{Given, valued, refers, Actuals, Half, val, busy, HalfGiven, given}
+use Rattle.algol_meaning.specs.Settle.{valued_of, alone_of, name_alone, sort_at, other_of, settle_actuals}
+use Rattle.algol_paths.specs.Arrays.{Shape}
 use Rattle.b67_ops.specs.declared.Couple.{Couple}
 use Rattle.b67_ops.specs.declared.Operator.TheVariants as ops
 use Rattle.b67_ops.specs.declared.PlainKind.TheVariants as kinds
@@ -18,13 +17,14 @@ use Rattle.b67_segment.specs.Operators.{Placed}
 use Rattle.b67_templates.specs.Contexts.{Context}
 use Rattle.b67_templates.specs.Fragments.{Has}
 use Rattle.b67_templates.specs.Cells as wants
-use Rattle.b67_templates.specs.Cells.{Wanted, parameter_wants, IsProcedure, declared, formal}
+use Rattle.b67_templates.specs.Cells.{Wanted, parameter_wants, IsProcedure}
 use Rattle.b67_templates.specs.Code as code
-use Rattle.b67_templates.specs.Code.{ArrayActualAt, ActualsAt}
+use Rattle.b67_templates.specs.Code.{ArrayActualAt, NameActualAt, ActualsAt}
 use Rattle.b67_templates.specs.Depths.{line_depth}
-use Rattle.b67_standing.specs.Stepping.{Slot, operand, reference, mark, HasRoom, cell_named, of_array, push_array, stuff, Leads, there, first}
-use Rattle.b67_standing.specs.Standing.{operands, given_slot, given_slots, AreGiven, CallsAt, Fills, Shows}
+use Rattle.b67_standing.specs.Stepping.{Slot, operand, reference, mark, HasRoom, cell_named, actual as actual_held, of_array, of_variable, of_actual, push_reference, stuff, Leads, there, first}
+use Rattle.b67_standing.specs.Standing.{operands, given_slot, given_slots, AreGiven, CallsAt, array_passed, name_passed, Fills, Shows}
 use Rattle.b67_standing.proofs.Leading.{on, valued_at}
+use Rattle.b67_standing.proofs.Values.{variable_refers, own_names}
 
 -- one value more lies on top
 pub operands-more : (vs : List Value) (v : Value) (below : List Slot) → operands (vs ++ v ∷ []) below ≡ operand v ∷ operands vs below
@@ -51,21 +51,19 @@ given_slots-more (x ∷ wanted) (h ∷ gs) w g below e = given_slots-more wanted
 given_slots-more [] (h ∷ gs) w g below e = absurd (omega (arith, e))
 given_slots-more (x ∷ wanted) [] w g below e = absurd (omega (arith, e))
 
-module _ (sc : Scopes) (level : ℕ) where
-  given-length : (wanted : List Wanted) (gs : List Given) → AreGiven sc level wanted gs → length wanted ≡ length gs
+module _ (sc : Scopes) (context : Context) where
+  given-length : (wanted : List Wanted) (gs : List Given) → AreGiven sc context wanted gs → length wanted ≡ length gs
   given-length [] [] h = refl
-  given-length (wants.value kind ∷ wanted) (valued v ∷ gs) h = omega (arith, given-length wanted gs h.1)
-  given-length (wants.array shape ∷ wanted) (refers n ∷ gs) h = omega (arith, given-length wanted gs h.1)
-  given-length (wants.array shape ∷ wanted) (passed (cells.reference r) ∷ gs) h = omega (arith, given-length wanted gs h)
-  given-length _ _ h = absurd h
+  given-length (w ∷ wanted) (g ∷ gs) h = omega (arith, given-length wanted gs h.1)
+  given-length [] (g ∷ gs) h = absurd h
+  given-length (w ∷ wanted) [] h = absurd h
 
-  given-more : (wanted : List Wanted) (gs : List Given) (w : Wanted) (g : Given) → AreGiven sc level wanted gs → AreGiven sc level (w ∷ []) (g ∷ []) →
-      AreGiven sc level (wanted ++ w ∷ []) (gs ++ g ∷ [])
+  given-more : (wanted : List Wanted) (gs : List Given) (w : Wanted) (g : Given) → AreGiven sc context wanted gs → AreGiven sc context (w ∷ []) (g ∷ []) →
+      AreGiven sc context (wanted ++ w ∷ []) (gs ++ g ∷ [])
   given-more [] [] w g h one = one
-  given-more (wants.value kind ∷ wanted) (valued v ∷ gs) w g h one = (h.0, given-more wanted gs w g h.1 one)
-  given-more (wants.array shape ∷ wanted) (refers n ∷ gs) w g h one = (h.0, given-more wanted gs w g h.1 one)
-  given-more (wants.array shape ∷ wanted) (passed (cells.reference r) ∷ gs) w g h one = given-more wanted gs w g h one
-  given-more _ _ w g h one = absurd h
+  given-more (x ∷ wanted) (y ∷ gs) w g h one = (h.0, given-more wanted gs w g h.1 one)
+  given-more [] (y ∷ gs) w g h one = absurd h
+  given-more (x ∷ wanted) [] w g h one = absurd h
 
 module _ (sc : Scopes) (context : Context) (ps : List Placed) (level most : ℕ) where
   -- ---- calls
@@ -96,7 +94,7 @@ module _ (sc : Scopes) (context : Context) (ps : List Placed) (level most : ℕ)
   -- what becomes of the actuals once these lie there
   abbrev pub ActualsOn : Named → ℕ → Couple → PExprs → List Sort → List Wanted → ℕ → List Slot → ℕ → Type 0
   ActualsOn n callee couple es sorts after m below next =
-      (gs : List Given) (before : List Wanted) → parameter_wants sc callee ≡ before ++ after → AreGiven sc context.level before gs → HasRoom most below (2 + length gs + line_depth es) →
+      (gs : List Given) (before : List Wanted) → parameter_wants sc callee ≡ before ++ after → AreGiven sc context before gs → HasRoom most below (2 + length gs + line_depth es) →
       ComesFilled n callee (settle_actuals sc es sorts gs) m (given_slots before gs (called_on couple below)) below next
 
   -- what is asked of an actual, and of those before and after it
@@ -104,7 +102,7 @@ module _ (sc : Scopes) (context : Context) (ps : List Placed) (level most : ℕ)
       (m filled next : ℕ) (below : List Slot) : Type 0 where
     pub procedure : IsProcedure sc context.level n callee couple
     pub wants_are : parameter_wants sc callee ≡ before ++ wanted ∷ after
-    pub fit : AreGiven sc context.level before gs
+    pub fit : AreGiven sc context before gs
     pub actuals : ActualsAt sc context ps level sorts after es m filled
     pub enter : Has ps level filled (ops.Plain kinds.Entr) next
     pub room : HasRoom most below (2 + length gs + 1 + line_depth es)
@@ -112,15 +110,15 @@ module _ (sc : Scopes) (context : Context) (ps : List Placed) (level most : ℕ)
   -- the actual is done, and those after it come
   pub actual_done : (n : Named) (callee : ℕ) (couple : Couple) (gs : List Given) (before : List Wanted) (wanted : Wanted) (after : List Wanted) (sorts : List Sort) (es : PExprs)
       (m filled next : ℕ) (below : List Slot) (g : Given) → ActualAt n callee couple gs before wanted after sorts es m filled next below →
-      AreGiven sc context.level (wanted ∷ []) (g ∷ []) → ActualsOn n callee couple es sorts after m below next →
+      AreGiven sc context (wanted ∷ []) (g ∷ []) → ActualsOn n callee couple es sorts after m below next →
       ComesFilled n callee (settle_actuals sc es sorts (gs ++ g ∷ [])) m (given_slot wanted g ∷ given_slots before gs (called_on couple below)) below next
   actual_done n callee couple gs before wanted after sorts es m filled next below g a fits c =
       let floor = called_on couple below in
       let hs = gs ++ g ∷ [] in
       let longer : length hs ≡ length gs + 1 = length-append gs (g ∷ []) in
       subst (λ o. ComesFilled n callee (settle_actuals sc es sorts hs) m o below next)
-      (given_slots-more before gs wanted g floor (given-length sc context.level before gs a.fit))
-      (c hs (before ++ wanted ∷ []) (a.wants_are ∙ sym (append_assoc before (wanted ∷ []) after)) (given-more sc context.level before gs wanted g a.fit fits) (omega (arith, a.room, longer)))
+      (given_slots-more before gs wanted g floor (given-length sc context before gs a.fit))
+      (c hs (before ++ wanted ∷ []) (a.wants_are ∙ sym (append_assoc before (wanted ∷ []) after)) (given-more sc context before gs wanted g a.fit fits) (omega (arith, a.room, longer)))
 
   -- an actual by value
   pub actual_stands : (n : Named) (callee : ℕ) (couple : Couple) (gs : List Given) (before : List Wanted) (kind : Kind) (after : List Wanted) (sorts : List Sort) (es : PExprs)
@@ -148,14 +146,14 @@ module _ (sc : Scopes) (context : Context) (ps : List Placed) (level most : ℕ)
   array_stands n callee couple gs before shape after sorts es f m filled next below x a (code.refers d c q i agrees name stuffs) go =
       let floor = given_slots before gs (called_on couple below) in
       let settled : Sort → HalfGiven = λ s. alone_of (procedure_in s) (is_formal s) gs x sorts es (settle_actuals sc es sorts) in
-      let pushes = push_array x (shape_of d) c (declared d refl i) name (omega (arith, a.room, given_slots-length before gs (called_on couple below))) in
+      let pushes = push_reference c name (omega (arith, a.room, given_slots-length before gs (called_on couple below))) in
       subst (λ s. ComesFilled n callee (settled s) f floor below next) (sym i.sort_is)
       (after_filled n callee (settle_actuals sc es sorts (gs ++ refers x ∷ [])) below next (first pushes (first (stuff (cell_named x) c (of_array x d c i) name stuffs) there))
       (actual_done n callee couple gs before (wants.array shape) after sorts es m filled next below (refers x) a ((d, c, i, agrees), tt) go))
   array_stands n callee couple gs before shape after sorts es f m filled next below x a (code.passes actual c q i agrees name loads) go =
       let floor = given_slots before gs (called_on couple below) in
       let settled : Sort → HalfGiven = λ s. alone_of (procedure_in s) (is_formal s) gs x sorts es (settle_actuals sc es sorts) in
-      let pushes = push_array x actual c (formal i) name (omega (arith, a.room, given_slots-length before gs (called_on couple below))) in
+      let pushes = push_reference c name (omega (arith, a.room, given_slots-length before gs (called_on couple below))) in
       subst (λ s. ComesFilled n callee (settled s) f floor below next) (sym i.sort_is)
       (record {
         at = q;
@@ -166,19 +164,68 @@ module _ (sc : Scopes) (context : Context) (ps : List Placed) (level most : ℕ)
           (
             couple,
             before,
-            shape,
+            wants.array shape,
             after,
             m,
             a.procedure,
             a.wants_are,
             a.fit,
-            record { actual = actual; couple = c; is_formal = i; agrees = agrees; lies = refl; stands = loads },
+            record { couple = c; passable = array_passed shape actual i agrees; lies = refl; stands = loads },
             a.actuals,
             a.room,
           ),
           a.enter,
         );
       })
+
+  -- an actual that is given by name
+  pub name_stands : (n : Named) (callee : ℕ) (couple : Couple) (gs : List Given) (before : List Wanted) (kind : Kind) (after : List Wanted) (sorts : List Sort) (es : PExprs)
+      (f m filled next : ℕ) (below : List Slot) (e : PExpr) → ActualAt n callee couple gs before (wants.by_name kind) after sorts es m filled next below →
+      NameActualAt sc context ps level kind e f m → ActualsOn n callee couple es sorts after m below next →
+      ComesFilled n callee (other_of sc (name_alone e) e gs sorts es (settle_actuals sc es sorts)) f (given_slots before gs (called_on couple below)) below next
+  name_stands n callee couple gs before kind after sorts es f m filled next below e a (code.refers_to x c q same i outer name stuffs) go =
+      let floor = given_slots before gs (called_on couple below) in
+      let pushes = push_reference c name (omega (arith, a.room, given_slots-length before gs (called_on couple below))) in
+      subst (λ (y : PExpr). ComesFilled n callee (other_of sc (name_alone y) y gs sorts es (settle_actuals sc es sorts)) f floor below next) (sym same)
+      (subst (λ s. ComesFilled n callee s f floor below next) (sym (variable_refers (sort_at sc x) gs x sorts es (settle_actuals sc es sorts) i.variable))
+      (after_filled n callee (settle_actuals sc es sorts (gs ++ refers x ∷ [])) below next
+      (first pushes (first (stuff (cell_named x) c (of_variable x kind c i outer) name stuffs) there))
+      (actual_done n callee couple gs before (wants.by_name kind) after sorts es m filled next below (refers x) a ((c, i, outer), tt) go)))
+  name_stands n callee couple gs before kind after sorts es f m filled next below e a (code.passes_on x c q same i name loads) go =
+      let floor = given_slots before gs (called_on couple below) in
+      let settled : Sort → HalfGiven = λ s. alone_of (procedure_in s) (is_formal s) gs x sorts es (settle_actuals sc es sorts) in
+      let pushes = push_reference c name (omega (arith, a.room, given_slots-length before gs (called_on couple below))) in
+      subst (λ (y : PExpr). ComesFilled n callee (other_of sc (name_alone y) y gs sorts es (settle_actuals sc es sorts)) f floor below next) (sym same)
+      (subst (λ s. ComesFilled n callee (settled s) f floor below next) (sym i.sort_is)
+      (record {
+        at = q;
+        with_slots = reference c ∷ floor;
+        leads = first pushes there;
+        fills = (
+          filled,
+          (
+            couple,
+            before,
+            wants.by_name kind,
+            after,
+            m,
+            a.procedure,
+            a.wants_are,
+            a.fit,
+            record { couple = c; passable = name_passed kind i; lies = refl; stands = loads },
+            a.actuals,
+            a.room,
+          ),
+          a.enter,
+        );
+      }))
+  name_stands n callee couple gs before kind after sorts es f m filled next below e a (code.names c q i name stuffs) go =
+      let floor = given_slots before gs (called_on couple below) in
+      let pushes = push_reference c name (omega (arith, a.room, given_slots-length before gs (called_on couple below))) in
+      subst (λ s. ComesFilled n callee s f floor below next) (sym (own_names sc e kind gs sorts es (settle_actuals sc es sorts) i.own))
+      (after_filled n callee (settle_actuals sc es sorts (gs ++ rests.names e ∷ [])) below next
+      (first pushes (first (stuff (actual_held e kind) c (of_actual e kind c i) name stuffs) there))
+      (actual_done n callee couple gs before (wants.by_name kind) after sorts es m filled next below (rests.names e) a ((c, i), tt) go))
 
   -- there is room for the start of the call
   pub fills_room : (n : Named) (callee : ℕ) (x : Actuals) (pc : ℕ) (slots below : List Slot) (filled : ℕ) → Fills sc context ps level most n callee x pc slots below filled →

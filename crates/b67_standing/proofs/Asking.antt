@@ -10,7 +10,7 @@ use Rattle.algol_tree.specs.Scopes.{Scopes}
 use Rattle.algol_meaning.specs.Value.{Value}
 use Rattle.algol_meaning.specs.Rest as rests
 use Rattle.algol_meaning.specs.Rest.{Hole, Actuals, Aim, Place, Given, Answer}
-use Rattle.algol_meaning.specs.Asks.{nothing, indexes, passes, makes_arrays, reads_result, enters, leaves, stores, selects, turns, writes, enters_block, ask_hole, ask_actuals, ask_aim}
+use Rattle.algol_meaning.specs.Asks.{nothing, indexes, resolves, passes, makes_arrays, reads_result, enters, leaves, stores, selects, turns, writes, enters_block, ask_hole, ask_actuals, ask_aim}
 use Rattle.b67_segment.specs.Operators.{Placed}
 use Rattle.b67_templates.specs.Contexts.{Context}
 use Rattle.b67_standing.specs.Stepping.{Slot, operand, reference, mark, ready}
@@ -49,6 +49,9 @@ arrays_ask kind ns pairs vs e = cc
 indexes_asks : (n : Named) (ks : List ℕ) (v : Value) → indexes n ks v ≡ nothing → ⊥
 indexes_asks n ks v e = cc
 
+pub resolves_asks : (n : Named) → resolves n ≡ nothing → ⊥
+resolves_asks n e = cc
+
 passes_asks : (n : Named) → passes n ≡ nothing → ⊥
 passes_asks n e = cc
 
@@ -82,5 +85,5 @@ module _ (sc : Scopes) (context : Context) (ps : List Placed) (level most : ℕ)
   aims_asks k (rests.place_index n ks v es) pc slots below to s e = indexes_asks n ks v e
   aims_asks k (rests.place_subscript n ks h es) pc slots below to s e =
       let w = sought_in sc context ps level most h pc slots n s.1 (s.0).lows ks es below s.2 s.5 in holds_asks types.Number h pc slots w.over w.at w.holds e
-  aims_asks k (rests.resolve n) pc slots below to s e = absurd s
+  aims_asks k (rests.resolve n) pc slots below to s e = resolves_asks n e
   aims_asks k rests.inside_place pc slots below to s e = absurd s

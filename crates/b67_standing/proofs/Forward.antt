@@ -4,7 +4,6 @@ use Rattle.std.proofs.lemmas.Int.{ints}
 use Rattle.std.specs.Prelude.{ℤ, pos}
 use Rattle.algol_tree.specs.declared.tree.Named.{Named}
 use Rattle.algol_tree.specs.Scopes.{Scopes}
-use Rattle.algol_meaning.specs.Value as cells
 use Rattle.algol_meaning.specs.Rest as rests
 use Rattle.algol_meaning.specs.Rest.{own, Answer}
 use Rattle.algol_meaning.specs.Statements.{is_past}
@@ -16,7 +15,7 @@ use Rattle.b67_ops.specs.declared.PlainKind.TheVariants as kinds
 use Rattle.b67_segment.specs.Operators.{Placed}
 use Rattle.b67_templates.specs.Contexts.{Context}
 use Rattle.b67_templates.specs.Code.{StepSign, up, down, still, SignedAt}
-use Rattle.b67_standing.specs.Stepping.{Slot, Step, push_number, push_truth, push_name, push_array, stuff, move, exchange, calculate, negate, invert, false_stays, false_goes, true_stays, true_goes, go, call, announce, summon, drop, counts, spent, within, past, within_literal, past_literal}
+use Rattle.b67_standing.specs.Stepping.{Slot, Step, push_number, push_truth, push_reference, stuff, move, exchange, calculate, negate, invert, false_stays, false_goes, true_stays, true_goes, go, call, announce, summon, drop, counts, spent, within, past, within_literal, past_literal}
 use Rattle.b67_standing.specs.Standing.{line_begun, IsLast, of_row, of_element, ActionAt, Acted}
 use Rattle.b67_standing.specs.Laws.{LeadsHaveRoom, ActionsHaveRoom, StepsGoForward}
 use Rattle.b67_standing.proofs.Leading.{forward, all_forward, leads_within}
@@ -47,8 +46,7 @@ module _ (sc : Scopes) (context : Context) (ps : List Placed) (level most : ℕ)
   step_forward : {a b : ℕ} {x y : List Slot} → Step sc context ps level most a x b y → a < b
   step_forward (push_number z h room) = forward ps level h.stands
   step_forward (push_truth b h room) = forward ps level h
-  step_forward (push_name n k h room) = forward ps level h.2
-  step_forward (push_array n a c i h room) = forward ps level h
+  step_forward (push_reference c h room) = forward ps level h
   step_forward (stuff held c i named h) = forward ps level h
   step_forward (move low i h w room on) = on
   step_forward (exchange v h s) = forward ps level s
@@ -90,7 +88,9 @@ module _ (sc : Scopes) (context : Context) (ps : List Placed) (level most : ℕ)
   acted_within (asks.indexes n ks v) pc slots (of_element kind next below r) (rests.place (rests.element_of x more)) at after l room =
       omega (arith, room, last_within n r.couple r.array.lows ks r.subscript slots below r.lies, ap length l.1)
   acted_within (asks.makes_arrays kind ns pairs vs) pc slots h rests.done at after l room = omega (arith, ap length l.1)
-  acted_within (asks.passes n) pc slots h (rests.cell (cells.reference r)) at after l room = omega (arith, room, ap length (h.3).lies, ap length l.1)
+  acted_within (asks.passes n) pc slots h (rests.cell c) at after l room = omega (arith, room, ap length (h.3).lies, ap length l.1)
+  acted_within (asks.resolves n) pc slots h (rests.place (rests.there r)) at after l room = omega (arith, room, ap length (h.3).lies, ap length l.1)
+  acted_within (asks.stores (rests.there r) v) pc slots h rests.done at after l room = omega (arith, room, ap length (h.2).lies, ap length l.1)
   acted_within (asks.stores (rests.element_of r ks) v) pc slots h rests.done at after l room = omega (arith, room, ap length (h.2).lies, ap length l.1)
   acted_within (asks.reads_result name) pc slots h (rests.value v) at after l room = omega (arith, h.2, ap length h.1, ap length l.1)
   acted_within (asks.stores (own n) v) pc slots h rests.done at after l room = omega (arith, room, ap length (h.2).lies, ap length l.1)

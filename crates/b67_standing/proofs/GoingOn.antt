@@ -13,19 +13,19 @@ use Rattle.algol_tree.specs.Scopes.{Scopes}
 use Rattle.algol_meaning.specs.Value.{Value, number, whole_of}
 use Rattle.algol_meaning.specs.Rest as rests
 use Rattle.algol_meaning.specs.Rest.{own, Given, Hole, Actuals, HalfGiven, Item, Rest, Answer}
-use Rattle.algol_meaning.specs.Settle.{half_of, is_typed, put_actuals}
-use Rattle.algol_meaning.specs.Statements.{run_and, turn_and, assigned_of, chosen_of, looped_of, checked_of, counted_of, counted_body, selected_of, statement_called_of, item_of, bound_of, tested_of, differed_of, settle_line, settle_bounds, settle_stmt, settle_items}
-use Rattle.algol_meaning.specs.Asks.{nothing, reads_result, leaves, stores, selects, turns, writes, makes_arrays, ask, evaluated_of, nth_stmt, called, resume}
+use Rattle.algol_meaning.specs.Settle.{half_of, is_typed, settle, put_actuals}
+use Rattle.algol_meaning.specs.Statements.{run_and, turn_and, assigned_of, aimed_at, chosen_of, looped_of, checked_of, counted_of, counted_body, selected_of, statement_called_of, item_of, bound_of, tested_of, differed_of, settle_line, settle_bounds, settle_stmt, settle_items}
+use Rattle.algol_meaning.specs.Asks.{nothing, reads_result, leaves, stores, selects, turns, writes, makes_arrays, ask, evaluated_of, located_of, nth_stmt, called, resume}
 use Rattle.b67_ops.specs.declared.Operator.TheVariants as ops
 use Rattle.b67_ops.specs.declared.PlainKind.TheVariants as kinds
 use Rattle.b67_ops.specs.declared.BranchKind.TheVariants.{Brun}
 use Rattle.b67_ops.specs.declared.intrinsic.Intrinsic.TheVariants.{Select}
 use Rattle.b67_segment.specs.Operators.{Placed}
-use Rattle.b67_templates.specs.Contexts.{yields_of, Context}
+use Rattle.b67_templates.specs.Contexts.{Yields, yields_of, Context}
 use Rattle.b67_templates.specs.Fragments.{Has, BranchAt, Goes, stop}
 use Rattle.b67_templates.specs.Code.{DroppedAt, StmtAt, CasesAt, any, stmts_count}
 use Rattle.b67_templates.specs.Depths.{stmt_depth, stmts_depth}
-use Rattle.b67_standing.specs.Stepping.{element as element_held, Slot, operand, reference, intrinsic, descriptor, mark, HasRoom, go, drop, there, first}
+use Rattle.b67_standing.specs.Stepping.{held_at, Slot, operand, reference, intrinsic, descriptor, mark, HasRoom, go, drop, there, first}
 use Rattle.b67_standing.specs.Standing.{pend, operands, Gives, pushed, line_begun, arrays_begun, extents, Follows, StandsFor, ComesTo, ActionAt, Acted, GoesOn}
 use Rattle.b67_standing.specs.Laws.{RestsGoOn}
 use Rattle.b67_standing.proofs.Leading.{pend-none}
@@ -35,11 +35,12 @@ use Rattle.b67_standing.proofs.Putting.{inside_actuals_ask, fills_on}
 use Rattle.b67_standing.proofs.Rests.{after_rest, stays_here, assigned_stands, chosen_stands, looped_stands, checked_stands, selected_stands, called_stands, item_stands, line_at}
 use Rattle.b67_standing.proofs.Loops.{counted_stands, again_at, tested_stands, differed_stands}
 use Rattle.b67_standing.proofs.Performing.{while_body, stmt_at}
-use Rattle.b67_standing.proofs.Elements.{element_assigned}
+use Rattle.b67_standing.proofs.Elements.{found_assigned, assigns}
 use Rattle.b67_standing.proofs.Bounds.{BoundsOf, bound_stands, bounds_at}
 use Rattle.b67_standing.proofs.Items.{items_at}
 use Rattle.b67_standing.proofs.Heads.{next_at, by_head}
-use Rattle.b67_standing.proofs.Aiming.{aiming_on}
+use Rattle.b67_standing.proofs.Aiming.{by_aim}
+use Rattle.b67_standing.proofs.Routines.{evaluated_stands, located}
 
 nth-depth : (ss : PStmts) (i : ℕ) → i < stmts_count ss → stmt_depth (nth_stmt ss i) ≤ stmts_depth ss
 nth-depth tree.no_stmts i h = omega arith
@@ -60,7 +61,15 @@ module _ (sc : Scopes) (context : Context) (ps : List Placed) (level most : ℕ)
 
   stored : (n : rests.Place) (v : Value) (k : List Item) (pc : ℕ) (slots : List Slot) → StandsFor sc context ps level most (rests.store n v k) pc slots →
       Going (rests.store n v k) pc slots
-  stored (rests.there x) v k pc slots s = absurd s
+  stored (rests.there x) v k pc slots s = record { action = (s.0, pend k, s.1); answered = answer; waits = λ at left wanted l. absurd l; returns = λ at left wanted l. absurd l }
+    where
+      answer : (a : Answer) (at : ℕ) (after : List Slot) → Acted sc context ps level most (stores (rests.there x) v) pc slots (s.0, pend k, s.1) a at after →
+          Coming (settle_items sc k) at after
+      answer rests.done at after l = next_at sc context ps level most k (settle_items sc k) s.0 at after l.0 l.1 (items_at sc context ps level most k s.0 s.2)
+      answer (rests.value v) at after l = absurd l
+      answer (rests.cell c) at after l = absurd l
+      answer (rests.place p) at after l = absurd l
+      answer rests.entered at after l = absurd l
   stored (rests.element_of x ks) v k pc slots s = record { action = (s.0, pend k, s.1); answered = answer; waits = λ at left wanted l. absurd l; returns = λ at left wanted l. absurd l }
     where
       answer : (a : Answer) (at : ℕ) (after : List Slot) → Acted sc context ps level most (stores (rests.element_of x ks) v) pc slots (s.0, pend k, s.1) a at after →
@@ -140,11 +149,14 @@ module _ (sc : Scopes) (context : Context) (ps : List Placed) (level most : ℕ)
   result_given : (v : Value) (pc : ℕ) (slots : List Slot) → StandsFor sc context ps level most (rests.giving v) pc slots → Going (rests.giving v) pc slots
   result_given v pc slots s = record { action = s; answered = λ a at left l. absurd l; waits = λ at left wanted l. absurd l; returns = λ at left wanted l. absurd l }
 
+  place_given : (p : rests.Place) (pc : ℕ) (slots : List Slot) → StandsFor sc context ps level most (rests.giving_place p) pc slots → Going (rests.giving_place p) pc slots
+  place_given p pc slots s = record { action = s; answered = λ a at left l. absurd l; waits = λ at left wanted l. absurd l; returns = λ at left wanted l. absurd l }
+
   -- ---- parts inside
 
   -- after the entry a result is dropped, and what comes after goes on
   dropped : (o : Option Kind) (a : Answer) (k : List Item) (next u at : ℕ) (left : List Slot) → DroppedAt sc context ps level o next u → Gives (yields_of o) a → at ≡ next → left ≡ pend k →
-      Following k u → Coming (settle_items sc k) at (pushed a left)
+      Following k u → Coming (settle_items sc k) at (pushed (yields_of o) a left)
   dropped None rests.done k next u at left d fits e l follows = next_at sc context ps level most k (settle_items sc k) u at left (e ∙ d) l (items_at sc context ps level most k u follows)
   dropped (Some kind) (rests.value v) k next u at left d fits e l follows =
       subst (λ z. Coming (settle_items sc k) z (operand v ∷ left)) (sym e)
@@ -159,13 +171,18 @@ module _ (sc : Scopes) (context : Context) (ps : List Placed) (level most : ℕ)
   dropped (Some kind) (rests.place p) k next u at left d fits e l follows = absurd fits
   dropped (Some kind) rests.entered k next u at left d fits e l follows = absurd fits
 
+  dropped_by : (wanted : Yields) (o : Option Kind) → wanted ≡ yields_of o → (a : Answer) (k : List Item) (next u at : ℕ) (left : List Slot) → DroppedAt sc context ps level o next u →
+      Gives wanted a → at ≡ next → left ≡ pend k → Following k u → Coming (settle_items sc k) at (pushed wanted a left)
+  dropped_by wanted o is a k next u at left d fits e l follows =
+      subst (λ (y : Yields). Gives y a → Coming (settle_items sc k) at (pushed y a left)) (sym is) (λ g. dropped o a k next u at left d g e l follows) fits
+
   block_entered : (b : PBody) (k : List Item) (pc : ℕ) (slots : List Slot) → StandsFor sc context ps level most (rests.entering_block b k) pc slots →
       Going (rests.entering_block b k) pc slots
   block_entered (tree.body spot ds ss) k pc slots s = record {
     action = (s.0, pend k, s.1);
     answered = λ a at left l. absurd l;
     waits = λ at left wanted l. refl;
-    returns = λ at left wanted l a fits. dropped None a k s.0 s.0 at left refl (subst (λ o. Gives o a) l.2 fits) l.0 l.1 s.2;
+    returns = λ at left wanted l a fits. dropped_by wanted None l.2 a k s.0 s.0 at left refl fits l.0 l.1 s.2;
   }
 
   -- a call waits for the procedure, whether it has a result or not
@@ -184,8 +201,8 @@ module _ (sc : Scopes) (context : Context) (ps : List Placed) (level most : ℕ)
     answered = λ a at left l. absurd l;
     waits = λ at left wanted l. call_waits (is_typed sc n) k;
     returns = λ at left wanted l a fits.
-        subst (λ r. Coming r at (pushed a left)) (sym (call_returns (is_typed sc n) k a))
-        (dropped ((block_numbered sc.blocks s.0).result) a k s.1 s.2 at left s.4 (subst (λ o. Gives o a) l.2 fits) l.0 l.1 s.5);
+        subst (λ r. Coming r at (pushed wanted a left)) (sym (call_returns (is_typed sc n) k a))
+        (dropped_by wanted ((block_numbered sc.blocks s.0).result) l.2 a k s.1 s.2 at left s.4 fits l.0 l.1 s.5);
   }
 
   -- ---- CASE
@@ -239,10 +256,12 @@ module _ (sc : Scopes) (context : Context) (ps : List Placed) (level most : ℕ)
 
   storing_on : (n : rests.Place) (h : Hole) (k : List Item) (pc : ℕ) (slots : List Slot) → StandsFor sc context ps level most (rests.storing n h k) pc slots →
       Going (rests.storing n h k) pc slots
-  storing_on (rests.there x) h k pc slots s = absurd s
+  storing_on (rests.there x) h k pc slots s =
+      by_head sc context ps level most s.0 h pc slots (descriptor (held_at (rests.there x) s.0) ∷ pend k) s.1 (λ z. assigned_of (rests.there x) z k) s.3 (λ g. refl) (λ g a. refl)
+      (λ z at left shows. found_assigned sc context ps level most (rests.there x) tt s.0 z at left k s.1 s.2 shows s.4 s.5)
   storing_on (rests.element_of x ks) h k pc slots s =
-      by_head sc context ps level most s.0 h pc slots (descriptor (element_held x ks s.0) ∷ pend k) s.1 (λ z. assigned_of (rests.element_of x ks) z k) s.3 (λ g. refl) (λ g a. refl)
-      (λ z at left shows. element_assigned sc context ps level most x ks s.0 z at left k s.1 s.2 shows s.4 s.5)
+      by_head sc context ps level most s.0 h pc slots (descriptor (held_at (rests.element_of x ks) s.0) ∷ pend k) s.1 (λ z. assigned_of (rests.element_of x ks) z k) s.3 (λ g. refl)
+      (λ g a. refl) (λ z at left shows. found_assigned sc context ps level most (rests.element_of x ks) tt s.0 z at left k s.1 s.2 shows s.4 s.5)
   storing_on (own n) h k pc slots s =
       by_head sc context ps level most s.0 h pc slots (reference s.1 ∷ pend k) s.2 (λ z. assigned_of (own n) z k) s.5 (λ g. refl) (λ g a. refl)
       (λ z at left shows. assigned_stands sc context ps level most n s.0 s.1 z at left k s.2 s.3 s.4 shows s.6 s.7)
@@ -264,7 +283,7 @@ module _ (sc : Scopes) (context : Context) (ps : List Placed) (level most : ℕ)
             let i = p.inside at left wanted l in
             let back : resume sc (resume sc (rests.calling n x k) rests.entered) a ≡ f (put_actuals sc x a) =
             ap (λ z. resume sc (f z) a) i.inner ∙ ap f (i.same a) in
-            subst (λ r. Coming r at (pushed a left)) (sym back) (goes (put_actuals sc x a) at (pushed a left) (p.returns at left wanted l a fits));
+            subst (λ r. Coming r at (pushed wanted a left)) (sym back) (goes (put_actuals sc x a) at (pushed wanted a left) (p.returns at left wanted l a fits));
       }
 
   -- ---- all rests
@@ -278,7 +297,15 @@ module _ (sc : Scopes) (context : Context) (ps : List Placed) (level most : ℕ)
   goes_on_at (rests.turning k) pc slots s asks = turned k pc slots s
   goes_on_at (rests.line phrases vs k) pc slots s asks = written phrases vs k pc slots s
   goes_on_at (rests.arrays kind ns pairs vs k) pc slots s asks = arrays_made kind ns pairs vs k pc slots s
-  goes_on_at (rests.aiming x e k) pc slots s asks = aiming_on sc context ps level most x e k pc slots s
+  goes_on_at (rests.giving_place p) pc slots s asks = place_given p pc slots s
+  goes_on_at (rests.aiming x e k) pc slots s asks =
+      by_aim sc context ps level most s.0 (pend k) s.1 (λ z. aimed_at z e (settle sc e) k) (assigns sc context ps level most s.0 e k s.1 s.2 s.3 s.5 s.6 s.7 s.8) x pc slots s.4 (λ y. refl)
+      (λ y a. refl)
+  goes_on_at (rests.evaluating h) pc slots s asks =
+      by_head sc context ps level most s.0 h pc slots [] s.1 evaluated_of s.4 (λ g. refl) (λ g a. refl)
+      (λ z at left shows. evaluated_stands sc context ps level most s.0 z at left s.1 s.2 s.3 shows s.5)
+  goes_on_at (rests.locating x) pc slots s asks =
+      by_aim sc context ps level most s.0 [] s.1 located_of (located sc context ps level most s.0 s.1 s.2 s.3 s.5) x pc slots s.4 (λ y. refl) (λ y a. refl)
   goes_on_at (rests.entering_block b k) pc slots s asks = block_entered b k pc slots s
   goes_on_at (rests.entering n gs k) pc slots s asks = procedure_entered n gs k pc slots s
   goes_on_at (rests.storing n h k) pc slots s asks = storing_on n h k pc slots s

@@ -43,5 +43,5 @@ module _ (sc : Scopes) (context : Context) (ps : List Placed) (level most : ℕ)
             let i = p.inside at left wanted l in
             let back : resume sc (resume sc (f (busy h)) rests.entered) a ≡ f (put sc h a) =
             ap (λ r. resume sc r a) (resumes h rests.entered ∙ ap f i.inner) ∙ resumes (inside_of h) a ∙ ap f (i.same a) in
-            subst (λ r. Coming r at (pushed a left)) (sym back) (goes (put sc h a) at (pushed a left) (p.returns at left wanted l a fits));
+            subst (λ r. Coming r at (pushed wanted a left)) (sym back) (goes (put sc h a) at (pushed wanted a left) (p.returns at left wanted l a fits));
       }

@@ -14,7 +14,7 @@ use Rattle.b67_templates.specs.Contexts.{Context}
 use Rattle.b67_templates.specs.Fragments.{Has, AllAt, Goes, stop, over}
 use Rattle.b67_templates.specs.Code.{HasNoCounts, StmtAt, KAt}
 use Rattle.b67_templates.specs.Depths.{depth, stmt_depth, counts_in}
-use Rattle.b67_standing.specs.Stepping.{Slot, operand, HasRoom, Step, push_number, push_truth, push_name, push_array, stuff, move, exchange, calculate, negate, invert, false_stays, false_goes, true_stays, true_goes, go, call, announce, summon, drop, counts, spent, within, past, within_literal, past_literal, Leads, there, first}
+use Rattle.b67_standing.specs.Stepping.{Slot, operand, HasRoom, Step, push_number, push_truth, push_reference, stuff, move, exchange, calculate, negate, invert, false_stays, false_goes, true_stays, true_goes, go, call, announce, summon, drop, counts, spent, within, past, within_literal, past_literal, Leads, there, first}
 use Rattle.b67_standing.specs.Standing.{pend, Follows}
 
 -- an expression needs a word at least
@@ -109,8 +109,7 @@ module _ (sc : Scopes) (context : Context) (ps : List Placed) (level most : ℕ)
   within_most : {a b : ℕ} {x y : List Slot} → Step sc context ps level most a x b y → length x ≤ most → length y ≤ most
   within_most (push_number z h room) l = omega (arith, room)
   within_most (push_truth b h room) l = omega (arith, room)
-  within_most (push_name n k h room) l = omega (arith, room)
-  within_most (push_array n a c i h room) l = omega (arith, room)
+  within_most (push_reference c h room) l = omega (arith, room)
   within_most (stuff held c i named h) l = omega (arith, l)
   within_most (move low i h w room on) l = omega (arith, l)
   within_most (exchange v h s) l = omega (arith, l)

@@ -15,6 +15,7 @@ pub mod Performing
 pub mod Items
 pub mod Heads
 pub mod Aiming
+pub mod Routines
 pub mod GoingOn
 pub mod Starting
 pub mod Forward

@@ -10,7 +10,6 @@ use Rattle.algol_tree.specs.Sorts.{Sort}
 use Rattle.algol_tree.specs.Types.{given_by, taken_by}
 use Rattle.algol_tree.specs.Scopes.{Scopes}
 use Rattle.b67_num.specs.declared.NumFault.{NumFault}
-use Rattle.algol_meaning.specs.Value as cells
 use Rattle.algol_meaning.specs.Value.{Value}
 use Rattle.algol_meaning.specs.Rest as rests
 use Rattle.algol_meaning.specs.Rest.{Given, Hole, Actuals, Half, val, busy, HalfGiven, Answer}
@@ -22,7 +21,6 @@ use Rattle.b67_segment.specs.Operators.{Placed}
 use Rattle.b67_templates.specs.Contexts as yielding
 use Rattle.b67_templates.specs.Contexts.{Yields, yields_of, Context}
 use Rattle.b67_templates.specs.Fragments.{HasKind, Has, Goes, stop, over}
-use Rattle.b67_templates.specs.Cells as wants
 use Rattle.b67_templates.specs.Code.{ReadAt}
 use Rattle.b67_standing.specs.Stepping.{row, Slot, operand, descriptor, ready, HasRoom}
 use Rattle.b67_standing.specs.Standing.{given_slots, Gives, pushed, IsNext, ElementReadAt, of_row, Holds, Fills, ActionAt, Acted, Entered}
@@ -80,7 +78,7 @@ pub record PutsOn (sc : Scopes) (context : Context) (ps : List Placed) (level mo
   pub answered : (a : Answer) (at : ℕ) (after : List Slot) → Acted sc context ps level most q pc slots action a at after →
       Comes sc context ps level most k at after (put sc h a) below to
   pub returns : (at : ℕ) (after : List Slot) (wanted : Yields) → Entered sc context ps level most q pc slots action at after wanted → (a : Answer) → Gives wanted a →
-      Comes sc context ps level most k at (pushed a after) (put sc h a) below to
+      Comes sc context ps level most k at (pushed wanted a after) (put sc h a) below to
   pub inside : (at : ℕ) (after : List Slot) (wanted : Yields) → Entered sc context ps level most q pc slots action at after wanted → Inside sc h
 
 -- the same of the actuals of a call
@@ -90,7 +88,7 @@ pub record FillsOn (sc : Scopes) (context : Context) (ps : List Placed) (level m
   pub answered : (a : Answer) (at : ℕ) (after : List Slot) → Acted sc context ps level most q pc slots action a at after →
       ComesFilled sc context ps level most n callee (put_actuals sc x a) at after below next
   pub returns : (at : ℕ) (after : List Slot) (wanted : Yields) → Entered sc context ps level most q pc slots action at after wanted → (a : Answer) → Gives wanted a →
-      ComesFilled sc context ps level most n callee (put_actuals sc x a) at (pushed a after) below next
+      ComesFilled sc context ps level most n callee (put_actuals sc x a) at (pushed wanted a after) below next
   pub inside : (at : ℕ) (after : List Slot) (wanted : Yields) → Entered sc context ps level most q pc slots action at after wanted → InsideActuals sc x
 
 module _ (sc : Scopes) (context : Context) (ps : List Placed) (level most : ℕ) where
@@ -159,34 +157,35 @@ module _ (sc : Scopes) (context : Context) (ps : List Placed) (level most : ℕ)
   no_answer fault pc slots h (rests.place p) at left l = l
   no_answer fault pc slots h rests.entered at left l = l
 
-  -- the value that a procedure gives lies where that of its call is to lie
-  given_back : (k : Kind) (next : ℕ) (below : List Slot) (to : ℕ) → Goes ps level next to → (a : Answer) (at : ℕ) (left : List Slot) → at ≡ next → left ≡ below → Gives (yielding.value k) a →
-      Coming k at (pushed a left) (half_of a) below to
-  given_back k next below to g (rests.value v) at left e l fits =
+  -- the value that a part inside gives lies where that of the expression is to lie
+  value_given : (k : Kind) (next : ℕ) (below : List Slot) (to : ℕ) → Goes ps level next to → (a : Answer) (at : ℕ) (left : List Slot) → at ≡ next → left ≡ below →
+      Gives (yielding.value k) a → Coming k at (pushed (yielding.value k) a left) (half_of a) below to
+  value_given k next below to g (rests.value v) at left e l fits =
       here sc context ps level most k at (operand v ∷ left) (val v) below to (subst (λ z. Goes ps level z to) (sym e) g, ap (λ o. operand v ∷ o) l, fits)
-  given_back k next below to g rests.done at left e l fits = absurd fits
-  given_back k next below to g (rests.cell c) at left e l fits = absurd fits
-  given_back k next below to g (rests.place p) at left e l fits = absurd fits
-  given_back k next below to g rests.entered at left e l fits = absurd fits
+  value_given k next below to g rests.done at left e l fits = absurd fits
+  value_given k next below to g (rests.cell c) at left e l fits = absurd fits
+  value_given k next below to g (rests.place p) at left e l fits = absurd fits
+  value_given k next below to g rests.entered at left e l fits = absurd fits
 
-  -- the reference in a parameter's cell lies there, and the actuals after it come
+  given_back : (k : Kind) (next : ℕ) (below : List Slot) (to : ℕ) → Goes ps level next to → (wanted : Yields) → wanted ≡ yielding.value k → (a : Answer) (at : ℕ) (left : List Slot) →
+      at ≡ next → left ≡ below → Gives wanted a → Coming k at (pushed wanted a left) (half_of a) below to
+  given_back k next below to g wanted is a at left e l fits =
+      subst (λ (y : Yields). Gives y a → Coming k at (pushed y a left) (half_of a) below to) (sym is) (λ f. value_given k next below to g a at left e l f) fits
+
+  -- what a parameter's cell has lies there, and the actuals after it come
   passed_answered : (n : Named) (callee : ℕ) (gs : List Given) (x : Named) (sorts : List Sort) (es : PExprs) (pc : ℕ) (slots below : List Slot) (filled next : ℕ)
       (s : Fills sc context ps level most n callee (rests.pass gs x sorts es) pc slots below filled) → Has ps level filled (ops.Plain kinds.Entr) next → (a : Answer) (at : ℕ)
       (left : List Slot) →
       Acted sc context ps level most (passes x) pc slots (s.2, s.4, given_slots s.1 gs (called_on sc context ps level most s.0 below), s.8) a at left →
       ComesFilled sc context ps level most n callee (put_actuals sc (rests.pass gs x sorts es) a) at left below next
-  passed_answered n callee gs x sorts es pc slots below filled next s enter (rests.cell (cells.reference r)) at left l =
+  passed_answered n callee gs x sorts es pc slots below filled next s enter (rests.cell c) at left l =
       let floor = given_slots s.1 gs (called_on sc context ps level most s.0 below) in
-      let more = settle_actuals sc es sorts (gs ++ rests.passed (cells.reference r) ∷ []) in
+      let more = settle_actuals sc es sorts (gs ++ rests.passed c ∷ []) in
       subst (λ z. ComesFilled sc context ps level most n callee more z left below next) (sym l.0)
       (subst (λ o. ComesFilled sc context ps level most n callee more s.4 o below next) (sym l.1)
-      (actual_done sc context ps level most n callee s.0 gs s.1 (wants.array s.2) s.3 sorts es s.4 filled next below (rests.passed (cells.reference r))
-      (record { procedure = s.5; wants_are = s.6; fit = s.7; actuals = s.9; enter = enter; room = s.10 }) tt
+      (actual_done sc context ps level most n callee s.0 gs s.1 s.2 s.3 sorts es s.4 filled next below (rests.passed c)
+      (record { procedure = s.5; wants_are = s.6; fit = s.7; actuals = s.9; enter = enter; room = s.10 }) (l.2, tt)
       (actuals_at sc context ps level most es sorts s.3 n callee s.0 s.4 filled next below s.5 s.9 enter)))
-  passed_answered n callee gs x sorts es pc slots below filled next s enter (rests.cell (cells.simple v)) at left l = absurd l
-  passed_answered n callee gs x sorts es pc slots below filled next s enter (rests.cell (cells.event v)) at left l = absurd l
-  passed_answered n callee gs x sorts es pc slots below filled next s enter (rests.cell (cells.array v)) at left l = absurd l
-  passed_answered n callee gs x sorts es pc slots below filled next s enter (rests.cell (cells.named v)) at left l = absurd l
   passed_answered n callee gs x sorts es pc slots below filled next s enter (rests.value v) at left l = absurd l
   passed_answered n callee gs x sorts es pc slots below filled next s enter rests.done at left l = absurd l
   passed_answered n callee gs x sorts es pc slots below filled next s enter (rests.place p) at left l = absurd l
@@ -199,13 +198,13 @@ module _ (sc : Scopes) (context : Context) (ps : List Placed) (level most : ℕ)
         record {
           action = (k, s.0, s.1, room);
           answered = read_answered k n pc s.0 slots below to s.1 room s.2 s.4;
-          returns = λ at left wanted l. absurd l;
+          returns = λ at left wanted l a fits. given_back k s.0 below to s.4 wanted l.2 a at left l.0 (l.1 ∙ s.2) fits;
           inside = λ at left wanted l. record { inner = refl; same = λ a. refl };
         }
     puts_on k (rests.enter n gs) pc slots below to s = record {
       action = (s.0, s.1, below, s.2);
       answered = λ a at left l. absurd l;
-      returns = λ at left wanted l a fits. given_back k s.1 below to s.5 a at left l.0 l.1 (subst (λ o. Gives o a) (l.2 ∙ ap yields_of s.3) fits);
+      returns = λ at left wanted l a fits. given_back k s.1 below to s.5 wanted (l.2 ∙ ap yields_of s.3) a at left l.0 l.1 fits;
       inside = λ at left wanted l. record { inner = refl; same = λ a. refl };
     }
     puts_on k (rests.element n ks v) pc slots below to s = record {
@@ -229,7 +228,7 @@ module _ (sc : Scopes) (context : Context) (ps : List Placed) (level most : ℕ)
         record {
           action = p.action;
           answered = λ a at left l. go (put sc h a) at left (p.answered a at left l);
-          returns = λ at left wanted l a fits. go (put sc h a) at (pushed a left) (p.returns at left wanted l a fits);
+          returns = λ at left wanted l a fits. go (put sc h a) at (pushed wanted a left) (p.returns at left wanted l a fits);
           inside = λ at left wanted l.
               let i = p.inside at left wanted l in record { inner = ap (λ z. subscripted_of n ks z es) i.inner; same = λ a. ap (λ z. subscripted_of n ks z es) (i.same a) };
         }
@@ -250,7 +249,7 @@ module _ (sc : Scopes) (context : Context) (ps : List Placed) (level most : ℕ)
         record {
           action = p.action;
           answered = λ a at left l. go (put sc h a) at left (p.answered a at left l);
-          returns = λ at left wanted l a fits. go (put sc h a) at (pushed a left) (p.returns at left wanted l a fits);
+          returns = λ at left wanted l a fits. go (put sc h a) at (pushed wanted a left) (p.returns at left wanted l a fits);
           inside = λ at left wanted l.
               let i = p.inside at left wanted l in record { inner = ap around i.inner; same = λ a. ap around (i.same a) };
         }
@@ -262,7 +261,7 @@ module _ (sc : Scopes) (context : Context) (ps : List Placed) (level most : ℕ)
         record {
           action = p.action;
           answered = λ a at left l. go (put sc h a) at left (p.answered a at left l);
-          returns = λ at left wanted l a fits. go (put sc h a) at (pushed a left) (p.returns at left wanted l a fits);
+          returns = λ at left wanted l a fits. go (put sc h a) at (pushed wanted a left) (p.returns at left wanted l a fits);
           inside = λ at left wanted l.
               let i = p.inside at left wanted l in record { inner = ap (right_of op v) i.inner; same = λ a. ap (right_of op v) (i.same a) };
         }
@@ -274,7 +273,7 @@ module _ (sc : Scopes) (context : Context) (ps : List Placed) (level most : ℕ)
         record {
           action = p.action;
           answered = λ a at left l. go (put sc h a) at left (p.answered a at left l);
-          returns = λ at left wanted l a fits. go (put sc h a) at (pushed a left) (p.returns at left wanted l a fits);
+          returns = λ at left wanted l a fits. go (put sc h a) at (pushed wanted a left) (p.returns at left wanted l a fits);
           inside = λ at left wanted l.
               let i = p.inside at left wanted l in record { inner = ap negated_of i.inner; same = λ a. ap negated_of (i.same a) };
         }
@@ -286,7 +285,7 @@ module _ (sc : Scopes) (context : Context) (ps : List Placed) (level most : ℕ)
         record {
           action = p.action;
           answered = λ a at left l. go (put sc h a) at left (p.answered a at left l);
-          returns = λ at left wanted l a fits. go (put sc h a) at (pushed a left) (p.returns at left wanted l a fits);
+          returns = λ at left wanted l a fits. go (put sc h a) at (pushed wanted a left) (p.returns at left wanted l a fits);
           inside = λ at left wanted l.
               let i = p.inside at left wanted l in record { inner = ap inverted_of i.inner; same = λ a. ap inverted_of (i.same a) };
         }
@@ -301,7 +300,7 @@ module _ (sc : Scopes) (context : Context) (ps : List Placed) (level most : ℕ)
         record {
           action = p.action;
           answered = λ a at left l. go (put sc h a) at left (p.answered a at left l);
-          returns = λ at left wanted l a fits. go (put sc h a) at (pushed a left) (p.returns at left wanted l a fits);
+          returns = λ at left wanted l a fits. go (put sc h a) at (pushed wanted a left) (p.returns at left wanted l a fits);
           inside = λ at left wanted l.
               let i = p.inside at left wanted l in record { inner = ap around i.inner; same = λ a. ap around (i.same a) };
         }
@@ -313,7 +312,7 @@ module _ (sc : Scopes) (context : Context) (ps : List Placed) (level most : ℕ)
         record {
           action = p.action;
           answered = λ a at left l. go (put_actuals sc x a) at left (p.answered a at left l);
-          returns = λ at left wanted l a fits. go (put_actuals sc x a) at (pushed a left) (p.returns at left wanted l a fits);
+          returns = λ at left wanted l a fits. go (put_actuals sc x a) at (pushed wanted a left) (p.returns at left wanted l a fits);
           inside = λ at left wanted l.
               let i = p.inside at left wanted l in record { inner = ap (called_of n) i.inner; same = λ a. ap (called_of n) (i.same a) };
         }
@@ -334,7 +333,7 @@ module _ (sc : Scopes) (context : Context) (ps : List Placed) (level most : ℕ)
         record {
           action = p.action;
           answered = λ a at left l. go (put sc h a) at left (p.answered a at left l);
-          returns = λ at left wanted l a fits. go (put sc h a) at (pushed a left) (p.returns at left wanted l a fits);
+          returns = λ at left wanted l a fits. go (put sc h a) at (pushed wanted a left) (p.returns at left wanted l a fits);
           inside = λ at left wanted l.
               let i = p.inside at left wanted l in record { inner = ap around i.inner; same = λ a. ap around (i.same a) };
         }

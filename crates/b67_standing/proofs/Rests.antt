@@ -24,15 +24,16 @@ use Rattle.b67_segment.specs.Operators.{Placed}
 use Rattle.b67_templates.specs.Contexts.{Context}
 use Rattle.b67_templates.specs.Fragments.{IsWhole, HasKind, Has, BranchAt, TurnAt, Goes, stop}
 use Rattle.b67_templates.specs.Cells.{IsVariable}
-use Rattle.b67_templates.specs.Code.{FormatIs, DroppedAt, ExprAt, AssignAt, LineAt, TableAt, StmtAt, CasesAt, exprs_count, stmts_count}
+use Rattle.b67_templates.specs.Code as code
+use Rattle.b67_templates.specs.Code.{FormatIs, DroppedAt, PlaceAt, ExprAt, AssignAt, LineAt, TableAt, StmtAt, CasesAt, exprs_count, stmts_count}
 use Rattle.b67_templates.specs.Depths.{depth, line_depth, stmt_depth, stmts_depth, counts_in, AreShallow}
-use Rattle.b67_standing.specs.Stepping.{Slot, operand, reference, intrinsic, mark, HasRoom, push_number, push_name, false_stays, false_goes, true_stays, true_goes, Leads, there, first}
+use Rattle.b67_standing.specs.Stepping.{Slot, operand, reference, intrinsic, mark, HasRoom, push_number, push_reference, false_stays, false_goes, true_stays, true_goes, Leads, there, first}
 use Rattle.b67_standing.specs.Standing.{pend, operands, AreNumbers, line_begun, Follows, Holds, Shows, WhileAt, StandsFor, ComesTo}
 use Rattle.b67_standing.proofs.Leading.{depth-positive, on, valued_at, follows_run}
-use Rattle.b67_standing.proofs.Asking.{stores_asks, selects_asks, turns_asks, writes_asks, calls_asks, holds_asks, fills_asks}
+use Rattle.b67_standing.proofs.Asking.{resolves_asks, stores_asks, selects_asks, turns_asks, writes_asks, calls_asks, holds_asks, fills_asks}
 use Rattle.b67_standing.proofs.Actuals.{operands-more, operands-length, Filled}
 use Rattle.b67_standing.proofs.Settling.{settle_at}
-use Rattle.b67_standing.proofs.Values.{variable_place}
+use Rattle.b67_standing.proofs.Values.{variable_place, formal_resolves}
 
 pub are_numbers-more : (vs : List Value) (v : Value) → AreNumbers vs → HasKind types.Number v → AreNumbers (vs ++ v ∷ [])
 are_numbers-more [] v h k = (k, tt)
@@ -96,13 +97,23 @@ module _ (sc : Scopes) (context : Context) (ps : List Placed) (level most : ℕ)
   assigned_stands n kind couple (busy x) pc slots k m next i s h f =
       stays_here pc slots (rests.storing (own n) x k) (heads_ask kind x pc slots (reference couple ∷ pend k) m s) (kind, couple, m, next, i, s, h, f)
 
+  assign_by : (n : Named) (kind : Kind) (e : PExpr) (f m q t : ℕ) (k : List Item) → PlaceAt sc context ps level n kind f m → ExprAt sc context ps level kind e m q q →
+      Has ps level q (ops.Plain kinds.Stod) t → Following k t → HasRoom most (pend k) (1 + depth e) →
+      Coming (aimed_at (settle_place sc (tree.subscripted n tree.none)) e (settle sc e) k) f (pend k)
+  assign_by n kind e f m q t k (code.own i) right store follows room =
+      let c = settle_at sc context ps level most kind e m q q right stop (reference i.0 ∷ pend k) (omega (arith, room)) in
+      subst (λ p. Coming (aimed_at p e (settle sc e) k) f (pend k)) (sym (variable_place (sort_at sc n) n (i.1).variable))
+      (after_rest (first (push_reference i.0 i.2 (omega (arith, room))) c.leads)
+      (assigned_stands n kind i.0 (settle sc e) c.at c.with_slots k q t i.1 c.shows store follows))
+  assign_by n kind e f m q t k (code.resolved c p i name resolves) right store follows room =
+      subst (λ p. Coming (aimed_at p e (settle sc e) k) f (pend k)) (sym (formal_resolves (sort_at sc n) n i.sort_is))
+      (after_rest (first (push_reference c name (omega (arith, room))) there)
+      (stays_here p (reference c ∷ pend k) (rests.aiming (rests.resolve n) e k) (resolves_asks n)
+      (kind, m, q, t, record { couple = c; is_formal = i; lies = refl; stands = resolves }, right, store, follows, room)))
+
   pub assign_at : (n : Named) (e : PExpr) (f t : ℕ) (k : List Item) → AssignAt sc context ps level n e f t → Following k t → HasRoom most (pend k) (1 + depth e) →
       Coming (aimed_at (settle_place sc (tree.subscripted n tree.none)) e (settle sc e) k) f (pend k)
-  assign_at n e f t k h follows room =
-      let c = settle_at sc context ps level most h.0 e h.1 h.2 h.2 h.4 stop (reference (h.3).0 ∷ pend k) (omega (arith, room)) in
-      subst (λ p. Coming (aimed_at p e (settle sc e) k) f (pend k)) (sym (variable_place (sort_at sc n) n ((h.3).1).variable))
-      (after_rest (first (push_name n h.0 h.3 (omega (arith, room))) c.leads)
-      (assigned_stands n h.0 (h.3).0 (settle sc e) c.at c.with_slots k h.2 t (h.3).1 c.shows h.5 follows))
+  assign_at n e f t k h follows room = assign_by n h.0 e f h.1 h.2 t k h.3 h.4 h.5 follows room
 
   -- ---- tests
 

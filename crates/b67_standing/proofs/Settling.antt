@@ -21,14 +21,14 @@ use Rattle.b67_segment.specs.Operators.{Placed}
 use Rattle.b67_templates.specs.Contexts.{Context}
 use Rattle.b67_templates.specs.Fragments.{Has, Goes, stop, over}
 use Rattle.b67_templates.specs.Cells as wants
-use Rattle.b67_templates.specs.Cells.{Wanted, parameter_wants, IsProcedure}
+use Rattle.b67_templates.specs.Cells.{Wanted, parameter_wants, IsProcedure, IsRead, of_variable, of_formal}
 use Rattle.b67_templates.specs.Code.{NameAt, reads, calls, ExprAt, ActualsAt}
 use Rattle.b67_templates.specs.Depths.{depth}
 use Rattle.b67_standing.specs.Stepping.{Slot, operand, reference, mark, HasRoom, push_number, push_truth, summon, there, first}
 use Rattle.b67_standing.specs.Standing.{given_slots, AreGiven}
 use Rattle.b67_standing.proofs.Leading.{depth-positive}
-use Rattle.b67_standing.proofs.Actuals.{given_slots-length, Filled, ComesFilled, after_filled, called_on, ActualsOn, actual_stands, array_stands}
-use Rattle.b67_standing.proofs.Values.{variable_reads, procedure_enters}
+use Rattle.b67_standing.proofs.Actuals.{given_slots-length, Filled, ComesFilled, after_filled, called_on, ActualsOn, actual_stands, array_stands, name_stands}
+use Rattle.b67_standing.proofs.Values.{variable_reads, formal_reads, procedure_enters}
 use Rattle.b67_standing.proofs.Halves.{Comes, here, after, of_kind, negated_at, inverted_at, left_at, condition_at}
 use Rattle.b67_standing.proofs.Subscripts.{begun_at, subscript_at}
 
@@ -37,10 +37,14 @@ module _ (sc : Scopes) (context : Context) (ps : List Placed) (level most : ℕ)
   Coming = Comes sc context ps level most
 
   -- a name by itself: a variable that is read, or a typed procedure that is called
+  read_alone : (k : Kind) (n : Named) (c : Couple) → IsRead sc context.level n k c → named_of (procedure_in (sort_at sc n)) n ≡ busy (rests.read n)
+  read_alone k n c (of_variable i) = variable_reads (sort_at sc n) n i.variable
+  read_alone k n c (of_formal i) = formal_reads (sort_at sc n) n i.sort_is
+
   name_at : (k : Kind) (n : Named) (f t u : ℕ) → NameAt sc context ps level k n f t → Goes ps level t u → (below : List Slot) → HasRoom most below 2 →
       Coming k f below (named_of (procedure_in (sort_at sc n)) n) below u
   name_at k n f t u (reads h) g below room =
-      subst (λ x. Coming k f below x below u) (sym (variable_reads (sort_at sc n) n (h.1).variable))
+      subst (λ x. Coming k f below x below u) (sym (read_alone k n h.0 h.1))
       (here sc context ps level most k f below (busy (rests.read n)) below u (t, h, refl, omega (arith, room), g))
   name_at k n f t u (calls callee c none e) g below room =
       let b = c.2 in
@@ -52,7 +56,7 @@ module _ (sc : Scopes) (context : Context) (ps : List Placed) (level most : ℕ)
         record {
           couple = b.couple;
           procedure = b.procedure;
-          fit = subst (λ o. AreGiven sc context.level o []) (sym none) tt;
+          fit = subst (λ o. AreGiven sc context o []) (sym none) tt;
           lies = ap (λ o. given_slots o [] (reference b.couple ∷ mark ∷ below)) (sym none);
           stands = subst (λ z. Has ps level z (ops.Plain kinds.Entr) t) (sym c.3) c.4;
         },
@@ -126,7 +130,7 @@ module _ (sc : Scopes) (context : Context) (ps : List Placed) (level most : ℕ)
           fills = record {
             couple = couple;
             procedure = procedure;
-            fit = subst (λ o. AreGiven sc context.level o gs) (sym all) fit;
+            fit = subst (λ o. AreGiven sc context o gs) (sym all) fit;
             lies = ap (λ o. given_slots o gs floor) (sym all);
             stands = subst (λ z. Has ps level z (ops.Plain kinds.Entr) next) (sym l) enter;
           };
@@ -150,6 +154,14 @@ module _ (sc : Scopes) (context : Context) (ps : List Placed) (level most : ℕ)
         (array_stands sc context ps level most n callee couple gs before shape later sorts es f l.0 filled next below x
         (record { procedure = procedure; wants_are = wants_are; fit = fit; actuals = l.3; enter = enter; room = omega (arith, room) })
         l.2 (actuals_at es sorts later n callee couple l.0 filled next below procedure l.3 enter))
+    actuals_at (tree.more e es) (sort ∷ sorts) (wants.by_name kind ∷ later) n callee couple f filled next below procedure l enter gs before wants_are fit room =
+        let floor = given_slots before gs (called_on sc context ps level most couple below) in
+        let deep : 1 ≤ depth e = depth-positive e in
+        let settled : Bool → HalfGiven = λ b. actual_of sc b e (settle sc e) gs sorts es (settle_actuals sc es sorts) in
+        subst (λ b. ComesFilled sc context ps level most n callee (settled b) f floor below next) (sym l.1)
+        (name_stands sc context ps level most n callee couple gs before kind later sorts es f l.0 filled next below e
+        (record { procedure = procedure; wants_are = wants_are; fit = fit; actuals = l.3; enter = enter; room = omega (arith, room, deep) })
+        l.2 (actuals_at es sorts later n callee couple l.0 filled next below procedure l.3 enter))
     actuals_at tree.none [] (x ∷ later) n callee couple f filled next below procedure l enter gs before wants_are fit room = absurd l
     actuals_at tree.none (sort ∷ sorts) [] n callee couple f filled next below procedure l enter gs before wants_are fit room = absurd l
     actuals_at tree.none (sort ∷ sorts) (wants.value kind ∷ later) n callee couple f filled next below procedure l enter gs before wants_are fit room = absurd l
@@ -160,7 +172,6 @@ module _ (sc : Scopes) (context : Context) (ps : List Placed) (level most : ℕ)
     actuals_at (tree.more e es) [] [] n callee couple f filled next below procedure l enter gs before wants_are fit room = absurd l
     actuals_at (tree.more e es) [] (x ∷ later) n callee couple f filled next below procedure l enter gs before wants_are fit room = absurd l
     actuals_at (tree.more e es) (sort ∷ sorts) [] n callee couple f filled next below procedure l enter gs before wants_are fit room = absurd l
-    actuals_at (tree.more e es) (sort ∷ sorts) (wants.by_name kind ∷ later) n callee couple f filled next below procedure l enter gs before wants_are fit room = absurd l
     actuals_at (tree.more e es) (sort ∷ sorts) (wants.event ∷ later) n callee couple f filled next below procedure l enter gs before wants_are fit room = absurd l
     actuals_at (tree.more e es) (sort ∷ sorts) (wants.other ∷ later) n callee couple f filled next below procedure l enter gs before wants_are fit room = absurd l
     actuals_at (tree.more _ es) (sort ∷ sorts) (wants.array shape ∷ later) n callee couple f filled next below procedure l enter gs before wants_are fit room = absurd l

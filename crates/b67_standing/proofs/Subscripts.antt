@@ -20,7 +20,7 @@ use Rattle.b67_templates.specs.Fragments.{IsWhole, Has, Low, zero, above, near, 
 use Rattle.b67_templates.specs.Cells.{IsArray}
 use Rattle.b67_templates.specs.Code.{ExprAt, SubscriptsAt, SecondAt}
 use Rattle.b67_templates.specs.Depths.{depth, line_depth}
-use Rattle.b67_standing.specs.Stepping.{row, Slot, operand, reference, descriptor, HasRoom, push_array, move, exchange, Leads, there, first}
+use Rattle.b67_standing.specs.Stepping.{row, Slot, operand, reference, descriptor, HasRoom, push_reference, move, exchange, Leads, there, first}
 use Rattle.b67_standing.specs.Standing.{IsLast, Shows}
 use Rattle.b67_standing.proofs.Leading.{forward, all_forward, on, valued_at}
 use Rattle.b67_standing.proofs.Values.{number_is, number_whole}
@@ -102,7 +102,7 @@ module _ (sc : Scopes) (context : Context) (ps : List Placed) (level most : ℕ)
     whole = number_whole v (s.2).2;
     with_slots = reference c ∷ operand (number (moved low (whole_of v))) ∷ below;
     leads =
-        on sc context ps level most (moved_value v low pc slots below s.0 s.1 s.2 s.3 (omega (arith, s.5))) (first (push_array n a c i s.4 (omega (arith, s.5))) there);
+        on sc context ps level most (moved_value v low pc slots below s.0 s.1 s.2 s.3 (omega (arith, s.5))) (first (push_reference c s.4 (omega (arith, s.5))) there);
     lies = refl;
     room = omega (arith, s.5);
   }
@@ -145,7 +145,7 @@ module _ (sc : Scopes) (context : Context) (ps : List Placed) (level most : ℕ)
     at = s.2;
     next = s.3;
     leads =
-        on sc context ps level most (moved_value v low pc slots below s.0 s.1 s.4 s.5 (omega (arith, s.9))) (first (push_array n a c i s.6 (omega (arith, s.9))) there);
+        on sc context ps level most (moved_value v low pc slots below s.0 s.1 s.4 s.5 (omega (arith, s.9))) (first (push_reference c s.6 (omega (arith, s.9))) there);
     row_at = s.7;
     second_at = s.8;
     room = s.9;

@@ -1,14 +1,15 @@
 -- The kinds of values: what an operator gives, what an implication takes, a literal.
-use Rattle.std.proofs.Common.{◌≡◌, refl, ap, subst, ℕ, arith, Bool, true, [], Some}
+use Rattle.std.proofs.Common.{◌≡◌, refl, ap, subst, ℕ, arith, Bool, true, List, [], ◌∷◌, ◌++◌, Option, Some, None}
 use Rattle.std.proofs.lemmas.Int.{ints}
-use Rattle.std.specs.Prelude.{ℤ, pos, ◌-ℤ◌, int_lt, Result, Ok, Err}
+use Rattle.std.specs.Prelude.{ℤ, pos, ◌-ℤ◌, int_lt, if◌then◌else◌, is_some, Result, Ok, Err}
 use Rattle.algol_tree.specs.declared.tree.Op.{Op}
 use Rattle.algol_tree.specs.declared.tree.Op.TheVariants as operators
+use Rattle.algol_tree.specs.declared.tree.Kind.{Kind}
 use Rattle.algol_tree.specs.declared.tree.Kind.TheVariants as types
 use Rattle.algol_tree.specs.declared.tree.Named.{Named}
 use Rattle.algol_tree.specs.Plain as tree
-use Rattle.algol_tree.specs.Plain.{PExpr}
-use Rattle.algol_tree.specs.Sorts.{Sort, is_variable, is_by_name, procedure_in}
+use Rattle.algol_tree.specs.Plain.{PExpr, PExprs}
+use Rattle.algol_tree.specs.Sorts.{Sort, is_formal, is_variable, is_by_name, procedure_in}
 use Rattle.algol_tree.specs.Sorts as sorts
 use Rattle.algol_tree.specs.Scopes.{Scopes}
 use Rattle.algol_tree.specs.Types.{given_by, taken_by}
@@ -18,9 +19,10 @@ use Rattle.b67_num.specs.Whole.{calculated, negation_of}
 use Rattle.b67_num.proofs.WholeLaws.{calculated-fits, negation_of-fits}
 use Rattle.algol_meaning.specs.Value.{Value, number, truth, whole_of}
 use Rattle.algol_meaning.specs.Operators.{numeric, logical, result_of}
-use Rattle.algol_meaning.specs.Rest.{own, val, busy, read, enter, at}
-use Rattle.algol_meaning.specs.Settle.{named_of, left_alone_of, settle}
+use Rattle.algol_meaning.specs.Rest.{own, Given, refers, names, val, busy, read, enter, HalfGiven, resolve, at, aims}
+use Rattle.algol_meaning.specs.Settle.{named_of, alone_of, name_alone, left_alone_of, sort_at, other_of, settle}
 use Rattle.b67_templates.specs.Fragments.{IsWhole, HasKind, is_implication}
+use Rattle.b67_templates.specs.Cells.{by_name, Actual, own_actual}
 use Rattle.b67_templates.specs.Code.{literal_of}
 
 -- what has the kind of numbers is one
@@ -80,9 +82,33 @@ variable_reads _ n e = cc
 pub procedure_enters : (s : Sort) (n : Named) (callee : ℕ) → s ≡ sorts.procedure callee → named_of (procedure_in s) n ≡ busy (enter n [])
 procedure_enters s n callee e = ap (λ t. named_of (procedure_in t) n) e
 
+pub formal_reads : (s : Sort) (n : Named) → s ≡ sorts.by_name → named_of (procedure_in s) n ≡ busy (read n)
+formal_reads s n e = ap (λ t. named_of (procedure_in t) n) e
+
 pub variable_place : (s : Sort) (n : Named) → is_variable s ≡ true → left_alone_of (is_by_name s) n ≡ at (own n)
 variable_place sorts.variable n e = refl
 variable_place _ n e = cc
+
+-- a parameter's is resolved
+pub formal_resolves : (s : Sort) (n : Named) → s ≡ sorts.by_name → left_alone_of (is_by_name s) n ≡ aims (resolve n)
+formal_resolves s n e = ap (λ t. left_alone_of (is_by_name t) n) e
+
+-- as an actual that is not by value a variable's name stands for the variable, and what has a cell for that
+pub variable_refers : (s : Sort) (gs : List Given) (n : Named) (more : List Sort) (es : PExprs) (go_on : List Given → HalfGiven) → is_variable s ≡ true →
+    alone_of (procedure_in s) (is_formal s) gs n more es go_on ≡ go_on (gs ++ refers n ∷ [])
+variable_refers sorts.variable gs n more es go_on e = refl
+variable_refers _ gs n more es go_on e = cc
+
+some_procedure : (o : Option ℕ) (formal : Bool) (gs : List Given) (n : Named) (more : List Sort) (es : PExprs) (go_on : List Given → HalfGiven) (a : Actual) →
+    (if is_some o then a ∷ [] else []) ≡ a ∷ [] → alone_of o formal gs n more es go_on ≡ go_on (gs ++ names (tree.variable (tree.subscripted n tree.none)) ∷ [])
+some_procedure (Some block) formal gs n more es go_on a e = refl
+some_procedure None formal gs n more es go_on a e = cc
+
+pub own_names : (sc : Scopes) (e : PExpr) (kind : Kind) (gs : List Given) (more : List Sort) (es : PExprs) (go_on : List Given → HalfGiven) →
+    own_actual sc (by_name kind) e ≡ record { expr = e; kind = kind } ∷ [] → other_of sc (name_alone e) e gs more es go_on ≡ go_on (gs ++ names e ∷ [])
+own_names sc (tree.variable (tree.subscripted n tree.none)) kind gs more es go_on has =
+    some_procedure (procedure_in (sort_at sc n)) (is_formal (sort_at sc n)) gs n more es go_on (record { expr = tree.variable (tree.subscripted n tree.none); kind = kind }) has
+own_names sc _ kind gs more es go_on has = refl
 
 some_is : {a b : ℤ} → Some a ≡ Some b → a ≡ b
 some_is e = cc

@@ -1,21 +1,23 @@
 -- The laws of where the machine stands: for every list of operators, every level and every number of words that there may be.
-use Rattle.std.specs.Prelude.{◌≡◌, ℕ, ◌+◌, ◌<◌, ◌≤◌, List, [], ◌++◌, length}
+use Rattle.std.specs.Prelude.{◌≡◌, ℕ, ◌+◌, ◌<◌, ◌≤◌, true, false, List, [], ◌++◌, length}
 use Rattle.algol_tree.specs.Blocks.{Block}
 use Rattle.algol_tree.specs.Scopes.{Scopes}
 use Rattle.algol_meaning.specs.Rest.{Item, Rest, Answer}
 use Rattle.algol_tree.specs.Plain.{PDecls, PStmts}
 use Rattle.algol_meaning.specs.Statements.{settle_items, items, decls_items, items_of}
-use Rattle.algol_meaning.specs.Asks.{Ask, nothing, ask}
+use Rattle.algol_meaning.specs.Settle.{settle, settle_actual_place}
+use Rattle.algol_meaning.specs.Asks.{Ask, nothing, ask, evaluated_of, located_of}
 use Rattle.b67_segment.specs.Operators.{Placed}
 use Rattle.b67_templates.specs.Contexts as yielding
 use Rattle.b67_templates.specs.Contexts.{Context}
 use Rattle.b67_ops.specs.declared.Operator.TheVariants as ops
 use Rattle.b67_ops.specs.declared.PlainKind.TheVariants as kinds
 use Rattle.b67_templates.specs.Fragments.{Has}
-use Rattle.b67_templates.specs.Code.{DeclsAt, StmtsAt, KAt}
-use Rattle.b67_templates.specs.Depths.{decls_depth, stmts_depth}
+use Rattle.b67_templates.specs.Cells.{Actual, has_place}
+use Rattle.b67_templates.specs.Code.{DeclsAt, StmtsAt, KAt, in_routine, RoutineAt}
+use Rattle.b67_templates.specs.Depths.{depth, decls_depth, stmts_depth}
 use Rattle.b67_standing.specs.Stepping.{Slot, Step, Leads}
-use Rattle.b67_standing.specs.Standing.{pend, Follows, StandsFor, ComesTo, ActionAt, Acted, GoesOn}
+use Rattle.b67_standing.specs.Standing.{pend, selected, Follows, StandsFor, ComesTo, ActionAt, Acted, GoesOn}
 
 -- from where the items stand the machine comes to where it stands for them after the silent steps
 abbrev pub ItemsStand : Type 0
@@ -36,6 +38,18 @@ InnerBlocksStart =
     DeclsAt sc context ps level ds pc from → StmtsAt sc context ps level ss from end end → context.yields ≡ yielding.nothing →
     Has ps level end (ops.Plain kinds.Exit) over → decls_depth ds + stmts_depth ss ≤ most →
     ComesTo sc context ps level most (settle_items sc (decls_items ds ++ items ss [])) pc []
+
+-- so it does from the start of an actual's code, with the selector where it may give a place: for its value, and for that place
+abbrev pub RoutinesGiveValues : Type 0
+RoutinesGiveValues =
+    (sc : Scopes) (context : Context) (ps : List Placed) (level most : ℕ) (a : Actual) (at : ℕ) → RoutineAt sc context ps level a at → depth a.expr ≤ most →
+    ComesTo sc (in_routine (yielding.value a.kind) context) ps level most (evaluated_of (settle sc a.expr)) at (selected (has_place a.expr) false)
+
+abbrev pub RoutinesGivePlaces : Type 0
+RoutinesGivePlaces =
+    (sc : Scopes) (context : Context) (ps : List Placed) (level most : ℕ) (a : Actual) (at : ℕ) → RoutineAt sc context ps level a at → depth a.expr ≤ most →
+    has_place a.expr ≡ true →
+    ComesTo sc (in_routine (yielding.element a.kind) context) ps level most (located_of (settle_actual_place sc a.expr)) at (selected true true)
 
 -- wherever the machine stands for a rest whose head asks for an action, that stands there, and from where it leaves the machine it goes on
 abbrev pub RestsGoOn : Type 0

@@ -1,5 +1,5 @@
 -- Where the machine stands for what a part has still to do: the place of the code, and what lies above the floor there.
-use Rattle.std.specs.Prelude.{◌≡◌, ℕ, ◌+◌, ◌*◌, ◌<◌, ◌≤◌, ℤ, pos, List, [], ◌∷◌, ◌++◌, length, Some, Err}
+use Rattle.std.specs.Prelude.{◌≡◌, ℕ, ◌+◌, ◌*◌, ◌<◌, ◌≤◌, ℤ, pos, Bool, true, false, List, [], ◌∷◌, ◌++◌, length, Some, Err}
 use Rattle.algol_tree.specs.declared.tree.Op.{Op}
 use Rattle.algol_tree.specs.declared.tree.Kind.{Kind}
 use Rattle.algol_tree.specs.declared.tree.Kind.TheVariants as types
@@ -13,14 +13,15 @@ use Rattle.algol_tree.specs.Blocks.{block_numbered, number_at}
 use Rattle.algol_tree.specs.Scopes.{Scopes}
 use Rattle.b67_num.specs.declared.NumFault.{NumFault}
 use Rattle.algol_meaning.specs.Value as cells
-use Rattle.algol_meaning.specs.Value.{Value, number, Reference}
+use Rattle.algol_meaning.specs.Value.{Value, number, truth, Cell}
 use Rattle.algol_meaning.specs.Operators.{result_of}
-use Rattle.algol_meaning.specs.Rest.{own, element_of, Hole, read, element, index, subscript, broken, left, right, negated, inverted, condition, Half, val, busy, Aim, place_index, place_subscript, Loop, Item, count, Rest, over, store, select, turning, line, arrays, bounding, aiming, storing, choosing, looping, checking, counting, differing, stepping, selecting, writing, calling, Given, valued, passed, refers, argument, Actuals, pass, in_value, enter, entering_block, entering, reading, giving, Answer, done, value, cell, place, entered}
+use Rattle.algol_meaning.specs.Rest.{Place, own, there, element_of, Hole, read, element, index, subscript, broken, left, right, negated, inverted, condition, Half, val, busy, Aim, resolve, place_index, place_subscript, Loop, Item, count, Rest, over, store, select, turning, line, arrays, bounding, aiming, storing, choosing, looping, checking, counting, differing, stepping, selecting, writing, calling, Given, valued, passed, refers, names, argument, Actuals, pass, in_value, enter, entering_block, entering, reading, giving, giving_place, evaluating, locating, Answer, done, value, cell, place, entered}
 use Rattle.algol_meaning.specs.Statements.{difference_in, stepped}
-use Rattle.algol_meaning.specs.Asks.{Ask, nothing, reads, reads_element, indexes, passes, makes_arrays, reads_result, fails, enters, leaves, stores, selects, turns, writes, enters_block, ask, resume}
+use Rattle.algol_meaning.specs.Asks.{Ask, nothing, reads, reads_element, indexes, resolves, passes, makes_arrays, reads_result, fails, enters, leaves, stores, selects, turns, writes, enters_block, ask, resume}
 use Rattle.algol_paths.specs.Arrays.{DeclaredArray, Shape, shape_of}
 use Rattle.b67_control.specs.Control.{Fits_pcw}
 use Rattle.b67_ops.specs.declared.Couple.{Couple}
+use Rattle.b67_ops.specs.declared.TheConstants.{OUTER_LEVEL}
 use Rattle.b67_ops.specs.declared.Operator.TheVariants as ops
 use Rattle.b67_ops.specs.declared.PlainKind.TheVariants as kinds
 use Rattle.b67_ops.specs.declared.BranchKind.TheVariants.{Brfl, Brtr, Brun}
@@ -30,10 +31,11 @@ use Rattle.b67_templates.specs.Contexts as yielding
 use Rattle.b67_templates.specs.Contexts.{Yields, yields_of, Context}
 use Rattle.b67_templates.specs.Fragments.{IsWhole, HasKind, Has, moved, MovedAt, ReadyAt, BranchAt, TurnAt, Goes, code_at, operator_for, is_implication}
 use Rattle.b67_templates.specs.Cells as wants
-use Rattle.b67_templates.specs.Cells.{Wanted, parameter_wants, Agrees, procedures, IsVariable, IsProcedure, IsDeclaredArray, IsFormalArray, IsArray}
+use Rattle.b67_templates.specs.Cells.{Wanted, parameter_wants, Agrees, procedures, IsVariable, IsFormalName, IsProcedure, IsDeclaredArray, IsFormalArray, IsArray, IsOwnActual}
 use Rattle.b67_templates.specs.Code.{FormatIs, DroppedAt, ResultAt, AreDimensions, HasNoCounts, in_block, ReadAt, ExprAt, SecondAt, ActualsAt, BoundsAt, LineAt, TableAt, PastAt, StepAt, StmtAt, CasesAt, InnerAt, ThruAt, KAt, exprs_count, stmts_count}
+use Rattle.b67_templates.specs.Arguments.{arguments_in_decls, arguments_in_stmts}
 use Rattle.b67_templates.specs.Depths.{depth, line_depth, bounds_depth, decls_depth, loop_depth, stmt_depth, stmts_depth, AreShallow}
-use Rattle.b67_standing.specs.Stepping.{row, element as element_held, cell_named, passed as passed_held, Slot, operand, reference, intrinsic, control, descriptor, mark, ready, HasRoom, Leads}
+use Rattle.b67_standing.specs.Stepping.{row, element as element_held, variable as variable_held, cell_named, actual as actual_held, passed as passed_held, IsFound, held_at, Slot, operand, reference, intrinsic, control, descriptor, mark, ready, HasRoom, Leads}
 
 -- the counts that lie there while these items wait
 abbrev pub pend : List Item → List Slot
@@ -60,7 +62,8 @@ AreNumbers (v ∷ vs) = HasKind types.Number v × AreNumbers vs
 abbrev pub given_slot : Wanted → Given → Slot
 given_slot wanted (valued v) = operand v
 given_slot wanted (refers n) = descriptor (cell_named n)
-given_slot (wants.array shape) (passed (cells.reference r)) = descriptor (passed_held (wants.array shape) (cells.reference r))
+given_slot wanted (passed c) = descriptor (passed_held wanted c)
+given_slot (wants.by_name kind) (names e) = descriptor (actual_held e kind)
 given_slot _ _ = mark
 
 -- those of these actuals, the last on top
@@ -68,16 +71,24 @@ abbrev pub given_slots : List Wanted → List Given → List Slot → List Slot
 given_slots (w ∷ wanted) (g ∷ gs) below = given_slots wanted gs (given_slot w g ∷ below)
 given_slots _ _ below = below
 
--- a part that leaves gives what is wanted of it: a value of that kind, or nothing
+-- a part that leaves gives what is wanted of it: a value of that kind, a place that it found, or nothing
 abbrev pub Gives : Yields → Answer → Type 0
 Gives yielding.nothing done = Unit {0}
 Gives (yielding.value kind) (value v) = HasKind kind v
+Gives (yielding.element kind) (place p) = IsFound p
 Gives _ _ = ⊥
 
--- the value lies on top
-abbrev pub pushed : Answer → List Slot → List Slot
-pushed (value v) slots = operand v ∷ slots
-pushed _ slots = slots
+-- the value lies on top, or the word of the place
+abbrev pub pushed : Yields → Answer → List Slot → List Slot
+pushed yielding.nothing a slots = slots
+pushed (yielding.value kind) (value v) slots = operand v ∷ slots
+pushed (yielding.element kind) (place p) slots = descriptor (held_at p kind) ∷ slots
+pushed _ _ slots = slots
+
+-- at the start of an actual's code: the selector, which says whether a place is asked for, where the code may give one
+abbrev pub selected : Bool → Bool → List Slot
+selected true selector = operand (truth selector) ∷ []
+selected false selector = []
 
 -- the start of a line: a mark, the reference of the intrinsic, the number of the format
 abbrev pub line_begun : ℕ → List Slot → List Slot
@@ -108,14 +119,28 @@ IsLast n c _ _ i slots below = ⊥
 abbrev pub IsNext : List ℕ → List ℕ → Type 0
 IsNext ks more = (k : ℕ) × (more ≡ ks ++ k ∷ [])
 
--- At this level each actual is what is wanted: a value of that kind, or an array; that of a declared one agrees with the shape that is wanted.
-abbrev pub AreGiven : Scopes → ℕ → List Wanted → List Given → Type 0
-AreGiven sc level [] [] = Unit {0}
-AreGiven sc level (wants.value kind ∷ wanted) (valued v ∷ gs) = HasKind kind v × AreGiven sc level wanted gs
-AreGiven sc level (wants.array shape ∷ wanted) (refers n ∷ gs) =
-    ((d : DeclaredArray) × (c : Couple) × IsDeclaredArray sc level n d c × Agrees shape (shape_of d)) × AreGiven sc level wanted gs
-AreGiven sc level (wants.array shape ∷ wanted) (passed (cells.reference r) ∷ gs) = AreGiven sc level wanted gs
-AreGiven sc level _ _ = ⊥
+-- what the cell of a parameter has may be passed where this is wanted
+abbrev pub IsPassed : Wanted → Cell → Type 0
+IsPassed (wants.array shape) (cells.reference r) = Unit {0}
+IsPassed (wants.by_name kind) (cells.reference r) = Unit {0}
+IsPassed (wants.by_name kind) (cells.named a) = Unit {0}
+IsPassed _ _ = ⊥
+
+-- At the text of this context the actual is what is wanted: a value of that kind; an array, and a declared one agrees with the shape; a variable
+-- of that kind, or an actual that has a cell.
+abbrev pub IsGiven : Scopes → Context → Given → Wanted → Type 0
+IsGiven sc context (valued v) (wants.value kind) = HasKind kind v
+IsGiven sc context (refers n) (wants.array shape) = (d : DeclaredArray) × (c : Couple) × IsDeclaredArray sc context.level n d c × Agrees shape (shape_of d)
+IsGiven sc context (refers n) (wants.by_name kind) = (c : Couple) × IsVariable sc context.level n kind c × (OUTER_LEVEL ≤ c.level)
+IsGiven sc context (names e) (wants.by_name kind) = (c : Couple) × IsOwnActual sc context.block context.level e kind c
+IsGiven sc context (passed c) wanted = IsPassed wanted c
+IsGiven sc context _ _ = ⊥
+
+-- .. each of them
+abbrev pub AreGiven : Scopes → Context → List Wanted → List Given → Type 0
+AreGiven sc context [] [] = Unit {0}
+AreGiven sc context (w ∷ wanted) (g ∷ gs) = IsGiven sc context g w × AreGiven sc context wanted gs
+AreGiven sc context _ _ = ⊥
 
 module _ (sc : Scopes) (context : Context) (ps : List Placed) (level most : ℕ) where
   -- what is still to be done stands from there on, no item of it needs more words than there may be, and its counts are whole
@@ -161,12 +186,12 @@ module _ (sc : Scopes) (context : Context) (ps : List Placed) (level most : ℕ)
     pub stands : Has ps level pc (ops.Plain kinds.Entr) next
 
   -- The control word of a block's code lies on a mark. The code runs one level further in, and needs no more words, with
-  -- the control words of its procedures, than there may be.
+  -- the control words of its procedures and of its actuals, than there may be.
   pub record EntersAt (spot : Spot) (ds : PDecls) (ss : PStmts) (pc next : ℕ) (slots below : List Slot) : Type 0 where
     pub begin : ℕ
     pub fits : Fits_pcw (code_at context.segment begin (level + 1))
     pub code : InnerAt sc (in_block (number_at sc.blocks spot) context) ps (level + 1) ds ss begin
-    pub shallow : length (procedures ds) + decls_depth ds + stmts_depth ss ≤ most
+    pub shallow : length (procedures ds) + arguments_in_decls ds + arguments_in_stmts ss + decls_depth ds + stmts_depth ss ≤ most
     pub lies : slots ≡ control (code_at context.segment begin (level + 1)) ∷ mark ∷ below
     pub stands : Has ps level pc (ops.Plain kinds.Entr) next
 
@@ -174,18 +199,28 @@ module _ (sc : Scopes) (context : Context) (ps : List Placed) (level most : ℕ)
   pub record CallsAt (n : Named) (gs : List Given) (callee pc next : ℕ) (slots below : List Slot) : Type 0 where
     pub couple : Couple
     pub procedure : IsProcedure sc context.level n callee couple
-    pub fit : AreGiven sc context.level (parameter_wants sc callee) gs
+    pub fit : AreGiven sc context (parameter_wants sc callee) gs
     pub lies : slots ≡ given_slots (parameter_wants sc callee) gs (reference couple ∷ mark ∷ below)
     pub stands : Has ps level pc (ops.Plain kinds.Entr) next
 
+  -- the couple is that of a parameter's cell, and what that has is passed where this is wanted
+  pub data Passable (n : Named) (couple : Couple) : Wanted → Type 0 where
+    array_passed : (shape actual : Shape) → IsFormalArray sc context.level n actual couple → Agrees shape actual → Passable n couple (wants.array shape)
+    name_passed : (kind : Kind) → IsFormalName sc context.level n kind couple → Passable n couple (wants.by_name kind)
+
   -- what LODT finds: the reference to the parameter's cell
-  pub record PassesAt (n : Named) (shape : Shape) (pc next : ℕ) (slots below : List Slot) : Type 0 where
-    pub actual : Shape
+  pub record PassesAt (n : Named) (wanted : Wanted) (pc next : ℕ) (slots below : List Slot) : Type 0 where
     pub couple : Couple
-    pub is_formal : IsFormalArray sc context.level n actual couple
-    pub agrees : Agrees shape actual
+    pub passable : Passable n couple wanted
     pub lies : slots ≡ reference couple ∷ below
     pub stands : Has ps level pc (ops.Plain kinds.Lodt) next
+
+  -- .. EVAL, of a parameter by name
+  pub record ResolvesAt (n : Named) (kind : Kind) (pc next : ℕ) (slots below : List Slot) : Type 0 where
+    pub couple : Couple
+    pub is_formal : IsFormalName sc context.level n kind couple
+    pub lies : slots ≡ reference couple ∷ below
+    pub stands : Has ps level pc (ops.Plain kinds.Eval) next
 
   -- ---- subscripts
 
@@ -287,14 +322,14 @@ module _ (sc : Scopes) (context : Context) (ps : List Placed) (level most : ℕ)
     pub Fills : Named → ℕ → Actuals → ℕ → List Slot → List Slot → ℕ → Type 0
     Fills n callee (in_value gs h sorts es) pc slots below filled =
         (couple : Couple) × (before : List Wanted) × (kind : Kind) × (after : List Wanted) × (m : ℕ)
-        × IsProcedure sc context.level n callee couple × (parameter_wants sc callee ≡ before ++ wants.value kind ∷ after) × AreGiven sc context.level before gs
+        × IsProcedure sc context.level n callee couple × (parameter_wants sc callee ≡ before ++ wants.value kind ∷ after) × AreGiven sc context before gs
         × Holds kind h pc slots (given_slots before gs (reference couple ∷ mark ∷ below)) m × ActualsAt sc context ps level sorts after es m filled
         × HasRoom most below (2 + length gs + 1 + line_depth es)
-    -- the head is the passing of a parameter that stands for an array
+    -- the head is the passing of what a parameter's cell has
     Fills n callee (pass gs p sorts es) pc slots below filled =
-        (couple : Couple) × (before : List Wanted) × (shape : Shape) × (after : List Wanted) × (m : ℕ)
-        × IsProcedure sc context.level n callee couple × (parameter_wants sc callee ≡ before ++ wants.array shape ∷ after) × AreGiven sc context.level before gs
-        × PassesAt p shape pc m slots (given_slots before gs (reference couple ∷ mark ∷ below)) × ActualsAt sc context ps level sorts after es m filled
+        (couple : Couple) × (before : List Wanted) × (wanted : Wanted) × (after : List Wanted) × (m : ℕ)
+        × IsProcedure sc context.level n callee couple × (parameter_wants sc callee ≡ before ++ wanted ∷ after) × AreGiven sc context before gs
+        × PassesAt p wanted pc m slots (given_slots before gs (reference couple ∷ mark ∷ below)) × ActualsAt sc context ps level sorts after es m filled
         × HasRoom most below (2 + length gs + 1 + line_depth es)
 
   -- the same of an expression after the silent steps: its value lies there already, or it has a head
@@ -302,8 +337,9 @@ module _ (sc : Scopes) (context : Context) (ps : List Placed) (level most : ℕ)
   Shows k (val v) pc slots below to = Goes ps level pc to × (slots ≡ operand v ∷ below) × HasKind k v
   Shows k (busy h) pc slots below to = Holds k h pc slots below to
 
-  -- the same of a left side: the descriptor of an element of that kind is to lie on `below`, at the place `to`
+  -- the same of a left side: the word of a place of that kind is to lie on `below`, at the place `to`
   abbrev pub Aims : Kind → Aim → ℕ → List Slot → List Slot → ℕ → Type 0
+  Aims k (resolve n) pc slots below to = ResolvesAt n k pc to slots below
   Aims k (place_index n ks v tree.none) pc slots below to = ElementIndexAt n ks v k pc to slots below
   Aims k (place_index n ks v (tree.more e tree.none)) pc slots below to =
       (low : ℤ) × (second : ℤ) × (q : ℕ) × (t : ℕ) × (r : RowIndexAt n ks v low second pc q slots below) × (r.array.kind ≡ k) × SecondAt sc context ps level second e q t
@@ -315,11 +351,11 @@ module _ (sc : Scopes) (context : Context) (ps : List Placed) (level most : ℕ)
 
   -- ---- statements
 
-  -- the value of that kind lies on the descriptor of the element
-  pub record ElementStoreAt (r : Reference) (ks : List ℕ) (v : Value) (pc next : ℕ) (slots below : List Slot) : Type 0 where
+  -- the value of that kind lies on the word of a place that was found
+  pub record FoundStoreAt (p : Place) (v : Value) (pc next : ℕ) (slots below : List Slot) : Type 0 where
     pub kind : Kind
     pub fits : HasKind kind v
-    pub lies : slots ≡ operand v ∷ descriptor (element_held r ks kind) ∷ below
+    pub lies : slots ≡ operand v ∷ descriptor (held_at p kind) ∷ below
     pub stands : Has ps level pc (ops.Plain kinds.Stod) next
 
   -- The bounds lie on the number of arrays, with nothing below: after the entry PUSH makes cells of the descriptors. There is one at least,
@@ -363,9 +399,13 @@ module _ (sc : Scopes) (context : Context) (ps : List Placed) (level most : ℕ)
   StandsFor (calling n x k) pc slots =
       (callee : ℕ) × (filled : ℕ) × (next : ℕ) × (u : ℕ) × Fills n callee x pc slots (pend k) filled × Has ps level filled (ops.Plain kinds.Entr) next
       × DroppedAt sc context ps level (block_numbered sc.blocks callee).result next u × Follows k u × HasRoom most (pend k) 2
-  StandsFor (store (element_of r ks) v k) pc slots = (next : ℕ) × ElementStoreAt r ks v pc next slots (pend k) × Follows k next
+  StandsFor (store (there r) v k) pc slots = (next : ℕ) × FoundStoreAt (there r) v pc next slots (pend k) × Follows k next
+  StandsFor (store (element_of r ks) v k) pc slots = (next : ℕ) × FoundStoreAt (element_of r ks) v pc next slots (pend k) × Follows k next
+  StandsFor (storing (there r) h k) pc slots =
+      (kind : Kind) × (m : ℕ) × (next : ℕ) × Holds kind h pc slots (descriptor (held_at (there r) kind) ∷ pend k) m × Has ps level m (ops.Plain kinds.Stod) next
+      × Follows k next
   StandsFor (storing (element_of r ks) h k) pc slots =
-      (kind : Kind) × (m : ℕ) × (next : ℕ) × Holds kind h pc slots (descriptor (element_held r ks kind) ∷ pend k) m × Has ps level m (ops.Plain kinds.Stod) next
+      (kind : Kind) × (m : ℕ) × (next : ℕ) × Holds kind h pc slots (descriptor (held_at (element_of r ks) kind) ∷ pend k) m × Has ps level m (ops.Plain kinds.Stod) next
       × Follows k next
   StandsFor (aiming x e k) pc slots =
       (kind : Kind) × (m : ℕ) × (r : ℕ) × (next : ℕ) × Aims kind x pc slots (pend k) m × ExprAt sc context ps level kind e m r r × Has ps level r (ops.Plain kinds.Stod) next
@@ -383,6 +423,14 @@ module _ (sc : Scopes) (context : Context) (ps : List Placed) (level most : ℕ)
   StandsFor (giving v) pc slots =
       (kind : Kind) × (over : ℕ) × (context.yields ≡ yielding.value kind) × HasKind kind v × Has ps level pc (ops.Plain kinds.Retn) over
       × (slots ≡ operand v ∷ [])
+  -- the value of an actual is given, or its place
+  StandsFor (evaluating h) pc slots =
+      (kind : Kind) × (m : ℕ) × (over : ℕ) × (context.yields ≡ yielding.value kind) × Holds kind h pc slots [] m × Has ps level m (ops.Plain kinds.Retn) over
+  StandsFor (locating x) pc slots =
+      (kind : Kind) × (m : ℕ) × (over : ℕ) × (context.yields ≡ yielding.element kind) × Aims kind x pc slots [] m × Has ps level m (ops.Plain kinds.Retn) over
+  StandsFor (giving_place p) pc slots =
+      (kind : Kind) × (over : ℕ) × (context.yields ≡ yielding.element kind) × IsFound p × Has ps level pc (ops.Plain kinds.Retn) over
+      × (slots ≡ descriptor (held_at p kind) ∷ [])
   StandsFor (storing (own n) h k) pc slots =
       (kind : Kind) × (c : Couple) × (m : ℕ) × (next : ℕ) × IsVariable sc context.level n kind c × Holds kind h pc slots (reference c ∷ pend k) m
       × Has ps level m (ops.Plain kinds.Stod) next × Follows k next
@@ -436,9 +484,11 @@ module _ (sc : Scopes) (context : Context) (ps : List Placed) (level most : ℕ)
   ActionAt (reads n) pc slots = (kind : Kind) × (next : ℕ) × ReadAt sc context ps level n kind pc next × HasRoom most slots 1
   ActionAt (reads_element n ks v) pc slots = (next : ℕ) × (below : List Slot) × ElementReadAt n ks v pc next slots below
   ActionAt (indexes n ks v) pc slots = IndexesAt n ks v pc slots
-  ActionAt (stores (element_of r ks) v) pc slots = (next : ℕ) × (below : List Slot) × ElementStoreAt r ks v pc next slots below
+  ActionAt (resolves n) pc slots = (kind : Kind) × (next : ℕ) × (below : List Slot) × ResolvesAt n kind pc next slots below
+  ActionAt (stores (there r) v) pc slots = (next : ℕ) × (below : List Slot) × FoundStoreAt (there r) v pc next slots below
+  ActionAt (stores (element_of r ks) v) pc slots = (next : ℕ) × (below : List Slot) × FoundStoreAt (element_of r ks) v pc next slots below
   ActionAt (makes_arrays kind ns pairs vs) pc slots = (next : ℕ) × MakesAt ns pairs vs pc next slots
-  ActionAt (passes n) pc slots = (shape : Shape) × (next : ℕ) × (below : List Slot) × PassesAt n shape pc next slots below
+  ActionAt (passes n) pc slots = (wanted : Wanted) × (next : ℕ) × (below : List Slot) × PassesAt n wanted pc next slots below
   ActionAt (fails fault) pc slots =
       (op : Op) × (v : Value) × (w : Value) × (next : ℕ) × (below : List Slot) × BreaksAt op v w fault pc next slots below
   ActionAt (leaves done) pc slots =
@@ -446,6 +496,9 @@ module _ (sc : Scopes) (context : Context) (ps : List Placed) (level most : ℕ)
   ActionAt (leaves (value v)) pc slots =
       (kind : Kind) × (over : ℕ) × (context.yields ≡ yielding.value kind) × HasKind kind v × Has ps level pc (ops.Plain kinds.Retn) over
       × (slots ≡ operand v ∷ [])
+  ActionAt (leaves (place p)) pc slots =
+      (kind : Kind) × (over : ℕ) × (context.yields ≡ yielding.element kind) × IsFound p × Has ps level pc (ops.Plain kinds.Retn) over
+      × (slots ≡ descriptor (held_at p kind) ∷ [])
   ActionAt (reads_result name) pc slots = ResultAt sc context ps level name pc × (slots ≡ []) × (1 ≤ most)
   ActionAt (enters n gs) pc slots = (callee : ℕ) × (next : ℕ) × (below : List Slot) × CallsAt n gs callee pc next slots below
   ActionAt (stores (own n) v) pc slots = (next : ℕ) × (below : List Slot) × StoreAt n v pc next slots below
@@ -470,9 +523,11 @@ module _ (sc : Scopes) (context : Context) (ps : List Placed) (level most : ℕ)
       (at ≡ next) × (after ≡ descriptor (row n more) ∷ below) × IsNext ks more
   Acted (indexes n ks v) pc slots (of_element kind next below a) (place (element_of r more)) at after =
       (at ≡ next) × (after ≡ descriptor (element_held r more kind) ∷ below) × IsNext ks more
+  Acted (resolves n) pc slots a (place (there r)) at after = (at ≡ a.1) × (after ≡ descriptor (variable_held r a.0) ∷ a.2)
+  Acted (stores (there r) v) pc slots a done at after = (at ≡ a.0) × (after ≡ a.1)
   Acted (stores (element_of r ks) v) pc slots a done at after = (at ≡ a.0) × (after ≡ a.1)
   Acted (makes_arrays kind ns pairs vs) pc slots a done at after = (at ≡ a.0) × (after ≡ [])
-  Acted (passes n) pc slots a (cell (cells.reference r)) at after = (at ≡ a.1) × (after ≡ descriptor (passed_held (wants.array a.0) (cells.reference r)) ∷ a.2)
+  Acted (passes n) pc slots a (cell c) at after = (at ≡ a.1) × (after ≡ descriptor (passed_held a.0 c) ∷ a.2) × IsPassed a.0 c
   Acted turns pc slots a done at after = (at ≡ a.0) × (after ≡ slots)
   Acted (writes phrases vs) pc slots a done at after = (at ≡ a.0) × (after ≡ a.1)
   Acted _ pc slots a _ at after = ⊥
@@ -480,6 +535,8 @@ module _ (sc : Scopes) (context : Context) (ps : List Placed) (level most : ℕ)
   -- where the machine goes on after the entry of a part inside, what lies there, and what is wanted of it
   abbrev pub Entered : (q : Ask) (pc : ℕ) (slots : List Slot) → ActionAt q pc slots → ℕ → List Slot → Yields → Type 0
   Entered (enters_block (tree.body spot ds ss)) pc slots a at after wanted = (at ≡ a.0) × (after ≡ a.1) × (wanted ≡ yielding.nothing)
+  Entered (reads n) pc slots a at after wanted = (at ≡ a.1) × (after ≡ slots) × (wanted ≡ yielding.value a.0)
+  Entered (resolves n) pc slots a at after wanted = (at ≡ a.1) × (after ≡ a.2) × (wanted ≡ yielding.element a.0)
   Entered (enters n gs) pc slots a at after wanted = (at ≡ a.1) × (after ≡ a.2) × (wanted ≡ yields_of (block_numbered sc.blocks a.0).result)
   Entered _ pc slots a at after wanted = ⊥
 
@@ -490,4 +547,4 @@ module _ (sc : Scopes) (context : Context) (ps : List Placed) (level most : ℕ)
     pub answered : (a : Answer) (at : ℕ) (after : List Slot) → Acted (ask r) pc slots action a at after → ComesTo (resume sc r a) at after
     pub waits : (at : ℕ) (after : List Slot) (wanted : Yields) → Entered (ask r) pc slots action at after wanted → ask (resume sc r entered) ≡ nothing
     pub returns : (at : ℕ) (after : List Slot) (wanted : Yields) → Entered (ask r) pc slots action at after wanted → (a : Answer) → Gives wanted a →
-        ComesTo (resume sc (resume sc r entered) a) at (pushed a after)
+        ComesTo (resume sc (resume sc r entered) a) at (pushed wanted a after)

@@ -3,14 +3,18 @@ use Rattle.std.specs.Prelude.{◌≡◌, ℕ, ◌+◌, ◌<◌, ◌≤◌, not, 
 use Rattle.algol_tree.specs.declared.tree.Op.{Op}
 use Rattle.algol_tree.specs.declared.tree.Kind.{Kind}
 use Rattle.algol_tree.specs.declared.tree.Named.{Named}
+use Rattle.algol_tree.specs.Plain.{PExpr}
 use Rattle.algol_tree.specs.Types.{taken_by}
 use Rattle.algol_tree.specs.Scopes.{Scopes}
 use Rattle.b67_num.specs.Whole.{negation_of}
 use Rattle.algol_meaning.specs.Value.{Value, number, truth, truth_of, Reference, Cell}
-use Rattle.algol_paths.specs.Arrays.{DeclaredArray, Shape}
+use Rattle.algol_meaning.specs.Rest as places
+use Rattle.algol_meaning.specs.Rest.{Place}
+use Rattle.algol_paths.specs.Arrays.{DeclaredArray}
 use Rattle.algol_meaning.specs.Operators.{result_of}
 use Rattle.algol_meaning.specs.Statements.{is_past}
 use Rattle.b67_ops.specs.declared.Couple.{Couple}
+use Rattle.b67_ops.specs.declared.TheConstants.{OUTER_LEVEL}
 use Rattle.b67_ops.specs.declared.Operator.TheVariants as ops
 use Rattle.b67_ops.specs.declared.PlainKind.TheVariants as kinds
 use Rattle.b67_ops.specs.declared.BranchKind.TheVariants.{Brfl, Brtr, Brun}
@@ -19,17 +23,31 @@ use Rattle.b67_ops.specs.declared.intrinsic.Intrinsic.{Intrinsic}
 use Rattle.b67_segment.specs.Operators.{Placed}
 use Rattle.b67_templates.specs.Contexts.{Context}
 use Rattle.b67_templates.specs.Fragments.{IsWhole, HasKind, Has, NumberAt, moved, MovedAt, BranchAt, IntrinsicAt, EntryAt, code_at, operator_for, is_implication, truth_literal}
-use Rattle.b67_templates.specs.Cells.{Wanted, IsDeclaredArray, IsArray}
-use Rattle.b67_templates.specs.Code.{ReferenceAt, BegunAt, CountAt, PastAt, StepSign, SignedAt}
+use Rattle.b67_templates.specs.Cells.{Wanted, IsVariable, IsDeclaredArray, IsOwnActual}
+use Rattle.b67_templates.specs.Code.{BegunAt, CountAt, PastAt, StepSign, SignedAt}
 
 -- What a word on the stack stands for, where that is known of the world: the copy of a row's descriptor, of the array that a name means
--- here; that of an element of this kind; the reference to the cell that a name means here, as STFF makes it; what the cell of a parameter of
--- which that is wanted has, as LODT copies it.
+-- here; that of an element of this kind; the reference of a variable of this kind, as EVAL leaves it; the reference to the cell that a name
+-- means here, or to that of an actual of this kind that stands here, as STFF makes it; what the cell of a parameter of which that is wanted
+-- has, as LODT copies it.
 pub data Held : Type 0 where
   row : Named → List ℕ → Held
   element : Reference → List ℕ → Kind → Held
+  variable : Reference → Kind → Held
   cell_named : Named → Held
+  actual : PExpr → Kind → Held
   passed : Wanted → Cell → Held
+
+-- a place that an action found: not a variable that the part names
+abbrev pub IsFound : Place → Type 0
+IsFound (places.own n) = ⊥
+IsFound _ = Unit {0}
+
+-- what the word of such a place stands for
+abbrev pub held_at : Place → Kind → Held
+held_at (places.own n) kind = cell_named n
+held_at (places.there r) kind = variable r kind
+held_at (places.element_of r ks) kind = element r ks kind
 
 -- a word above the floor
 pub data Slot : Type 0 where
@@ -43,6 +61,8 @@ pub data Slot : Type 0 where
 -- At the text of this context the couple is that of a cell to which STFF makes a reference that is read alike everywhere, which stands for this.
 pub data Stuffable (sc : Scopes) (context : Context) : Held → Couple → Type 0 where
   of_array : (n : Named) (d : DeclaredArray) (c : Couple) → IsDeclaredArray sc context.level n d c → Stuffable sc context (cell_named n) c
+  of_variable : (n : Named) (k : Kind) (c : Couple) → IsVariable sc context.level n k c → OUTER_LEVEL ≤ c.level → Stuffable sc context (cell_named n) c
+  of_actual : (e : PExpr) (k : Kind) (c : Couple) → IsOwnActual sc context.block context.level e k c → Stuffable sc context (actual e k) c
 
 -- the first operand of an operator as its code has it: of an implication it is inverted
 abbrev pub ready : Op → Value → Value
@@ -57,9 +77,7 @@ module _ (sc : Scopes) (context : Context) (ps : List Placed) (level most : ℕ)
   pub data Step : ℕ → List Slot → ℕ → List Slot → Type 0 where
     push_number : {pc next : ℕ} {below : List Slot} (z : ℤ) → NumberAt ps level z pc next → HasRoom most below 1 → Step pc below next (operand (number z) ∷ below)
     push_truth : {pc next : ℕ} {below : List Slot} (b : Bool) → Has ps level pc (ops.Plain (truth_literal b)) next → HasRoom most below 1 → Step pc below next (operand (truth b) ∷ below)
-    push_name : {pc next : ℕ} {below : List Slot} (n : Named) (k : Kind) → (r : ReferenceAt sc context ps level n k pc next) → HasRoom most below 1 → Step pc below next (reference r.0 ∷ below)
-    push_array : {pc next : ℕ} {below : List Slot} (n : Named) (a : Shape) (c : Couple) → IsArray sc context.level n a c → Has ps level pc (ops.Namc c) next → HasRoom most below 1 →
-        Step pc below next (reference c ∷ below)
+    push_reference : {pc next : ℕ} {below : List Slot} (c : Couple) → Has ps level pc (ops.Namc c) next → HasRoom most below 1 → Step pc below next (reference c ∷ below)
     -- one that NAMC before it pushed becomes one that is read alike everywhere
     stuff : {from pc next : ℕ} {below : List Slot} (held : Held) (c : Couple) → Stuffable sc context held c → Has ps level from (ops.Namc c) pc →
         Has ps level pc (ops.Plain kinds.Stff) next → Step pc (reference c ∷ below) next (descriptor held ∷ below)

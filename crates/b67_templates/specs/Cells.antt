@@ -132,10 +132,6 @@ abbrev pub made_from : ℕ → List Made → List ℕ → Option FoundMade
 made_from k [] name = None
 made_from k (m ∷ rest) name = if same_name (made_name m) name then Some (record { number = k; made = m }) else made_from (k + 1) rest name
 
--- where what actions make lies in the frame of a block: after its simple cells and the control words
-abbrev pub made_base : Scopes → Block → ℕ
-made_base sc b = 2 + length (simple_cells sc b) + length (procedures b.decls)
-
 -- ---- actuals that have a cell
 
 -- an actual whose code is evaluated at each use of the parameter, and the kind that it has
@@ -207,9 +203,20 @@ module _ (sc : Scopes) where
     actuals_in_stmts tree.no_stmts = []
     actuals_in_stmts (tree.stmts s ss) = actuals_in_stmt s ++ actuals_in_stmts ss
 
-  -- those of a block, in the order of the text
+  -- those of a block with these declarations and statements, in the order of the text
+  abbrev pub actuals_in_block : PDecls → PStmts → List Actual
+  actuals_in_block ds ss = actuals_in_decls ds ++ actuals_in_stmts ss
+
   abbrev pub actuals_of : Block → List Actual
-  actuals_of b = actuals_in_decls b.decls ++ actuals_in_stmts b.stmts
+  actuals_of b = actuals_in_block b.decls b.stmts
+
+-- where the control words of a block's actuals lie in its frame: after its simple cells and the control words of its procedures
+abbrev pub actual_base : Scopes → Block → ℕ
+actual_base sc b = 2 + length (simple_cells sc b) + length (procedures b.decls)
+
+-- .. and what actions make, after all control words
+abbrev pub made_base : Scopes → Block → ℕ
+made_base sc b = actual_base sc b + length (actuals_of sc b)
 
 -- only a subscripted actual has a place
 abbrev pub has_place : PExpr → Bool
@@ -241,6 +248,21 @@ pub record IsVariable (sc : Scopes) (level : ℕ) (n : Named) (kind : Kind) (cou
   pub level_is : couple.level + (use_of sc n).up ≡ level
   pub index_is : couple.index ≡ 2 + found.number
 
+-- .. of a parameter by name, and this is the couple of its cell, which has a reference to a variable's cell or to that of the control word
+-- of an actual's code.
+pub record IsFormalName (sc : Scopes) (level : ℕ) (n : Named) (kind : Kind) (couple : Couple) : Type 0 where
+  pub sort_is : (use_of sc n).sort ≡ sort.by_name
+  pub found : Found
+  pub there : found_from 0 (simple_cells sc (block_numbered sc.blocks ((use_of sc n).block))) n.name ≡ Some found
+  pub wanted_is : found.cell.wanted ≡ by_name kind
+  pub level_is : couple.level + (use_of sc n).up ≡ level
+  pub index_is : couple.index ≡ 2 + found.number
+
+-- what VALC reads
+pub data IsRead (sc : Scopes) (level : ℕ) (n : Named) (kind : Kind) (couple : Couple) : Type 0 where
+  of_variable : IsVariable sc level n kind couple → IsRead sc level n kind couple
+  of_formal : IsFormalName sc level n kind couple → IsRead sc level n kind couple
+
 -- At this level the name is that of what an action of its block makes, and this is the couple of its cell. No simple cell of the block has
 -- that name.
 pub record IsMadeThere (sc : Scopes) (level : ℕ) (n : Named) (made : Made) (couple : Couple) : Type 0 where
@@ -269,3 +291,12 @@ pub record IsFormalArray (sc : Scopes) (level : ℕ) (n : Named) (shape : Shape)
 pub data IsArray (sc : Scopes) (level : ℕ) (n : Named) (shape : Shape) (couple : Couple) : Type 0 where
   declared : (d : DeclaredArray) → shape ≡ shape_of d → IsDeclaredArray sc level n d couple → IsArray sc level n shape couple
   formal : IsFormalArray sc level n shape couple → IsArray sc level n shape couple
+
+-- In the text of the block with this number, of this level, the actual has a cell, and this is the couple of it.
+pub record IsOwnActual (sc : Scopes) (block level : ℕ) (e : PExpr) (kind : Kind) (couple : Couple) : Type 0 where
+  pub own : own_actual sc (by_name kind) e ≡ record { expr = e; kind = kind } ∷ []
+  pub number : ℕ
+  pub there : slice_get (actuals_of sc (block_numbered sc.blocks block)) number ≡ Some (record { expr = e; kind = kind })
+  pub outer : OUTER_LEVEL ≤ couple.level
+  pub level_is : couple.level ≡ level
+  pub index_is : couple.index ≡ actual_base sc (block_numbered sc.blocks block) + number

@@ -1,6 +1,6 @@
 -- Where the code of each construct stands: from one place to the place after it. What is left early goes on at a third place, to which
 -- branches lead from the place after the code; so a branch never leads to a branch.
-use Rattle.std.specs.Prelude.{◌≡◌, ℕ, zero, suc, ◌+◌, ◌≤◌, ℤ, pos, neg_ℤ, int_lt, ◌==◌, if◌then◌else◌, true, false, List, [], ◌∷◌, length, replicate, Option, Some, None, slice_get}
+use Rattle.std.specs.Prelude.{◌≡◌, ℕ, zero, suc, ◌+◌, ◌≤◌, ℤ, pos, neg_ℤ, int_lt, ◌==◌, if◌then◌else◌, Bool, true, false, List, [], ◌∷◌, ◌++◌, length, replicate, Option, Some, None, slice_get}
 use Rattle.algol_tree.specs.declared.tree.Op.TheVariants as operators
 use Rattle.algol_tree.specs.declared.tree.Kind.{Kind}
 use Rattle.algol_tree.specs.declared.tree.Kind.TheVariants as types
@@ -19,6 +19,7 @@ use Rattle.algol_meaning.specs.Settle.{sorts_of}
 use Rattle.algol_meaning.specs.Statements.{difference_in, stepped, alone}
 use Rattle.b67_control.specs.declared.Pcw.{Pcw}
 use Rattle.b67_ops.specs.declared.Couple.{Couple}
+use Rattle.b67_ops.specs.declared.TheConstants.{OUTER_LEVEL}
 use Rattle.b67_ops.specs.declared.Operator.TheVariants as ops
 use Rattle.b67_ops.specs.declared.PlainKind.TheVariants as kinds
 use Rattle.b67_ops.specs.declared.BranchKind.TheVariants.{Brfl, Brtr, Brun}
@@ -26,11 +27,11 @@ use Rattle.b67_ops.specs.declared.intrinsic.Intrinsic.TheVariants.{Write, Select
 use Rattle.b67_segment.specs.Operators.{Placed}
 use Rattle.b67_segment.specs.declared.code.Phrase.{Phrase}
 use Rattle.b67_segment.specs.declared.code.Phrase.TheVariants as parts
-use Rattle.b67_templates.specs.Contexts.{nothing, value, Context}
-use Rattle.b67_templates.specs.Fragments.{Has, AllAt, ControlsAt, NumberAt, MovedAt, ReadyAt, BranchAt, TurnAt, Goes, IntrinsicAt, EntryAt, operator_for, is_implication, truth_literal, procedure_controls}
+use Rattle.b67_templates.specs.Contexts.{Yields, nothing, value, element, Context}
+use Rattle.b67_templates.specs.Fragments.{Has, AllAt, ControlsAt, NumberAt, MovedAt, ReadyAt, BranchAt, TurnAt, Goes, IntrinsicAt, EntryAt, operator_for, is_implication, truth_literal, procedure_controls, routine_at}
 use Rattle.algol_paths.specs.Arrays.{DeclaredArray, Shape, shape_of}
 use Rattle.b67_templates.specs.Cells as wants
-use Rattle.b67_templates.specs.Cells.{parameter_cells, Wanted, Agrees, parameter_wants, variables, control_segments, IsVariable, IsProcedure, IsDeclaredArray, IsFormalArray, IsArray}
+use Rattle.b67_templates.specs.Cells.{parameter_cells, Wanted, Agrees, parameter_wants, variables, control_segments, Actual, actuals_in_block, has_place, IsVariable, IsFormalName, IsRead, IsProcedure, IsDeclaredArray, IsFormalArray, IsArray, IsOwnActual}
 
 -- ---- context
 
@@ -95,10 +96,16 @@ module _ (sc : Scopes) (context : Context) (ps : List Placed) (level : ℕ) wher
     pub numbers : numbers_in list ≡ items
 
   abbrev pub ReadAt : Named → Kind → ℕ → ℕ → Type 0
-  ReadAt n kind from to = (c : Couple) × IsVariable sc context.level n kind c × Has ps level from (ops.Valc c) to
+  ReadAt n kind from to = (c : Couple) × IsRead sc context.level n kind c × Has ps level from (ops.Valc c) to
 
   abbrev pub ReferenceAt : Named → Kind → ℕ → ℕ → Type 0
   ReferenceAt n kind from to = (c : Couple) × IsVariable sc context.level n kind c × Has ps level from (ops.Namc c) to
+
+  -- what an assignment to a name by itself stores through: the reference of a variable, or what EVAL makes of that of a parameter by name
+  pub data PlaceAt (n : Named) (kind : Kind) (from to : ℕ) : Type 0 where
+    own : ReferenceAt n kind from to → PlaceAt n kind from to
+    resolved : (c : Couple) (m : ℕ) → IsFormalName sc context.level n kind c → Has ps level from (ops.Namc c) m → Has ps level m (ops.Plain kinds.Eval) to →
+        PlaceAt n kind from to
 
   -- ---- calls
 
@@ -126,7 +133,17 @@ module _ (sc : Scopes) (context : Context) (ps : List Placed) (level : ℕ) wher
     passes : (a : Shape) (c : Couple) (m : ℕ) → IsFormalArray sc context.level n a c → Agrees shape a → Has ps level f (ops.Namc c) m → Has ps level m (ops.Plain kinds.Lodt) t →
         ArrayActualAt shape n f t
 
-  -- a name by itself in an expression: a variable is read, a typed procedure is called
+  -- The actual of a parameter by name: a variable's reference, which is read alike everywhere; what the cell of another such parameter has;
+  -- or the reference to the cell of the control word of its code.
+  pub data NameActualAt (kind : Kind) (e : PExpr) (f t : ℕ) : Type 0 where
+    refers_to : (n : Named) (c : Couple) (m : ℕ) → e ≡ alone n → IsVariable sc context.level n kind c → OUTER_LEVEL ≤ c.level → Has ps level f (ops.Namc c) m →
+        Has ps level m (ops.Plain kinds.Stff) t → NameActualAt kind e f t
+    passes_on : (n : Named) (c : Couple) (m : ℕ) → e ≡ alone n → IsFormalName sc context.level n kind c → Has ps level f (ops.Namc c) m →
+        Has ps level m (ops.Plain kinds.Lodt) t → NameActualAt kind e f t
+    names : (c : Couple) (m : ℕ) → IsOwnActual sc context.block context.level e kind c → Has ps level f (ops.Namc c) m → Has ps level m (ops.Plain kinds.Stff) t →
+        NameActualAt kind e f t
+
+  -- a name by itself in an expression: a variable or a parameter is read, a typed procedure is called
   pub data NameAt (k : Kind) (n : Named) (f t : ℕ) : Type 0 where
     reads : ReadAt n k f t → NameAt k n f t
     calls : (callee : ℕ) → CallAt n callee without f t → parameter_wants sc callee ≡ [] → (block_numbered sc.blocks callee).result ≡ Some k → NameAt k n f t
@@ -171,13 +188,15 @@ module _ (sc : Scopes) (context : Context) (ps : List Placed) (level : ℕ) wher
         × ((x : ℕ) × (y : ℕ) × ExprAt types.Number e' r x x × MovedAt ps level low' x y × Has ps level y (ops.Plain kinds.Exch) t)
     SubscriptsAt c _ _ f t = ⊥
 
-    -- actuals for parameters of these sorts, of which this is wanted: values, and names of arrays
+    -- actuals for parameters of these sorts, of which this is wanted: values, names of arrays, and what is given by name
     pub ActualsAt : List Sort → List Wanted → PExprs → ℕ → ℕ → Type 0
     ActualsAt [] [] tree.none f t = f ≡ t
     ActualsAt (sort ∷ sorts) (wants.value kind ∷ wanted) (tree.more e es) f t =
         (m : ℕ) × (is_variable sort ≡ true) × ExprAt kind e f m m × ActualsAt sorts wanted es m t
     ActualsAt (sort ∷ sorts) (wants.array shape ∷ wanted) (tree.more (tree.variable (tree.subscripted n tree.none)) es) f t =
         (m : ℕ) × (is_variable sort ≡ false) × ArrayActualAt shape n f m × ActualsAt sorts wanted es m t
+    ActualsAt (sort ∷ sorts) (wants.by_name kind ∷ wanted) (tree.more e es) f t =
+        (m : ℕ) × (is_variable sort ≡ false) × NameActualAt kind e f m × ActualsAt sorts wanted es m t
     ActualsAt _ _ _ f t = ⊥
 
   -- the second subscript, where the descriptor of the row lies below it
@@ -190,16 +209,23 @@ module _ (sc : Scopes) (context : Context) (ps : List Placed) (level : ℕ) wher
 
   -- ---- statements: what comes next stands at the place after the code, or where that leads
 
-  -- the left side's reference, the value, the store
+  -- the word of the left side's place, the value, the store
   abbrev pub AssignAt : Named → PExpr → ℕ → ℕ → Type 0
   AssignAt n e f t =
-      (k : Kind) × (m : ℕ) × (r : ℕ) × ReferenceAt n k f m × ExprAt k e m r r × Has ps level r (ops.Plain kinds.Stod) t
+      (k : Kind) × (m : ℕ) × (r : ℕ) × PlaceAt n k f m × ExprAt k e m r r × Has ps level r (ops.Plain kinds.Stod) t
 
   -- the descriptor of the element, the value, the store
   abbrev pub ElementAssignAt : Named → PExprs → PExpr → ℕ → ℕ → Type 0
   ElementAssignAt n es e f t =
       (a : Shape) × (c : Couple) × (m : ℕ) × (q : ℕ) × (r : ℕ) × IsArray sc context.level n a c × SubscriptsAt c a.lows es f m
       × Has ps level m (ops.Plain kinds.Indx) q × ExprAt a.kind e q r r × Has ps level r (ops.Plain kinds.Stod) t
+
+  -- the descriptor of an element
+  abbrev pub ElementAt : Kind → PExpr → ℕ → ℕ → Type 0
+  ElementAt k (tree.variable (tree.subscripted n (tree.more i is))) f t =
+      (a : Shape) × (c : Couple) × (m : ℕ) × IsArray sc context.level n a c × (a.kind ≡ k) × SubscriptsAt c a.lows (tree.more i is) f m
+      × Has ps level m (ops.Plain kinds.Indx) t
+  ElementAt k _ f t = ⊥
 
   -- lower bounds as they stand, and the values of upper bounds
   abbrev pub BoundsAt : List PPair → ℕ → ℕ → Type 0
@@ -310,9 +336,37 @@ module _ (sc : Scopes) (context : Context) (ps : List Placed) (level : ℕ) wher
 abbrev pub in_block : ℕ → Context → Context
 in_block block context = record context { block = block; level = context.level + 1; yields = nothing }
 
--- the control words with which a block of this level and these declarations begins
-abbrev pub control_pcws : Scopes → ℕ → PDecls → List Pcw
-control_pcws sc level ds = procedure_controls level (control_segments sc ds)
+-- .. of the code of an actual there, which gives this
+abbrev pub in_routine : Yields → Context → Context
+in_routine yields context = record context { yields = yields }
+
+module _ (sc : Scopes) (context : Context) (ps : List Placed) (level : ℕ) where
+  -- The code of an actual gives its value; where it is subscripted, a selector lies on the stack, and where that asks for it, the code gives the
+  -- place of its element.
+  abbrev pub RoutineBy : Bool → Actual → ℕ → Type 0
+  RoutineBy false a at = (r : ℕ) × (o : ℕ) × ExprAt sc (in_routine (value a.kind) context) ps level a.kind a.expr at r r × Has ps level r (ops.Plain kinds.Retn) o
+  RoutineBy true a at =
+      (m : ℕ) × (p : ℕ) × (r : ℕ) × (v : ℕ) × (q : ℕ) × (o : ℕ) × BranchAt ps level Brtr at p m
+      × ExprAt sc (in_routine (value a.kind) context) ps level a.kind a.expr m r r × Has ps level r (ops.Plain kinds.Retn) v
+      × ElementAt sc (in_routine (element a.kind) context) ps level a.kind a.expr p q × Has ps level q (ops.Plain kinds.Retn) o
+
+  abbrev pub RoutineAt : Actual → ℕ → Type 0
+  RoutineAt a at = RoutineBy (has_place a.expr) a at
+
+  -- the code of each of these actuals stands at its place
+  abbrev pub RoutinesAt : List Actual → List ℕ → Type 0
+  RoutinesAt [] ats = ats ≡ []
+  RoutinesAt (a ∷ actuals) ats = (at : ℕ) × (more : List ℕ) × (ats ≡ at ∷ more) × RoutineAt a at × RoutinesAt actuals more
+
+-- the control words of actuals in a block of this level, whose code stands at these places of this segment and runs one level further in
+abbrev pub routine_controls : ℕ → ℕ → List Actual → List ℕ → List Pcw
+routine_controls segment level (a ∷ actuals) (at ∷ ats) = routine_at (has_place a.expr) segment at (level + 1) ∷ routine_controls segment level actuals ats
+routine_controls segment level _ _ = []
+
+-- the control words with which a block of this level in this segment begins: those of the procedures that it declares, and those of its
+-- actuals, whose code stands at these places
+abbrev pub control_pcws : Scopes → ℕ → ℕ → PDecls → List Actual → List ℕ → List Pcw
+control_pcws sc segment level ds actuals ats = procedure_controls level (control_segments sc ds) ++ routine_controls segment level actuals ats
 
 module _ (sc : Scopes) where
   abbrev mutual
@@ -325,8 +379,10 @@ module _ (sc : Scopes) where
     -- the code of an inner block, `InnerAt`, stands before its entry
     StmtAt context ps level (tree.block (tree.body spot (tree.decls d ds) ss)) f t u =
         (o : ℕ) × (at : ℕ) × Goes ps level f o
-        × ((b : ℕ) × (d' : ℕ) × (e : ℕ) × (v : ℕ)
-        × CellsAt sc (in_block (number_at sc.blocks spot) context) ps (level + 1) (length (variables (tree.decls d ds))) (control_pcws sc (level + 1) (tree.decls d ds)) at b
+        × ((ats : List ℕ) × (b : ℕ) × (d' : ℕ) × (e : ℕ) × (v : ℕ)
+        × RoutinesAt sc (in_block (number_at sc.blocks spot) context) ps (level + 1 + 1) (actuals_in_block sc (tree.decls d ds) ss) ats
+        × CellsAt sc (in_block (number_at sc.blocks spot) context) ps (level + 1) (length (variables (tree.decls d ds)))
+        (control_pcws sc context.segment (level + 1) (tree.decls d ds) (actuals_in_block sc (tree.decls d ds) ss) ats) at b
         × DeclsAt sc (in_block (number_at sc.blocks spot) context) ps (level + 1) (tree.decls d ds) b d'
         × StmtsAt (in_block (number_at sc.blocks spot) context) ps (level + 1) ss d' e e
         × Has ps (level + 1) e (ops.Plain kinds.Exit) v)
@@ -361,10 +417,11 @@ module _ (sc : Scopes) where
     CasesAt context ps level (tree.stmts s ss) entry u =
         (p : ℕ) × (x : ℕ) × BranchAt ps level Brun entry p (entry + 3) × StmtAt context ps level s p x u × Goes ps level x u × CasesAt context ps level ss (entry + 3) u
 
-  -- the cells of an inner block, its arrays, its statements, EXIT; the context is that of the block
+  -- the cells of an inner block, its arrays, its statements, EXIT, and somewhere the code of its actuals; the context is that of the block
   abbrev pub InnerAt : Context → List Placed → ℕ → PDecls → PStmts → ℕ → Type 0
   InnerAt context ps level ds ss at =
-      (b : ℕ) × (d : ℕ) × (e : ℕ) × (v : ℕ) × CellsAt sc context ps level (length (variables ds)) (control_pcws sc level ds) at b
+      (ats : List ℕ) × (b : ℕ) × (d : ℕ) × (e : ℕ) × (v : ℕ) × RoutinesAt sc context ps (level + 1) (actuals_in_block sc ds ss) ats
+      × CellsAt sc context ps level (length (variables ds)) (control_pcws sc context.segment level ds (actuals_in_block sc ds ss) ats) at b
       × DeclsAt sc context ps level ds b d × StmtsAt context ps level ss d e e × Has ps level e (ops.Plain kinds.Exit) v
 
 module _ (sc : Scopes) (context : Context) (ps : List Placed) (level : ℕ) where

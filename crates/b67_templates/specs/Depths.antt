@@ -4,6 +4,7 @@ use Rattle.algol_tree.specs.declared.tree.Named.{Named}
 use Rattle.algol_tree.specs.Plain as tree
 use Rattle.algol_tree.specs.Plain.{PExpr, PExprs, PPair, PStmt, PStmts, PDecls, PBody}
 use Rattle.algol_tree.specs.Counts.{expr_tokens, stmt_tokens}
+use Rattle.b67_templates.specs.Arguments.{arguments_in_decls, arguments_in_stmts}
 use Rattle.b67_templates.specs.Cells.{procedures}
 use Rattle.algol_meaning.specs.Rest.{Item, run, turn, count, check, test, result, make_arrays, make_event}
 
@@ -73,11 +74,12 @@ abbrev mutual
   stmts_depth tree.no_stmts = 0
   stmts_depth (tree.stmts s ss) = stmt_depth s + stmts_depth ss
 
-  -- of an inner block a mark and its control word lie there, until it is entered, and then the control words of its procedures, or what
-  -- makes its arrays
+  -- of an inner block a mark and its control word lie there, until it is entered, and then the control words of its procedures and of its
+  -- actuals, or what makes its arrays
   pub body_depth : PBody → ℕ
   body_depth (tree.body spot tree.no_decls ss) = stmts_depth ss
-  body_depth (tree.body spot (tree.decls d ds) ss) = 2 + length (procedures (tree.decls d ds)) + decls_depth (tree.decls d ds) + stmts_depth ss
+  body_depth (tree.body spot (tree.decls d ds) ss) =
+      2 + length (procedures (tree.decls d ds)) + arguments_in_decls (tree.decls d ds) + arguments_in_stmts ss + decls_depth (tree.decls d ds) + stmts_depth ss
 
 -- how many words an item of what is to be done needs above those that lie below it
 abbrev pub item_depth : Item → ℕ

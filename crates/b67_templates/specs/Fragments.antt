@@ -99,6 +99,10 @@ abbrev pub code_at : ℕ → ℕ → ℕ → Pcw
 code_at segment place level =
     record { intrinsic = false; names = false; segment = segment; psr = place % 6; pir = place / 6; level = level; number = 0 }
 
+-- .. of code that evaluates an actual, which has names where the actual is subscripted: its entry then leaves a selector
+abbrev pub routine_at : Bool → ℕ → ℕ → ℕ → Pcw
+routine_at names segment place level = record (code_at segment place level) { names = names }
+
 -- the control words of procedures in a block of this level: the code of each begins at the start of its segment and runs one level further in
 abbrev pub procedure_controls : ℕ → List ℕ → List Pcw
 procedure_controls level segments = map (λ (segment : ℕ). code_at segment 0 (level + 1)) segments

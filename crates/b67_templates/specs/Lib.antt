@@ -2,6 +2,7 @@ pub mod Contexts
 pub mod Fragments
 pub mod Cells
 pub mod Code
+pub mod Arguments
 pub mod Depths
 pub mod Paying
 pub mod Programs

@@ -13,16 +13,19 @@ use Rattle.b67_segment.specs.declared.code.Code.{Code}
 use Rattle.b67_segment.specs.declared.code.Segment.{Segment}
 use Rattle.b67_templates.specs.Contexts.{yields_of, Context}
 use Rattle.b67_templates.specs.Fragments.{Goes}
-use Rattle.b67_templates.specs.Cells.{zero_cells}
-use Rattle.b67_templates.specs.Code.{CellsAt, control_pcws, KAt}
+use Rattle.b67_templates.specs.Cells.{zero_cells, actuals_of}
+use Rattle.b67_templates.specs.Code.{RoutinesAt, CellsAt, control_pcws, KAt}
 
 module _ (sc : Scopes) (context : Context) (ps : List Placed) (level : ℕ) where
-  -- A branch over what is entered elsewhere, where there is any; the cells that the block begins with, and what it has to do.
+  -- A branch over what is entered elsewhere, where there is any; the cells that the block begins with, and what it has to do. The code of its
+  -- actuals stands at these places.
   pub record BodyAt (b : Block) (from : ℕ) : Type 0 where
     pub begin : ℕ
     pub start : ℕ
+    pub ats : List ℕ
     pub over : Goes ps level from begin
-    pub cells : CellsAt sc context ps level (length (zero_cells b)) (control_pcws sc level b.decls) begin start
+    pub routines : RoutinesAt sc context ps (level + 1) (actuals_of sc b) ats
+    pub cells : CellsAt sc context ps level (length (zero_cells b)) (control_pcws sc context.segment level b.decls (actuals_of sc b) ats) begin start
     pub items : KAt sc context ps level (items_of b) start
 
 -- the operators of each segment, by its number; and where the statements after labels stand, by the places of the labels before them

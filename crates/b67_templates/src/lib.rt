@@ -5,9 +5,15 @@
 //! exactly where the source has an action. So the operators of a template come in the order of the actions of its construct.
 #![tactic(auto)]
 
+ghost use Rattle.b67_templates.specs.Arguments.{ActualsAreFew};
 ghost use Rattle.b67_templates.specs.Paying.{TokensPay};
 
 /// Law: the tokens of an expression pay for its code where it stands, twice, and for the code of the actuals in it that have cells.
 pub fn tokens_pay()
     ensures { TokensPay }
+{}
+
+/// Law: a block has no more actuals with cells than actuals stand in its text.
+pub fn actuals_are_few()
+    ensures { ActualsAreFew }
 {}
