@@ -25,7 +25,7 @@ use Rattle.b67_table.specs.Chains.{place}
 use Rattle.b67_table.specs.Image.{Image}
 use Rattle.b67_table.specs.Private.{display_at}
 use Rattle.b67_table.specs.References.{cell_place, sirw_cell}
-use Rattle.b67_templates.specs.Cells.{simple_cells, procedures, found_from, IsDeclaredArray, IsFormalArray, IsArray, declared, formal, made_of, made_from}
+use Rattle.b67_templates.specs.Cells.{simple_cells, made_base, found_from, IsDeclaredArray, IsFormalArray, IsArray, declared, formal, made_of, made_from}
 use Rattle.b67_templates.specs.Programs.{Texts}
 use Rattle.b67_cores.specs.Cores.{Core}
 use Rattle.b67_fitting.specs.Nested.{AreNested}
@@ -35,6 +35,7 @@ use Rattle.b67_pictures.specs.Frames.{IsComplete}
 use Rattle.b67_pictures.proofs.ArrayPlaces.{array_index, ArrayPlace, array_place}
 use Rattle.b67_pictures.proofs.AskedElements.{array_asked, ArraySeen, array_seen}
 use Rattle.b67_pictures.proofs.Completing.{complete_of}
+use Rattle.b67_pictures.proofs.ControlWords.{block_few}
 use Rattle.b67_pictures.proofs.FormalHomes.{FormalHome, formal_home}
 use Rattle.b67_pictures.proofs.Lying.{Lies, lies_in, IsParent, parents_in}
 use Rattle.b67_pictures.proofs.MadeArrays.{low_number}
@@ -161,8 +162,7 @@ module _ (tree : PProgram) (code : Code) (texts : Texts) (nested : AreNested (sc
             arith,
             v.made.index_is,
             number_is,
-            ap (λ (j : ℕ). length (simple_cells sc (block_numbered sc.blocks j))) parent.block,
-            ap (λ (j : ℕ). length (procedures (block_numbered sc.blocks j).decls)) parent.block,
+            ap (λ (j : ℕ). made_base sc (block_numbered sc.blocks j)) parent.block,
           )
 
       level_up : couple.level ≡ level - up
@@ -177,7 +177,7 @@ module _ (tree : PProgram) (code : Code) (texts : Texts) (nested : AreNested (sc
             omega (
               arith,
               v.made.index_is,
-              (nested.each ((use_of sc n).block) (subst (λ (j : ℕ). j < length sc.blocks) block_here l.frame.framed.known)).few,
+              block_few sc nested ((use_of sc n).block) (subst (λ (j : ℕ). j < length sc.blocks) block_here l.frame.framed.known),
               low_number 0 (made_of ((block_numbered sc.blocks ((use_of sc n).block)).decls)) n.name v.made.number d v.made.there,
             ),
           )

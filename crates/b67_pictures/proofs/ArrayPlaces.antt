@@ -1,17 +1,13 @@
 -- Where the descriptor of an array lies: in the frame of the part whose instance has made it. A reference to its cell is read back.
 use Rattle.std.proofs.Common.{◌≡◌, refl, sym, ap, ◌∙◌, subst, ℕ, zero, suc, ◌+◌, ◌<◌, ◌≤◌, ◌^◌, List, ◌∷◌, length, Some, arith}
 use Rattle.std.specs.Prelude.{slice_get, map}
-use Rattle.std.proofs.lemmas.List.{length-map}
 use Rattle.b67_list.specs.Numbered.{numbered}
-use Rattle.algol_tree.specs.declared.tree.Named.{Named}
-use Rattle.algol_tree.specs.Blocks.{block_numbered, number_at}
-use Rattle.algol_tree.specs.Cells.{level_of}
+use Rattle.algol_tree.specs.Blocks.{block_numbered}
 use Rattle.algol_tree.specs.Plain.{PProgram}
 use Rattle.algol_tree.specs.Scopes.{Scopes, scopes_of}
 use Rattle.algol_meaning.specs.Value.{Bounds, ArrayCell}
 use Rattle.algol_meaning.specs.World.{Instance, Part, Process, World, instance_at, or_no_instance}
 use Rattle.algol_paths.specs.Arrays.{DeclaredArray, lows_of}
-use Rattle.algol_paths.specs.Segments.{segment_of}
 use Rattle.b67_word.specs.Word.{Word}
 use Rattle.b67_control.specs.Control.{as_sirw}
 use Rattle.b67_control.proofs.ControlLaws.{sirw_laws}
@@ -21,11 +17,13 @@ use Rattle.b67_table.specs.Chains.{place}
 use Rattle.b67_table.specs.Image.{Image}
 use Rattle.b67_table.specs.References.{cell_word}
 use Rattle.b67_table.specs.declared.Cell.{Cell}
-use Rattle.b67_templates.specs.Cells.{simple_cells, procedures, control_segments, made_of}
+use Rattle.b67_templates.specs.Cells.{simple_cells, made_base, made_of}
 use Rattle.b67_templates.specs.Programs.{Texts}
 use Rattle.b67_cores.specs.Cores.{Core}
 use Rattle.b67_fitting.specs.Nested.{AreNested}
 use Rattle.b67_pictures.specs.Arrays.{Allotted, Layout, DescriptorIs, AreSized, IsOwn, HasArray, IsArrayOf}
+use Rattle.b67_pictures.specs.Frames.{block_controls}
+use Rattle.b67_pictures.proofs.ControlWords.{block_few, controls_many}
 use Rattle.b67_pictures.proofs.Homes.{get-behind}
 use Rattle.b67_pictures.proofs.Lying.{Lies, lies_low, lies_in}
 use Rattle.b67_pictures.proofs.MadeArrays.{low_number}
@@ -71,8 +69,7 @@ module _ (tree : PProgram) (code : Code) (texts : Texts) (w : World) (lay : Layo
   -- the index of the cell of an array of an instance, by its number among the declared ones
   abbrev pub array_index : ℕ → ℕ → ℕ
   array_index i number =
-      2 + length (simple_cells sc (block_numbered sc.blocks ((instance_at w i).block))) + length (procedures ((block_numbered sc.blocks ((instance_at w i).block)).decls))
-      + number
+      made_base sc (block_numbered sc.blocks ((instance_at w i).block)) + number
 
   -- the descriptor of an array, and how high the frame lies in which it lies
   pub record ArrayPlace (i : ℕ) (name : List ℕ) (declared : DeclaredArray) (cell : ArrayCell) (a : Allotted) (of : IsArrayOf sc w lay i name declared cell a) : Type 0 where
@@ -108,20 +105,19 @@ module _ (tree : PProgram) (code : Code) (texts : Texts) (w : World) (lay : Layo
       found = known_array sc w lay i here own name declared cell a of
 
       abbrev far : ℕ
-      far = length (simple_cells sc (block_numbered sc.blocks here.block)) + length (control_segments sc (block_numbered sc.blocks here.block).decls) + of.number
+      far = length (simple_cells sc (block_numbered sc.blocks here.block)) + length (block_controls sc here.block l.frame.framed.ats) + of.number
 
       cells_lie : slice_get l.frame.cells far ≡ Some found.0.word
       cells_lie =
           ap (λ (ws : List Word). slice_get ws far) l.frame.framed.cells_is
-          ∙ descriptor_lies sc w lay i here own name of.number declared found.0 (level_of (block_numbered sc.blocks here.block)) (control_segments sc (block_numbered sc.blocks here.block).decls)
+          ∙ descriptor_lies sc w lay i here own name of.number declared found.0 (block_controls sc here.block l.frame.framed.ats)
 
       index_is : suc (suc far) ≡ array_index i of.number
       index_is =
           omega (
             arith,
-            ap (λ (x : Instance). length (simple_cells sc (block_numbered sc.blocks x.block))) here_is,
-            ap (λ (x : Instance). length (procedures (block_numbered sc.blocks x.block).decls)) here_is,
-            length-map (procedures (block_numbered sc.blocks here.block).decls) (λ (m : Named). segment_of sc.blocks (number_at sc.blocks m.spot)),
+            ap (λ (x : Instance). made_base sc (block_numbered sc.blocks x.block)) here_is,
+            controls_many sc here.block l.frame.framed.ats l.frame.framed.each_has_place,
           )
 
       there : ArrayPlace i name declared cell a of
@@ -158,6 +154,6 @@ module _ (tree : PProgram) (code : Code) (texts : Texts) (w : World) (lay : Layo
         cell_read (record { frame = place p h.at; index = array_index i of.number }) (omega (arith, number_within w.processes p q s.at, s.by.few)) (omega (arith, h.low, s.small))
         (omega (
           arith,
-          (nested.each ((instance_at w i).block) h.known).few,
+          block_few sc nested ((instance_at w i).block) h.known,
           low_number 0 (made_of ((block_numbered sc.blocks ((instance_at w i).block)).decls)) name of.number declared of.found,
         ))

@@ -33,8 +33,10 @@ use Rattle.b67_table.specs.Chains.{place}
 use Rattle.b67_table.specs.Image.{Image}
 use Rattle.b67_table.specs.Private.{frame, display_at}
 use Rattle.b67_table.specs.Rows.{level_below}
-use Rattle.b67_templates.specs.Cells.{parameter_cells, result_of, variables, zero_cells, procedures}
-use Rattle.b67_templates.specs.Code.{CellsAt, DeclsAt, StmtsAt, in_block, control_pcws}
+use Rattle.b67_templates.specs.Arguments.{arguments_in_decls, arguments_in_stmts}
+use Rattle.b67_templates.specs.Cells.{parameter_cells, result_of, variables, zero_cells, procedures, Actual, actuals_in_block, actuals_of}
+use Rattle.b67_templates.specs.Code.{CellsAt, RoutinesAt, DeclsAt, StmtsAt, in_block, control_pcws}
+use Rattle.b67_templates.proofs.Few.{actuals_are_few}
 use Rattle.b67_templates.specs.Contexts as yielding
 use Rattle.b67_templates.specs.Contexts.{Yields, yields_of, Context}
 use Rattle.b67_templates.specs.Depths.{decls_depth, stmts_depth}
@@ -51,7 +53,7 @@ use Rattle.b67_faithful.specs.Weight.{tokens_around}
 use Rattle.b67_fitting.specs.Nested.{LiesNested}
 use Rattle.b67_pictures.specs.Arrays.{Layout}
 use Rattle.b67_pictures.specs.Acting.{Does}
-use Rattle.b67_pictures.specs.Frames.{most_around, IsComplete}
+use Rattle.b67_pictures.specs.Frames.{controls_count, most_around, IsComplete}
 use Rattle.b67_pictures.proofs.AskedEntries.{blocks_seen, block_unmade}
 use Rattle.b67_pictures.proofs.Completing.{complete_of}
 use Rattle.b67_letters.specs.Letters.{called_by}
@@ -84,7 +86,7 @@ module _ (tree : PProgram) (code : Code) (texts : Texts) (nested : LiesNested tr
     (returns : (to : ℕ) (after : List Slot) (wanted : Yields) →
     Entered (scopes_of tree) (context_in tree code texts w part) (text_in tree texts w part) (level_in tree w part) (most_in tree w part) (enters_block (body spot ds ss)) s.stands.pc s.stands.slots a to after wanted →
     (r : Answer) → Gives wanted r →
-    ComesTo (scopes_of tree) (context_in tree code texts w part) (text_in tree texts w part) (level_in tree w part) (most_in tree w part) (resume (scopes_of tree) (resume (scopes_of tree) part.rest entered) r) to (pushed r after)) where
+    ComesTo (scopes_of tree) (context_in tree code texts w part) (text_in tree texts w part) (level_in tree w part) (most_in tree w part) (resume (scopes_of tree) (resume (scopes_of tree) part.rest entered) r) to (pushed wanted r after)) where
   abbrev sc : Scopes
   sc = scopes_of tree
 
@@ -187,25 +189,54 @@ module _ (tree : PProgram) (code : Code) (texts : Texts) (nested : LiesNested tr
       ap (λ (x : PDecls). length (variables x)) (sym is_inner.decls_are)
       ∙ ap (λ (o : Option Kind). length (result_of o b.name ++ variables b.decls)) (sym is_inner.result)
 
-  room : length (procedures b.decls) + decls_depth ds + stmts_depth ss ≤ 4 * tokens_around tree j
+  -- its actuals are those that stand in these declarations and these statements
+  actuals_are : actuals_in_block sc ds ss ≡ actuals_of sc b
+  actuals_are = ap (λ (x : PDecls). actuals_in_block sc x ss) (sym is_inner.decls_are) ∙ ap (λ (x : PStmts). actuals_in_block sc b.decls x) (sym is_inner.stmts_are)
+
+  room : controls_count sc j + decls_depth ds + stmts_depth ss ≤ 4 * tokens_around tree j
   room =
-      omega (arith, at.shallow, ap (λ (x : PDecls). length (procedures x)) is_inner.decls_are, ap (λ (k : ℕ). segment_tokens tree k) same_segment)
+      omega (
+        arith,
+        at.shallow,
+        ap (λ (x : PDecls). length (procedures x)) is_inner.decls_are,
+        ap (λ (x : PDecls). arguments_in_decls x) is_inner.decls_are,
+        ap (λ (x : PStmts). arguments_in_stmts x) is_inner.stmts_are,
+        actuals_are_few sc b,
+        ap (λ (k : ℕ). segment_tokens tree k) same_segment,
+      )
+
+  abbrev begun : ℕ
+  begun = at.code.1
+
+  abbrev declared : ℕ
+  declared = at.code.2
+
+  abbrev end : ℕ
+  end = at.code.3
+
+  -- the cells, with the code of the actuals at these places
+  abbrev CellsThere : Context → List Placed → ℕ → ℕ → PDecls → List Actual → Type 0
+  CellsThere x ps l many declarations actuals = CellsAt sc x ps l many (control_pcws sc x.segment l declarations actuals at.code.0) at.begin begun
 
   abbrev block_body : Body tree code texts nested short fragments begins_so keeps order w lay img p q part outer bound core s able_is able_p j at.begin
   block_body =
       record {
         ready = at.begin;
-        start = at.code.0;
+        start = begun;
+        ats = at.code.0;
+        routines = subst (λ (as' : List Actual). RoutinesAt sc (context_of code texts sc j) (texts.placed (segment_of sc.blocks j)) (level_of b + 1) as' at.code.0) actuals_are
+            (in_text (λ x ps l. RoutinesAt sc x ps (l + 1) (actuals_in_block sc ds ss) at.code.0) at.code.5);
         over = stop;
-        cells_at = subst (λ (n : ℕ). CellsAt sc (context_of code texts sc j) (texts.placed (segment_of sc.blocks j)) (level_of b) n (control_pcws sc (level_of b) b.decls) at.begin at.code.0) zeros_many
-            (subst (λ (x : PDecls). CellsAt sc (context_of code texts sc j) (texts.placed (segment_of sc.blocks j)) (level_of b) (length (variables ds)) (control_pcws sc (level_of b) x) at.begin at.code.0) (sym is_inner.decls_are)
-            (in_text (λ x ps l. CellsAt sc x ps l (length (variables ds)) (control_pcws sc l ds) at.begin at.code.0) at.code.4));
-        comes = subst (λ (k : List Item). ComesTo sc (context_of code texts sc j) (texts.placed (segment_of sc.blocks j)) (level_of b) (most_around tree j) (settle_items sc k) at.code.0 [])
+        cells_at = subst (λ (n : ℕ). CellsThere (context_of code texts sc j) (texts.placed (segment_of sc.blocks j)) (level_of b) n b.decls (actuals_of sc b)) zeros_many
+            (subst (λ (x : PDecls). CellsThere (context_of code texts sc j) (texts.placed (segment_of sc.blocks j)) (level_of b) (length (variables ds)) x (actuals_of sc b)) (sym is_inner.decls_are)
+            (subst (λ (as' : List Actual). CellsThere (context_of code texts sc j) (texts.placed (segment_of sc.blocks j)) (level_of b) (length (variables ds)) ds as') actuals_are
+            (in_text (λ x ps l. CellsThere x ps l (length (variables ds)) ds (actuals_in_block sc ds ss)) at.code.6)));
+        comes = subst (λ (k : List Item). ComesTo sc (context_of code texts sc j) (texts.placed (segment_of sc.blocks j)) (level_of b) (most_around tree j) (settle_items sc k) begun [])
             (sym (plain_items b is_inner.result ∙ ap (λ (x : PDecls). decls_items x ++ items b.stmts []) is_inner.decls_are ∙ ap (λ (x : PStmts). decls_items ds ++ items x []) is_inner.stmts_are))
-            (starts sc (context_of code texts sc j) (texts.placed (segment_of sc.blocks j)) (level_of b) (most_around tree j) ds ss at.code.0 at.code.1 at.code.2 at.code.3
-            (in_text (λ x ps l. DeclsAt sc x ps l ds at.code.0 at.code.1) at.code.5)
-            (in_text (λ x ps l. StmtsAt sc x ps l ss at.code.1 at.code.2 at.code.2) at.code.6) (ap yields_of is_inner.result)
-            (in_text (λ x ps l. Has ps l at.code.2 (ops.Plain kinds.Exit) at.code.3) at.code.7) (omega (arith, room)));
+            (starts sc (context_of code texts sc j) (texts.placed (segment_of sc.blocks j)) (level_of b) (most_around tree j) ds ss begun declared end at.code.4
+            (in_text (λ x ps l. DeclsAt sc x ps l ds begun declared) at.code.7)
+            (in_text (λ x ps l. StmtsAt sc x ps l ss declared end end) at.code.8) (ap yields_of is_inner.result)
+            (in_text (λ x ps l. Has ps l end (ops.Plain kinds.Exit) at.code.4) at.code.9) (omega (arith, room)));
         small = omega (arith, room);
       }
 
@@ -214,7 +245,9 @@ module _ (tree : PProgram) (code : Code) (texts : Texts) (nested : LiesNested tr
       record {
         unmade = unmade part.rest (ap makes asks);
         waits = waits a.0 a.1 yielding.nothing (refl, refl, refl);
-        returns = λ r given. returns a.0 a.1 yielding.nothing (refl, refl, refl) r (subst (λ (o : Option Kind). Gives (yields_of o) r) is_inner.result given);
+        returns = subst (λ (o : Option Kind). (r : Answer) → Gives (yields_of o) r →
+            ComesTo sc (context_in tree code texts w part) (text_in tree texts w part) level (most_in tree w part) (resume sc (resume sc part.rest entered) r) a.0 (pushed (yields_of o) r a.1)) (sym is_inner.result)
+            (λ r given. returns a.0 a.1 yielding.nothing (refl, refl, refl) r given);
       }
 
   -- nothing is given to it

@@ -3,7 +3,6 @@ use Rattle.std.proofs.Common.{◌≡◌, ◌≢◌, ◌⊎◌, inl, inr, refl, s
 use Rattle.std.specs.Prelude.{slice_get, slice_set}
 use Rattle.b67_list.specs.Numbered.{numbered, set_numbered}
 use Rattle.algol_tree.specs.Blocks.{block_numbered}
-use Rattle.algol_tree.specs.Cells.{level_of}
 use Rattle.algol_tree.specs.Scopes.{Scopes}
 use Rattle.algol_meaning.specs.Value.{ArrayCell, Cell, array}
 use Rattle.algol_meaning.specs.Arrays.{size_of_cell, size_of_cells, size_unless, live_elements}
@@ -16,11 +15,12 @@ use Rattle.b67_store.specs.Store.{Rows, row_at}
 use Rattle.b67_table.specs.Image.{Image, with_rows}
 use Rattle.b67_table.specs.Linkage.{closed_by, array_closed, arrays_closed}
 use Rattle.b67_table.specs.Program.{Change, changed}
-use Rattle.b67_templates.specs.Fragments.{procedure_controls}
-use Rattle.b67_templates.specs.Cells.{simple_cells, control_segments, made_of}
+use Rattle.b67_control.specs.declared.Pcw.{Pcw}
+use Rattle.b67_templates.specs.Cells.{simple_cells, made_of}
 use Rattle.b67_cores.specs.Stretches.{control_words}
 use Rattle.b67_faithful.proofs.Contradictions.{some_same, none_some}
 use Rattle.b67_pictures.specs.Arrays.{Allotted, numbers_of, Layout, IsMade, AreMade, HoldElements, rows_of_cell, rows_of_cells, live_rows, HasArray, HasRow, ArraysAre}
+use Rattle.b67_pictures.specs.Frames.{block_controls}
 use Rattle.b67_pictures.proofs.ArraysKept.{no_elements, no_rows}
 use Rattle.b67_pictures.proofs.ClosedRows.{Fewer, fewer_again}
 use Rattle.b67_pictures.proofs.Closing.{IsClosed, FramesClose}
@@ -237,15 +237,15 @@ module _ (sc : Scopes) (w : World) (lay : Layout) (img : Image) (are : ArraysAre
           cc)
       few_still j y there stands (inr other) = are.few j y (sym (numbered_other w.instances i j gone other) ∙ there) stands
 
-  pub arrays_close : (level : ℕ) (segments : List ℕ) → IsClosed sc w lay img i (own.values ++ (control_words (procedure_controls level segments) ++ own.descriptors))
-  arrays_close level segments =
+  pub arrays_close : (pcws : List Pcw) → IsClosed sc w lay img i (own.values ++ (control_words pcws ++ own.descriptors))
+  arrays_close pcws =
       record {
         rows = closed.after;
         changes = λ p next.
             ap (λ (c : Change). changed p c img)
-            (skipped own.values (control_words (procedure_controls level segments) ++ own.descriptors) next
+            (skipped own.values (control_words pcws ++ own.descriptors) next
             (cells_describe_nothing (simple_cells sc (block_numbered sc.blocks x.block)) own.simple own.values own.simple_are)
-            ∙ skipped (control_words (procedure_controls level segments)) own.descriptors next (controls_describe_nothing level segments))
+            ∙ skipped (control_words pcws) own.descriptors next (controls_describe_nothing pcws))
             ∙ closed.changes p next img refl;
         are = arrays_left;
       }
@@ -254,4 +254,4 @@ module _ (sc : Scopes) (w : World) (lay : Layout) (img : Image) (are : ArraysAre
 pub frames_close : FramesClose
 frames_close sc w lay img are p i outer at mark control cells f =
     subst (IsClosed sc w lay img i) (sym f.cells_is)
-    (arrays_close sc w lay img are i f.instance (framed_cells sc w lay f) (level_of (block_numbered sc.blocks f.instance.block)) (control_segments sc (block_numbered sc.blocks f.instance.block).decls))
+    (arrays_close sc w lay img are i f.instance (framed_cells sc w lay f) (block_controls sc f.instance.block f.ats))

@@ -13,7 +13,7 @@ use Rattle.algol_tree.specs.Scopes.{Scopes, scopes_of, use_of}
 use Rattle.algol_tree.specs.Sorts.{same_name}
 use Rattle.algol_meaning.specs.Value.{Value, Reference}
 use Rattle.algol_meaning.specs.Rest.{own, there, element_of, Given, Answer, done, value, cell, place, entered}
-use Rattle.algol_meaning.specs.World.{Instance, Process, Part, able, World, or_no_instance}
+use Rattle.algol_meaning.specs.World.{Instance, Process, Part, able, World, instance_at, or_no_instance}
 use Rattle.algol_meaning.specs.Asks.{Ask, nothing, reads, reads_element, indexes, asks_happened, fails, enters, passes, resolves, reads_result, leaves, stores, selects, turns, goes_to, enters_block, starts, acts, writes, makes_arrays, makes_event, ask, resume}
 use Rattle.algol_paths.specs.Laws.{RestsKeepToTheirText, AllIsMadeInOrder}
 use Rattle.b67_ops.specs.declared.Couple.{Couple}
@@ -33,6 +33,9 @@ use Rattle.b67_pictures.specs.Arrays.{Layout}
 use Rattle.b67_pictures.specs.Acting.{Does}
 use Rattle.b67_pictures.proofs.Scene.{Scene}
 use Rattle.b67_pictures.proofs.Staying.{text_in, level_in, context_in, most_in}
+use Rattle.b67_pictures.proofs.NoNames.{none_formal, read_variable}
+use Rattle.b67_pictures.proofs.Unresolved.{none_resolved}
+use Rattle.b67_pictures.proofs.Yielding.{no_element}
 use Rattle.b67_pictures.proofs.Reading.{reading}
 use Rattle.b67_pictures.proofs.ReadingResult.{reading_result}
 use Rattle.b67_pictures.proofs.Storing.{storing}
@@ -80,7 +83,7 @@ module _ (tree : PProgram) (code : Code) (texts : Texts) where
       Entered (scopes_of tree) (context_in tree code texts w part) (text_in tree texts w part) (level_in tree w part) (most_in tree w part) k s.stands.pc s.stands.slots a at after wanted →
       (r : Answer) → Gives wanted r →
       ComesTo (scopes_of tree) (context_in tree code texts w part) (text_in tree texts w part) (level_in tree w part) (most_in tree w part) (resume (scopes_of tree) (resume (scopes_of tree) part.rest entered) r) at
-      (pushed r after)) →
+      (pushed wanted r after)) →
       Does tree code texts w img p
 
   -- each scene whose head asks for this does its action
@@ -114,7 +117,8 @@ module _ (tree : PProgram) (code : Code) (texts : Texts) where
         omega (arith, same, (nested.each framed.instance.block framed.known).low)
 
     by_ask : (k : Ask) → ask part.rest ≡ k → GoesOnFrom w lay img p q part outer bound core s k
-    by_ask (reads n) e a answered waits returns = reading tree code texts fragments keeps order w lay img p q part outer bound core s able_is able_p n e a answered
+    by_ask (reads n) e a answered waits returns = reading tree code texts fragments keeps order w lay img p q part outer bound core s able_is able_p n e a
+        (read_variable (scopes_of tree) nested (level_in tree w part) n a.0 a.2.0 a.2.1) answered
     by_ask (fails fault) e a answered waits returns = failing tree code texts w lay img p q part outer bound core s fault e a
     by_ask (stores (own n) v) e a answered waits returns =
         storing tree code texts fragments keeps order w lay img p q part outer bound core s able_is able_p n v e a answered (omega (arith, a.2.variable.level_is, low))
@@ -126,9 +130,11 @@ module _ (tree : PProgram) (code : Code) (texts : Texts) where
     by_ask (leaves done) e a answered waits returns = others.leaving w lay img p q part outer bound core s able_is able_p e a answered waits returns
     by_ask (leaves (value v)) e a answered waits returns = others.returning v w lay img p q part outer bound core s able_is able_p e a answered waits returns
     by_ask (leaves (cell c)) e a answered waits returns = absurd a
-    by_ask (leaves (place x)) e a answered waits returns = absurd a
+    by_ask (leaves (place x)) e a answered waits returns =
+        no_element (block_numbered (scopes_of tree).blocks ((instance_at w part.instance).block)).result a.0 a.2
     by_ask (leaves entered) e a answered waits returns = absurd a
-    by_ask (stores (there r) v) e a answered waits returns = absurd a
+    by_ask (stores (there r) v) e a answered waits returns =
+        absurd (none_resolved tree code texts w lay img p q part outer bound core s r a.2.kind v a.1 a.2.lies)
     by_ask (stores (element_of r ks) v) e a answered waits returns = others.storing r ks v w lay img p q part outer bound core s able_is able_p e a answered waits returns
     by_ask nothing e a answered waits returns = absurd a
     by_ask (reads_element n ks v) e a answered waits returns = others.reading n ks v w lay img p q part outer bound core s able_is able_p e a answered waits returns
@@ -136,7 +142,8 @@ module _ (tree : PProgram) (code : Code) (texts : Texts) where
     by_ask (asks_happened n) e a answered waits returns = absurd a
     by_ask (enters n gs) e a answered waits returns = others.calling n gs w lay img p q part outer bound core s able_is able_p e a answered waits returns
     by_ask (passes n) e a answered waits returns = others.passing n w lay img p q part outer bound core s able_is able_p e a answered waits returns
-    by_ask (resolves n) e a answered waits returns = absurd a
+    by_ask (resolves n) e a answered waits returns =
+        absurd (none_formal (scopes_of tree) nested (level_in tree w part) n a.0 a.3.couple a.3.is_formal)
     by_ask (reads_result name) e a answered waits returns =
         reading_result tree code texts nested fragments keeps order w lay img p q part outer bound core s able_is able_p name e a answered
     by_ask (goes_to n) e a answered waits returns = absurd a

@@ -2,9 +2,8 @@
 use Rattle.std.proofs.Common.{◌≡◌, refl, sym, ap, ◌∙◌, subst, ℕ, ◌+◌, ◌-◌, ◌*◌, ◌/◌, ◌%◌, ◌≤◌, ◌<◌, ◌^◌, List, [], ◌∷◌, ◌++◌, length, Option, Some, Ok, true, false, arith, length-append}
 use Rattle.std.specs.Prelude.{◌==◌, ◌&&◌, nat_le, slice_get}
 use Rattle.algol_tree.specs.declared.TheConstants.{MOST_BLOCK_CELLS}
-use Rattle.algol_tree.specs.declared.tree.Named.{Named}
 use Rattle.algol_tree.specs.Plain.{PProgram}
-use Rattle.algol_tree.specs.Blocks.{Block, block_numbered, number_at, around}
+use Rattle.algol_tree.specs.Blocks.{Block, block_numbered, around}
 use Rattle.algol_tree.specs.Cells.{level_of}
 use Rattle.algol_tree.specs.Scopes.{Scopes, scopes_of}
 use Rattle.algol_meaning.specs.Rest.{Given}
@@ -34,8 +33,8 @@ use Rattle.b67_table.specs.Look.{seen}
 use Rattle.b67_table.specs.Outcome as outcomes
 use Rattle.b67_table.specs.Private.{frame, at_or}
 use Rattle.b67_table.specs.Table.{raw, table, plain, operator_at}
-use Rattle.b67_templates.specs.Fragments.{Has, code_at, procedure_controls}
-use Rattle.b67_templates.specs.Cells.{Wanted, simple_cells, procedures, control_segments}
+use Rattle.b67_templates.specs.Fragments.{Has, code_at}
+use Rattle.b67_templates.specs.Cells.{Wanted, simple_cells}
 use Rattle.b67_templates.specs.Programs.{Texts}
 use Rattle.b67_standing.specs.Stepping.{Slot, mark}
 use Rattle.b67_standing.specs.Standing.{given_slots}
@@ -47,9 +46,9 @@ use Rattle.b67_letters.specs.Letters.{called_by}
 use Rattle.b67_faithful.specs.Correspondence.{operator_action}
 use Rattle.b67_faithful.specs.Faithful.{IsShort}
 use Rattle.b67_fitting.specs.Nested.{AreNested, LiesNested}
-use Rattle.b67_pictures.proofs.MadeArrays.{as_many_controls}
+use Rattle.b67_pictures.proofs.ControlWords.{block_few, as_many_controls, controls_many}
 use Rattle.b67_pictures.specs.Arrays.{Layout, IsOwn}
-use Rattle.b67_pictures.specs.Frames.{IsComplete, Framed}
+use Rattle.b67_pictures.specs.Frames.{block_controls, IsComplete, Framed}
 use Rattle.b67_pictures.proofs.Completing.{made_many}
 use Rattle.b67_pictures.proofs.Displays.{shown, shown_top, linked_seen}
 use Rattle.b67_pictures.proofs.EntryRow.{Leads, Enters, lower_of, with_frame, enter_raw, enter_class, enter_action, new_is}
@@ -61,10 +60,10 @@ use Rattle.b67_pictures.proofs.Linked.{Linked, Begins_with, begins_core, all_lin
 use Rattle.b67_pictures.proofs.Marks.{newest_low}
 use Rattle.b67_pictures.proofs.Rows.{action_not_plain}
 use Rattle.b67_pictures.proofs.Scene.{Scene, frame_is}
-use Rattle.b67_pictures.proofs.Segmented.{segment_low, length_mapped}
+use Rattle.b67_pictures.proofs.Segmented.{segment_low}
 use Rattle.b67_pictures.proofs.Slotted.{Top, top_slot}
 use Rattle.b67_pictures.proofs.StackWords.{length-stack}
-use Rattle.b67_pictures.proofs.Staying.{text_in, level_in, frame_low}
+use Rattle.b67_pictures.proofs.Staying.{text_in, level_in, context_in, frame_low}
 use Rattle.b67_pictures.proofs.Words.{mark_read}
 use Rattle.std.proofs.lemmas.Bool.Decides.{nat_tests}
 use Rattle.b67_table.specs.References.{cell_of}
@@ -79,15 +78,15 @@ cells_few sc w lay p i outer at marked control cells f nested =
     omega (
       arith,
       ap length f.cells_is,
-      length-append f.values (control_words (procedure_controls (level_of b) (control_segments sc b.decls)) ++ f.descriptors),
-      length-append (control_words (procedure_controls (level_of b) (control_segments sc b.decls))) f.descriptors,
+      length-append f.values (control_words (block_controls sc f.instance.block f.ats) ++ f.descriptors),
+      length-append (control_words (block_controls sc f.instance.block f.ats)) f.descriptors,
       words_long (simple_cells sc b) f.simple f.values f.simple_are,
-      as_many_controls (level_of b) (control_segments sc b.decls),
-      length_mapped (λ (n : Named). segment_of sc.blocks (number_at sc.blocks n.spot)) (procedures b.decls),
+      as_many_controls (block_controls sc f.instance.block f.ats),
+      controls_many sc f.instance.block f.ats f.each_has_place,
       (made_many f.declared f.arrays (lay.rows i) f.descriptors f.made).words_many,
       ap length f.order,
       length-append f.declared f.later,
-      (nested.each f.instance.block f.known).few,
+      block_few sc nested f.instance.block f.known,
     )
 
 module _ (tree : PProgram) (code : Code) (texts : Texts) (nested : LiesNested tree) (short : IsShort tree code)
@@ -112,7 +111,7 @@ module _ (tree : PProgram) (code : Code) (texts : Texts) (nested : LiesNested tr
   -- instance is to have that parent.
   pub record Calls (wanted : List Wanted) (gs : List Given) (slot : Slot) (next : ℕ) (waiting : List Slot) (h j begin : ℕ) : Type 0 where
     pub lies : s.stands.slots ≡ given_slots wanted gs (slot ∷ mark ∷ waiting)
-    pub fit : AreFit sc level wanted gs
+    pub fit : AreFit sc (context_in tree code texts w part) wanted gs
     pub given_few : length gs ≤ MOST_BLOCK_CELLS
     pub marks : newest own base (slot ∷ mark ∷ waiting) ≡ base + length waiting
     pub stands : Has (text_in tree texts w part) level s.stands.pc (ops.Plain kinds.Entr) next
@@ -141,7 +140,7 @@ module _ (tree : PProgram) (code : Code) (texts : Texts) (nested : LiesNested tr
 
     pub given : Taken sc s.stands.held level own base wanted gs (slot ∷ mark ∷ waiting) core.words
     given =
-        taken_words sc s.stands.held level own base e.fit (slot ∷ mark ∷ waiting) core.words (subst (λ (l : List Slot). SlotsAre sc s.stands.held level own base l core.words) e.lies s.stands.there.words_are)
+        taken_words sc s.stands.held level own base (context_in tree code texts w part) e.fit (slot ∷ mark ∷ waiting) core.words (subst (λ (l : List Slot). SlotsAre sc s.stands.held level own base l core.words) e.lies s.stands.there.words_are)
 
     abbrev pub arguments : List Word
     arguments = given.arguments

@@ -8,6 +8,7 @@ use Rattle.algol_meaning.specs.Actions as act
 use Rattle.algol_meaning.specs.Actions.{Action}
 use Rattle.b67_word.specs.declared.Place.{Place}
 use Rattle.b67_word.specs.Word.{Word}
+use Rattle.b67_control.specs.declared.Pcw.{Pcw}
 use Rattle.b67_control.specs.declared.Registers.{Registers}
 use Rattle.b67_control.specs.declared.Descriptor.{Descriptor}
 use Rattle.b67_control.specs.Control.{as_descriptor}
@@ -31,7 +32,6 @@ use Rattle.b67_table.specs.Rows.{row, exit}
 use Rattle.b67_table.specs.Table.{raw, table, operator_at, class_at}
 use Rattle.b67_templates.specs.Cells as wants
 use Rattle.b67_templates.specs.Cells.{Simple, Wanted}
-use Rattle.b67_templates.specs.Fragments.{code_at, procedure_controls}
 use Rattle.b67_cores.specs.Stretches.{control_words}
 use Rattle.b67_cores.specs.Cores.{Core, HasCore}
 use Rattle.b67_letters.specs.Letters.{left_letter}
@@ -68,10 +68,10 @@ cells_describe_nothing (s ∷ ss) [] words are = absurd are
 cells_describe_nothing (s ∷ ss) (c ∷ cells) [] are = absurd are
 cells_describe_nothing (s ∷ ss) (c ∷ cells) (w ∷ words) are = (cell_describes_nothing s.wanted c.cell w are.1, cells_describe_nothing ss cells words are.2)
 
--- nor do the control words of procedures
-pub controls_describe_nothing : (level : ℕ) (segments : List ℕ) → DescribeNothing (control_words (procedure_controls level segments))
-controls_describe_nothing level [] = tt
-controls_describe_nothing level (segment ∷ segments) = (pcw_describes_nothing (code_at segment 0 (level + 1)), controls_describe_nothing level segments)
+-- nor do control words
+pub controls_describe_nothing : (pcws : List Pcw) → DescribeNothing (control_words pcws)
+controls_describe_nothing [] = tt
+controls_describe_nothing (c ∷ pcws) = (pcw_describes_nothing c, controls_describe_nothing pcws)
 
 describe_both : (words more : List Word) → DescribeNothing words → DescribeNothing more → DescribeNothing (words ++ more)
 describe_both [] more none others = others

@@ -14,16 +14,17 @@ use Rattle.algol_paths.specs.Arrays.{DeclaredArray, Shape, shape_of}
 use Rattle.b67_word.specs.Word.{Word}
 use Rattle.b67_control.specs.Control.{as_descriptor}
 use Rattle.b67_ops.specs.declared.Couple.{Couple}
+use Rattle.b67_templates.specs.Contexts.{Context}
 use Rattle.b67_templates.specs.Cells as wants
 use Rattle.b67_templates.specs.Cells.{Simple, Wanted, Agrees, IsDeclaredArray}
 use Rattle.b67_standing.specs.Stepping.{cell_named, passed as passed_held}
 use Rattle.b67_cores.specs.Slots.{Known}
-use Rattle.b67_fitting.specs.Nested.{AreTold}
+use Rattle.b67_fitting.specs.Nested.{AreTold, IsTold, by_value, an_array}
 use Rattle.b67_faithful.proofs.Contradictions.{some_same, none_some}
 use Rattle.b67_pictures.specs.Arrays.{Layout, named_from, LeadsTo, IsNamed, AreKnown}
 use Rattle.b67_pictures.specs.Frames.{CellIs, CellsAre}
 use Rattle.b67_pictures.proofs.AskedEntries.{InReferred}
-use Rattle.b67_pictures.proofs.GivenWords.{AreFit, none_wanted, a_value, a_name, a_cell, ActualsAre}
+use Rattle.b67_pictures.proofs.GivenWords.{AreFit, none_wanted, a_value, a_name, a_cell, a_variable, an_actual, a_name_cell, ActualsAre}
 use Rattle.b67_pictures.proofs.Knowing.{known_is}
 use Rattle.b67_pictures.proofs.Words.{cell_describes_nothing}
 use Rattle.b67_pictures.proofs.Zeros.{HaveKinds}
@@ -31,6 +32,11 @@ use Rattle.b67_pictures.proofs.Zeros.{HaveKinds}
 -- what has a kind is no array
 no_array : {X : Type 0} (kind : Kind) (shape : Shape) → wants.value kind ≡ wants.array shape → X
 no_array kind shape e = absurd (let clash : wants.value kind ≡ wants.array shape = e in cc)
+
+-- no parameter is by name
+not_told : {X : Type 0} (q : Parameter) (s : Simple) (kind : Kind) → IsTold q s → wants.by_name kind ≡ s.wanted → X
+not_told q s kind (by_value other is v) e = absurd (let clash : wants.by_name kind ≡ wants.value other = e ∙ is in cc)
+not_told q s kind (an_array shape is v) e = absurd (let clash : wants.by_name kind ≡ wants.array shape = e ∙ is in cc)
 
 -- ---- cells that lead to arrays
 
@@ -76,9 +82,9 @@ module _ (sc : Scopes) (w : World) (lay : Layout) (parts : List Part) where
 
 -- ---- what is given
 
-module _ (sc : Scopes) (w : World) (lay : Layout) (p : ℕ) (q : Process) (part : Part) (outer : List Part) (level home base : ℕ) (known : List Known) (are : AreKnown sc w lay (part ∷ outer) part.instance known)
+module _ (sc : Scopes) (context : Context) (w : World) (lay : Layout) (p : ℕ) (q : Process) (part : Part) (outer : List Part) (level home base : ℕ) (known : List Known) (are : AreKnown sc w lay (part ∷ outer) part.instance known)
     (P : Named → Type 0)
-    (leads : (n : Named) → P n → (shape : Shape) (d : DeclaredArray) (c : Couple) → IsDeclaredArray sc level n d c → Agrees shape (shape_of d) → (x : Word) → IsNamed sc w lay (part ∷ outer) part.instance n x →
+    (leads : (n : Named) → P n → (shape : Shape) (d : DeclaredArray) (c : Couple) → IsDeclaredArray sc context.level n d c → Agrees shape (shape_of d) → (x : Word) → IsNamed sc w lay (part ∷ outer) part.instance n x →
     LeadsTo sc w lay (part ∷ outer) shape (named_from sc w lay part.instance n) x) where
   -- the cells of the parameters, which have these words
   pub record AreGivenCells (ss : List Simple) (ps : List Parameter) (gs : List Given) (words : List Word) : Type 0 where
@@ -106,7 +112,7 @@ module _ (sc : Scopes) (w : World) (lay : Layout) (p : ℕ) (q : Process) (part 
       let same : shape ≡ other = cc (wanted ∙ told) in
       (r, is, subst (λ (t : Shape). LeadsTo sc w lay (part ∷ outer) t r x) same lead)) more
 
-  pub given_are : {wanted : List Wanted} {gs : List Given} → AreFit sc level wanted gs → (ss : List Simple) (ps : List Parameter) → AreTold ps ss → wanted ≡ map (λ (c : Simple). c.wanted) ss →
+  pub given_are : {wanted : List Wanted} {gs : List Given} → AreFit sc context wanted gs → (ss : List Simple) (ps : List Parameter) → AreTold ps ss → wanted ≡ map (λ (c : Simple). c.wanted) ss →
       InReferred P gs → (words : List Word) → Words wanted gs words → AreGivenCells ss ps gs words
   given_are none_wanted [] [] told wanted seen [] is = record { cells = tt; lead = tt }
   given_are none_wanted [] [] told wanted seen (x ∷ words) is = absurd is
@@ -135,3 +141,9 @@ module _ (sc : Scopes) (w : World) (lay : Layout) (p : ℕ) (q : Process) (part 
       let behind : others ≡ map (λ (c : Simple). c.wanted) ss = cc in
       reference_given s ss q' ps (passed (reference r)) gs x words shape r told.0 here refl (known_is sc w lay (part ∷ outer) part.instance known are (passed_held (wants.array shape) (reference r)) x is.0)
       (given_are rest ss ps told.2 behind seen words is.1)
+  given_are (a_variable kind n c is rest) [] [] told wanted seen words are = cc
+  given_are (a_variable kind n c is rest) (s ∷ ss) (q' ∷ ps) told wanted seen words are = let here : wants.by_name kind ≡ s.wanted = cc in not_told q' s kind told.1 here
+  given_are (an_actual kind e c is rest) [] [] told wanted seen words are = cc
+  given_are (an_actual kind e c is rest) (s ∷ ss) (q' ∷ ps) told wanted seen words are = let here : wants.by_name kind ≡ s.wanted = cc in not_told q' s kind told.1 here
+  given_are (a_name_cell kind c is rest) [] [] told wanted seen words are = cc
+  given_are (a_name_cell kind c is rest) (s ∷ ss) (q' ∷ ps) told wanted seen words are = let here : wants.by_name kind ≡ s.wanted = cc in not_told q' s kind told.1 here

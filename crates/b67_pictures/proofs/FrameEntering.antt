@@ -3,9 +3,8 @@ use Rattle.std.proofs.Common.{◌≡◌, ◌≢◌, inl, refl, sym, ap, ◌∙�
 use Rattle.std.specs.Prelude.{if◌then◌else◌, replicate, reverse, slice_get}
 use Rattle.std.proofs.lemmas.List.{length-reverse}
 use Rattle.b67_list.specs.Numbered.{numbered}
-use Rattle.algol_tree.specs.declared.tree.Named.{Named}
 use Rattle.algol_tree.specs.Plain.{PProgram}
-use Rattle.algol_tree.specs.Blocks.{Block, block_numbered, number_at, around}
+use Rattle.algol_tree.specs.Blocks.{Block, block_numbered, around}
 use Rattle.algol_tree.specs.Cells.{level_of}
 use Rattle.algol_tree.specs.Scopes.{Scopes, scopes_of}
 use Rattle.algol_meaning.specs.Rest.{Answer, Given, entered}
@@ -37,8 +36,8 @@ use Rattle.b67_table.specs.Linkage.{entered_mark, control_word}
 use Rattle.b67_table.specs.Outcome as outcomes
 use Rattle.b67_table.specs.Table.{table}
 use Rattle.b67_templates.specs.Contexts.{yields_of}
-use Rattle.b67_templates.specs.Cells.{Wanted, parameter_cells, zero_cells, simple_cells, procedures, control_segments, made_of}
-use Rattle.b67_templates.specs.Code.{CellsAt, control_pcws}
+use Rattle.b67_templates.specs.Cells.{Wanted, parameter_cells, zero_cells, simple_cells, actuals_of, made_of}
+use Rattle.b67_templates.specs.Code.{CellsAt}
 use Rattle.b67_templates.specs.Fragments.{Goes}
 use Rattle.b67_templates.specs.Programs.{Texts, context_of}
 use Rattle.b67_standing.specs.Stepping.{Slot}
@@ -53,10 +52,11 @@ use Rattle.b67_faithful.proofs.Contradictions.{none_some, some_same}
 use Rattle.b67_fitting.specs.Nested.{LiesNested, IsText}
 use Rattle.b67_pictures.specs.Arrays.{Allotted, Layout, AreMade, AreKnown}
 use Rattle.b67_pictures.specs.Acting.{Does, gave}
-use Rattle.b67_pictures.specs.Frames.{most_around, CellsAre, IsChained, IsComplete, home_of, inside, Framed, Frame, Waits, Around}
+use Rattle.b67_pictures.specs.Frames.{block_controls, controls_count, most_around, CellsAre, IsChained, IsComplete, home_of, inside, Framed, RoutinesStand, Frame, Waits, Around}
 use Rattle.b67_pictures.specs.Pictures.{Living, Pictures, PicturesBy}
 use Rattle.b67_pictures.proofs.Ancestors.{same_place}
 use Rattle.b67_pictures.proofs.ArraysKept.{rows_but, rows_there, rows_other, no_elements, no_rows, arrays_joined}
+use Rattle.b67_pictures.proofs.ControlWords.{block_few, routines_long, controls_many}
 use Rattle.b67_pictures.proofs.Cored.{has_now, others_have, system_stays}
 use Rattle.b67_pictures.proofs.EntryRow.{lower_of}
 use Rattle.b67_pictures.proofs.Entries as entries
@@ -72,7 +72,7 @@ use Rattle.b67_pictures.proofs.Linked.{all_each, level_around, shown_chained}
 use Rattle.b67_pictures.proofs.Lying.{StayBelow}
 use Rattle.b67_pictures.proofs.Numbers.{numbered_set}
 use Rattle.b67_pictures.proofs.Scene.{Scene}
-use Rattle.b67_pictures.proofs.Segmented.{length_mapped, controls_many}
+use Rattle.b67_pictures.proofs.Segmented.{length_mapped}
 use Rattle.b67_pictures.proofs.StackWords.{length-stack}
 use Rattle.b67_pictures.proofs.Stage.{gives_within, goes_on, weight_of}
 use Rattle.b67_pictures.proofs.Staying.{text_in, level_in, context_in, most_in, wanted_in, FrameStill, frame_still, same_instance, parts_remain, known_stays, parts_weigh}
@@ -113,18 +113,20 @@ module _ (tree : PProgram) (code : Code) (texts : Texts) (nested : LiesNested tr
   pub record Body (j begin : ℕ) : Type 0 where
     pub ready : ℕ
     pub start : ℕ
+    pub ats : List ℕ
+    pub routines : RoutinesStand tree code texts j ats
     pub over : Goes (texts.placed (segment_of sc.blocks j)) (level_of (block_numbered sc.blocks j)) begin ready
     pub cells_at : CellsAt sc (context_of code texts sc j) (texts.placed (segment_of sc.blocks j)) (level_of (block_numbered sc.blocks j)) (length (zero_cells (block_numbered sc.blocks j)))
-        (control_pcws sc (level_of (block_numbered sc.blocks j)) (block_numbered sc.blocks j).decls) ready start
+        (block_controls sc j ats) ready start
     pub comes : ComesTo sc (context_of code texts sc j) (texts.placed (segment_of sc.blocks j)) (level_of (block_numbered sc.blocks j)) (most_around tree j) (settle_items sc (items_of (block_numbered sc.blocks j))) start []
-    pub small : length (procedures (block_numbered sc.blocks j).decls) ≤ 4 * tokens_around tree j
+    pub small : controls_count sc j ≤ 4 * tokens_around tree j
 
   -- after the entry the part around goes on, once the value that is wanted was given
   pub record GoesOnBehind (next : ℕ) (waiting : List Slot) (j : ℕ) : Type 0 where
     pub unmade : all_left_to_make part.rest ≡ all_to_make part.rest
     pub waits : ask (resume sc part.rest entered) ≡ nothing
     pub returns : (a : Answer) → Gives (yields_of (block_numbered sc.blocks j).result) a →
-        ComesTo sc (context_in tree code texts w part) (text_in tree texts w part) (level_in tree w part) (most_in tree w part) (resume sc (resume sc part.rest entered) a) next (pushed a waiting)
+        ComesTo sc (context_in tree code texts w part) (text_in tree texts w part) (level_in tree w part) (most_in tree w part) (resume sc (resume sc part.rest entered) a) next (pushed (yields_of (block_numbered sc.blocks j).result) a waiting)
 
   module _ (wanted : List Wanted) (gs : List Given) (slot : Slot) (next : ℕ) (waiting : List Slot) (h j begin : ℕ) (e : CallsThere wanted gs slot next waiting h j begin) (purpose : Purpose) (owns : is_evaluation purpose ≡ false) (body : Body j begin)
       (behind : GoesOnBehind next waiting j) (given : List Cell)
@@ -153,7 +155,7 @@ module _ (tree : PProgram) (code : Code) (texts : Texts) (nested : LiesNested tr
     many = length (zero_cells b)
 
     abbrev controls : List Pcw
-    controls = control_pcws sc inner_level b.decls
+    controls = block_controls sc j body.ats
 
     -- what was given, and after it zeros
     abbrev arguments : List Word
@@ -180,11 +182,14 @@ module _ (tree : PProgram) (code : Code) (texts : Texts) (nested : LiesNested tr
     all_many : length (simple_cells sc b) ≡ length taken + many
     all_many = omega (arith, simple_many sc b, taken_many)
 
-    controls_are_many : length controls ≡ length (procedures b.decls)
-    controls_are_many = controls_many inner_level (control_segments sc b.decls) ∙ length_mapped (λ (n : Named). segment_of sc.blocks (number_at sc.blocks n.spot)) (procedures b.decls)
+    each_has_place : length body.ats ≡ length (actuals_of sc b)
+    each_has_place = routines_long sc (context_of code texts sc j) ps (inner_level + 1) (actuals_of sc b) body.ats body.routines
+
+    controls_are_many : length controls ≡ controls_count sc j
+    controls_are_many = controls_many sc j body.ats each_has_place
 
     few_cells : length taken + (many + length controls) ≤ 400
-    few_cells = omega (arith, all_many, controls_are_many, is_text.few)
+    few_cells = omega (arith, all_many, controls_are_many, block_few sc nested.nested j e.known)
 
     cells_are : CellsAre (simple_cells sc b) (fresh_cells b given) (taken ++ zeros)
     cells_are = fresh_are sc b given taken given_there.cells
@@ -362,6 +367,8 @@ module _ (tree : PProgram) (code : Code) (texts : Texts) (nested : LiesNested tr
                 leads_lasts sc w w' lay lay' (part ∷ outer) (part' ∷ outer) (parts_remain tree code texts w w' lay lay' p limit stay part outer core s.stands s.around all_low (part' ∷ outer) (λ m own. own))
                     shape g.2 g.1 g.6,
               );
+          ats = body.ats;
+          each_has_place = each_has_place;
           arrays = [];
           declared = [];
           later = made_of b.decls;
@@ -394,6 +401,7 @@ module _ (tree : PProgram) (code : Code) (texts : Texts) (nested : LiesNested tr
           words_are = g.below ∙ append_assoc lower (mark ∷ control ∷ taken) (zeros ++ control_words controls)
               ∙ ap (λ (ws : List Word). lower ++ mark ∷ control ∷ ws) (sym (append_assoc taken zeros (control_words controls)));
           framed = framed;
+          routines = body.routines;
           text = subst (λ (k : ℕ). KeepsToText sc k inner.rest) (sym block_in) text_in_block;
           making = sym (block_makes sc j order is_text);
         }
@@ -408,6 +416,7 @@ module _ (tree : PProgram) (code : Code) (texts : Texts) (nested : LiesNested tr
           cells = still.frame.cells;
           words_are = still.frame.words_are;
           framed = still.frame.framed;
+          routines = still.frame.routines;
           text = keeps.resumed sc ((instance_at w' i).block) part.rest entered still.frame.text tt;
           making = still.frame.making ∙ sym behind.unmade ∙ sym (order.resumed sc ((instance_at w' i).block) part.rest entered still.frame.text);
         }
@@ -415,10 +424,10 @@ module _ (tree : PProgram) (code : Code) (texts : Texts) (nested : LiesNested tr
     -- ---- what waits
 
     returns_now : (a : Answer) → Gives (yields_of b.result) a →
-        ComesTo sc (context_in tree code texts w' part') (text_in tree texts w' part') (level_in tree w' part') (most_in tree w' part') (resume sc part'.rest a) next (pushed a waiting)
+        ComesTo sc (context_in tree code texts w' part') (text_in tree texts w' part') (level_in tree w' part') (most_in tree w' part') (resume sc part'.rest a) next (pushed (yields_of b.result) a waiting)
     returns_now =
         subst (λ (x : Instance). (a : Answer) → Gives (yields_of b.result) a →
-        ComesTo sc (context_of code texts sc x.block) (texts.placed (segment_of sc.blocks x.block)) (level_of (block_numbered sc.blocks x.block)) (most_around tree x.block) (resume sc part'.rest a) next (pushed a waiting)) here
+        ComesTo sc (context_of code texts sc x.block) (texts.placed (segment_of sc.blocks x.block)) (level_of (block_numbered sc.blocks x.block)) (most_around tree x.block) (resume sc part'.rest a) next (pushed (yields_of b.result) a waiting)) here
         behind.returns
 
     words_now : SlotsAre sc s.stands.held (level_in tree w' part') (length still.frame.lower) (length core.below) waiting more

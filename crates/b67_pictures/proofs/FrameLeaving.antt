@@ -3,6 +3,9 @@ use Rattle.std.proofs.Common.{◌≡◌, ◌≢◌, refl, sym, ap, ◌∙◌, su
 use Rattle.std.specs.Prelude.{if◌then◌else◌, slice_get, reverse}
 use Rattle.b67_list.specs.Numbered.{numbered}
 use Rattle.b67_num.specs.declared.FaultKind.TheVariants as fault
+use Rattle.algol_tree.specs.declared.tree.Kind.{Kind}
+use Rattle.b67_templates.specs.Contexts as yielding
+use Rattle.b67_templates.specs.Contexts.{Yields}
 use Rattle.algol_tree.specs.declared.tree.Named.{Named}
 use Rattle.algol_tree.specs.Plain.{PProgram}
 use Rattle.algol_tree.specs.Blocks.{block_numbered}
@@ -72,9 +75,9 @@ use Rattle.b67_pictures.proofs.Staying.{text_in, level_in, most_in, wanted_in, F
 use Rattle.b67_pictures.proofs.Unmade.{makes, unmade}
 
 -- what a part gives, and the word of it
-pub data IsGiven : Answer → Option Word → Type 0 where
-  nothing_given : IsGiven done None
-  value_given : (v : Value) (x : Word) → ValueIs v x → IsGiven (value v) (Some x)
+pub data IsGiven : Yields → Answer → Option Word → Type 0 where
+  nothing_given : IsGiven yielding.nothing done None
+  value_given : (kind : Kind) (v : Value) (x : Word) → ValueIs v x → IsGiven (yielding.value kind) (value v) (Some x)
 
 module _ (tree : PProgram) (code : Code) (texts : Texts) (stand : HaveTexts tree code texts) (fragments : FragmentsArePerformed) (keeps : RestsKeepToTheirText) (order : AllIsMadeInOrder) (closing : FramesClose)
     (w : World) (lay : Layout) (img : Image) (p : ℕ) (q : Process) (part next : Part) (parts : List Part) (bound : ℕ) (core : Core)
@@ -207,42 +210,42 @@ module _ (tree : PProgram) (code : Code) (texts : Texts) (stand : HaveTexts tree
   shown_home : place_at display u.back.caller_level ≡ Some (place p home)
   shown_home = ap (place_at display) (u.level_is ∙ level_is) ∙ shown_top (place p home) l.more
 
-  module _ (r : Answer) (given : Option Word) (g : IsGiven r given) (gives_it : Gives (wanted_in tree w part) r) where
+  module _ (r : Answer) (given : Option Word) (g : IsGiven (wanted_in tree w part) r given) (gives_it : Gives (wanted_in tree w part) r) where
     -- ---- what is given lies on top
 
     abbrev slots : List Slot
-    slots = pushed r u.slots
+    slots = pushed (wanted_in tree w part) r u.slots
 
     abbrev words : List Word
     words = given_words given ++ u.words
 
     nameless : (P : Named → Type 0) → InAnswer P r
-    nameless P = by_given r given g
+    nameless P = by_given (wanted_in tree w part) r given g
       where
-        by_given : (a : Answer) (o : Option Word) → IsGiven a o → InAnswer P a
-        by_given a o nothing_given = tt
-        by_given a o (value_given v x is) = tt
+        by_given : (y : Yields) (a : Answer) (o : Option Word) → IsGiven y a o → InAnswer P a
+        by_given y a o nothing_given = tt
+        by_given y a o (value_given kind v x is) = tt
 
     words_are : SlotsAre sc u.held (level_in tree w next) home (length u.below) slots words
-    words_are = by_given r given g
+    words_are = by_given (wanted_in tree w part) r given g
       where
-        by_given : (a : Answer) (o : Option Word) → IsGiven a o → SlotsAre sc u.held (level_in tree w next) home (length u.below) (pushed a u.slots) (given_words o ++ u.words)
-        by_given a o nothing_given = u.words_are
-        by_given a o (value_given v x is) = (is, u.words_are)
+        by_given : (y : Yields) (a : Answer) (o : Option Word) → IsGiven y a o → SlotsAre sc u.held (level_in tree w next) home (length u.below) (pushed y a u.slots) (given_words o ++ u.words)
+        by_given y a o nothing_given = u.words_are
+        by_given y a o (value_given kind v x is) = (is, u.words_are)
 
     same_newest : newest home (length u.below) u.slots ≡ newest home (length u.below) slots
-    same_newest = by_given r given g
+    same_newest = by_given (wanted_in tree w part) r given g
       where
-        by_given : (a : Answer) (o : Option Word) → IsGiven a o → newest home (length u.below) u.slots ≡ newest home (length u.below) (pushed a u.slots)
-        by_given a o nothing_given = refl
-        by_given a o (value_given v x is) = refl
+        by_given : (y : Yields) (a : Answer) (o : Option Word) → IsGiven y a o → newest home (length u.below) u.slots ≡ newest home (length u.below) (pushed y a u.slots)
+        by_given y a o nothing_given = refl
+        by_given y a o (value_given kind v x is) = refl
 
     one_more : length words ≤ length u.words + 1
-    one_more = by_given r given g
+    one_more = by_given (wanted_in tree w part) r given g
       where
-        by_given : (a : Answer) (o : Option Word) → IsGiven a o → length (given_words o ++ u.words) ≤ length u.words + 1
-        by_given a o nothing_given = omega arith
-        by_given a o (value_given v x is) = omega arith
+        by_given : (y : Yields) (a : Answer) (o : Option Word) → IsGiven y a o → length (given_words o ++ u.words) ≤ length u.words + 1
+        by_given y a o nothing_given = omega arith
+        by_given y a o (value_given kind v x is) = omega arith
 
     few : length slots ≤ most_in tree w next
     few = omega (arith, slots_length sc u.held (level_in tree w next) home (length u.below) slots words words_are, many, one_more, u.few)
@@ -352,6 +355,7 @@ module _ (tree : PProgram) (code : Code) (texts : Texts) (stand : HaveTexts tree
             cells = still.frame.cells;
             words_are = still.frame.words_are;
             framed = still.frame.framed;
+            routines = still.frame.routines;
             text = keeps.resumed sc ((instance_at w' next.instance).block) next.rest r still.frame.text (nameless (IsSeen sc ((instance_at w' next.instance).block)));
             making = still.frame.making ∙ sym (unmade next.rest (ap makes u.waits)) ∙ sym (order.resumed sc ((instance_at w' next.instance).block) next.rest r still.frame.text);
           }

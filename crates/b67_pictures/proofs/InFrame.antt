@@ -101,6 +101,7 @@ module _ (tree : PProgram) (code : Code) (texts : Texts) (fragments : FragmentsA
         cells = still.frame.cells;
         words_are = below ∙ still.frame.words_are;
         framed = still.frame.framed;
+        routines = still.frame.routines;
         text = keeps.resumed (scopes_of tree) ((instance_at w part.instance).block) part.rest a s.stands.frame.text nameless;
         making = still.frame.making ∙ sym unmade ∙ sym (order.resumed (scopes_of tree) ((instance_at w part.instance).block) part.rest a s.stands.frame.text);
       }

@@ -1,9 +1,10 @@
 -- What is known of descriptors and references on a stack holds of a later world as well, in which each instance that it is of keeps its arrays.
-use Rattle.std.proofs.Common.{◌≡◌, ◌⊎◌, inl, inr, refl, sym, ap, ◌∙◌, subst, ℕ, zero, suc, ◌+◌, List, [], ◌∷◌, length, Some, Bool, true, false}
+use Rattle.std.proofs.Common.{◌≡◌, ◌⊎◌, inl, inr, refl, sym, ap, ◌∙◌, subst, ℕ, zero, suc, ◌+◌, List, [], ◌∷◌, Some, Bool, true, false}
 use Rattle.std.specs.Prelude.{if◌then◌else◌, slice_get}
 use Rattle.b67_list.specs.Numbered.{numbered}
 use Rattle.algol_tree.specs.declared.tree.Kind.{Kind}
 use Rattle.algol_tree.specs.declared.tree.Named.{Named}
+use Rattle.algol_tree.specs.Plain.{PExpr}
 use Rattle.algol_tree.specs.Blocks.{block_numbered}
 use Rattle.algol_tree.specs.Scopes.{Scopes, use_of}
 use Rattle.algol_tree.specs.Sorts.{same_name}
@@ -14,10 +15,11 @@ use Rattle.b67_word.specs.declared.Place.{Place}
 use Rattle.b67_word.specs.Word.{Word}
 use Rattle.b67_table.specs.References.{cell_word}
 use Rattle.b67_templates.specs.Cells as wants
-use Rattle.b67_templates.specs.Cells.{simple_cells, procedures, made_of, made_from}
-use Rattle.b67_standing.specs.Stepping.{Held, row, element, cell_named, passed}
+use Rattle.b67_ops.specs.declared.Couple.{Couple}
+use Rattle.b67_templates.specs.Cells.{made_base, made_of, made_from, IsOwnActual}
+use Rattle.b67_standing.specs.Stepping.{Held, row, element, variable, cell_named, actual, passed}
 use Rattle.b67_cores.specs.Slots.{Known, IsKnown}
-use Rattle.b67_pictures.specs.Arrays.{Allotted, Layout, IsOwn, IsArrayOf, IsIn, LeadsTo, named_from, IsNamed, IsRow, IsElement, HeldIs, AreKnown}
+use Rattle.b67_pictures.specs.Arrays.{Allotted, Layout, IsOwn, IsArrayOf, IsIn, LeadsTo, named_from, Names, an_array_named, a_variable_named, IsNamed, IsActual, IsRow, IsElement, HeldIs, AreKnown}
 
 -- what is known of a word is so
 pub known_is : (sc : Scopes) (w : World) (lay : Layout) (parts : List Part) (i : ℕ) (known : List Known) → AreKnown sc w lay parts i known → (held : Held) (word : Word) → IsKnown known held word →
@@ -84,7 +86,7 @@ module _ (sc : Scopes) (w w' : World) (lay lay' : Layout) where
           word_is = h.word_is
               ∙ ap (λ (b : ℕ). cell_word (record {
                 frame = h.frame;
-                index = 2 + length (simple_cells sc (block_numbered sc.blocks b)) + length (procedures ((block_numbered sc.blocks b).decls)) + h.array.number;
+                index = made_base sc (block_numbered sc.blocks b) + h.array.number;
               })) (sym k.block);
         }
 
@@ -136,17 +138,32 @@ module _ (sc : Scopes) (w w' : World) (lay lay' : Layout) where
             word_is = h.word_is;
           }
 
+      still_names : (level : ℕ) (n : Named) (couple : Couple) → Names sc w lay level n couple → Names sc w' lay' level n couple
+      still_names level n couple (an_array_named d is) = an_array_named d is
+      still_names level n couple (a_variable_named kind is) = a_variable_named kind is
+
       named_lasts : (n : Named) (word : Word) → IsNamed sc w lay parts i n word → IsNamed sc w' lay' parts' i n word
       named_lasts n word h =
           let up : ℕ = (use_of sc n).up in
           record {
             own = subst (λ (j : ℕ). IsOwn parts' j) (sym (climbs.same up)) (remain.owned (ancestor w up i) h.own);
             level = h.level;
-            declared = h.declared;
             couple = h.couple;
-            array = h.array;
+            names = still_names h.level n h.couple h.names;
             frame = h.frame;
             laid = ap (λ (j : ℕ). numbered lay'.places j) (climbs.same up) ∙ remain.places (ancestor w up i) h.frame h.own h.laid;
+            word_is = h.word_is;
+          }
+
+      actual_lasts : (e : PExpr) (kind : Kind) (word : Word) → IsActual sc w lay parts i e kind word → IsActual sc w' lay' parts' i e kind word
+      actual_lasts e kind word h =
+          record {
+            own = remain.owned i h.own;
+            level = h.level;
+            couple = h.couple;
+            stands = subst (λ (b : ℕ). IsOwnActual sc b h.level e kind h.couple) (sym (remain.keeps i h.own).block) h.stands;
+            frame = h.frame;
+            laid = remain.places i h.frame h.own h.laid;
             word_is = h.word_is;
           }
 
@@ -154,6 +171,8 @@ module _ (sc : Scopes) (w w' : World) (lay lay' : Layout) where
       held_lasts (row n ks) word h = row_lasts n ks word h
       held_lasts (element r ks kind) word h = element_lasts r ks kind word h
       held_lasts (cell_named n) word h = named_lasts n word h
+      held_lasts (actual e kind) word h = actual_lasts e kind word h
+      held_lasts (variable r kind) word h = absurd h
       held_lasts (passed (wants.array shape) (reference r)) word h = leads_lasts shape r word h
       held_lasts (passed _ c) word h = absurd h
 

@@ -76,6 +76,7 @@ module _ (tree : PProgram) (code : Code) (texts : Texts) (w : World) (lay : Layo
             cells = l.frame.cells;
             words_are = a.moved.below ∙ l.frame.words_are;
             framed = l.frame.framed;
+            routines = l.frame.routines;
             text = l.frame.text;
             making = l.frame.making;
           };

@@ -27,7 +27,7 @@ use Rattle.b67_pictures.specs.Arrays.{Layout}
 use Rattle.b67_pictures.specs.Acting.{Does}
 use Rattle.b67_pictures.specs.Frames.{Waits}
 use Rattle.b67_pictures.proofs.Closing.{FramesClose}
-use Rattle.b67_pictures.proofs.FrameLeaving.{nothing_given, value_given, b, display, e, leaving_frame}
+use Rattle.b67_pictures.proofs.FrameLeaving.{IsGiven, nothing_given, value_given, b, display, e, leaving_frame}
 use Rattle.b67_pictures.proofs.Homes.{operator_there}
 use Rattle.b67_pictures.proofs.LeaveRow.{Leaves, leave_raw, leave_class, leave_action}
 use Rattle.b67_pictures.proofs.ReturnRow.{return_raw, return_class, return_action}
@@ -61,7 +61,7 @@ module _ (tree : PProgram) (code : Code) (texts : Texts) (stand : HaveTexts tree
 
     pub leaving : Does tree code texts w img p
     leaving =
-        leaving_frame tree code texts stand fragments keeps order closing w lay img p q part next parts bound core s able_is able_p done None nothing_given (subst (λ (o : Yields). Gives o done) (sym a.1) tt) a.0 asks
+        leaving_frame tree code texts stand fragments keeps order closing w lay img p q part next parts bound core s able_is able_p done None (subst (λ (o : Yields). IsGiven o done None) (sym a.1) nothing_given) (subst (λ (o : Yields). Gives o done) (sym a.1) tt) a.0 asks
         (leave_raw code img p core s.has a.0 around.below around.words s.stands.frame.mark s.stands.frame.control s.stands.frame.cells below shown leaves_it exits)
         (action_not_plain code img p core s.has (ops.Plain kinds.Exit) a.0 exits
         (leave_class code img p core s.has a.0 around.below around.words s.stands.frame.mark s.stands.frame.control s.stands.frame.cells below shown leaves_it exits))
@@ -78,7 +78,8 @@ module _ (tree : PProgram) (code : Code) (texts : Texts) (stand : HaveTexts tree
 
     pub leaving_with : Does tree code texts w img p
     leaving_with =
-        leaving_frame tree code texts stand fragments keeps order closing w lay img p q part next parts bound core s able_is able_p (value v) (Some on_top.word) (value_given v on_top.word on_top.slot_is)
+        leaving_frame tree code texts stand fragments keeps order closing w lay img p q part next parts bound core s able_is able_p (value v) (Some on_top.word)
+        (subst (λ (o : Yields). IsGiven o (value v) (Some on_top.word)) (sym a.2) (value_given a.0 v on_top.word on_top.slot_is))
         (subst (λ (o : Yields). Gives o (value v)) (sym a.2) a.3) a.1 asks
         (return_raw code img p core s.has a.1 returns around.below around.words s.stands.frame.mark s.stands.frame.control s.stands.frame.cells below shown leaves_it on_top.word on_top.words_below on_top.is
         (value_tag v on_top.word on_top.slot_is))

@@ -31,9 +31,12 @@ pub mod Words
 pub mod Displays
 pub mod Cored
 pub mod Segmented
+pub mod ControlWords
 pub mod Zeros
 pub mod FreshCells
+pub mod NoNames
 pub mod Scene
+pub mod Unresolved
 pub mod Ancestors
 pub mod StoringFrames
 pub mod StoringOthers

@@ -267,6 +267,8 @@ module _ (tree : PProgram) (code : Code) (texts : Texts) (w w' : World) (lay lay
         formals = λ k s shape there told.
             let g = f.framed.formals k s shape there told in
             (g.0, g.1, g.2, g.3, g.4, g.5, leads_lasts sc w w' lay lay' outer outer (outer_remain outer f.lower f.mark f.control (wanted_old part) a (omega (arith, low))) shape g.2 g.1 g.6);
+        ats = f.framed.ats;
+        each_has_place = f.framed.each_has_place;
         arrays = f.framed.arrays;
         declared = f.framed.declared;
         later = f.framed.later;
@@ -296,6 +298,7 @@ module _ (tree : PProgram) (code : Code) (texts : Texts) (w w' : World) (lay lay
         cells = f.cells;
         words_are = f.words_are;
         framed = framed_after part outer words f a low;
+        routines = f.routines;
         text = subst (λ (x : Instance). KeepsToText sc x.block part.rest) (same_instance part outer words f low) f.text;
         making = f.making;
       }
@@ -353,7 +356,7 @@ module _ (tree : PProgram) (code : Code) (texts : Texts) (w w' : World) (lay lay
           pc = s.pc;
           slots = s.slots;
           returns = subst (λ (x : Instance). (r : Answer) → Gives wanted r →
-              ComesTo sc (context_of code texts sc x.block) (texts.placed (segment_of sc.blocks x.block)) (level_of (block_numbered sc.blocks x.block)) (most_around tree x.block) (resume sc part.rest r) s.pc (pushed r s.slots)) same s.returns;
+              ComesTo sc (context_of code texts sc x.block) (texts.placed (segment_of sc.blocks x.block)) (level_of (block_numbered sc.blocks x.block)) (most_around tree x.block) (resume sc part.rest r) s.pc (pushed wanted r s.slots)) same s.returns;
           few = subst (λ (x : Instance). length s.slots + 1 ≤ most_around tree x.block) same s.few;
           held = s.held;
           held_are = known_after part outer s.below s.frame a.1 lowest s.held s.held_are;

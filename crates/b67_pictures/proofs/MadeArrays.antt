@@ -7,10 +7,8 @@ use Rattle.algol_meaning.specs.Arrays.{elements_of}
 use Rattle.algol_meaning.specs.World.{NamedCell, cell_in, cells_with}
 use Rattle.algol_paths.specs.Arrays.{DeclaredArray, Made, an_array, lows_of, an_event}
 use Rattle.b67_word.specs.Word.{Word}
-use Rattle.b67_templates.specs.Fragments.{procedure_controls}
 use Rattle.b67_templates.specs.Cells as wants
 use Rattle.b67_templates.specs.Cells.{Simple, found_from, made_from, made_name, FoundMade, Wanted}
-use Rattle.b67_cores.specs.Stretches.{control_words}
 use Rattle.b67_faithful.proofs.Contradictions.{some_same, none_some}
 use Rattle.b67_pictures.specs.Arrays.{Allotted, DescriptorIs, AreSized, AreMade}
 use Rattle.b67_pictures.specs.Frames.{CellIs, CellsAre}
@@ -26,10 +24,6 @@ get_past (x ∷ front) back k (suc n) e = get_past front back k n (omega (arith,
 pub none_left : {A : Type 0} (xs : List A) → length xs ≡ 0 → xs ≡ []
 none_left [] e = refl
 none_left (x ∷ xs) e = absurd (omega (arith, e))
-
-pub as_many_controls : (level : ℕ) (segments : List ℕ) → length (control_words (procedure_controls level segments)) ≡ length segments
-as_many_controls level [] = refl
-as_many_controls level (segment ∷ segments) = ap suc (as_many_controls level segments)
 
 -- ---- simple cells
 

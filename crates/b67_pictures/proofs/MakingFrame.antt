@@ -4,8 +4,7 @@ use Rattle.std.specs.Prelude.{if◌then◌else◌}
 use Rattle.b67_list.specs.Numbered.{numbered}
 use Rattle.algol_tree.specs.declared.tree.Kind.{Kind}
 use Rattle.algol_tree.specs.declared.tree.Named.{Named}
-use Rattle.algol_tree.specs.Blocks.{Block, block_numbered, number_at, around}
-use Rattle.algol_tree.specs.Cells.{level_of}
+use Rattle.algol_tree.specs.Blocks.{Block, block_numbered, around}
 use Rattle.algol_tree.specs.Plain.{PProgram, PPair}
 use Rattle.algol_tree.specs.Scopes.{Scopes, scopes_of}
 use Rattle.algol_meaning.specs.Rest.{done}
@@ -15,7 +14,6 @@ use Rattle.algol_meaning.specs.World.{NamedCell, Instance, Process, Part, World,
 use Rattle.algol_meaning.specs.Asks.{makes_arrays, ask, resume}
 use Rattle.algol_paths.specs.Arrays.{DeclaredArray, Made, made_in, all_left_to_make, an_array, arrays_in}
 use Rattle.algol_paths.specs.Laws.{KeepsToText, RestsKeepToTheirText, AllIsMadeInOrder}
-use Rattle.algol_paths.specs.Segments.{segment_of}
 use Rattle.b67_word.specs.declared.Place.{Place}
 use Rattle.b67_word.specs.Word.{Word}
 use Rattle.b67_segment.specs.declared.code.Code.{Code}
@@ -23,22 +21,21 @@ use Rattle.b67_table.specs.Chains.{place}
 use Rattle.b67_table.specs.Image.{Image}
 use Rattle.b67_table.specs.Limits.{most_cells, most_arrays}
 use Rattle.b67_templates.specs.Contexts.{yields_of}
-use Rattle.b67_templates.specs.Cells.{simple_cells, procedures, control_segments, made_of}
+use Rattle.b67_templates.specs.Cells.{simple_cells, made_of}
 use Rattle.b67_templates.specs.Code.{AreDimensions}
-use Rattle.b67_templates.specs.Fragments.{procedure_controls}
 use Rattle.b67_templates.specs.Programs.{Texts}
 use Rattle.b67_cores.specs.Cores.{Core}
 use Rattle.b67_cores.specs.Stretches.{control_words}
 use Rattle.b67_faithful.specs.Weight.{tokens_around, part_weight, weight}
 use Rattle.b67_faithful.proofs.Contradictions.{some_same}
 use Rattle.b67_fitting.specs.Nested.{AreNested, IsText}
-use Rattle.b67_pictures.proofs.MadeArrays.{as_many_controls}
 use Rattle.b67_pictures.specs.Arrays.{Allotted, Layout, AreMade, ArraysAre}
-use Rattle.b67_pictures.specs.Frames.{IsPlaced, outermost, inside, IsChained, Framed, Frame, Around}
+use Rattle.b67_pictures.specs.Frames.{block_controls, controls_count, IsPlaced, outermost, inside, IsChained, Framed, Frame, Around}
 use Rattle.b67_pictures.proofs.ArraySizes.{bounds_lows}
 use Rattle.b67_pictures.proofs.ArraysKept.{rows_but, rows_there, rows_other}
 use Rattle.b67_pictures.proofs.ArraysMade.{Makes, allotted_new, descriptors_new, rows_after, all_made, arrays_after}
 use Rattle.b67_pictures.proofs.Completing.{made_many}
+use Rattle.b67_pictures.proofs.ControlWords.{block_few, as_many_controls, controls_many}
 use Rattle.b67_pictures.proofs.FreshCells.{words_long}
 use Rattle.b67_pictures.proofs.Kept.{AreAlike}
 use Rattle.b67_pictures.proofs.Knowing.{leads_lasts}
@@ -107,22 +104,22 @@ module _ (tree : PProgram) (code : Code) (texts : Texts) (nested : AreNested (sc
   pub few_arrays : length ns ≤ most_arrays
   few_arrays = omega (arith, declared_many, text.few)
 
-  cells_many : length f.cells ≡ length (simple_cells sc b) + (length (procedures b.decls) + length framed.declared)
+  cells_many : length f.cells ≡ length (simple_cells sc b) + (controls_count sc x.block + length framed.declared)
   cells_many =
       omega (
         arith,
         ap length framed.cells_is,
-        length-append framed.values (control_words (procedure_controls (level_of b) (control_segments sc b.decls)) ++ framed.descriptors),
-        length-append (control_words (procedure_controls (level_of b) (control_segments sc b.decls))) framed.descriptors,
+        length-append framed.values (control_words (block_controls sc x.block framed.ats) ++ framed.descriptors),
+        length-append (control_words (block_controls sc x.block framed.ats)) framed.descriptors,
         words_long (simple_cells sc b) framed.simple framed.values framed.simple_are,
-        as_many_controls (level_of b) (control_segments sc b.decls),
-        length_mapped (λ (n : Named). segment_of sc.blocks (number_at sc.blocks n.spot)) (procedures b.decls),
+        as_many_controls (block_controls sc x.block framed.ats),
+        controls_many sc x.block framed.ats framed.each_has_place,
         (made_many framed.declared framed.arrays (lay.rows i) framed.descriptors framed.made).words_many,
       )
 
   -- nor more than a frame has cells
   pub few_cells : length f.cells + length ns ≤ most_cells
-  few_cells = omega (arith, cells_many, declared_many, text.few)
+  few_cells = omega (arith, cells_many, declared_many, block_few sc nested x.block framed.known)
 
   -- ---- the world after
 
@@ -281,6 +278,8 @@ module _ (tree : PProgram) (code : Code) (texts : Texts) (nested : AreNested (sc
                 g.5,
                 leads_lasts sc w w' lay lay' outer outer (outer_remain tree code texts w w' lay lay' p (length f.lower) stays outer f.lower f.mark f.control (wanted_in tree w part) s.around (omega arith)) shape g.2 g.1 g.6,
               );
+          ats = framed.ats;
+          each_has_place = framed.each_has_place;
           arrays = framed.arrays ++ new_arrays kind bs ns;
           declared = framed.declared ++ made_in kind ns pairs;
           later = all_left_to_make part.rest;
@@ -290,8 +289,8 @@ module _ (tree : PProgram) (code : Code) (texts : Texts) (nested : AreNested (sc
           has = ap (λ (cs : List NamedCell). cs ++ new_arrays kind bs ns) framed.has ∙ append_assoc framed.simple framed.arrays (new_arrays kind bs ns);
           cells_is =
               ap (λ (ws : List Word). ws ++ descriptors) framed.cells_is
-              ∙ append_assoc framed.values (control_words (procedure_controls (level_of b) (control_segments sc b.decls)) ++ framed.descriptors) descriptors
-              ∙ ap (λ (ws : List Word). framed.values ++ ws) (append_assoc (control_words (procedure_controls (level_of b) (control_segments sc b.decls))) framed.descriptors descriptors);
+              ∙ append_assoc framed.values (control_words (block_controls sc x.block framed.ats) ++ framed.descriptors) descriptors
+              ∙ ap (λ (ws : List Word). framed.values ++ ws) (append_assoc (control_words (block_controls sc x.block framed.ats)) framed.descriptors descriptors);
           placed = placed_now;
           home = framed.home;
           linked = home_after tree code texts w w' lay lay' p (length f.lower) stays x.parent framed.home framed.linked;
@@ -312,6 +311,7 @@ module _ (tree : PProgram) (code : Code) (texts : Texts) (nested : AreNested (sc
           cells = f.cells ++ descriptors;
           words_are = are ∙ ap (λ (ws : List Word). ws ++ descriptors) f.words_are ∙ append_assoc f.lower (f.mark ∷ f.control ∷ f.cells) descriptors;
           framed = framed';
+          routines = f.routines;
           text = subst (λ (j : ℕ). KeepsToText sc j part'.rest) block_is (keeps.resumed sc ((instance_at w i).block) part.rest done f.text tt);
           making = sym (order.resumed sc ((instance_at w i).block) part.rest done f.text);
         }

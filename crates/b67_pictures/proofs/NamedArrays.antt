@@ -14,10 +14,10 @@ use Rattle.b67_word.specs.Word.{Word}
 use Rattle.b67_ops.specs.declared.Couple.{Couple}
 use Rattle.b67_segment.specs.declared.code.Code.{Code}
 use Rattle.b67_table.specs.References.{cell_word}
-use Rattle.b67_templates.specs.Cells.{Agrees, simple_cells, procedures, found_from, IsDeclaredArray, made_of, made_from, FoundMade}
+use Rattle.b67_templates.specs.Cells.{Agrees, simple_cells, made_base, found_from, IsDeclaredArray, made_of, made_from, FoundMade}
 use Rattle.b67_templates.specs.Programs.{Texts}
 use Rattle.b67_faithful.proofs.Contradictions.{some_same}
-use Rattle.b67_pictures.specs.Arrays.{Layout, named_from, LeadsTo, IsNamed}
+use Rattle.b67_pictures.specs.Arrays.{Layout, named_from, LeadsTo, Names, an_array_named, a_variable_named, IsNamed}
 use Rattle.b67_pictures.specs.Frames.{IsComplete, Frame, Around}
 use Rattle.b67_pictures.proofs.AskedEntries.{InReferred}
 use Rattle.b67_pictures.proofs.Completing.{complete_of}
@@ -115,23 +115,21 @@ module _ (tree : PProgram) (code : Code) (texts : Texts) (w : World) (lay : Layo
           (all_made sc w lay l.part.instance here own n.name v.made.number d there (none_later sc w lay l.part.instance here own complete))
           (ap (λ (j : ℕ). found_from 0 (simple_cells sc (block_numbered sc.blocks j)) n.name) block_here ∙ v.made.apart)
 
-      same_number : h.array.made.number ≡ v.made.number
-      same_number = ap (λ (y : FoundMade). y.number) (some_same (sym h.array.made.there ∙ v.made.there))
-
       same_block : (instance_at w home).block ≡ (use_of sc n).block
       same_block = ap (λ (y : Instance). y.block) instance_here ∙ block_here
 
-      index_is :
-          h.couple.index
-          ≡ 2 + length (simple_cells sc (block_numbered sc.blocks ((instance_at w home).block))) + length (procedures ((block_numbered sc.blocks ((instance_at w home).block)).decls)) + v.made.number
-      index_is =
-          omega (
-            arith,
-            h.array.made.index_is,
-            same_number,
-            ap (λ (j : ℕ). length (simple_cells sc (block_numbered sc.blocks j))) same_block,
-            ap (λ (j : ℕ). length (procedures (block_numbered sc.blocks j).decls)) same_block,
-          )
+      index_is : h.couple.index ≡ made_base sc (block_numbered sc.blocks ((instance_at w home).block)) + v.made.number
+      index_is = by_name h.names
+        where
+          by_name : Names sc w lay h.level n h.couple → h.couple.index ≡ made_base sc (block_numbered sc.blocks ((instance_at w home).block)) + v.made.number
+          by_name (an_array_named other is) =
+              omega (
+                arith,
+                is.made.index_is,
+                ap (λ (y : FoundMade). y.number) (some_same (sym is.made.there ∙ v.made.there)),
+                ap (λ (j : ℕ). made_base sc (block_numbered sc.blocks j)) same_block,
+              )
+          by_name (a_variable_named kind is) = absurd (let clash : false ≡ true = sym (ap is_variable v.sort_is) ∙ is.variable in cc)
 
       leads_there : LeadsTo sc w lay (part ∷ outer) shape (named_from sc w lay part.instance n) x
       leads_there =

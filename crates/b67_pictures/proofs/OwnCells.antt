@@ -9,14 +9,15 @@ use Rattle.algol_meaning.specs.Arrays.{elements_of}
 use Rattle.algol_meaning.specs.World.{NamedCell, Instance, Part, World, instance_at, or_no_instance, cell_in, cells_with}
 use Rattle.algol_paths.specs.Arrays.{DeclaredArray, Made, an_array, lows_of}
 use Rattle.b67_word.specs.Word.{Word}
-use Rattle.b67_templates.specs.Fragments.{procedure_controls}
+use Rattle.b67_control.specs.declared.Pcw.{Pcw}
 use Rattle.b67_templates.specs.Cells.{simple_cells, found_from, made_of, made_from}
 use Rattle.b67_cores.specs.Stretches.{control_words}
 use Rattle.b67_faithful.proofs.Contradictions.{some_same}
 use Rattle.b67_pictures.specs.Arrays.{Allotted, Layout, DescriptorIs, AreSized, AreMade, HasArray, IsArrayOf}
 use Rattle.b67_pictures.specs.Frames.{CellsAre, IsComplete, Framed}
 use Rattle.b67_pictures.proofs.Completing.{made_many}
-use Rattle.b67_pictures.proofs.MadeArrays.{get_past, none_left, as_many_controls, as_many_values, IsPast, past_unfound, past_values, low_number, MadeThere, made_array, made_low}
+use Rattle.b67_pictures.proofs.ControlWords.{as_many_controls}
+use Rattle.b67_pictures.proofs.MadeArrays.{get_past, none_left, as_many_values, IsPast, past_unfound, past_values, low_number, MadeThere, made_array, made_low}
 use Rattle.b67_pictures.proofs.StackWords.{get-front}
 use Rattle.b67_pictures.proofs.Zeros.{cells_length}
 
@@ -199,13 +200,13 @@ module _ (sc : Scopes) (w : World) (lay : Layout) where
         (subst (λ (c : ArrayCell). HasArray sc w lay i of.number declared c known.0.allotted) known.1 known.0.has)
 
     -- its descriptor lies after the control words
-    pub descriptor_lies : (name : List ℕ) (number : ℕ) (declared : DeclaredArray) (found : OwnArray i x own name number declared) (level : ℕ) (segments : List ℕ) →
-        slice_get (own.values ++ (control_words (procedure_controls level segments) ++ own.descriptors)) (length (simple_cells sc (block_numbered sc.blocks x.block)) + length segments + number) ≡ Some found.word
-    descriptor_lies name number declared found level segments =
-        get_past own.values (control_words (procedure_controls level segments) ++ own.descriptors) (length segments + number) (length (simple_cells sc (block_numbered sc.blocks x.block)) + length segments + number)
+    pub descriptor_lies : (name : List ℕ) (number : ℕ) (declared : DeclaredArray) (found : OwnArray i x own name number declared) (pcws : List Pcw) →
+        slice_get (own.values ++ (control_words pcws ++ own.descriptors)) (length (simple_cells sc (block_numbered sc.blocks x.block)) + length pcws + number) ≡ Some found.word
+    descriptor_lies name number declared found pcws =
+        get_past own.values (control_words pcws ++ own.descriptors) (length pcws + number) (length (simple_cells sc (block_numbered sc.blocks x.block)) + length pcws + number)
         (omega (
           arith,
           as_many_values (simple_cells sc (block_numbered sc.blocks x.block)) own.simple own.values own.simple_are,
         ))
-        ∙ get_past (control_words (procedure_controls level segments)) own.descriptors number (length segments + number) (ap (λ (n : ℕ). n + number) (sym (as_many_controls level segments)))
+        ∙ get_past (control_words pcws) own.descriptors number (length pcws + number) (ap (λ (n : ℕ). n + number) (sym (as_many_controls pcws)))
         ∙ found.lies

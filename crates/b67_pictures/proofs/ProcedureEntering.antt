@@ -31,10 +31,11 @@ use Rattle.b67_table.specs.declared.ProcessState.TheVariants.{Able}
 use Rattle.b67_table.specs.Chains.{place}
 use Rattle.b67_table.specs.Image.{Image}
 use Rattle.b67_table.specs.Private.{frame, display_at}
-use Rattle.b67_templates.specs.Contexts.{Yields, yields_of}
-use Rattle.b67_templates.specs.Cells.{Simple, parameter_cells, parameter_wants, simple_cells, procedures, control_segments, IsProcedure}
+use Rattle.b67_templates.specs.Contexts.{Yields, yields_of, Context}
+use Rattle.b67_templates.specs.Cells.{Simple, parameter_cells, parameter_wants, simple_cells, procedures, IsProcedure}
 use Rattle.b67_templates.specs.Depths.{decls_depth, stmts_depth}
-use Rattle.b67_templates.specs.Fragments.{code_at, procedure_controls}
+use Rattle.b67_templates.specs.Fragments.{code_at}
+use Rattle.b67_templates.proofs.Few.{actuals_are_few}
 use Rattle.b67_templates.specs.Programs.{Texts, context_of, BodyAt, ProgramAt}
 use Rattle.b67_standing.specs.Laws.{BlocksStart}
 use Rattle.b67_standing.specs.Stepping.{Slot, reference, mark}
@@ -47,8 +48,9 @@ use Rattle.b67_faithful.specs.Weight.{tokens_around}
 use Rattle.b67_fitting.specs.Nested.{LiesNested, IsDeclared, AreParameters}
 use Rattle.b67_pictures.specs.Arrays.{Layout}
 use Rattle.b67_pictures.specs.Acting.{Does}
-use Rattle.b67_pictures.specs.Frames.{most_around, IsComplete}
+use Rattle.b67_pictures.specs.Frames.{block_controls, controls_count, most_around, IsComplete}
 use Rattle.b67_pictures.proofs.AskedEntries.{InReferred, InEntry, enters_seen, entered_in_bound}
+use Rattle.b67_pictures.proofs.ControlWords.{get_control}
 use Rattle.b67_pictures.proofs.EnterProcedureRow.{procedure_leads, procedure_calls}
 use Rattle.b67_pictures.proofs.Entries.{Calls}
 use Rattle.b67_pictures.proofs.Formals.{AreGivenCells, given_are}
@@ -61,7 +63,8 @@ use Rattle.b67_pictures.proofs.Lying.{Lies, lies_in, IsParent, parents_in}
 use Rattle.b67_pictures.proofs.NamedArrays.{IsSeenMade, both_seen, up_complete, named_leads}
 use Rattle.b67_pictures.proofs.Numbers.{get_within, get_below}
 use Rattle.b67_pictures.proofs.Scene.{Scene}
-use Rattle.b67_pictures.proofs.Segmented.{before_whole, segment_low, procedure_segment, get_mapped, length_mapped, get_control}
+use Rattle.b67_pictures.proofs.Segmenting.{needs}
+use Rattle.b67_pictures.proofs.Segmented.{before_whole, segment_low, procedure_segment, get_mapped, length_mapped}
 use Rattle.b67_pictures.proofs.StackWords.{get-front}
 use Rattle.b67_pictures.proofs.Stage.{choice_is}
 use Rattle.b67_pictures.proofs.Parents.{length_around}
@@ -74,8 +77,7 @@ use Rattle.b67_pictures.proofs.Words.{reference_read}
 abbrev pub HasRoomFor : PProgram → Type 0
 HasRoomFor tree =
     (j : ℕ) → j < length (scopes_of tree).blocks → (j ≡ 0) ⊎ (is_procedure (block_numbered (scopes_of tree).blocks j) ≡ true) →
-    decls_depth ((block_numbered (scopes_of tree).blocks j).decls) + stmts_depth ((block_numbered (scopes_of tree).blocks j).stmts)
-    + length (procedures (block_numbered (scopes_of tree).blocks j).decls) + 1 ≤ 4 * tokens_around tree j
+    needs (block_numbered (scopes_of tree).blocks j) ≤ 4 * tokens_around tree j
 
 module _ (tree : PProgram) (code : Code) (program : ProgramAt code tree) (nested : LiesNested tree) (short : IsShort tree code) (small : HasRoomFor tree)
     (fragments : FragmentsArePerformed) (begins_so : BlocksBegin) (starts : BlocksStart) (keeps : RestsKeepToTheirText) (order : AllIsMadeInOrder)
@@ -89,7 +91,7 @@ module _ (tree : PProgram) (code : Code) (program : ProgramAt code tree) (nested
     (returns : (to : ℕ) (after : List Slot) (wanted : Yields) →
     Entered (scopes_of tree) (context_in tree code program.texts w part) (text_in tree program.texts w part) (level_in tree w part) (most_in tree w part) (enters n gs) s.stands.pc s.stands.slots a to after wanted →
     (r : Answer) → Gives wanted r →
-    ComesTo (scopes_of tree) (context_in tree code program.texts w part) (text_in tree program.texts w part) (level_in tree w part) (most_in tree w part) (resume (scopes_of tree) (resume (scopes_of tree) part.rest entered) r) to (pushed r after)) where
+    ComesTo (scopes_of tree) (context_in tree code program.texts w part) (text_in tree program.texts w part) (level_in tree w part) (most_in tree w part) (resume (scopes_of tree) (resume (scopes_of tree) part.rest entered) r) to (pushed wanted r after)) where
   abbrev sc : Scopes
   sc = scopes_of tree
 
@@ -98,6 +100,9 @@ module _ (tree : PProgram) (code : Code) (program : ProgramAt code tree) (nested
 
   abbrev level : ℕ
   level = level_in tree w part
+
+  abbrev context : Context
+  context = context_in tree code texts w part
 
   abbrev block : ℕ
   block = (instance_at w part.instance).block
@@ -220,12 +225,12 @@ module _ (tree : PProgram) (code : Code) (program : ProgramAt code tree) (nested
   far = length (simple_cells sc (block_numbered sc.blocks u)) + named.number
 
   abbrev controls_there : List Word
-  controls_there = control_words (procedure_controls (level_of (block_numbered sc.blocks x.block)) (control_segments sc (block_numbered sc.blocks x.block).decls))
+  controls_there = control_words (block_controls sc x.block lies.frame.framed.ats)
 
   control_lies : slice_get controls_there named.number ≡ Some (pcw_word c)
   control_lies =
-      ap (λ (k : ℕ). slice_get (control_words (procedure_controls (level_of (block_numbered sc.blocks k)) (control_segments sc (block_numbered sc.blocks k).decls))) named.number) block_is
-      ∙ get_control (level_of (block_numbered sc.blocks u)) (control_segments sc (block_numbered sc.blocks u).decls) named.number
+      ap (λ (k : ℕ). slice_get (control_words (block_controls sc k lies.frame.framed.ats)) named.number) block_is
+      ∙ get_control sc u lies.frame.framed.ats named.number
       (segment_of sc.blocks (number_at sc.blocks named.declared.spot))
       (get_mapped (λ (m : Named). segment_of sc.blocks (number_at sc.blocks m.spot)) (procedures (block_numbered sc.blocks u).decls) named.number named.declared named.there)
       ∙ ap (λ (k : ℕ). Some (pcw_word (code_at (segment_of sc.blocks k) 0 (level_of (block_numbered sc.blocks u) + 1)))) named.callee_is
@@ -296,11 +301,11 @@ module _ (tree : PProgram) (code : Code) (program : ProgramAt code tree) (nested
   parameters : AreParameters sc b
   parameters = (nested.nested.each callee known).parameters
 
-  fit : AreFit sc level (parameter_wants sc callee) gs
-  fit = are_fit sc level (parameter_wants sc callee) gs at.fit
+  fit : AreFit sc context (parameter_wants sc callee) gs
+  fit = are_fit sc context (parameter_wants sc callee) gs at.fit
 
   given_many : length gs ≡ length (parameter_cells sc b)
-  given_many = fit_many sc level fit ∙ length_mapped (λ (c : Simple). c.wanted) (parameter_cells sc b)
+  given_many = fit_many sc context fit ∙ length_mapped (λ (c : Simple). c.wanted) (parameter_cells sc b)
 
   abbrev calls : Calls tree code texts nested short w lay img p q part outer bound core s (parameter_wants sc callee) gs (reference couple) a.1 a.2 h callee 0
   calls =
@@ -329,14 +334,16 @@ module _ (tree : PProgram) (code : Code) (program : ProgramAt code tree) (nested
   code_there : BodyAt sc (context_of code texts sc callee) (texts.placed (segment_of sc.blocks callee)) (level_of b) b 0
   code_there = program.bodies callee known (inr is_own)
 
-  room : decls_depth b.decls + stmts_depth b.stmts + length (procedures b.decls) + 1 ≤ 4 * tokens_around tree callee
-  room = small callee known (inr is_own)
+  room : decls_depth b.decls + stmts_depth b.stmts + controls_count sc callee + 1 ≤ 4 * tokens_around tree callee
+  room = omega (arith, small callee known (inr is_own), actuals_are_few sc b)
 
   abbrev procedure_body : Body tree code texts nested short fragments begins_so keeps order w lay img p q part outer bound core s able_is able_p callee 0
   procedure_body =
       record {
         ready = code_there.begin;
         start = code_there.start;
+        ats = code_there.ats;
+        routines = code_there.routines;
         over = code_there.over;
         cells_at = code_there.cells;
         comes = starts sc (context_of code texts sc callee) (texts.placed (segment_of sc.blocks callee)) (level_of b) (most_around tree callee) b code_there.start code_there.items (omega (arith, room)) (omega (arith, room));
@@ -352,9 +359,9 @@ module _ (tree : PProgram) (code : Code) (program : ProgramAt code tree) (nested
   -- the cells of its parameters
   cells_there : (ws : List Word) → ActualsAre sc s.stands.held level (frame core.registers) (length core.below) (parameter_wants sc callee) gs ws → AreCellsThere (given_cells sc w p q part outer gs) ws
   cells_there ws are =
-      let g : AreGivenCells sc w lay p q part outer level (frame core.registers) (length core.below) s.stands.held s.stands.held_are (IsSeenMade tree w part)
+      let g : AreGivenCells sc context w lay p q part outer level (frame core.registers) (length core.below) s.stands.held s.stands.held_are (IsSeenMade tree w part)
       (named_leads tree code texts w lay p part outer core.below s.stands.frame s.around level) (parameter_cells sc b) b.parameters gs ws =
-      given_are sc w lay p q part outer level (frame core.registers) (length core.below) s.stands.held s.stands.held_are (IsSeenMade tree w part)
+      given_are sc context w lay p q part outer level (frame core.registers) (length core.below) s.stands.held s.stands.held_are (IsSeenMade tree w part)
       (named_leads tree code texts w lay p part outer core.below s.stands.frame s.around level) fit (parameter_cells sc b) b.parameters parameters.told refl arrays_seen ws are in
       record { cells = g.cells; lead = g.lead }
 

@@ -16,6 +16,7 @@ use Rattle.algol_paths.specs.Laws.{RestsKeepToTheirText, AllIsMadeInOrder}
 use Rattle.b67_word.specs.Word.{Word}
 use Rattle.b67_ops.specs.declared.Operator.TheVariants as ops
 use Rattle.b67_segment.specs.declared.code.Code.{Code}
+use Rattle.b67_templates.specs.Cells.{IsVariable}
 use Rattle.b67_templates.specs.Programs.{Texts}
 use Rattle.b67_store.specs.Store.{word_at}
 use Rattle.b67_table.specs.Chains.{place}
@@ -49,6 +50,7 @@ module _ (tree : PProgram) (code : Code) (texts : Texts) (fragments : FragmentsA
   sc = scopes_of tree
 
   module _ (n : Named) (asks : ask part.rest ≡ reads n) (a : ActionAt sc (context_in tree code texts w part) (text_in tree texts w part) (level_in tree w part) (most_in tree w part) (reads n) s.stands.pc s.stands.slots)
+      (v : IsVariable sc (level_in tree w part) n a.0 a.2.0)
       (answered : (r : Answer) (at : ℕ) (after : List Slot) → Acted sc (context_in tree code texts w part) (text_in tree texts w part) (level_in tree w part) (most_in tree w part) (reads n) s.stands.pc s.stands.slots a r at after →
       ComesTo sc (context_in tree code texts w part) (text_in tree texts w part) (level_in tree w part) (most_in tree w part) (resume sc part.rest r) at after) where
     -- the operator, and where it finds the variable
@@ -62,7 +64,7 @@ module _ (tree : PProgram) (code : Code) (texts : Texts) (fragments : FragmentsA
     found =
         home tree code texts w lay img p q part outer bound core s n a.0 a.2.0
         (reads_seen (IsSeen sc ((instance_at w part.instance).block)) n (IsInner sc ((instance_at w part.instance).block)) (IsSeenAround sc ((instance_at w part.instance).block))
-        (λ (seen : IsSeenAround sc ((instance_at w part.instance).block) n). seen.0) part.rest asks s.stands.frame.text) a.2.1
+        (λ (seen : IsSeenAround sc ((instance_at w part.instance).block) n). seen.0) part.rest asks s.stands.frame.text) v
 
     module _ (f : Found) where
       tag : f.word.tag ≡ 0

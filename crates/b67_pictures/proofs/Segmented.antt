@@ -3,10 +3,6 @@ use Rattle.std.proofs.Common.{◌≡◌, refl, sym, ap, ◌∙◌, ℕ, zero, su
 use Rattle.std.specs.Prelude.{if◌then◌else◌, slice_get}
 use Rattle.algol_tree.specs.Blocks.{Block, block_numbered, around}
 use Rattle.algol_paths.specs.Segments.{is_procedure, procedures_before, segment_among, segment_of}
-use Rattle.b67_control.specs.declared.Pcw.{Pcw}
-use Rattle.b67_control.specs.Control.{pcw_word}
-use Rattle.b67_templates.specs.Fragments.{code_at, procedure_controls}
-use Rattle.b67_cores.specs.Stretches.{control_words}
 
 procedure_passed : (b : Block) (bs : List Block) → (t : Bool) → is_procedure b ≡ t → length (filter is_procedure (b ∷ bs)) ≡ (if t then 1 else 0) + length (filter is_procedure bs)
 procedure_passed b bs true e = ap (λ (x : Bool). length (cond x (b ∷ filter is_procedure bs) (filter is_procedure bs))) e ∙ omega arith
@@ -60,14 +56,3 @@ get_mapped f (y ∷ ys) (suc k) x e = get_mapped f ys k x e
 pub length_mapped : {A B : Type 0} (f : A → B) (xs : List A) → length (map f xs) ≡ length xs
 length_mapped f [] = refl
 length_mapped f (x ∷ xs) = ap suc (length_mapped f xs)
-
--- ---- control words of procedures
-
-pub controls_many : (level : ℕ) (segments : List ℕ) → length (procedure_controls level segments) ≡ length segments
-controls_many level segments = length_mapped (λ (segment : ℕ). code_at segment 0 (level + 1)) segments
-
-pub get_control : (level : ℕ) (segments : List ℕ) (k s : ℕ) → slice_get segments k ≡ Some s →
-    slice_get (control_words (procedure_controls level segments)) k ≡ Some (pcw_word (code_at s 0 (level + 1)))
-get_control level segments k s e =
-    get_mapped (λ (pcw : Pcw). pcw_word pcw) (procedure_controls level segments) k (code_at s 0 (level + 1))
-    (get_mapped (λ (segment : ℕ). code_at segment 0 (level + 1)) segments k s e)

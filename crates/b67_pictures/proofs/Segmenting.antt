@@ -20,6 +20,7 @@ use Rattle.algol_tree.specs.Sites.{Site, name_part, wants_value, actual_part, fi
 use Rattle.algol_tree.specs.Sorts.{Declared}
 use Rattle.algol_tree.specs.Surroundings.{Surroundings, outermost, formals_at, knowing, knowing_all, inside, inside_procedure}
 use Rattle.algol_paths.specs.Segments.{is_procedure, procedures_before, segment_among, tokens_or_none, segment_tokens}
+use Rattle.b67_templates.specs.Arguments.{arguments_in_decls, arguments_in_stmts}
 use Rattle.b67_templates.specs.Cells.{procedures}
 use Rattle.b67_templates.specs.Depths.{decls_depth, stmts_depth}
 use Rattle.b67_faithful.specs.Weight.{tokens_around}
@@ -30,9 +31,9 @@ use Rattle.b67_pictures.proofs.Weighing.{decls_small, stmt_small, stmts_small}
 abbrev segs : List Site → List Segment
 segs xs = flat_map (λ (x : Site). segments_of_part x.part) xs
 
--- what a block's arrays and its statements need, and the control words of its procedures, and one word more
+-- what a block's arrays and its statements need, and the control words of its procedures and of its actuals, and one word more
 abbrev pub needs : Block → ℕ
-needs b = decls_depth b.decls + stmts_depth b.stmts + length (procedures b.decls) + 1
+needs b = decls_depth b.decls + stmts_depth b.stmts + length (procedures b.decls) + (arguments_in_decls b.decls + arguments_in_stmts b.stmts) + 1
 
 -- each block has room in its segment
 abbrev Pairs : List Block → List Segment → Type 0

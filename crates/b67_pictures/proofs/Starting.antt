@@ -4,7 +4,6 @@ use Rattle.std.specs.Prelude.{map, replicate, not, if◌then◌else◌, slice_ge
 use Rattle.std.proofs.lemmas.List.{length-replicate, length-map}
 use Rattle.b67_list.specs.Numbered.{numbered}
 use Rattle.algol_tree.specs.declared.token.Spot.{Spot}
-use Rattle.algol_tree.specs.declared.tree.Named.{Named}
 use Rattle.algol_tree.specs.Blocks.{Block, block_numbered, number_at, around}
 use Rattle.algol_tree.specs.Sorts.{Parameter, same_name}
 use Rattle.algol_tree.specs.Cells.{level_of}
@@ -36,9 +35,10 @@ use Rattle.b67_table.specs.Beginning.{base_mark, base_frame, first_registers, fi
 use Rattle.b67_table.specs.Chains.{place}
 use Rattle.b67_table.specs.Linkage.{base_control}
 use Rattle.b67_templates.specs.Contexts.{yields_of}
-use Rattle.b67_templates.specs.Code.{control_pcws}
-use Rattle.b67_templates.specs.Cells.{Simple, parameters_around, parameter_cells, simple_cells, zero_cells, procedures, control_segments, made_of}
+use Rattle.b67_templates.specs.Cells.{Simple, parameters_around, parameter_cells, simple_cells, zero_cells, actuals_of, made_of}
+use Rattle.b67_templates.specs.Depths.{decls_depth, stmts_depth}
 use Rattle.b67_templates.specs.Programs.{Texts, BodyAt, context_of, ProgramAt}
+use Rattle.b67_templates.proofs.Few.{actuals_are_few}
 use Rattle.b67_standing.specs.Standing.{ComesTo}
 use Rattle.b67_standing.specs.Laws.{BlocksStart}
 use Rattle.b67_cores.specs.Cores.{Core, IsCore, HasCore}
@@ -47,14 +47,14 @@ use Rattle.b67_faithful.specs.Weight.{tokens_around, weight}
 use Rattle.b67_faithful.proofs.Contradictions.{some_same, none_some}
 use Rattle.b67_fitting.specs.Names.{HasNames}
 use Rattle.b67_fitting.specs.Nested.{AreTold, AreNested}
-use Rattle.b67_pictures.proofs.Segmented.{controls_many}
+use Rattle.b67_pictures.proofs.ControlWords.{block_few, routines_long, controls_many}
 use Rattle.b67_pictures.specs.Arrays.{Allotted, Layout, rows_of_cells, HasArray, ArraysAre}
-use Rattle.b67_pictures.specs.Frames.{most_around, CellsAre, IsChained, Framed, outermost}
+use Rattle.b67_pictures.specs.Frames.{block_controls, controls_count, most_around, CellsAre, IsChained, Framed, outermost}
 use Rattle.b67_pictures.specs.Pictures.{Pictured, living, Pictures}
 use Rattle.b67_pictures.proofs.ArraysKept.{no_elements, no_rows}
 use Rattle.b67_pictures.proofs.Landing.{Landed, living_of}
 use Rattle.b67_pictures.proofs.Texted.{block_keeps, block_makes}
-use Rattle.b67_pictures.proofs.Segmenting.{needs, block_small}
+use Rattle.b67_pictures.proofs.Segmenting.{block_small}
 use Rattle.b67_pictures.proofs.Formals.{LeadAll, lead_there}
 use Rattle.b67_pictures.proofs.FreshCells.{fresh_are, fresh_lead, none_are, none_lead, simple_many}
 use Rattle.b67_pictures.proofs.Zeros.{zero_word, cells_length}
@@ -95,8 +95,11 @@ module _ (tree : PProgram) (code : Code) (names : HasNames tree) (nested : AreNe
   abbrev many : ℕ
   many = length (zero_cells block)
 
+  body : BodyAt sc (context_of code texts sc 0) text level block 0
+  body = stands.bodies 0 nested.some (inl refl)
+
   abbrev controls : List Pcw
-  controls = control_pcws sc level block.decls
+  controls = block_controls sc 0 body.ats
 
   abbrev cells : List Word
   cells = replicate many zero_word ++ control_words controls
@@ -119,9 +122,6 @@ module _ (tree : PProgram) (code : Code) (names : HasNames tree) (nested : AreNe
   segment : (s : Segment) × (slice_get code.segments 0 ≡ Some s)
   segment = first_there code.segments (omega (arith, stands.many))
 
-  body : BodyAt sc (context_of code texts sc 0) text level block 0
-  body = stands.bodies 0 nested.some (inl refl)
-
   -- the outermost block has no parameters
   no_cells : parameter_cells sc block ≡ []
   no_cells = ap (λ (o : List Spot). parameters_around sc.blocks o block.spot) nested.outer
@@ -136,9 +136,11 @@ module _ (tree : PProgram) (code : Code) (names : HasNames tree) (nested : AreNe
   all_many : length (simple_cells sc block) ≡ many
   all_many = omega (arith, simple_many sc block, ap length no_cells)
 
-  many_controls : length controls ≡ length (procedures block.decls)
-  many_controls =
-      controls_many level (control_segments sc block.decls) ∙ length-map (procedures block.decls) (λ (n : Named). segment_of sc.blocks (number_at sc.blocks n.spot))
+  each_has_place : length body.ats ≡ length (actuals_of sc block)
+  each_has_place = routines_long sc (context_of code texts sc 0) text (level + 1) (actuals_of sc block) body.ats body.routines
+
+  many_controls : length controls ≡ controls_count sc 0
+  many_controls = controls_many sc 0 body.ats each_has_place
 
   at_first : CoreAt sc [] code text level 0 [] first_core
   at_first =
@@ -156,10 +158,10 @@ module _ (tree : PProgram) (code : Code) (names : HasNames tree) (nested : AreNe
   begun : Begins sc [] code text level bound many controls body.start first_core
   begun =
       begin sc [] (context_of code texts sc 0) code text level bound many controls 0 body.begin body.start first_core body.over body.cells at_first
-      (omega (arith, (nested.each 0 nested.some).few, all_many, many_controls)) (omega arith)
+      (omega (arith, block_few sc nested 0 nested.some, all_many, many_controls)) (omega arith)
 
-  small : needs block ≤ 4 * tokens_around tree 0
-  small = block_small tree names 0 nested.some (inl refl)
+  small : decls_depth block.decls + stmts_depth block.stmts + controls_count sc 0 + 1 ≤ 4 * tokens_around tree 0
+  small = omega (arith, block_small tree names 0 nested.some (inl refl), actuals_are_few sc block)
 
   comes : ComesTo sc (context_of code texts sc 0) text level most (settle_items sc (items_of block)) body.start []
   comes = starts sc (context_of code texts sc 0) text level most block body.start body.items (omega (arith, small)) (omega (arith, small))
@@ -209,6 +211,8 @@ module _ (tree : PProgram) (code : Code) (names : HasNames tree) (nested : AreNe
         values = replicate many zero_word;
         simple_are = zeros;
         formals = lead_there sc w first_lay [] (simple_cells sc block) (fresh_cells block []) (replicate many zero_word) zeros_lead;
+        ats = body.ats;
+        each_has_place = each_has_place;
         arrays = [];
         declared = [];
         later = made_of block.decls;
@@ -266,6 +270,7 @@ module _ (tree : PProgram) (code : Code) (names : HasNames tree) (nested : AreNe
           cells = cells;
           words_are = begun.below;
           framed = framed;
+          routines = body.routines;
           text = block_keeps sc 0 keeps (nested.each 0 nested.some);
           making = sym (block_makes sc 0 order (nested.each 0 nested.some));
         };

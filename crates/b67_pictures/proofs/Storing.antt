@@ -256,6 +256,7 @@ module _ (tree : PProgram) (code : Code) (texts : Texts) (fragments : FragmentsA
           cells = still.frame.cells;
           words_are = still.frame.words_are;
           framed = still.frame.framed;
+          routines = still.frame.routines;
           text = kept.resumed sc ((instance_at w' part.instance).block) part.rest done still.frame.text tt;
           making = still.frame.making ∙ sym (unmade part.rest (ap makes asks)) ∙ sym (order.resumed sc ((instance_at w' part.instance).block) part.rest done still.frame.text);
         }

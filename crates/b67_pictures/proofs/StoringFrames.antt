@@ -17,9 +17,8 @@ use Rattle.b67_word.specs.declared.Place.{Place}
 use Rattle.b67_word.specs.Word.{Word}
 use Rattle.b67_segment.specs.declared.code.Code.{Code}
 use Rattle.b67_table.specs.Chains.{place}
-use Rattle.b67_templates.specs.Fragments.{procedure_controls}
 use Rattle.b67_templates.specs.Contexts.{Yields, yields_of}
-use Rattle.b67_templates.specs.Cells.{Simple, simple_cells, control_segments, made_of}
+use Rattle.b67_templates.specs.Cells.{Simple, simple_cells, actuals_of, made_of}
 use Rattle.b67_templates.specs.Programs.{Texts, context_of}
 use Rattle.b67_standing.specs.Standing.{Gives, pushed, ComesTo}
 use Rattle.b67_cores.specs.Slots.{Known, newest, SlotsAre}
@@ -27,7 +26,7 @@ use Rattle.b67_cores.specs.Stretches.{control_words}
 use Rattle.b67_faithful.specs.Weight.{parts_weight}
 use Rattle.b67_faithful.proofs.Contradictions.{some_same}
 use Rattle.b67_pictures.specs.Arrays.{Allotted, Layout, AreMade, AreKnown, IsOwn}
-use Rattle.b67_pictures.specs.Frames.{CellsAre, most_around, IsComplete, IsPlaced, outermost, inside, home_of, Framed, Frame, Waits, Around}
+use Rattle.b67_pictures.specs.Frames.{CellsAre, block_controls, most_around, IsComplete, IsPlaced, outermost, inside, home_of, Framed, RoutinesStand, Frame, Waits, Around}
 use Rattle.b67_pictures.proofs.FreshCells.{words_long}
 use Rattle.b67_pictures.proofs.Knowing.{KeepsArrays, Remain, keeps_same, leads_lasts, known_lasts, climbs_all}
 use Rattle.b67_pictures.proofs.Numbers.{same_or_not, numbered_set, numbered_other}
@@ -161,12 +160,9 @@ module _ (tree : PProgram) (code : Code) (texts : Texts) (w : World) (lay : Layo
       words_long (simple_cells sc (block_numbered sc.blocks f.framed.instance.block)) f.framed.simple f.framed.values f.framed.simple_are
       ∙ ap (λ (y : Instance). length (simple_cells sc (block_numbered sc.blocks y.block))) (frame_is part outer words f e)
 
-  abbrev controls_of : Instance → List Word
-  controls_of y = control_words (procedure_controls (level_of (block_numbered sc.blocks y.block)) (control_segments sc (block_numbered sc.blocks y.block).decls))
-
   frame_cells : (part : Part) (outer : List Part) (words : List Word) (f : Before part outer words) → part.instance ≡ i → length ss ≤ length f.cells
   frame_cells part outer words f e =
-      omega (arith, frame_values part outer words f e, ap length f.framed.cells_is, length-append f.framed.values (controls_of f.framed.instance ++ f.framed.descriptors))
+      omega (arith, frame_values part outer words f e, ap length f.framed.cells_is, length-append f.framed.values (control_words (block_controls sc f.framed.instance.block f.framed.ats) ++ f.framed.descriptors))
 
   -- so the cell lies among the words of the parts
   cell_low : (parts : List Part) (words : List Word) → Lies tree code texts w lay p parts i words → (IsStored word → k < length words) × (high + 2 ≤ length words)
@@ -264,6 +260,8 @@ module _ (tree : PProgram) (code : Code) (texts : Texts) (w : World) (lay : Layo
               let g = f.framed.formals n t shape (ap (λ (y : Instance). slice_get (simple_cells sc (block_numbered sc.blocks y.block)) n) is_x ∙ there) told in
               let stay = c.references n g.0 g.1 g.2 g.3 g.4 g.5 in
               (g.0, g.1, g.2, stay.0, stay.1, g.5, leads_lasts sc w w' lay lay outer outer (all_remain outer) shape g.2 g.1 g.6);
+          ats = f.framed.ats;
+          each_has_place = subst (λ (y : Instance). length f.framed.ats ≡ length (actuals_of sc (block_numbered sc.blocks y.block))) is_x f.framed.each_has_place;
           arrays = c.arrays;
           declared = f.framed.declared;
           later = f.framed.later;
@@ -272,8 +270,8 @@ module _ (tree : PProgram) (code : Code) (texts : Texts) (w : World) (lay : Layo
           made = subst (λ (j : ℕ). AreMade f.framed.declared c.arrays (lay.rows j) f.framed.descriptors) (sym e) c.made;
           has = c.has;
           cells_is =
-              ap (λ (ws : List Word). put word ws far) (subst (λ (y : Instance). f.cells ≡ f.framed.values ++ (controls_of y ++ f.framed.descriptors)) is_x f.framed.cells_is)
-              ∙ put_first word f.framed.values (controls_of x ++ f.framed.descriptors) far (λ set. omega (arith, short set, frame_values part outer words f e));
+              ap (λ (ws : List Word). put word ws far) (subst (λ (y : Instance). f.cells ≡ f.framed.values ++ (control_words (block_controls sc y.block f.framed.ats) ++ f.framed.descriptors)) is_x f.framed.cells_is)
+              ∙ put_first word f.framed.values (control_words (block_controls sc x.block f.framed.ats) ++ f.framed.descriptors) far (λ set. omega (arith, short set, frame_values part outer words f e));
           placed = placed_so outer f.framed.instance (changed w i x at with_cells) (ap (λ (y : Instance). y.parent) is_x) (ap (λ (y : Instance). y.block) is_x) f.framed.placed;
           home = f.framed.home;
           linked = subst (λ (y : Instance). home_of sc w' lay y.parent ≡ Some f.framed.home) is_x (home_after tree code texts w w' lay lay p high stays f.framed.instance.parent f.framed.home f.framed.linked);
@@ -301,6 +299,8 @@ module _ (tree : PProgram) (code : Code) (texts : Texts) (w : World) (lay : Layo
         formals = λ n t shape there told.
             let g = f.framed.formals n t shape there told in
             (g.0, g.1, g.2, g.3, g.4, g.5, leads_lasts sc w w' lay lay outer outer (all_remain outer) shape g.2 g.1 g.6);
+        ats = f.framed.ats;
+        each_has_place = f.framed.each_has_place;
         arrays = f.framed.arrays;
         declared = f.framed.declared;
         later = f.framed.later;
@@ -334,6 +334,7 @@ module _ (tree : PProgram) (code : Code) (texts : Texts) (w : World) (lay : Layo
               ∙ put_second word f.lower (f.mark ∷ f.control ∷ f.cells) k (suc (suc far)) (omega (arith, place_is, height))
               ∙ ap (λ (ws : List Word). f.lower ++ ws) (put_cells word f.mark f.control f.cells far);
           framed = own_framed part outer words f e (own_cells part outer words f e);
+          routines = subst (λ (y : Instance). RoutinesStand tree code texts y.block f.framed.ats) (is_x part outer words f e) f.routines;
           text = text_so part outer words f;
           making = f.making;
         };
@@ -356,6 +357,7 @@ module _ (tree : PProgram) (code : Code) (texts : Texts) (w : World) (lay : Layo
           words_are = ap (λ (ws : List Word). put word ws k) f.words_are
               ∙ put_first word f.lower (f.mark ∷ f.control ∷ f.cells) k lies.0;
           framed = other_framed part outer words f (λ (e : part.instance ≡ i). let height : length f.lower ≡ high = frame_high part outer words f e in omega (arith, height, lies.1));
+          routines = f.routines;
           text = text_so part outer words f;
           making = f.making;
         };
@@ -385,7 +387,7 @@ module _ (tree : PProgram) (code : Code) (texts : Texts) (w : World) (lay : Layo
           pc = s.pc;
           slots = s.slots;
           returns = subst (λ (b : ℕ). (r : Answer) → Gives wanted r →
-              ComesTo sc (context_of code texts sc b) (texts.placed (segment_of sc.blocks b)) (level_of (block_numbered sc.blocks b)) (most_around tree b) (resume sc part.rest r) s.pc (pushed r s.slots)) block_is s.returns;
+              ComesTo sc (context_of code texts sc b) (texts.placed (segment_of sc.blocks b)) (level_of (block_numbered sc.blocks b)) (most_around tree b) (resume sc part.rest r) s.pc (pushed wanted r s.slots)) block_is s.returns;
           few = subst (λ (b : ℕ). length s.slots + 1 ≤ most_around tree b) block_is s.few;
           held = s.held;
           held_are = known_stored (part ∷ outer) part.instance s.held s.held_are;

@@ -1,5 +1,5 @@
--- The references that STFF made are known: each display register names the frame of a static parent.
-use Rattle.std.proofs.Common.{◌≡◌, refl, sym, ap, ◌∙◌, subst, ℕ, ◌+◌, ◌-◌, ◌≤◌, List, [], ◌∷◌, ◌++◌, Option, Some, arith}
+-- The references that STFF made are known: each display register names the frame of a static parent, that of its level the part's own.
+use Rattle.std.proofs.Common.{◌≡◌, inl, refl, sym, ap, ◌∙◌, subst, ℕ, ◌+◌, ◌-◌, ◌≤◌, List, [], ◌∷◌, ◌++◌, Option, Some, arith}
 use Rattle.std.specs.Prelude.{IsSome}
 use Rattle.b67_list.specs.Numbered.{numbered}
 use Rattle.algol_tree.specs.Plain.{PProgram}
@@ -14,11 +14,11 @@ use Rattle.b67_ops.specs.declared.TheConstants.{OUTER_LEVEL}
 use Rattle.b67_segment.specs.declared.code.Code.{Code}
 use Rattle.b67_templates.specs.Contexts.{Context}
 use Rattle.b67_templates.specs.Programs.{Texts}
-use Rattle.b67_standing.specs.Stepping.{Held, Stuffable, of_array}
+use Rattle.b67_standing.specs.Stepping.{Held, Stuffable, of_array, of_variable, of_actual}
 use Rattle.b67_cores.specs.Cores.{Core}
 use Rattle.b67_cores.specs.Slots.{Known}
 use Rattle.b67_cores.specs.Stretches.{Sees, IsStuffed, AreStuffed}
-use Rattle.b67_pictures.specs.Arrays.{Layout, HeldIs, AreKnown}
+use Rattle.b67_pictures.specs.Arrays.{Layout, an_array_named, a_variable_named, HeldIs, AreKnown}
 use Rattle.b67_pictures.specs.Frames.{IsChained, Frame, Around}
 use Rattle.b67_pictures.proofs.Lying.{Lies, lies_frame, own_parent}
 use Rattle.b67_pictures.proofs.Staying.{level_in, context_in, wanted_in}
@@ -64,11 +64,35 @@ module _ (tree : PProgram) (code : Code) (texts : Texts) (w : World) (lay : Layo
       record {
         own = own_parent tree code texts w lay p part outer words f a up near;
         level = level;
-        declared = d;
         couple = c;
-        array = is;
+        names = an_array_named d is;
         frame = frame;
         laid = sym (chained up near) ∙ ap (place_at core.registers.display) up_level ∙ shown;
+        word_is = word_is;
+      }
+  named_stuffed held couple word frame (of_variable n kind c is outer_level) shown word_is =
+      let up : ℕ = (use_of sc n).up in
+      let near : up + OUTER_LEVEL ≤ level = omega (arith, is.level_is, outer_level) in
+      let up_level : level - up ≡ c.level = omega (arith, is.level_is) in
+      record {
+        own = own_parent tree code texts w lay p part outer words f a up near;
+        level = level;
+        couple = c;
+        names = a_variable_named kind is;
+        frame = frame;
+        laid = sym (chained up near) ∙ ap (place_at core.registers.display) up_level ∙ shown;
+        word_is = word_is;
+      }
+  named_stuffed held couple word frame (of_actual e kind c is) shown word_is =
+      let near : 0 + OUTER_LEVEL ≤ level = omega (arith, is.level_is, is.outer) in
+      let own_level : level - 0 ≡ c.level = omega (arith, is.level_is) in
+      record {
+        own = inl refl;
+        level = level;
+        couple = c;
+        stands = is;
+        frame = frame;
+        laid = sym (chained 0 near) ∙ ap (place_at core.registers.display) own_level ∙ shown;
         word_is = word_is;
       }
 

@@ -6,10 +6,10 @@ use Rattle.algol_tree.specs.declared.token.Spot.{Spot}
 use Rattle.algol_tree.specs.declared.tree.Named.{Named}
 use Rattle.algol_tree.specs.declared.tree.PhraseText.{PhraseText}
 use Rattle.algol_tree.specs.Plain as tree_forms
-use Rattle.algol_tree.specs.Plain.{PProgram, PStmts, PDecls, PPair}
+use Rattle.algol_tree.specs.Plain.{PProgram, PStmts, PDecls}
 use Rattle.algol_tree.specs.Scopes.{Scopes, scopes_of}
 use Rattle.algol_meaning.specs.Value.{Value, number}
-use Rattle.algol_meaning.specs.Rest.{own, there, element_of, Given, done, value, cell, place as at_place, entered}
+use Rattle.algol_meaning.specs.Rest.{Place as FoundPlace, own, there, element_of, Given, done, value, cell, place as at_place, entered}
 use Rattle.algol_meaning.specs.World.{Process, Part, World, instance_at}
 use Rattle.algol_meaning.specs.Asks.{Ask, nothing, reads, reads_element, indexes, asks_happened, fails, enters, passes, resolves, reads_result, leaves, stores, selects, turns, goes_to, enters_block, starts, acts, writes, makes_arrays, makes_event, ask}
 use Rattle.algol_paths.specs.Blocks.{IsSeen, IsSeenAround, IsInner}
@@ -55,6 +55,8 @@ use Rattle.b67_pictures.specs.Pictures.{Living, PicturesBy}
 use Rattle.b67_pictures.proofs.GivenWords.{AreFit, none_wanted, are_fit, Taken, taken_words}
 use Rattle.b67_pictures.proofs.Asked.{reads_seen, stores_seen}
 use Rattle.b67_pictures.proofs.AskedEntries.{enters_seen}
+use Rattle.b67_pictures.proofs.NoNames.{none_formal, read_variable}
+use Rattle.b67_pictures.proofs.Unresolved.{none_resolved}
 use Rattle.b67_pictures.proofs.Scene.{Scene, scene_of, shown_frame}
 use Rattle.b67_pictures.proofs.Slotted.{Top, top_slot}
 use Rattle.b67_pictures.proofs.Yielding.{result_given}
@@ -122,7 +124,8 @@ module _ (tree : PProgram) (code : Code) (texts : Texts) (nested : AreNested (sc
     read_near : (n : Named) → ask part.rest ≡ reads n → At (reads n) → Comes
     read_near n e a =
         let seen : IsSeen sc block n = reads_seen (IsSeen sc block) n (IsInner sc block) (IsSeenAround sc block) (λ (seen : IsSeenAround sc block n). seen.0) part.rest e s.stands.frame.text in
-        operand_near a.2.0 a.1 a.2.2 (variable_there tree code texts nested w lay img p q part outer bound core s n a.0 a.2.0 seen a.2.1)
+        operand_near a.2.0 a.1 a.2.2 (variable_there tree code texts nested w lay img p q part outer bound core s n a.0 a.2.0 seen
+        (read_variable sc nested level n a.0 a.2.0 a.2.1))
 
     result_near : (name : List ℕ) → At (reads_result name) → Comes
     result_near name a =
@@ -151,6 +154,9 @@ module _ (tree : PProgram) (code : Code) (texts : Texts) (nested : AreNested (sc
     given_near : (v : Value) → At (leaves (value v)) → Comes
     given_near v a = by_op (ops.Plain kinds.Retn) a.1 a.4 (none_named p img r kinds.Retn (λ e. cc) (λ n takes. takes))
 
+    place_near : (x : FoundPlace) → At (leaves (at_place x)) → Comes
+    place_near x a = by_op (ops.Plain kinds.Retn) a.1 a.4 (none_named p img r kinds.Retn (λ e. cc) (λ n takes. takes))
+
     called : (name : Intrinsic) (vs : List Value) (below : List Slot) → s.stands.slots ≡ operands vs (intrinsic name ∷ mark ∷ below) → NamesNear p img (ops.Plain kinds.Entr) r
     called name vs below lies =
         call_names img p core s.has s.by.system s.sees sc s.stands.held level (frame r) s.stands.slots s.stands.there.mark_is s.stands.there.words_are name vs below lies
@@ -163,13 +169,13 @@ module _ (tree : PProgram) (code : Code) (texts : Texts) (nested : AreNested (sc
         by_op (ops.Plain kinds.Entr) a.0 a.2.stands (called names.Select (v ∷ number (pos (stmts_count ss)) ∷ number (pos a.0) ∷ []) a.1 a.2.lies)
 
     -- the word above the mark, under the words of actuals
-    above_mark : (wanted : List Wanted) (gs : List Given) → AreFit sc level wanted gs → (slot : Slot) (below : List Slot) → s.stands.slots ≡ given_slots wanted gs (slot ∷ mark ∷ below) →
+    above_mark : (wanted : List Wanted) (gs : List Given) → AreFit sc context wanted gs → (slot : Slot) (below : List Slot) → s.stands.slots ≡ given_slots wanted gs (slot ∷ mark ∷ below) →
         newest (frame r) (length core.below) (slot ∷ mark ∷ below) ≡ length core.below + length below →
         (y : Word) × SlotIs sc s.stands.held level (frame r) (length core.below) (mark ∷ below) slot y × (word_at img.stacks (place r.stack (r.f + 1)) ≡ Some y)
     above_mark wanted gs fit slot below lies marks =
         let base : ℕ = length core.below in
         let g : Taken sc s.stands.held level (frame r) base wanted gs (slot ∷ mark ∷ below) core.words =
-        taken_words sc s.stands.held level (frame r) base fit (slot ∷ mark ∷ below) core.words (subst (λ (l : List Slot). SlotsAre sc s.stands.held level (frame r) base l core.words) lies s.stands.there.words_are) in
+        taken_words sc s.stands.held level (frame r) base context fit (slot ∷ mark ∷ below) core.words (subst (λ (l : List Slot). SlotsAre sc s.stands.held level (frame r) base l core.words) lies s.stands.there.words_are) in
         let first : Top sc s.stands.held level (frame r) base slot (mark ∷ below) g.others = top_slot sc s.stands.held level (frame r) base (slot ∷ mark ∷ below) slot (mark ∷ below) g.others g.are refl in
         let many : length first.words_below ≡ length (mark ∷ below) = slots_length sc s.stands.held level (frame r) base (mark ∷ below) first.words_below first.are in
         let f : r.f ≡ base + length below = s.stands.there.mark_is ∙ ap (newest (frame r) base) lies ∙ g.mark_is ∙ marks in
@@ -202,7 +208,7 @@ module _ (tree : PProgram) (code : Code) (texts : Texts) (nested : AreNested (sc
         let seen : IsSeen sc block n = (enters_seen (IsSeen sc block) n gs (IsInner sc block) (IsSeenAround sc block) (λ m (seen : IsSeenAround sc block m). seen.0) part.rest e s.stands.frame.text).0 in
         let couple : Couple = a.3.couple in
         let fits : (couple.level < 32) × (couple.index < 2 ^ 14) = procedure_fits sc nested level n a.0 couple a.3.procedure known in
-        let above = above_mark (parameter_wants sc a.0) gs (are_fit sc level (parameter_wants sc a.0) gs a.3.fit) (reference couple) a.2 a.3.lies refl in
+        let above = above_mark (parameter_wants sc a.0) gs (are_fit sc context (parameter_wants sc a.0) gs a.3.fit) (reference couple) a.2 a.3.lies refl in
         let c : InCell couple IsEntry = procedure_there tree code texts nested w lay img p q part outer bound core s n a.0 couple seen a.3.procedure in
         by_op (ops.Plain kinds.Entr) a.1 a.3.stands
         (entry_names p img r above.0 above.2 (record { level = couple.level; index = couple.index }) (ap as_irw above.1 ∙ reference_read couple fits.0 fits.1) c.home c.shown c.near
@@ -223,16 +229,16 @@ module _ (tree : PProgram) (code : Code) (texts : Texts) (nested : AreNested (sc
     by_ask (enters n gs) e a = called_near n gs e a
     by_ask (reads_result name) e a = result_near name a
     by_ask (leaves (cell c)) e a = absurd a
-    by_ask (leaves (at_place y)) e a = absurd a
+    by_ask (leaves (at_place y)) e a = place_near y a
     by_ask (leaves entered) e a = absurd a
-    by_ask (stores (there y) v) e a = absurd a
+    by_ask (stores (there y) v) e a = absurd (none_resolved tree code texts w lay img p q part outer bound core s y a.2.kind v a.1 a.2.lies)
     by_ask (stores (element_of y ks) v) e a = element_stored_near tree code texts nested w lay img p q part outer bound core s y ks v a
     by_ask nothing e a = absurd a
     by_ask (reads_element n ks v) e a = element_read_near tree code texts nested w lay img p q part outer bound core s n ks v e a
     by_ask (indexes n ks v) e a = indexed_near tree code texts nested w lay img p q part outer bound core s n ks v e a
     by_ask (asks_happened n) e a = absurd a
     by_ask (passes n) e a = passed_near tree code texts nested w lay img p q part outer bound core s n e a
-    by_ask (resolves n) e a = absurd a
+    by_ask (resolves n) e a = absurd (none_formal sc nested level n a.0 a.3.couple a.3.is_formal)
     by_ask (goes_to n) e a = absurd a
     by_ask (starts n gs task) e a = absurd a
     by_ask (acts y n) e a = absurd a

@@ -24,8 +24,8 @@ use Rattle.b67_table.specs.Chains.{place}
 use Rattle.b67_table.specs.Image.{Image}
 use Rattle.b67_table.specs.Private.{display_at}
 use Rattle.b67_templates.specs.Cells as wants
-use Rattle.b67_templates.specs.Cells.{Simple, result_of, variables, parameter_cells, simple_cells, procedures, control_segments, IsVariable, IsProcedure}
-use Rattle.b67_templates.specs.Fragments.{code_at, procedure_controls}
+use Rattle.b67_templates.specs.Cells.{Simple, result_of, variables, parameter_cells, simple_cells, procedures, IsVariable, IsProcedure}
+use Rattle.b67_templates.specs.Fragments.{code_at}
 use Rattle.b67_templates.specs.Programs.{Texts}
 use Rattle.b67_cores.specs.Cores.{Core}
 use Rattle.b67_cores.specs.Stretches.{control_words}
@@ -38,7 +38,9 @@ use Rattle.b67_pictures.proofs.Lying.{Lies, lies_in, IsParent, parents_in}
 use Rattle.b67_pictures.proofs.Numbers.{get_below}
 use Rattle.b67_pictures.proofs.Rows.{words_are}
 use Rattle.b67_pictures.proofs.Scene.{Scene, shown_frame}
-use Rattle.b67_pictures.proofs.Segmented.{procedure_segment, get_mapped, get_control}
+use Rattle.b67_pictures.specs.Frames.{block_controls}
+use Rattle.b67_pictures.proofs.ControlWords.{get_control}
+use Rattle.b67_pictures.proofs.Segmented.{procedure_segment, get_mapped}
 use Rattle.b67_pictures.proofs.StackWords.{get-front}
 use Rattle.b67_pictures.proofs.Parents.{length_around}
 use Rattle.b67_pictures.proofs.Staying.{level_in}
@@ -226,7 +228,7 @@ module _ (tree : PProgram) (code : Code) (texts : Texts) (nested : AreNested (sc
           (omega (arith, procedure_segment sc.blocks called is_declared.procedure, few), (lit< tt, (lit< tt, (omega (arith, further, deep), (lit< tt, tt)))))
 
       abbrev controls_there : List Word
-      controls_there = control_words (procedure_controls (level_of declaring) (control_segments sc declaring.decls))
+      controls_there = control_words (block_controls sc here.block l.frame.framed.ats)
 
       cells_lie : slice_get l.frame.cells (length (simple_cells sc declaring) + c.number) ≡ Some (pcw_word control)
       cells_lie =
@@ -234,7 +236,7 @@ module _ (tree : PProgram) (code : Code) (texts : Texts) (nested : AreNested (sc
           ∙ get-behind l.frame.framed.values (controls_there ++ l.frame.framed.descriptors) c.number (length (simple_cells sc declaring) + c.number)
           (omega (arith, words_many (simple_cells sc declaring) l.frame.framed.simple l.frame.framed.values l.frame.framed.simple_are))
           ∙ get-front controls_there l.frame.framed.descriptors c.number (pcw_word control)
-          (get_control (level_of declaring) (control_segments sc declaring.decls) c.number segment
+          (get_control sc here.block l.frame.framed.ats c.number segment
           (get_mapped (λ (m : Named). segment_of sc.blocks (number_at sc.blocks m.spot)) (procedures declaring.decls) c.number c.declared declared_there))
 
       far : length l.frame.lower + couple.index ≡ length l.frame.lower + suc (suc (length (simple_cells sc declaring) + c.number))

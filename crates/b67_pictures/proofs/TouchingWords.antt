@@ -39,11 +39,10 @@ use Rattle.b67_table.specs.PrivateRows as rows
 use Rattle.b67_table.specs.References.{cell_word}
 use Rattle.b67_table.specs.declared.Cell as frame_cells
 use Rattle.b67_templates.specs.Contexts.{Yields}
-use Rattle.b67_templates.specs.Fragments.{code_at, procedure_controls}
 use Rattle.b67_templates.specs.Cells as wants
-use Rattle.b67_templates.specs.Cells.{Simple, Found, simple_cells, found_from, procedures, control_segments, IsVariable, IsProcedure, Wanted, made_of}
+use Rattle.b67_templates.specs.Cells.{Simple, Found, simple_cells, found_from, procedures, IsVariable, IsProcedure, Wanted, made_of}
 use Rattle.b67_templates.specs.Programs.{Texts}
-use Rattle.b67_standing.specs.Stepping.{Held, row, element, cell_named, passed, Slot, operand, reference, intrinsic, control, descriptor, mark}
+use Rattle.b67_standing.specs.Stepping.{Held, row, element, variable, cell_named, actual, passed, Slot, operand, reference, intrinsic, control, descriptor, mark}
 use Rattle.b67_cores.specs.Cores.{Core, size, stack_of}
 use Rattle.b67_cores.specs.Slots.{ValueIs, Known, IsKnown, SlotsAre}
 use Rattle.b67_cores.specs.Stretches.{control_words}
@@ -51,7 +50,7 @@ use Rattle.b67_cores.proofs.Moving.{slots_length}
 use Rattle.b67_faithful.proofs.Contradictions.{some_same}
 use Rattle.b67_fitting.specs.Nested.{AreNested}
 use Rattle.b67_pictures.specs.Arrays.{Allotted, Layout, DescriptorIs, AreMade, HeldIs, AreKnown}
-use Rattle.b67_pictures.specs.Frames.{CellIs, CellsAre, IsPlaced, outermost, inside, home_of, result_of_part, Frame, Stands, Waits, Around, level_at}
+use Rattle.b67_pictures.specs.Frames.{CellIs, CellsAre, block_controls, IsPlaced, outermost, inside, home_of, result_of_part, Frame, Stands, Waits, Around, level_at}
 use Rattle.b67_pictures.proofs.Lying.{Lies, lies_low, lies_around}
 use Rattle.b67_pictures.proofs.Numbers.{get_below}
 use Rattle.b67_pictures.proofs.StackWords.{reverse-cons}
@@ -210,9 +209,9 @@ module _ (Home : ℕ → ℕ → Type 0) (root : (n : ℕ) → Home 0 n) where
   cells_lead (s ∷ ss) (c ∷ cells) (w ∷ words) are referred =
       (cell_leads s.wanted c.cell w are.1 (λ shape told. referred 0 s shape w refl told refl), cells_lead ss cells words are.2 (λ k t shape x there told lies. referred (suc k) t shape x there told lies))
 
-  controls_lead : (level : ℕ) (segments : List ℕ) → AllLead (control_words (procedure_controls level segments))
-  controls_lead level [] = tt
-  controls_lead level (segment ∷ segments) = (control_leads (code_at segment 0 (level + 1)), controls_lead level segments)
+  controls_lead : (pcws : List Pcw) → AllLead (control_words pcws)
+  controls_lead [] = tt
+  controls_lead (c ∷ pcws) = (control_leads c, controls_lead pcws)
 
   -- the descriptors of arrays
   array_leads : (bs : List Bounds) (a : Allotted) (w : Word) → DescriptorIs bs a w → LinksTo Home w
@@ -240,6 +239,8 @@ module _ (sc : Scopes) (w : World) (lay : Layout) (Home : ℕ → ℕ → Type 0
   held_leads (row n ks) x is = subst (LinksTo Home) (sym is.word_is) (descriptor_leads Home root _)
   held_leads (element r ks kind) x is = subst (LinksTo Home) (sym is.word_is) (descriptor_leads Home root _)
   held_leads (cell_named n) x is = subst (LinksTo Home) (sym is.word_is) (cell_word_leads Home root _)
+  held_leads (actual e kind) x is = subst (LinksTo Home) (sym is.word_is) (cell_word_leads Home root _)
+  held_leads (variable r kind) x is = absurd is
   held_leads (passed (wants.array shape) (refers r)) x is = subst (LinksTo Home) (sym is.word_is) (cell_word_leads Home root _)
   held_leads (passed _ c) x is = absurd is
 
@@ -279,7 +280,7 @@ module _ (sc : Scopes) (nested : AreNested sc) where
   few_cells b = by_number (block_or_none sc sc.blocks b)
     where
       by_number : (b < length sc.blocks) ⊎ (cells_of sc (block_numbered sc.blocks b) ≡ 0) → cells_of sc (block_numbered sc.blocks b) ≤ MOST_BLOCK_CELLS
-      by_number (inl low) = (nested.each b low).few
+      by_number (inl low) = omega (arith, (nested.each b low).few)
       by_number (inr e) = omega (arith, e)
 
   -- the couples of a variable and of a procedure fit a reference
@@ -372,8 +373,8 @@ module _ (tree : PProgram) (code : Code) (texts : Texts) (nested : AreNested (sc
             subst (AllLead Home root) (sym f.framed.cells_is)
                 (lead_both Home root f.framed.values _ (cells_lead Home root (simple_cells sc (block_numbered sc.blocks f.framed.instance.block)) f.framed.simple f.framed.values f.framed.simple_are
                 (formals_lead part outer words f))
-                (lead_both Home root (control_words (procedure_controls (level_of (block_numbered sc.blocks f.framed.instance.block)) (control_segments sc (block_numbered sc.blocks f.framed.instance.block).decls))) f.framed.descriptors
-                (controls_lead Home root (level_of (block_numbered sc.blocks f.framed.instance.block)) (control_segments sc (block_numbered sc.blocks f.framed.instance.block).decls))
+                (lead_both Home root (control_words (block_controls sc f.framed.instance.block f.framed.ats)) f.framed.descriptors
+                (controls_lead Home root (block_controls sc f.framed.instance.block f.framed.ats))
                 (arrays_lead Home root f.framed.declared f.framed.arrays (lay.rows part.instance) f.framed.descriptors f.framed.made))),
           ),
         ))

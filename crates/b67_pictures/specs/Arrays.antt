@@ -3,6 +3,7 @@ use Rattle.std.specs.Prelude.{◌≡◌, ◌⊎◌, ℕ, ◌+◌, ◌*◌, ◌<�
 use Rattle.b67_list.specs.Numbered.{numbered}
 use Rattle.algol_tree.specs.declared.tree.Kind.{Kind}
 use Rattle.algol_tree.specs.declared.tree.Named.{Named}
+use Rattle.algol_tree.specs.Plain.{PExpr}
 use Rattle.algol_tree.specs.Blocks.{block_numbered}
 use Rattle.algol_tree.specs.Scopes.{Scopes, use_of}
 use Rattle.algol_meaning.specs.declared.TheConstants.{MOST_ELEMENTS}
@@ -19,8 +20,8 @@ use Rattle.b67_table.specs.Arrays.{array_word}
 use Rattle.b67_table.specs.References.{cell_word}
 use Rattle.b67_templates.specs.Fragments.{HasKind}
 use Rattle.b67_templates.specs.Cells as wants
-use Rattle.b67_templates.specs.Cells.{Agrees, simple_cells, made_of, made_from, made_base, IsDeclaredArray}
-use Rattle.b67_standing.specs.Stepping.{Held, row, element, cell_named, passed}
+use Rattle.b67_templates.specs.Cells.{Agrees, simple_cells, made_of, made_from, made_base, IsVariable, IsDeclaredArray, IsOwnActual}
+use Rattle.b67_standing.specs.Stepping.{Held, row, element, cell_named, actual, passed}
 use Rattle.b67_cores.specs.Slots.{Known, ValueIs}
 
 -- ---- layouts
@@ -236,22 +237,37 @@ module _ (sc : Scopes) (w : World) (lay : Layout) where
     pub few : number < row_limit
     pub word_is : word ≡ element_copy at number
 
-  -- The reference to the cell that a name of a declared array means from a part of instance i, in an instance that one of these parts has for
-  -- its own; this is its word, wherever it is read.
+  -- the couple is that of a declared array or of a variable, by its name
+  pub data Names (level : ℕ) (n : Named) (couple : Couple) : Type 0 where
+    an_array_named : (declared : DeclaredArray) → IsDeclaredArray sc level n declared couple → Names level n couple
+    a_variable_named : (kind : Kind) → IsVariable sc level n kind couple → Names level n couple
+
+  -- The reference to the cell that such a name means from a part of instance i, in an instance that one of these parts has for its own; this
+  -- is its word, wherever it is read.
   pub record IsNamed (parts : List Part) (i : ℕ) (n : Named) (word : Word) : Type 0 where
     pub own : IsOwn parts (ancestor w ((use_of sc n).up) i)
     pub level : ℕ
-    pub declared : DeclaredArray
     pub couple : Couple
-    pub array : IsDeclaredArray sc level n declared couple
+    pub names : Names level n couple
     pub frame : Place
     pub laid : numbered lay.places (ancestor w ((use_of sc n).up) i) ≡ Some frame
+    pub word_is : word ≡ cell_word (record { frame = frame; index = couple.index })
+
+  -- .. to the cell of an actual that stands in the text of that instance's block
+  pub record IsActual (parts : List Part) (i : ℕ) (e : PExpr) (kind : Kind) (word : Word) : Type 0 where
+    pub own : IsOwn parts i
+    pub level : ℕ
+    pub couple : Couple
+    pub stands : IsOwnActual sc ((instance_at w i).block) level e kind couple
+    pub frame : Place
+    pub laid : numbered lay.places i ≡ Some frame
     pub word_is : word ≡ cell_word (record { frame = frame; index = couple.index })
 
   abbrev pub HeldIs : List Part → ℕ → Held → Word → Type 0
   HeldIs parts i (row n ks) word = IsRow parts i n ks word
   HeldIs parts i (element r ks kind) word = IsElement parts r ks kind word
   HeldIs parts i (cell_named n) word = IsNamed parts i n word
+  HeldIs parts i (actual e kind) word = IsActual parts i e kind word
   HeldIs parts i (passed (wants.array shape) (reference r)) word = LeadsTo parts shape r word
   HeldIs parts i _ word = ⊥
 

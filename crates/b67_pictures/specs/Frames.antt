@@ -15,6 +15,7 @@ use Rattle.algol_paths.specs.Laws.{KeepsToText}
 use Rattle.algol_paths.specs.Segments.{segment_of}
 use Rattle.b67_word.specs.declared.Place.{Place}
 use Rattle.b67_word.specs.Word.{Word}
+use Rattle.b67_control.specs.declared.Pcw.{Pcw}
 use Rattle.b67_control.specs.declared.Rcw.{Rcw}
 use Rattle.b67_control.specs.Control.{as_mscw, as_rcw, as_descriptor}
 use Rattle.b67_control.specs.Display.{place_at}
@@ -27,10 +28,10 @@ use Rattle.b67_table.specs.Linkage.{base_control, code_place}
 use Rattle.b67_templates.specs.Contexts as yielding
 use Rattle.b67_templates.specs.Contexts.{Yields, yields_of, Context}
 use Rattle.b67_templates.specs.Fragments.{HasKind}
-use Rattle.b67_templates.specs.Programs.{Texts, context_of}
+use Rattle.b67_templates.specs.Programs.{Texts, text_of as text_numbered, context_of}
 use Rattle.b67_templates.specs.Cells as wants
-use Rattle.b67_templates.specs.Cells.{Simple, Wanted, simple_cells, procedures, made_of}
-use Rattle.b67_templates.specs.Code.{control_pcws}
+use Rattle.b67_templates.specs.Cells.{Simple, Wanted, simple_cells, procedures, actuals_of, made_of}
+use Rattle.b67_templates.specs.Code.{RoutinesAt, control_pcws}
 use Rattle.b67_standing.specs.Stepping.{Slot}
 use Rattle.b67_standing.specs.Standing.{Gives, pushed, StandsFor, ComesTo}
 use Rattle.b67_cores.specs.Cores.{Core}
@@ -54,9 +55,18 @@ CellsAre [] [] [] = Unit {0}
 CellsAre (s ∷ ss) (c ∷ cells) (w ∷ words) = (c.name ≡ s.name) × CellIs s.wanted c.cell w × CellsAre ss cells words
 CellsAre _ _ _ = ⊥
 
+-- the control words among the cells of the block with this number: of its procedures, and of its actuals, whose code stands at these places
+abbrev pub block_controls : Scopes → ℕ → List ℕ → List Pcw
+block_controls sc j ats =
+    control_pcws sc (segment_of sc.blocks j) (level_of (block_numbered sc.blocks j)) (block_numbered sc.blocks j).decls (actuals_of sc (block_numbered sc.blocks j)) ats
+
+-- how many they are
+abbrev pub controls_count : Scopes → ℕ → ℕ
+controls_count sc j = length (procedures (block_numbered sc.blocks j).decls) + length (actuals_of sc (block_numbered sc.blocks j))
+
 -- how many words may lie above the cells of a block's frame: four for each token of the segment, but for the control words among the cells
 abbrev pub most_around : PProgram → ℕ → ℕ
-most_around tree j = 4 * tokens_around tree j - length (procedures (block_numbered (scopes_of tree).blocks j).decls)
+most_around tree j = 4 * tokens_around tree j - controls_count (scopes_of tree) j
 
 module _ (sc : Scopes) (w : World) (lay : Layout) where
   -- the block of an instance
@@ -98,7 +108,10 @@ module _ (sc : Scopes) (w : World) (lay : Layout) where
     pub formals : (k : ℕ) (s : Simple) (shape : Shape) → slice_get (simple_cells sc (block_numbered sc.blocks instance.block)) k ≡ Some s → s.wanted ≡ wants.array shape →
         (c : NamedCell) × (word : Word) × (r : Reference) × (slice_get simple k ≡ Some c) × (slice_get values k ≡ Some word) × (c.cell ≡ reference r)
         × LeadsTo sc w lay outer shape r word
-    -- after them lie the control words of the block's procedures, and then the descriptors of the arrays that are made
+    -- after them lie the control words of the block's procedures and of its actuals, whose code stands at these places, and then the
+    -- descriptors of the arrays that are made
+    pub ats : List ℕ
+    pub each_has_place : length ats ≡ length (actuals_of sc (block_numbered sc.blocks instance.block))
     pub arrays : List NamedCell
     pub declared : List Made
     pub later : List Made
@@ -106,11 +119,7 @@ module _ (sc : Scopes) (w : World) (lay : Layout) where
     pub descriptors : List Word
     pub made : AreMade declared arrays (lay.rows i) descriptors
     pub has : instance.cells ≡ simple ++ arrays
-    pub cells_is :
-        cells
-        ≡ values
-        ++ (control_words (control_pcws sc (level_of (block_numbered sc.blocks instance.block)) (block_numbered sc.blocks instance.block).decls)
-        ++ descriptors)
+    pub cells_is : cells ≡ values ++ (control_words (block_controls sc instance.block ats) ++ descriptors)
     pub placed : IsPlaced outer instance
     pub home : Place
     pub linked : home_of instance.parent ≡ Some home
@@ -119,6 +128,12 @@ module _ (sc : Scopes) (w : World) (lay : Layout) where
     pub back : Rcw
     pub control_is : as_rcw control ≡ Some back
     pub level_is : back.own_level ≡ level_of (block_numbered sc.blocks instance.block)
+
+-- the code of the actuals of the block with this number stands at these places
+abbrev pub RoutinesStand : PProgram → Code → Texts → ℕ → List ℕ → Type 0
+RoutinesStand tree code texts j ats =
+    RoutinesAt (scopes_of tree) (context_of code texts (scopes_of tree) j) (text_numbered texts (scopes_of tree) j) (level_of (block_numbered (scopes_of tree).blocks j) + 1)
+    (actuals_of (scopes_of tree) (block_numbered (scopes_of tree).blocks j)) ats
 
 module _ (tree : PProgram) (code : Code) (texts : Texts) (w : World) (lay : Layout) (p : ℕ) where
   -- the number of a part's block, the segment in which its text stands, and its level
@@ -154,6 +169,7 @@ module _ (tree : PProgram) (code : Code) (texts : Texts) (w : World) (lay : Layo
     pub cells : List Word
     pub words_are : words ≡ lower ++ mark ∷ control ∷ cells
     pub framed : Framed (scopes_of tree) w lay p part.instance outer (length lower) mark control cells
+    pub routines : RoutinesStand tree code texts framed.instance.block framed.ats
     pub text : KeepsToText (scopes_of tree) (block_of part) part.rest
     -- what it has still to make is what its instance has not made
     pub making : framed.later ≡ all_to_make part.rest
@@ -184,7 +200,7 @@ module _ (tree : PProgram) (code : Code) (texts : Texts) (w : World) (lay : Layo
     pub pc : ℕ
     pub slots : List Slot
     pub returns : (a : Answer) → Gives wanted a →
-        ComesTo (scopes_of tree) (context_at part) (text_of part) (level_at part) (most_of part) (resume (scopes_of tree) part.rest a) pc (pushed a slots)
+        ComesTo (scopes_of tree) (context_at part) (text_of part) (level_at part) (most_of part) (resume (scopes_of tree) part.rest a) pc (pushed wanted a slots)
     pub few : length slots + 1 ≤ most_of part
     pub held : List Known
     pub held_are : AreKnown (scopes_of tree) w lay (part ∷ outer) part.instance held

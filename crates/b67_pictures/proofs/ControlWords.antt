@@ -1,0 +1,64 @@
+-- The control words among the cells of a frame: of the procedures that its block declares, and of its actuals.
+use Rattle.std.proofs.Common.{◌≡◌, refl, ap, ◌∙◌, ℕ, suc, ◌+◌, ◌<◌, ◌≤◌, List, [], ◌∷◌, length, Some, arith, length-append}
+use Rattle.std.specs.Prelude.{slice_get}
+use Rattle.algol_tree.specs.declared.TheConstants.{MOST_BLOCK_CELLS}
+use Rattle.algol_tree.specs.declared.tree.Named.{Named}
+use Rattle.algol_tree.specs.Blocks.{Block, block_numbered, number_at}
+use Rattle.algol_tree.specs.Cells.{level_of}
+use Rattle.algol_tree.specs.Scopes.{Scopes}
+use Rattle.algol_paths.specs.Segments.{segment_of}
+use Rattle.b67_control.specs.declared.Pcw.{Pcw}
+use Rattle.b67_control.specs.Control.{pcw_word}
+use Rattle.b67_segment.specs.Operators.{Placed}
+use Rattle.b67_templates.specs.Fragments.{code_at, procedure_controls}
+use Rattle.b67_templates.specs.Cells.{simple_cells, procedures, control_segments, Actual, actuals_of, made_of}
+use Rattle.b67_templates.specs.Contexts.{Context}
+use Rattle.b67_templates.specs.Code.{RoutinesAt, routine_controls}
+use Rattle.b67_cores.specs.Stretches.{control_words}
+use Rattle.b67_fitting.specs.Nested.{AreNested}
+use Rattle.b67_fitting.proofs.Unnamed.{nested_no_actuals}
+use Rattle.b67_pictures.specs.Frames.{block_controls, controls_count}
+use Rattle.b67_pictures.proofs.Segmented.{get_mapped, length_mapped}
+use Rattle.b67_pictures.proofs.StackWords.{get-front}
+
+-- the cells of a block are few: simple cells, control words, and what actions make
+pub block_few : (sc : Scopes) → AreNested sc → (j : ℕ) → j < length sc.blocks →
+    length (simple_cells sc (block_numbered sc.blocks j)) + controls_count sc j + length (made_of (block_numbered sc.blocks j).decls) ≤ MOST_BLOCK_CELLS
+block_few sc nested j known = omega (arith, (nested.each j known).few, ap length (nested_no_actuals sc nested (block_numbered sc.blocks j)))
+
+-- where the code of each actual stands at its place, there are as many places
+pub routines_long : (sc : Scopes) (context : Context) (ps : List Placed) (level : ℕ) (actuals : List Actual) (ats : List ℕ) → RoutinesAt sc context ps level actuals ats → length ats ≡ length actuals
+routines_long sc context ps level [] ats are = ap length are
+routines_long sc context ps level (a ∷ actuals) ats are = ap length are.2 ∙ ap suc (routines_long sc context ps level actuals are.1 are.4)
+
+-- as many words as there are control words
+pub as_many_controls : (pcws : List Pcw) → length (control_words pcws) ≡ length pcws
+as_many_controls pcws = length_mapped (λ (pcw : Pcw). pcw_word pcw) pcws
+
+-- one for each actual
+routines_many : (segment level : ℕ) (actuals : List Actual) (ats : List ℕ) → length ats ≡ length actuals → length (routine_controls segment level actuals ats) ≡ length actuals
+routines_many segment level [] ats e = refl
+routines_many segment level (a ∷ actuals) [] e = absurd (omega (arith, e))
+routines_many segment level (a ∷ actuals) (at ∷ ats) e = ap suc (routines_many segment level actuals ats (omega (arith, e)))
+
+-- .. and for each procedure
+pub controls_many : (sc : Scopes) (j : ℕ) (ats : List ℕ) → length ats ≡ length (actuals_of sc (block_numbered sc.blocks j)) → length (block_controls sc j ats) ≡ controls_count sc j
+controls_many sc j ats e =
+    let b : Block = block_numbered sc.blocks j in
+    omega (
+      arith,
+      length-append (procedure_controls (level_of b) (control_segments sc b.decls)) (routine_controls (segment_of sc.blocks j) (level_of b) (actuals_of sc b) ats),
+      length_mapped (λ (segment : ℕ). code_at segment 0 (level_of b + 1)) (control_segments sc b.decls),
+      length_mapped (λ (n : Named). segment_of sc.blocks (number_at sc.blocks n.spot)) (procedures b.decls),
+      routines_many (segment_of sc.blocks j) (level_of b) (actuals_of sc b) ats e,
+    )
+
+-- that of a procedure, by the number of its declaration
+pub get_control : (sc : Scopes) (j : ℕ) (ats : List ℕ) (k s : ℕ) → slice_get (control_segments sc (block_numbered sc.blocks j).decls) k ≡ Some s →
+    slice_get (control_words (block_controls sc j ats)) k ≡ Some (pcw_word (code_at s 0 (level_of (block_numbered sc.blocks j) + 1)))
+get_control sc j ats k s e =
+    let b : Block = block_numbered sc.blocks j in
+    let c : Pcw = code_at s 0 (level_of b + 1) in
+    get_mapped (λ (pcw : Pcw). pcw_word pcw) (block_controls sc j ats) k c
+    (get-front (procedure_controls (level_of b) (control_segments sc b.decls)) (routine_controls (segment_of sc.blocks j) (level_of b) (actuals_of sc b) ats) k c
+    (get_mapped (λ (segment : ℕ). code_at segment 0 (level_of b + 1)) (control_segments sc b.decls) k s e))
