@@ -24,14 +24,13 @@ use Rattle.b67_fitting.specs.Nested.{AreNested}
 use Rattle.b67_pictures.specs.Arrays.{Allotted, Layout, DescriptorIs, AreSized, IsOwn, HasArray, IsArrayOf}
 use Rattle.b67_pictures.specs.Frames.{block_controls}
 use Rattle.b67_pictures.proofs.ControlWords.{block_few, controls_many}
-use Rattle.b67_pictures.proofs.Homes.{get-behind}
 use Rattle.b67_pictures.proofs.Lying.{Lies, lies_low, lies_in}
 use Rattle.b67_pictures.proofs.MadeArrays.{low_number}
 use Rattle.b67_pictures.proofs.Numbers.{get_below}
 use Rattle.b67_pictures.proofs.OwnCells.{OwnCells, framed_cells, OwnArray, known_array, descriptor_lies}
 use Rattle.b67_pictures.proofs.Rows.{words_are}
 use Rattle.b67_pictures.proofs.Scene.{Scene}
-use Rattle.b67_pictures.proofs.StackWords.{get-front}
+use Rattle.b67_pictures.proofs.StackWords.{get-front, get-behind}
 
 -- a reference to a cell is read back
 pub cell_read : (c : Cell) → c.frame.stack < 2 ^ 10 → c.frame.at < 2 ^ 16 → c.index < 2 ^ 14 →
@@ -39,7 +38,7 @@ pub cell_read : (c : Cell) → c.frame.stack < 2 ^ 10 → c.frame.at < 2 ^ 16 �
 cell_read c few low near = sirw_laws.back (record { stack = c.frame.stack; displacement = c.frame.at; index = c.index }) (few, (low, (near, tt)))
 
 -- a number is one of as many as there are
-number_within : {A : Type 0} (xs : List A) (k : ℕ) (x : A) → numbered xs k ≡ Some x → k ≤ length xs
+pub number_within : {A : Type 0} (xs : List A) (k : ℕ) (x : A) → numbered xs k ≡ Some x → k ≤ length xs
 number_within xs zero x e = cc
 number_within xs (suc k) x e = omega (arith, get_below xs k x e)
 

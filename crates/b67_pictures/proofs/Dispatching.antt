@@ -34,7 +34,7 @@ use Rattle.b67_pictures.specs.Acting.{Does}
 use Rattle.b67_pictures.proofs.Scene.{Scene}
 use Rattle.b67_pictures.proofs.Staying.{text_in, level_in, context_in, most_in}
 use Rattle.b67_pictures.proofs.NoNames.{none_formal, read_variable}
-use Rattle.b67_pictures.proofs.Unresolved.{none_resolved}
+use Rattle.b67_pictures.proofs.StoringThere.{storing_there}
 use Rattle.b67_pictures.proofs.Yielding.{no_element}
 use Rattle.b67_pictures.proofs.Reading.{reading}
 use Rattle.b67_pictures.proofs.ReadingResult.{reading_result}
@@ -134,7 +134,7 @@ module _ (tree : PProgram) (code : Code) (texts : Texts) where
         no_element (block_numbered (scopes_of tree).blocks ((instance_at w part.instance).block)).result a.0 a.2
     by_ask (leaves entered) e a answered waits returns = absurd a
     by_ask (stores (there r) v) e a answered waits returns =
-        absurd (none_resolved tree code texts w lay img p q part outer bound core s r a.2.kind v a.1 a.2.lies)
+        storing_there tree code texts nested fragments keeps order w lay img p q part outer bound core s able_is able_p r v e a answered
     by_ask (stores (element_of r ks) v) e a answered waits returns = others.storing r ks v w lay img p q part outer bound core s able_is able_p e a answered waits returns
     by_ask nothing e a answered waits returns = absurd a
     by_ask (reads_element n ks v) e a answered waits returns = others.reading n ks v w lay img p q part outer bound core s able_is able_p e a answered waits returns

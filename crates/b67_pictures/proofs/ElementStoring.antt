@@ -67,7 +67,7 @@ use Rattle.b67_pictures.proofs.Stage.{gives_within, choice_is, goes_on, weight_o
 use Rattle.b67_pictures.proofs.Staying.{text_in, level_in, context_in, most_in, IsAsHeavy, same_weight, FrameStill, frame_still}
 use Rattle.b67_pictures.proofs.StoredCells.{made_stays}
 use Rattle.b67_pictures.proofs.StoredElement.{element_stored, element_keeps}
-use Rattle.b67_pictures.proofs.Storing.{length_cells}
+use Rattle.b67_pictures.proofs.StoringVariable.{length_cells}
 use Rattle.b67_pictures.proofs.StoringFrames.{changed, stored_world, same_of, same_ancestors, as_heavy, ChangedCells, Stored, known_stored, frame_stored}
 use Rattle.b67_pictures.proofs.Unmade.{makes, unmade}
 use Rattle.b67_pictures.proofs.Words.{value_tag}

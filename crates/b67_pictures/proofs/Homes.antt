@@ -1,5 +1,5 @@
 -- Where a process finds a variable: in the frame of one of its parts.
-use Rattle.std.proofs.Common.{◌≡◌, inl, refl, sym, ap, ◌∙◌, subst, ℕ, suc, ◌+◌, ◌-◌, ◌≤◌, List, [], ◌∷◌, ◌++◌, length, Some, Ok, arith}
+use Rattle.std.proofs.Common.{◌≡◌, inl, refl, sym, ap, ◌∙◌, ℕ, ◌+◌, ◌-◌, ◌≤◌, List, [], ◌∷◌, ◌++◌, length, Some, Ok, arith}
 use Rattle.std.specs.Prelude.{slice_get}
 use Rattle.b67_list.specs.Numbered.{numbered}
 use Rattle.algol_tree.specs.declared.tree.Kind.{Kind}
@@ -7,10 +7,9 @@ use Rattle.algol_tree.specs.declared.tree.Named.{Named}
 use Rattle.algol_tree.specs.Blocks.{block_numbered, around}
 use Rattle.algol_tree.specs.Plain.{PProgram}
 use Rattle.algol_tree.specs.Scopes.{Scopes, scopes_of, use_of}
-use Rattle.algol_meaning.specs.Value.{Value, simple}
-use Rattle.algol_meaning.specs.World.{NamedCell, Instance, Part, Process, World, instance_at, or_no_instance, ancestor, cell_at, cell_in}
+use Rattle.algol_meaning.specs.Value.{Reference}
+use Rattle.algol_meaning.specs.World.{Part, Process, World, instance_at, ancestor}
 use Rattle.algol_paths.specs.Blocks.{IsSeen}
-use Rattle.b67_word.specs.Word.{Word}
 use Rattle.b67_ops.specs.declared.Couple.{Couple}
 use Rattle.b67_ops.specs.declared.Operator.{Operator}
 use Rattle.b67_ops.specs.declared.TheConstants.{OUTER_LEVEL}
@@ -22,22 +21,20 @@ use Rattle.b67_table.specs.Chains.{place}
 use Rattle.b67_table.specs.Image.{Image}
 use Rattle.b67_table.specs.Private.{display_at}
 use Rattle.b67_table.specs.Table.{operator_at}
-use Rattle.b67_templates.specs.Fragments.{HasKind, Has}
-use Rattle.b67_templates.specs.Cells.{simple_cells, IsVariable, Wanted}
+use Rattle.b67_templates.specs.Fragments.{Has}
+use Rattle.b67_templates.specs.Cells.{Found, found_from, simple_cells, IsVariable}
 use Rattle.b67_templates.specs.Programs.{Texts}
 use Rattle.b67_standing.specs.Stepping.{Slot}
 use Rattle.b67_cores.specs.Cores.{Core}
-use Rattle.b67_cores.specs.Slots.{Known, ValueIs}
+use Rattle.b67_cores.specs.Slots.{Known}
 use Rattle.b67_cores.specs.Stretches.{CoreAt}
 use Rattle.b67_pictures.specs.Arrays.{Layout}
-use Rattle.b67_pictures.specs.Frames.{CellIs, CellsAre}
-use Rattle.b67_pictures.proofs.Lying.{Lies, lies_in, IsParent, parents_in}
+use Rattle.b67_pictures.proofs.Lying.{IsParent, parents_in}
 use Rattle.b67_pictures.proofs.Numbers.{get_below}
 use Rattle.b67_pictures.proofs.Scene.{Scene}
-use Rattle.b67_pictures.proofs.StackWords.{get-front}
 use Rattle.b67_pictures.proofs.Parents.{length_around}
 use Rattle.b67_pictures.proofs.Staying.{level_in}
-use Rattle.b67_pictures.proofs.Variables.{Cell_of, variable_cell, cell_front, Holds_value, value_of_cell}
+use Rattle.b67_pictures.proofs.VariableHomes.{VariableHome, variable_home}
 
 -- the operator that stands where a core stands
 pub operator_there : (sc : Scopes) (known : List Known) (code : Code) (ps : List Placed) (level pc : ℕ) (slots : List Slot) (core : Core) (op : Operator) (next : ℕ) → CoreAt sc known code ps level pc slots core →
@@ -46,13 +43,6 @@ operator_there sc known code ps level pc slots core op next at has =
     ap (λ (n : ℕ). fetched code (record { segment = core.registers.segment; place = n }) core.registers.ll) at.place_is
     ∙ ap (λ (l : ℕ). fetched code (record { segment = core.registers.segment; place = pc }) l) at.level_is
     ∙ fetched-spelled code core.registers.segment at.there at.spells has
-
--- so far after a front
-pub get-behind : {A : Type 0} (front back : List A) (k n : ℕ) → n ≡ length front + k → slice_get (front ++ back) n ≡ slice_get back k
-get-behind [] back k n e = let same : n ≡ k = omega (arith, e) in ap (slice_get back) same
-get-behind (x ∷ front) back k n e =
-    let far : n ≡ suc (length front + k) = omega (arith, e) in
-    ap (λ (m : ℕ). slice_get (x ∷ front ++ back) m) far ∙ get-behind front back k (length front + k) refl
 
 module _ (tree : PProgram) (code : Code) (texts : Texts) (w : World) (lay : Layout) (img : Image)
     (p : ℕ) (q : Process) (part : Part) (outer : List Part) (bound : ℕ) (core : Core) (s : Scene tree code texts w lay img p q part outer bound core) where
@@ -63,23 +53,17 @@ module _ (tree : PProgram) (code : Code) (texts : Texts) (w : World) (lay : Layo
   abbrev pub home_at : Named → ℕ
   home_at n = ancestor w ((use_of sc n).up) part.instance
 
+  abbrev pub named_at : Named → Reference
+  named_at n = record { instance = home_at n; name = n.name }
+
   -- what a name means there: its instance, whose frame lies in the stack, and the cell in it
   pub record Home (n : Named) (kind : Kind) (couple : Couple) : Type 0 where
     pub parent : IsParent tree code texts w lay p (part ∷ outer) part.instance ((use_of sc n).up) ((use_of sc n).block)
-    pub lies : Lies tree code texts w lay p (part ∷ outer) (home_at n) core.below
-    pub block_is : lies.frame.framed.instance.block ≡ (use_of sc n).block
-    pub instance_is : instance_at w (home_at n) ≡ lies.frame.framed.instance
-    pub number : ℕ
-    pub index : couple.index ≡ 2 + number
-    pub value : Value
-    pub cell_is : cell_at w (record { instance = home_at n; name = n.name }) ≡ simple value
-    pub fits : HasKind kind value
-    pub word : Word
-    pub word_is : ValueIs value word
-    pub value_lies : slice_get lies.frame.framed.values number ≡ Some word
-    pub cell_lies : slice_get lies.frame.cells number ≡ Some word
-    pub below_lies : slice_get core.below (length lies.frame.lower + couple.index) ≡ Some word
-    pub shown : display_at core.registers couple.level ≡ Some (place p (length lies.frame.lower))
+    pub found : Found
+    pub at : VariableHome tree code texts w lay img p q part outer bound core s (named_at n) kind found
+    pub index : couple.index ≡ 2 + at.number
+    pub below_lies : slice_get core.below (length at.lies.frame.lower + couple.index) ≡ Some at.word
+    pub shown : display_at core.registers couple.level ≡ Some (place p (length at.lies.frame.lower))
 
   module _ (n : Named) (kind : Kind) (couple : Couple) (seen : IsSeen sc ((instance_at w part.instance).block) n) (v : IsVariable sc (level_in tree w part) n kind couple) where
     abbrev up : ℕ
@@ -90,75 +74,32 @@ module _ (tree : PProgram) (code : Code) (texts : Texts) (w : World) (lay : Layo
         let j : ℕ = (instance_at w part.instance).block in
         omega (arith, length_around sc.blocks ((instance_at w part.instance).block), get_below ((instance_at w part.instance).block ∷ around sc.blocks ((instance_at w part.instance).block)) up ((use_of sc n).block) seen)
 
-    module _ (parent : IsParent tree code texts w lay p (part ∷ outer) part.instance up ((use_of sc n).block)) (l : Lies tree code texts w lay p (part ∷ outer) (home_at n) core.below) where
-      abbrev here : Instance
-      here = l.frame.framed.instance
+    level_up : couple.level ≡ level_in tree w part - up
+    level_up = omega (arith, v.level_is)
 
-      instance_here : instance_at w (home_at n) ≡ here
-      instance_here = ap (instance_at w) (sym l.instance_is) ∙ ap or_no_instance l.frame.framed.is
+    module _ (parent : IsParent tree code texts w lay p (part ∷ outer) part.instance up ((use_of sc n).block)) where
+      there : found_from 0 (simple_cells sc (block_numbered sc.blocks ((instance_at w (home_at n)).block))) n.name ≡ Some v.found
+      there = ap (λ (k : ℕ). found_from 0 (simple_cells sc (block_numbered sc.blocks k)) n.name) parent.block ∙ v.there
 
-      block_here : here.block ≡ (use_of sc n).block
-      block_here = sym (ap (λ (x : Instance). x.block) instance_here) ∙ parent.block
-
-      abbrev first_cells : List NamedCell
-      first_cells = l.frame.framed.simple
-
-      own_cells : CellsAre (simple_cells sc (block_numbered sc.blocks ((use_of sc n).block))) first_cells l.frame.framed.values
-      own_cells = subst (λ (k : ℕ). CellsAre (simple_cells sc (block_numbered sc.blocks k)) first_cells l.frame.framed.values) block_here l.frame.framed.simple_are
-
-      c : Cell_of v.found 0 n.name first_cells l.frame.framed.values
-      c = variable_cell (simple_cells sc (block_numbered sc.blocks ((use_of sc n).block))) first_cells l.frame.framed.values 0 n.name v.found own_cells v.there
-
-      held : Holds_value kind (cell_in first_cells n.name) c.word
-      held = value_of_cell kind (cell_in first_cells n.name) c.word (subst (λ (o : Wanted). CellIs o (cell_in first_cells n.name) c.word) v.wanted_is c.is)
-
-      -- it lies before the arrays
-      cell_here : cell_in here.cells n.name ≡ cell_in first_cells n.name
-      cell_here =
-          ap (λ (cells : List NamedCell). cell_in cells n.name) l.frame.framed.has
-          ∙ cell_front (simple_cells sc (block_numbered sc.blocks ((use_of sc n).block))) first_cells l.frame.framed.arrays l.frame.framed.values 0 n.name v.found own_cells v.there
-
-      -- the values lie before the control words
-      cells_lie : slice_get l.frame.cells c.far ≡ Some c.word
-      cells_lie = ap (λ (ws : List Word). slice_get ws c.far) l.frame.framed.cells_is ∙ get-front l.frame.framed.values _ c.far c.word c.lies
-
-      far : length l.frame.lower + couple.index ≡ length l.frame.lower + suc (suc c.far)
-      far = omega (arith, v.index_is, c.number)
-
-      level_up : couple.level ≡ level_in tree w part - up
-      level_up = omega (arith, v.level_is)
-
-      home_there : Home n kind couple
-      home_there =
+      home_there : VariableHome tree code texts w lay img p q part outer bound core s (named_at n) kind v.found → Home n kind couple
+      home_there h =
+          let index_is : couple.index ≡ 2 + h.number = omega (arith, v.index_is, h.number_is) in
           record {
             parent = parent;
-            lies = l;
-            block_is = block_here;
-            instance_is = instance_here;
-            number = c.far;
-            index = omega (arith, v.index_is, c.number);
-            value = held.value;
-            cell_is = ap (λ (x : Instance). cell_in x.cells n.name) instance_here ∙ cell_here ∙ held.is;
-            fits = held.kind;
-            word = c.word;
-            word_is = held.word;
-            value_lies = c.lies;
-            cell_lies = cells_lie;
-            below_lies =
-                ap (λ (ws : List Word). slice_get ws (length l.frame.lower + couple.index)) l.words_are
-                ∙ get-front l.front l.rest (length l.frame.lower + couple.index) c.word
-                (ap (λ (ws : List Word). slice_get ws (length l.frame.lower + couple.index)) l.frame.words_are
-                ∙ get-behind l.frame.lower (l.frame.mark ∷ l.frame.control ∷ l.frame.cells) (suc (suc c.far)) (length l.frame.lower + couple.index) far
-                ∙ cells_lie);
+            found = v.found;
+            at = h;
+            index = index_is;
+            below_lies = ap (λ (k : ℕ). slice_get core.below (length h.lies.frame.lower + k)) index_is ∙ h.below_lies;
             shown =
                 ap (λ (k : ℕ). display_at core.registers k) level_up
                 ∙ s.stands.chained up low
-                ∙ ap (λ (k : ℕ). numbered lay.places k) (sym l.instance_is)
-                ∙ l.frame.framed.laid;
+                ∙ ap (λ (k : ℕ). numbered lay.places k) (sym h.lies.instance_is)
+                ∙ h.lies.frame.framed.laid;
           }
+
+      home_by : Home n kind couple
+      home_by = home_there (variable_home tree code texts w lay img p q part outer bound core s (named_at n) kind v.found parent.own there v.wanted_is)
 
     pub home : Home n kind couple
     home =
-        let parent : IsParent tree code texts w lay p (part ∷ outer) part.instance up ((use_of sc n).block) =
-        parents_in tree code texts w lay p part outer core s.stands s.around part.instance (inl refl) up ((use_of sc n).block) seen in
-        home_there parent (lies_in tree code texts w lay p part outer core s.stands s.around (home_at n) parent.own)
+        home_by (parents_in tree code texts w lay p part outer core s.stands s.around part.instance (inl refl) up ((use_of sc n).block) seen)

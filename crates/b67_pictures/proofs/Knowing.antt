@@ -16,10 +16,10 @@ use Rattle.b67_word.specs.Word.{Word}
 use Rattle.b67_table.specs.References.{cell_word}
 use Rattle.b67_templates.specs.Cells as wants
 use Rattle.b67_ops.specs.declared.Couple.{Couple}
-use Rattle.b67_templates.specs.Cells.{made_base, made_of, made_from, IsOwnActual}
+use Rattle.b67_templates.specs.Cells.{simple_cells, found_from, made_base, made_of, made_from, IsOwnActual}
 use Rattle.b67_standing.specs.Stepping.{Held, row, element, variable, cell_named, actual, passed}
 use Rattle.b67_cores.specs.Slots.{Known, IsKnown}
-use Rattle.b67_pictures.specs.Arrays.{Allotted, Layout, IsOwn, IsArrayOf, IsIn, LeadsTo, named_from, Names, an_array_named, a_variable_named, IsNamed, IsActual, IsRow, IsElement, HeldIs, AreKnown}
+use Rattle.b67_pictures.specs.Arrays.{Allotted, Layout, IsOwn, IsArrayOf, IsIn, LeadsTo, LeadsToVariable, named_from, Names, an_array_named, a_variable_named, IsNamed, IsActual, IsRow, IsElement, HeldIs, AreKnown}
 
 -- what is known of a word is so
 pub known_is : (sc : Scopes) (w : World) (lay : Layout) (parts : List Part) (i : ℕ) (known : List Known) → AreKnown sc w lay parts i known → (held : Held) (word : Word) → IsKnown known held word →
@@ -88,6 +88,18 @@ module _ (sc : Scopes) (w w' : World) (lay lay' : Layout) where
                 frame = h.frame;
                 index = made_base sc (block_numbered sc.blocks b) + h.array.number;
               })) (sym k.block);
+        }
+
+    pub variable_lasts : (kind : Kind) (r : Reference) (word : Word) → LeadsToVariable sc w lay parts kind r word → LeadsToVariable sc w' lay' parts' kind r word
+    variable_lasts kind r word h =
+        record {
+          own = remain.owned r.instance h.own;
+          found = h.found;
+          there = ap (λ (b : ℕ). found_from 0 (simple_cells sc (block_numbered sc.blocks b)) r.name) (remain.keeps r.instance h.own).block ∙ h.there;
+          wanted_is = h.wanted_is;
+          frame = h.frame;
+          laid = remain.places r.instance h.frame h.own h.laid;
+          word_is = h.word_is;
         }
 
     module _ (i : ℕ) (climbs : Climbs i) where
@@ -172,7 +184,7 @@ module _ (sc : Scopes) (w w' : World) (lay lay' : Layout) where
       held_lasts (element r ks kind) word h = element_lasts r ks kind word h
       held_lasts (cell_named n) word h = named_lasts n word h
       held_lasts (actual e kind) word h = actual_lasts e kind word h
-      held_lasts (variable r kind) word h = absurd h
+      held_lasts (variable r kind) word h = variable_lasts kind r word h
       held_lasts (passed (wants.array shape) (reference r)) word h = leads_lasts shape r word h
       held_lasts (passed _ c) word h = absurd h
 

@@ -30,7 +30,7 @@ use Rattle.b67_pictures.proofs.Closing.{FramesClose}
 use Rattle.b67_pictures.proofs.FrameLeaving.{IsGiven, nothing_given, value_given, b, display, e, leaving_frame}
 use Rattle.b67_pictures.proofs.Homes.{operator_there}
 use Rattle.b67_pictures.proofs.LeaveRow.{Leaves, leave_raw, leave_class, leave_action}
-use Rattle.b67_pictures.proofs.ReturnRow.{return_raw, return_class, return_action}
+use Rattle.b67_pictures.proofs.ReturnRow.{operand_given, return_raw, return_class, return_action}
 use Rattle.b67_pictures.proofs.Rows.{action_not_plain}
 use Rattle.b67_pictures.proofs.Scene.{Scene}
 use Rattle.b67_pictures.proofs.Slotted.{Top, top_slot}
@@ -82,9 +82,9 @@ module _ (tree : PProgram) (code : Code) (texts : Texts) (stand : HaveTexts tree
         (subst (λ (o : Yields). IsGiven o (value v) (Some on_top.word)) (sym a.2) (value_given a.0 v on_top.word on_top.slot_is))
         (subst (λ (o : Yields). Gives o (value v)) (sym a.2) a.3) a.1 asks
         (return_raw code img p core s.has a.1 returns around.below around.words s.stands.frame.mark s.stands.frame.control s.stands.frame.cells below shown leaves_it on_top.word on_top.words_below on_top.is
-        (value_tag v on_top.word on_top.slot_is))
+        (operand_given on_top.word (value_tag v on_top.word on_top.slot_is)))
         (action_not_plain code img p core s.has (ops.Plain kinds.Retn) a.1 returns
         (return_class code img p core s.has a.1 returns around.below around.words s.stands.frame.mark s.stands.frame.control s.stands.frame.cells below shown leaves_it on_top.word on_top.words_below on_top.is
-        (value_tag v on_top.word on_top.slot_is)))
+        (operand_given on_top.word (value_tag v on_top.word on_top.slot_is))))
         (return_action code img p core s.has a.1 returns around.below around.words s.stands.frame.mark s.stands.frame.control s.stands.frame.cells below shown leaves_it on_top.word on_top.words_below on_top.is
-        (value_tag v on_top.word on_top.slot_is))
+        (operand_given on_top.word (value_tag v on_top.word on_top.slot_is)))

@@ -13,6 +13,7 @@ pub mod GivenWords
 pub mod Formals
 pub mod Marks
 pub mod Stuffed
+pub mod VariableHomes
 pub mod Homes
 pub mod Variables
 pub mod Kept
@@ -36,11 +37,12 @@ pub mod Zeros
 pub mod FreshCells
 pub mod NoNames
 pub mod Scene
-pub mod Unresolved
 pub mod Ancestors
 pub mod StoringFrames
 pub mod StoringOthers
+pub mod StoringVariable
 pub mod Storing
+pub mod StoringThere
 pub mod Calling
 pub mod Reading
 pub mod ReadingResult
@@ -50,6 +52,11 @@ pub mod Selecting
 pub mod Failing
 pub mod EnterRow
 pub mod IntrinsicRows
+pub mod TopRow
+pub mod Reaching
+pub mod ReachingRows
+pub mod PlaceRow
+pub mod AccidentalRow
 pub mod ValueRow
 pub mod TurnRow
 pub mod Breaking

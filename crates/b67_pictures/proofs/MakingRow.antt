@@ -1,6 +1,6 @@
 -- ENTR on ARRAYS: rows for so many arrays, and their descriptors in place of the mark and what lies above it; or a fault, where their size
 -- is wrong, or there is no room for them.
-use Rattle.std.proofs.Common.{◌≡◌, refl, sym, ap, ◌∙◌, ℕ, ◌+◌, ◌-◌, ◌≤◌, List, [], ◌∷◌, ◌++◌, length, Option, Some, None, Bool, true, false, Ok, append_assoc, append-nil, ℤ}
+use Rattle.std.proofs.Common.{◌≡◌, refl, sym, ap, ◌∙◌, ℕ, ◌+◌, ◌-◌, ◌≤◌, List, [], ◌∷◌, ◌++◌, length, Option, Some, None, Bool, true, false, Ok, append-nil, ℤ}
 use Rattle.std.specs.Prelude.{if◌then◌else◌, ◌&&◌, nat_le, reverse, pos}
 use Rattle.std.proofs.lemmas.List.{reverse-reverse}
 use Rattle.b67_num.specs.declared.FaultKind.TheVariants.{ArraySize, CoreFull}
@@ -14,7 +14,7 @@ use Rattle.b67_ops.specs.declared.Operator.TheVariants as ops
 use Rattle.b67_ops.specs.declared.PlainKind.TheVariants as kinds
 use Rattle.b67_ops.specs.declared.intrinsic.Intrinsic.TheVariants.{Arrays}
 use Rattle.b67_segment.specs.declared.code.Code.{Code}
-use Rattle.b67_store.specs.Store.{Stacks, stack_at, with_stack, with_push, counted_words}
+use Rattle.b67_store.specs.Store.{with_stack, counted_words}
 use Rattle.b67_table.specs.Arguments.{wholes_in, if_chained, finished_at}
 use Rattle.b67_table.specs.Arrays.{Extents, if_held, arrays_made}
 use Rattle.b67_table.specs.Effect.{Effect, gives, faults}
@@ -29,24 +29,8 @@ use Rattle.b67_cores.specs.Cores.{Core, HasCore, stack_of, with_core}
 use Rattle.b67_pictures.proofs.ArrayRows.{arrays_rows, arrays_descriptors, arrays_made_do}
 use Rattle.b67_pictures.proofs.ArraySizes.{HasDimensions, bound_numbers, extents_of, extents_wrong, extents_right, held_full, held_fits}
 use Rattle.b67_pictures.proofs.IntrinsicRows.{CallsIntrinsic, entered, chained_is, cut_words}
-use Rattle.b67_pictures.proofs.StackWords.{words-set, set-set}
 use Rattle.b67_pictures.proofs.StoreRow.{most_is}
-
--- ---- words that are pushed
-
-module _ (p : ℕ) (img : Image) (stack : ℕ) (words : List Word) (there : stack_at img.stacks stack ≡ Some words) where
-  push_one : (front : List Word) (w : Word) → with_push (with_stack img.stacks stack front) stack w ≡ with_stack img.stacks stack (front ++ w ∷ [])
-  push_one front w =
-      ap (λ (ws : List Word). with_stack (with_stack img.stacks stack front) stack (ws ++ w ∷ [])) (words-set img.stacks stack words front there)
-      ∙ set-set img.stacks stack front (front ++ w ∷ [])
-
-  pushed_do : (ws front : List Word) (next : Change) →
-      changed p (pushed stack ws next) (with_stacks img (with_stack img.stacks stack front)) ≡ changed p next (with_stacks img (with_stack img.stacks stack (front ++ ws)))
-  pushed_do [] front next = ap (λ (us : List Word). changed p next (with_stacks img (with_stack img.stacks stack us))) (sym (append-nil front))
-  pushed_do (w ∷ ws) front next =
-      ap (λ (ss : Stacks). changed p (pushed stack ws next) (with_stacks img ss)) (push_one front w)
-      ∙ pushed_do ws (front ++ w ∷ []) next
-      ∙ ap (λ (us : List Word). changed p next (with_stacks img (with_stack img.stacks stack us))) (append_assoc front (w ∷ []) ws)
+use Rattle.b67_pictures.proofs.TopRow.{pushed_do}
 
 -- ---- the arguments
 

@@ -1,6 +1,6 @@
 -- LODT on the reference to a cell that has a reference itself, which comes in its place.
-use Rattle.std.proofs.Common.{◌≡◌, refl, sym, ap, ◌∙◌, ℕ, ◌+◌, ◌-◌, List, [], ◌∷◌, ◌++◌, length, take, Option, Some, Bool, true, false, Ok, arith, append_assoc}
-use Rattle.std.specs.Prelude.{if◌then◌else◌, ◌==◌, ◌||◌, is_some, slice_get, reverse}
+use Rattle.std.proofs.Common.{◌≡◌, refl, ap, ◌∙◌, ℕ, ◌+◌, ◌-◌, List, [], ◌∷◌, ◌++◌, Option, Some, Bool, true, false, Ok, arith}
+use Rattle.std.specs.Prelude.{if◌then◌else◌, ◌==◌, ◌||◌, is_some}
 use Rattle.b67_word.specs.declared.Place.{Place}
 use Rattle.b67_word.specs.Word.{Word}
 use Rattle.b67_control.specs.declared.Registers.{Registers}
@@ -10,7 +10,7 @@ use Rattle.b67_control.specs.Control.{as_irw, as_sirw}
 use Rattle.b67_ops.specs.declared.Operator.TheVariants as ops
 use Rattle.b67_ops.specs.declared.PlainKind.TheVariants as kinds
 use Rattle.b67_segment.specs.declared.code.Code.{Code}
-use Rattle.b67_store.specs.Store.{Stacks, words_of, word_at, with_stack, with_push, with_cut}
+use Rattle.b67_store.specs.Store.{Stacks, word_at}
 use Rattle.b67_table.specs.declared.Cell.{Cell}
 use Rattle.b67_table.specs.declared.Class.TheVariants as classes
 use Rattle.b67_table.specs.declared.Reached.{Reached}
@@ -24,14 +24,10 @@ use Rattle.b67_table.specs.Program.{Program, does, effect_of, asked, see, answer
 use Rattle.b67_table.specs.References.{cell_in, irw_or_sirw, cell_of, named, reached_in, from_top, invalid}
 use Rattle.b67_table.specs.Rows.{row, load_through, is_passed}
 use Rattle.b67_table.specs.Table.{raw, operator_at, class_at}
-use Rattle.b67_cores.specs.Cores.{Core, HasCore, with_core, stack_of}
-use Rattle.b67_pictures.proofs.Rows.{raw_is, words_are}
-use Rattle.b67_pictures.proofs.StackWords.{word-over, cut-stack, reverse-cons, words-set, set-set}
+use Rattle.b67_cores.specs.Cores.{Core, HasCore, with_core}
+use Rattle.b67_pictures.proofs.Rows.{raw_is}
 use Rattle.b67_pictures.proofs.StoreRow.{most_is}
-
--- the core with another word in place of the one on top
-abbrev pub with_other : Core → Word → List Word → ℕ → Core
-with_other core w words next = record core { words = w ∷ words; registers = record core.registers { s = core.registers.s - 1 + 1; place = next } }
+use Rattle.b67_pictures.proofs.TopRow.{with_other, one_long, word_on_top, top_replaced}
 
 or_true : (b : Bool) → (b || true) ≡ true
 or_true true = refl
@@ -54,30 +50,6 @@ module _ (code : Code) (img : Image) (p : ℕ) (core : Core) (has : HasCore img 
   abbrev tested : Program → Effect Image
   tested t = effect_of p img (asked img t)
 
-  whole : words_of img.stacks r.stack ≡ core.below ++ reverse (x ∷ words)
-  whole = words_are img p core has ∙ ap (λ (ws : List Word). core.below ++ reverse ws) top
-
-  long : r.s ≡ length core.below + length words + 1
-  long = omega (arith, has.is.top, ap length top)
-
-  pub reference_word : word_at img.stacks (record { stack = r.stack; at = r.s - 1 }) ≡ Some x
-  reference_word = ap (λ (ws : List Word). slice_get ws (r.s - 1)) whole ∙ word-over core.below x words (r.s - 1) (omega (arith, long))
-
-  -- the stack without the word on top
-  cut_is : with_cut img.stacks r.stack (r.s - 1) ≡ with_stack img.stacks r.stack (core.below ++ reverse words)
-  cut_is =
-      ap (λ (ws : List Word). with_stack img.stacks r.stack (take (r.s - 1) ws)) whole
-      ∙ ap (λ (ws : List Word). with_stack img.stacks r.stack ws) (cut-stack core.below (x ∷ []) words (r.s - 1) (omega (arith, long)))
-
-  -- .. with the other one in its place
-  other_is : with_push (with_cut img.stacks r.stack (r.s - 1)) r.stack w ≡ with_stack img.stacks r.stack (core.below ++ reverse (w ∷ words))
-  other_is =
-      ap (λ (ss : Stacks). with_stack ss r.stack (words_of ss r.stack ++ w ∷ [])) cut_is
-      ∙ ap (λ (ws : List Word). with_stack (with_stack img.stacks r.stack (core.below ++ reverse words)) r.stack (ws ++ w ∷ []))
-      (words-set img.stacks r.stack (stack_of core) (core.below ++ reverse words) has.stack)
-      ∙ set-set img.stacks r.stack (core.below ++ reverse words) ((core.below ++ reverse words) ++ w ∷ [])
-      ∙ ap (λ (ws : List Word). with_stack img.stacks r.stack ws) (append_assoc core.below (reverse words) (w ∷ []) ∙ ap (λ (ws : List Word). core.below ++ ws) (sym (reverse-cons w words)))
-
   abbrev on_top : Word → Look Reached
   on_top u = named (cell_of r u)
 
@@ -86,13 +58,13 @@ module _ (code : Code) (img : Image) (p : ℕ) (core : Core) (has : HasCore img 
 
   does_is : does p (load_through r next) img ≡ gives (with_core img p (with_other core w words next))
   does_is =
-      ap (λ (b : Bool). tested (see ((if b then from_top r 0 else stops StackUnderflow) >-> on_top) >>= go_on)) (most_is (floor r + 1) r.s (omega (arith, long, has.is.bottom)))
-      ∙ ap (λ (o : Option Word). tested (see (valid o >-> on_top) >>= go_on)) reference_word
+      ap (λ (b : Bool). tested (see ((if b then from_top r 0 else stops StackUnderflow) >-> on_top) >>= go_on)) (most_is (floor r + 1) r.s (omega (arith, one_long img p core has x words top, has.is.bottom)))
+      ∙ ap (λ (o : Option Word). tested (see (valid o >-> on_top) >>= go_on)) (word_on_top img p core has x words top)
       ∙ ap (λ (i : Option Irw). tested (see (named (irw_or_sirw r i (as_sirw x))) >>= go_on)) reads
       ∙ ap (λ (o : Option Place). tested (see (named (cell_in o index)) >>= go_on)) shown
       ∙ ap (λ (o : Option Word). tested (see (reached_in cell o) >>= go_on)) lies
       ∙ ap (λ (b : Bool). tested (if b then answer (replaced r next 1 w) else see invalid)) (refers_passed w other refers)
-      ∙ ap (λ (ss : Stacks). gives (with_registers (with_stacks img ss) p (record r { s = r.s - 1 + 1; place = next }))) other_is
+      ∙ ap (λ (ss : Stacks). gives (with_registers (with_stacks img ss) p (record r { s = r.s - 1 + 1; place = next }))) (top_replaced img p core has x words top w)
 
   pub pass_raw : raw code img p ≡ gives (with_core img p (with_other core w words next))
   unfolding row

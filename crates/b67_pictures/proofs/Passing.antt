@@ -43,7 +43,8 @@ use Rattle.b67_pictures.proofs.Homes.{operator_there}
 use Rattle.b67_pictures.proofs.Indexing.{more_known}
 use Rattle.b67_pictures.proofs.InFrame.{does_in_frame}
 use Rattle.b67_pictures.proofs.NoNames.{none_formal}
-use Rattle.b67_pictures.proofs.PassRow.{with_other, pass_raw, pass_class}
+use Rattle.b67_pictures.proofs.PassRow.{pass_raw, pass_class}
+use Rattle.b67_pictures.proofs.TopRow.{with_other}
 use Rattle.b67_pictures.proofs.Rows.{action_not_plain, action_is}
 use Rattle.b67_pictures.proofs.Scene.{Scene}
 use Rattle.b67_pictures.proofs.Slotted.{Top, top_slot}

@@ -57,7 +57,6 @@ use Rattle.b67_pictures.proofs.Formals.{AreGivenCells, given_are}
 use Rattle.b67_pictures.proofs.FrameEntering.{AreCells, Body, GoesOnBehind, entering}
 use Rattle.b67_pictures.proofs.FreshCells.{simple_many, words_long}
 use Rattle.b67_pictures.proofs.GivenWords.{AreFit, are_fit, fit_many, ActualsAre}
-use Rattle.b67_pictures.proofs.Homes.{get-behind}
 use Rattle.b67_pictures.proofs.Linked.{Linked, begins_core, own_linked, linked_lies, linked_low, level_around}
 use Rattle.b67_pictures.proofs.Lying.{Lies, lies_in, IsParent, parents_in}
 use Rattle.b67_pictures.proofs.NamedArrays.{IsSeenMade, both_seen, up_complete, named_leads}
@@ -65,7 +64,7 @@ use Rattle.b67_pictures.proofs.Numbers.{get_within, get_below}
 use Rattle.b67_pictures.proofs.Scene.{Scene}
 use Rattle.b67_pictures.proofs.Segmenting.{needs}
 use Rattle.b67_pictures.proofs.Segmented.{before_whole, segment_low, procedure_segment, get_mapped, length_mapped}
-use Rattle.b67_pictures.proofs.StackWords.{get-front}
+use Rattle.b67_pictures.proofs.StackWords.{get-front, get-behind}
 use Rattle.b67_pictures.proofs.Stage.{choice_is}
 use Rattle.b67_pictures.proofs.Parents.{length_around}
 use Rattle.b67_pictures.proofs.Staying.{text_in, level_in, context_in, most_in}

@@ -40,7 +40,8 @@ use Rattle.b67_pictures.proofs.Scene.{Scene}
 use Rattle.b67_pictures.proofs.Stage.{choice_is}
 use Rattle.b67_pictures.proofs.StackWords.{get-front}
 use Rattle.b67_pictures.proofs.Staying.{text_in, level_in, context_in, most_in}
-use Rattle.b67_pictures.proofs.ValueRow.{with_top, reads_value, value_raw, value_class}
+use Rattle.b67_pictures.proofs.ReachingRows.{with_top}
+use Rattle.b67_pictures.proofs.ValueRow.{reads_value, value_raw, value_class}
 use Rattle.b67_pictures.proofs.Words.{value_tag, no_sirw, no_pcw}
 use Rattle.b67_pictures.proofs.Unmade.{makes, unmade}
 
@@ -67,25 +68,25 @@ module _ (tree : PProgram) (code : Code) (texts : Texts) (fragments : FragmentsA
         (λ (seen : IsSeenAround sc ((instance_at w part.instance).block) n). seen.0) part.rest asks s.stands.frame.text) v
 
     module _ (f : Found) where
-      tag : f.word.tag ≡ 0
-      tag = value_tag f.value f.word f.word_is
+      tag : f.at.word.tag ≡ 0
+      tag = value_tag f.at.value f.at.word f.at.word_is
 
       abbrev at : ℕ
-      at = length f.lies.frame.lower
+      at = length f.at.lies.frame.lower
 
-      lies : word_at img.stacks (record { stack = p; at = at + a.2.0.index }) ≡ Some f.word
+      lies : word_at img.stacks (record { stack = p; at = at + a.2.0.index }) ≡ Some f.at.word
       lies =
           ap (λ (k : ℕ). word_at img.stacks (record { stack = k; at = at + a.2.0.index })) (sym s.has.own)
           ∙ ap (λ (ws : List Word). slice_get ws (at + a.2.0.index)) (words_are img p core s.has)
-          ∙ get-front core.below _ (at + a.2.0.index) f.word f.below_lies
+          ∙ get-front core.below _ (at + a.2.0.index) f.at.word f.below_lies
 
       abbrev new : Core
-      new = with_top core f.word a.1
+      new = with_top core f.at.word a.1
 
       is_new : IsCore new
       is_new = record { bottom = s.has.is.bottom; top = omega (arith, s.has.is.top) }
 
-      core_at : CoreAt sc s.stands.held code (text_in tree texts w part) (level_in tree w part) a.1 (operand f.value ∷ s.stands.slots) new
+      core_at : CoreAt sc s.stands.held code (text_in tree texts w part) (level_in tree w part) a.1 (operand f.at.value ∷ s.stands.slots) new
       core_at =
           record {
             segment = s.stands.there.segment;
@@ -95,22 +96,22 @@ module _ (tree : PProgram) (code : Code) (texts : Texts) (fragments : FragmentsA
             place_is = refl;
             is = is_new;
             mark_is = s.stands.there.mark_is;
-            words_are = (f.word_is, s.stands.there.words_are);
+            words_are = (f.at.word_is, s.stands.there.words_are);
           }
 
       pub read_does : Does tree code texts w img p
       read_does =
-          does_in_frame tree code texts fragments keeps order w lay img p q part outer bound core s able_is able_p (unmade part.rest (ap makes asks)) (value f.value) tt w.output new refl (record { is = refl }) s.stands.held s.stands.held_are a.1 (operand f.value ∷ s.stands.slots)
-          core_at (omega (arith, a.3)) (answered (value f.value) a.1 (operand f.value ∷ s.stands.slots) (refl, refl, f.fits)) Read
+          does_in_frame tree code texts fragments keeps order w lay img p q part outer bound core s able_is able_p (unmade part.rest (ap makes asks)) (value f.at.value) tt w.output new refl (record { is = refl }) s.stands.held s.stands.held_are a.1 (operand f.at.value ∷ s.stands.slots)
+          core_at (omega (arith, a.3)) (answered (value f.at.value) a.1 (operand f.at.value ∷ s.stands.slots) (refl, refl, f.at.fits)) Read
           (action_not_plain code img p core s.has (ops.Valc a.2.0) a.1 there
-          (value_class code img p core s.has a.2.0 a.1 there (place p at) f.shown f.word lies tag (no_sirw f.word tag) (no_pcw f.word tag)))
-          (value_raw code img p core s.has a.2.0 a.1 there (place p at) f.shown f.word lies tag (no_sirw f.word tag) (no_pcw f.word tag)
+          (value_class code img p core s.has a.2.0 a.1 there (place p at) f.shown f.at.word lies tag (no_sirw f.at.word tag) (no_pcw f.at.word tag)))
+          (value_raw code img p core s.has a.2.0 a.1 there (place p at) f.shown f.at.word lies tag (no_sirw f.at.word tag) (no_pcw f.at.word tag)
           ∙ ap (λ (o : List (List ℕ)). effects.gives (record (with_core img p new) { output = o })) s.by.output)
           (choice_is sc w p q part outer s.at s.todo
           ∙ ap (λ (k : Ask). choice_of sc w p q part outer k) asks
-          ∙ ap (λ (c : Cell). read_of sc w p q part outer c) f.cell_is)
+          ∙ ap (λ (c : Cell). read_of sc w p q part outer c) f.at.cell_is)
           (λ t. action_is code img p core s.has (ops.Valc a.2.0) a.1 there (outcomes.gives (record (with_core img p new) { output = w.output })) t
-          ∙ ap as_action (reads_value code img p core s.has a.2.0 a.1 there (place p at) f.shown f.word lies tag (no_sirw f.word tag) (no_pcw f.word tag)))
+          ∙ ap as_action (reads_value code img p core s.has a.2.0 a.1 there (place p at) f.shown f.at.word lies tag (no_sirw f.at.word tag) (no_pcw f.at.word tag)))
 
     pub reading : Does tree code texts w img p
     reading = read_does found

@@ -41,16 +41,17 @@ use Rattle.b67_faithful.specs.Correspondence.{as_action}
 use Rattle.b67_pictures.specs.Arrays.{Layout}
 use Rattle.b67_pictures.specs.Acting.{Does}
 use Rattle.b67_pictures.proofs.FreshCells.{cells_joined}
-use Rattle.b67_pictures.proofs.Homes.{operator_there, get-behind}
+use Rattle.b67_pictures.proofs.Homes.{operator_there}
 use Rattle.b67_pictures.proofs.InFrame.{does_in_frame}
 use Rattle.b67_pictures.proofs.Linked.{begins_core}
 use Rattle.b67_pictures.proofs.Rows.{action_not_plain, action_is}
 use Rattle.b67_pictures.proofs.Scene.{Scene, shown_frame}
 use Rattle.b67_pictures.proofs.Stage.{choice_is}
-use Rattle.b67_pictures.proofs.StackWords.{get-front}
+use Rattle.b67_pictures.proofs.StackWords.{get-front, get-behind}
 use Rattle.b67_pictures.proofs.Yielding.{result_given}
 use Rattle.b67_pictures.proofs.Staying.{text_in, level_in, context_in, most_in}
-use Rattle.b67_pictures.proofs.ValueRow.{with_top, reads_value, value_raw, value_class}
+use Rattle.b67_pictures.proofs.ReachingRows.{with_top}
+use Rattle.b67_pictures.proofs.ValueRow.{reads_value, value_raw, value_class}
 use Rattle.b67_pictures.proofs.Variables.{Cell_of, variable_cell, cell_front, Holds_value, value_of_cell}
 use Rattle.b67_pictures.proofs.Words.{value_tag, no_sirw, no_pcw}
 use Rattle.b67_pictures.proofs.Unmade.{makes, unmade}

@@ -34,9 +34,13 @@ use Rattle.std.proofs.lemmas.Bool.Decides.{nat_tests}
 zero_is : (n : ℕ) → n ≡ 0 → (n == 0) ≡ true
 zero_is n e = grind (arith, e, nat_tests)
 
+-- an operand may be given back
+pub operand_given : (x : Word) → x.tag ≡ 0 → is_result x ≡ true
+operand_given x tag = rw (zero_is x.tag tag) refl
+
 module _ (code : Code) (img : Image) (p : ℕ) (core : Core) (has : HasCore img p core) (next : ℕ) (there : operator_at code core.registers ≡ Ok (ops.Plain kinds.Retn, next))
     (below words : List Word) (mark control : Word) (cells : List Word) (b : Below) (display : List (Option Place)) (e : Leaves img core below words mark control cells b display)
-    (x : Word) (rest : List Word) (on_top : core.words ≡ x ∷ rest) (tag : x.tag ≡ 0) where
+    (x : Word) (rest : List Word) (on_top : core.words ≡ x ∷ rest) (result : is_result x ≡ true) where
   abbrev r : Registers
   r = core.registers
 
@@ -62,11 +66,8 @@ module _ (code : Code) (img : Image) (p : ℕ) (core : Core) (has : HasCore img 
       ap (λ (t : Bool). tested (see (if t then from_top r 0 else stops StackUnderflow) >>= on_word)) (most_is (floor r + 1) r.s (omega (arith, has.is.bottom, has.is.top, ap length on_top)))
       ∙ ap (λ (o : Option Word). tested (see (valid o) >>= on_word)) top_word
       ∙ ap (λ (t : Bool). tested (if is_result x && not t then leave r next (x ∷ []) else see invalid)) (ap (λ (n : ℕ). nat_eq n 0) e.frame_is ∙ not_zero f e.some)
-      ∙ ap (λ (t : Bool). tested (if t && true then leave r next (x ∷ []) else see invalid)) result_is
+      ∙ ap (λ (t : Bool). tested (if t && true then leave r next (x ∷ []) else see invalid)) result
       ∙ leave_does code img p core has next below words mark control cells b display e (Some x)
-    where
-      result_is : is_result x ≡ true
-      result_is = rw (zero_is x.tag tag) refl
 
   pub return_raw : raw code img p ≡ gives returned
   unfolding row

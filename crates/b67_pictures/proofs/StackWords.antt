@@ -20,6 +20,13 @@ get-front [] back k x e = cc
 get-front (y ∷ front) back zero x e = e
 get-front (y ∷ front) back (suc k) x e = get-front front back k x e
 
+-- so far after a front
+pub get-behind : {A : Type 0} (front back : List A) (k n : ℕ) → n ≡ length front + k → slice_get (front ++ back) n ≡ slice_get back k
+get-behind [] back k n e = let same : n ≡ k = omega (arith, e) in ap (slice_get back) same
+get-behind (x ∷ front) back k n e =
+    let far : n ≡ suc (length front + k) = omega (arith, e) in
+    ap (λ (m : ℕ). slice_get (x ∷ front ++ back) m) far ∙ get-behind front back k (length front + k) refl
+
 pub set-front : {A : Type 0} (front back : List A) (k : ℕ) (x y : A) → slice_get front k ≡ Some y → slice_set (front ++ back) k x ≡ slice_set front k x ++ back
 set-front [] back k x y e = cc
 set-front (z ∷ front) back zero x y e = refl

@@ -1,13 +1,11 @@
--- STOD on the cell of a variable of the process's own stack.
+-- STOD on a cell of the process's own stack, which the reference under the top names.
 use Rattle.std.proofs.Common.{◌≡◌, refl, ap, ◌∙◌, ℕ, ◌+◌, ◌-◌, ◌≤◌, List, [], ◌∷◌, ◌++◌, length, take, Option, Some, None, Bool, true, false, Ok, arith}
 use Rattle.std.specs.Prelude.{if◌then◌else◌, ◌==◌, nat_le, slice_get, slice_set, reverse}
 use Rattle.std.proofs.lemmas.Bool.Decides.{nat_tests}
 use Rattle.b67_word.specs.declared.Place.{Place}
 use Rattle.b67_word.specs.Word.{Word}
 use Rattle.b67_control.specs.declared.Registers.{Registers}
-use Rattle.b67_control.specs.declared.Irw.{Irw}
 use Rattle.b67_control.specs.declared.Descriptor.{Descriptor}
-use Rattle.b67_control.specs.Control.{as_irw, as_sirw}
 use Rattle.b67_table.specs.Arrays.{as_indexed}
 use Rattle.b67_ops.specs.declared.Operator.TheVariants as ops
 use Rattle.b67_ops.specs.declared.PlainKind.TheVariants as kinds
@@ -21,8 +19,8 @@ use Rattle.b67_table.specs.Effect.{Effect, gives}
 use Rattle.b67_table.specs.Image.{Image, with_stacks, with_registers}
 use Rattle.b67_table.specs.Look.{Look, found, stops, ◌>->◌, valid, seen}
 use Rattle.b67_table.specs.Program.{Program, does, effect_of, asked, see, answer, ◌>>=◌, save}
-use Rattle.b67_table.specs.Private.{display_at, floor}
-use Rattle.b67_table.specs.References.{Two, cell_in, cell_place, irw_or_sirw, reached_in, named, from_top, operand_in, invalid}
+use Rattle.b67_table.specs.Private.{floor}
+use Rattle.b67_table.specs.References.{Two, cell_of, cell_place, reached_in, named, from_top, operand_in, invalid}
 use Rattle.b67_table.specs.Rows.{row, store, store_by, stored}
 use Rattle.b67_table.specs.Table.{raw, operator_at, class_at}
 use Rattle.b67_letters.specs.declared.Letter.TheVariants.{Store, ElementStore}
@@ -41,8 +39,7 @@ with_cell core k x words next =
 
 module _ (code : Code) (img : Image) (p : ℕ) (core : Core) (has : HasCore img p core) (next : ℕ) (at : operator_at code core.registers ≡ Ok (ops.Plain kinds.Stod, next))
     (x y old : Word) (words : List Word) (top : core.words ≡ x ∷ y ∷ words)
-    (level index : ℕ) (f : ℕ) (shown : display_at core.registers level ≡ Some (record { stack = core.registers.stack; at = f }))
-    (reads : as_irw y ≡ Some (record { level = level; index = index })) (plain_word : as_indexed y ≡ None)
+    (index f : ℕ) (names : cell_of core.registers y ≡ Some (record { frame = record { stack = core.registers.stack; at = f }; index = index })) (plain_word : as_indexed y ≡ None)
     (lies : slice_get core.below (f + index) ≡ Some old) (tag : x.tag ≡ 0) (old_tag : old.tag ≡ 0) where
   abbrev r : Registers
   r = core.registers
@@ -110,8 +107,7 @@ module _ (code : Code) (img : Image) (p : ℕ) (core : Core) (has : HasCore img 
       ∙ ap (λ (o : Option Word). tested (see (valid o >-> (λ (b : Word). found (two x b))) >>= go_on)) under_word
       ∙ ap (λ (t : ℕ). tested (see (if t == 0 then found x else invalid) >>= (λ (a : Word). store_by false r next a y (as_indexed y)))) tag
       ∙ ap (λ (d : Option Descriptor). tested (store_by false r next x y d)) plain_word
-      ∙ ap (λ (i : Option Irw). tested (see (named (irw_or_sirw r i (as_sirw y))) >>= put)) reads
-      ∙ ap (λ (o : Option Place). tested (see (named (cell_in o index)) >>= put)) shown
+      ∙ ap (λ (o : Option Cell). tested (see (named o) >>= put)) names
       ∙ ap (λ (o : Option Word). tested (see (reached_in cell o) >>= put)) old_word
       ∙ ap (λ (t : ℕ). tested (see (if t == 0 then found old else invalid) >>= (λ (o : Word). answer (stored false r next x (save (cell_place cell) x))))) old_tag
       ∙ ap (λ (ss : Stacks). gives (with_registers (with_stacks img ss) p after)) saved

@@ -1,87 +1,55 @@
--- A store.
-use Rattle.std.proofs.Common.{◌≡◌, ◌≢◌, refl, sym, ap, ◌∙◌, subst, ℕ, suc, ◌+◌, ◌<◌, ◌≤◌, ◌^◌, List, [], ◌∷◌, ◌++◌, length, Option, Some, None, Bool, true, false, Ok, arith}
-use Rattle.std.specs.Prelude.{slice_set, if◌then◌else◌}
+-- A store into a variable that the part names.
+use Rattle.std.proofs.Common.{◌≡◌, ◌≢◌, refl, sym, ap, ◌∙◌, ℕ, ◌+◌, ◌<◌, ◌≤◌, ◌^◌, List, [], ◌∷◌, ◌++◌, length, Option, Some, Ok}
+use Rattle.std.specs.Prelude.{if◌then◌else◌}
 use Rattle.b67_list.specs.Numbered.{numbered}
 use Rattle.algol_tree.specs.declared.tree.Named.{Named}
 use Rattle.algol_tree.specs.Blocks.{block_numbered}
 use Rattle.algol_tree.specs.Cells.{level_of}
 use Rattle.algol_tree.specs.Plain.{PProgram}
 use Rattle.algol_tree.specs.Scopes.{Scopes, scopes_of, use_of}
-use Rattle.algol_tree.specs.Sorts.{same_name}
-use Rattle.algol_meaning.specs.Value.{Value, Cell, simple}
+use Rattle.algol_meaning.specs.Value.{Value}
 use Rattle.algol_meaning.specs.Rest.{Answer, done, own}
-use Rattle.algol_meaning.specs.World.{NamedCell, Instance, Process, Part, able, World, instance_at, or_no_instance, with_instance, with_process, ancestor, cell_in, cells_with}
-use Rattle.algol_meaning.specs.Actions.{Store}
-use Rattle.algol_meaning.specs.Asks.{Ask, stores, ask, resume}
-use Rattle.algol_meaning.specs.Choice.{Choice, choice, choice_of}
-use Rattle.algol_paths.specs.Arrays.{Made}
+use Rattle.algol_meaning.specs.World.{Process, Part, able, World, instance_at, ancestor}
+use Rattle.algol_meaning.specs.Asks.{stores, ask, resume}
 use Rattle.algol_paths.specs.Blocks.{IsSeen, IsSeenAround, IsInner}
 use Rattle.algol_paths.specs.Laws.{RestsKeepToTheirText, AllIsMadeInOrder}
 use Rattle.algol_paths.specs.Segments.{segment_of}
 use Rattle.b67_word.specs.Word.{Word}
-use Rattle.b67_control.specs.Control.{as_irw}
+use Rattle.b67_word.specs.declared.Place.{Place}
+use Rattle.b67_control.specs.declared.Irw.{Irw}
+use Rattle.b67_control.specs.Control.{as_irw, as_sirw}
+use Rattle.b67_table.specs.References.{cell_in, irw_or_sirw, cell_of}
 use Rattle.b67_ops.specs.declared.Couple.{Couple}
 use Rattle.b67_ops.specs.declared.Operator.TheVariants as ops
 use Rattle.b67_ops.specs.declared.PlainKind.TheVariants as kinds
 use Rattle.b67_segment.specs.Operators.{Placed}
 use Rattle.b67_segment.specs.declared.code.Code.{Code}
-use Rattle.b67_store.specs.Store.{stack_limit}
 use Rattle.b67_table.specs.declared.ProcessState.TheVariants.{Able}
 use Rattle.b67_table.specs.Arrays.{as_indexed}
 use Rattle.b67_table.specs.Chains.{place}
-use Rattle.b67_table.specs.Effect as effects
 use Rattle.b67_table.specs.Image.{Image}
-use Rattle.b67_table.specs.Outcome as outcomes
 use Rattle.b67_table.specs.Private.{frame, display_at}
 use Rattle.b67_table.specs.PrivateRows as rows
-use Rattle.b67_table.specs.Table.{table, raw, operator_at}
-use Rattle.b67_templates.specs.Cells.{Simple, simple_cells}
-use Rattle.b67_templates.specs.Programs.{Texts, context_of}
+use Rattle.b67_table.specs.Table.{operator_at}
+use Rattle.b67_templates.specs.Programs.{Texts}
 use Rattle.b67_standing.specs.Stepping.{Slot, operand, reference}
 use Rattle.b67_standing.specs.Standing.{ActionAt, Acted, ComesTo}
-use Rattle.b67_cores.specs.Cores.{Core, size, IsCore, with_core, here}
-use Rattle.b67_cores.specs.Slots.{ValueIs, newest, SlotsAre}
-use Rattle.b67_cores.specs.Stretches.{CoreAt, FragmentsArePerformed}
-use Rattle.b67_cores.proofs.Moving.{slots_length}
-use Rattle.b67_faithful.specs.Correspondence.{as_action}
-use Rattle.b67_faithful.specs.Weight.{weight}
-use Rattle.b67_pictures.specs.Arrays.{Layout, AreMade, AreKnown}
-use Rattle.b67_pictures.specs.Acting.{Does, gave}
-use Rattle.b67_pictures.specs.Frames.{CellsAre, most_around, IsChained, Frame, Stands}
-use Rattle.b67_pictures.specs.Pictures.{Living, PicturesBy}
-use Rattle.b67_pictures.proofs.ArraysKept.{arrays_stored}
+use Rattle.b67_cores.specs.Cores.{Core}
+use Rattle.b67_cores.specs.Slots.{ValueIs, SlotsAre}
+use Rattle.b67_cores.specs.Stretches.{FragmentsArePerformed}
+use Rattle.b67_pictures.specs.Arrays.{Layout}
+use Rattle.b67_pictures.specs.Acting.{Does}
+use Rattle.b67_pictures.specs.Frames.{Stands}
 use Rattle.b67_pictures.proofs.Asked.{stores_seen}
-use Rattle.b67_pictures.proofs.Cored.{registers_now, has_now, others_have, system_stays}
-use Rattle.b67_pictures.proofs.Kept.{AreAlike, alike_but}
-use Rattle.b67_pictures.proofs.FreshCells.{words_long}
 use Rattle.b67_pictures.proofs.Homes.{operator_there, Home, home}
-use Rattle.b67_pictures.proofs.Knowing.{KeepsArrays, keeps_stored, known_of}
-use Rattle.b67_pictures.proofs.Landing.{living_of}
-use Rattle.b67_pictures.proofs.Lying.{StayBelow}
-use Rattle.b67_faithful.proofs.Choices.{length_set_numbered}
-use Rattle.b67_pictures.proofs.Numbers.{get_below, numbered_set}
-use Rattle.b67_pictures.proofs.Rows.{action_not_plain, action_is}
 use Rattle.b67_pictures.proofs.Scene.{Scene}
-use Rattle.b67_pictures.proofs.Stage.{gives_within, choice_is, goes_on, weight_of}
 use Rattle.b67_pictures.proofs.Slotted.{Top, top_slot}
-use Rattle.b67_pictures.proofs.StackWords.{length-set}
-use Rattle.b67_pictures.proofs.Staying.{text_in, level_in, context_in, most_in, IsAsHeavy, same_weight, FrameStill, frame_still}
-use Rattle.b67_pictures.proofs.StoreRow.{with_cell, stores_variable, store_raw, store_class}
-use Rattle.b67_pictures.proofs.StoringFrames.{changed, stored_world, changed_at, same_of, same_ancestors, as_heavy, ChangedCells, Stored, known_stored, frame_stored}
-use Rattle.b67_pictures.proofs.Unmade.{makes, unmade}
-use Rattle.b67_pictures.proofs.Variables.{cell_changed, changed_front, references_stored}
-use Rattle.b67_pictures.proofs.Words.{value_tag, reference_read, reference_unindexed}
-
-pub length_cells : (cells : List NamedCell) (name : List ℕ) (c : Cell) → length (cells_with cells name c) ≡ length cells
-length_cells [] name c = refl
-length_cells (x ∷ cells) name c = by_name (same_name x.name name) (length_cells cells name c)
-  where
-    by_name : (b : Bool) → length (cells_with cells name c) ≡ length cells → length (if b then record x { cell = c } ∷ cells else x ∷ cells_with cells name c) ≡ suc (length cells)
-    by_name true e = refl
-    by_name false e = ap suc e
+use Rattle.b67_pictures.proofs.Staying.{text_in, level_in, context_in, most_in}
+use Rattle.b67_pictures.proofs.Words.{reference_read, reference_unindexed}
+use Rattle.b67_pictures.proofs.StoringVariable.{variable_stored}
 
 -- the two topmost words, one after another
-two_words : (words left : List Word) (x y : Word) (rest : List Word) → words ≡ x ∷ left → left ≡ y ∷ rest → words ≡ x ∷ y ∷ rest
+pub two_words : (words left : List Word) (x y : Word) (rest : List Word) → words ≡ x ∷ left → left ≡ y ∷ rest → words ≡ x ∷ y ∷ rest
 two_words words left x y rest e f = e ∙ ap (λ (ws : List Word). x ∷ ws) f
 
 module _ (tree : PProgram) (code : Code) (texts : Texts) (fragments : FragmentsArePerformed) (kept : RestsKeepToTheirText) (order : AllIsMadeInOrder) (w : World) (lay : Layout) (img : Image)
@@ -121,266 +89,26 @@ module _ (tree : PProgram) (code : Code) (texts : Texts) (fragments : FragmentsA
   found : IsHome
   found = home tree code texts w lay img p q part outer bound core s n a.2.kind couple (stores_seen (IsSeen sc b) n (IsInner sc b) (IsSeenAround sc b) (λ (seen : IsSeenAround sc b n). seen.0) part.rest v asks st.frame.text) a.2.variable
 
-  module _ (f : IsHome) (x y : Word) (words : List Word) (top : core.words ≡ x ∷ y ∷ words) (x_is : ValueIs v x) (y_is : y ≡ rows.reference couple)
+  module _ (f : IsHome) (low : couple.level < 32) (little : couple.index < 2 ^ 14) (x y : Word) (words : List Word) (top : core.words ≡ x ∷ y ∷ words) (x_is : ValueIs v x) (y_is : y ≡ rows.reference couple)
       (left_are : SlotsAre sc st.held level (frame core.registers) (length core.below) a.1 words) where
-    abbrev instance : Instance
-    instance = f.lies.frame.framed.instance
-
-    instance_there : numbered w.instances i ≡ Some instance
-    instance_there = ap (λ (j : ℕ). numbered w.instances j) (sym f.lies.instance_is) ∙ f.lies.frame.framed.is
-
-    -- the height of its frame
-    abbrev high : ℕ
-    high = length f.lies.frame.lower
-
-    laid : numbered lay.places i ≡ Some (place p high)
-    laid = ap (λ (j : ℕ). numbered lay.places j) (sym f.lies.instance_is) ∙ f.lies.frame.framed.laid
-
-    abbrev ss : List Simple
-    ss = simple_cells sc (block_numbered sc.blocks instance.block)
-
-    short : f.number < length ss
-    short =
-        omega (
-          arith,
-          get_below f.lies.frame.framed.values f.number f.word f.value_lies,
-          words_long ss f.lies.frame.framed.simple f.lies.frame.framed.values f.lies.frame.framed.simple_are,
-        )
-
-    tag : f.word.tag ≡ 0
-    tag = value_tag f.value f.word f.word_is
-
-    abbrev cells' : List NamedCell
-    cells' = cells_with instance.cells n.name (simple v)
-
-    abbrev part' : Part
-    part' = record part { rest = resume sc part.rest done }
-
-    abbrev q' : Process
-    q' = record q { todo = part' ∷ outer }
-
-    abbrev stored : World
-    stored = stored_world w i instance instance_there cells'
-
-    abbrev w' : World
-    w' = with_process stored p q'
-
-    abbrev k : ℕ
-    k = high + couple.index
-
-    abbrev new : Core
-    new = with_cell core k x words a.0
-
-    many : length cells' ≡ length instance.cells
-    many = length_cells instance.cells n.name (simple v)
-
-    chosen : choice sc w p ≡ record { action = Store; world = w'; released = []; started = None }
-    chosen =
-        choice_is sc w p q part outer s.at s.todo
-        ∙ ap (λ (m : Ask). choice_of sc w p q part outer m) asks
-        ∙ ap (λ (o : Option Instance). record { action = Store; world = with_process (with_instance w i (record (or_no_instance o) { cells = cells_with ((or_no_instance o).cells) n.name (simple v) })) p q'; released = []; started = None }) instance_there
-
-    -- ---- the frames after it
-
-    number_is : a.2.variable.found.number ≡ 0 + f.number
-    number_is = omega (arith, a.2.variable.index_is, f.index)
-
-    -- its simple cells are those of the block that declares the variable
-    abbrev ss_there : List Simple
-    ss_there = simple_cells sc (block_numbered sc.blocks ((use_of sc n).block))
-
-    same_cells : ss ≡ ss_there
-    same_cells = ap (λ (m : ℕ). simple_cells sc (block_numbered sc.blocks m)) f.block_is
-
-    changes : (first : List NamedCell) (values : List Word) (arrays : List NamedCell) (declared : List Made) (descriptors : List Word) → CellsAre ss first values → AreMade declared arrays (lay.rows i) descriptors →
-        instance.cells ≡ first ++ arrays → ChangedCells ss (lay.rows i) cells' first values (slice_set values f.number x) declared descriptors
-    changes first values arrays declared descriptors are made has =
-        record {
-          simple = cells_with first n.name (simple v);
-          arrays = arrays;
-          references = references_stored ss_there first values 0 n.name a.2.variable.found a.2.kind v x f.number are_there a.2.variable.there a.2.variable.wanted_is number_is;
-          simple_are = subst (λ (l : List Simple). CellsAre l (cells_with first n.name (simple v)) (slice_set values f.number x)) (sym same_cells)
-              (cell_changed ss_there first values 0 n.name a.2.variable.found a.2.kind v x f.number are_there a.2.variable.there a.2.variable.wanted_is number_is a.2.fits x_is);
-          made = made;
-          has = ap (λ (cells : List NamedCell). cells_with cells n.name (simple v)) has
-              ∙ changed_front ss_there first arrays values 0 n.name a.2.variable.found (simple v) are_there a.2.variable.there;
-        }
-      where
-        are_there : CellsAre ss_there first values
-        are_there = subst (λ (l : List Simple). CellsAre l first values) same_cells are
-
-    -- it holds a value
-    cell_is : cell_in instance.cells n.name ≡ simple f.value
-    cell_is = ap (λ (z : Instance). cell_in z.cells n.name) (sym f.instance_is) ∙ f.cell_is
-
-    instance_now : instance_at w i ≡ instance
-    instance_now = f.instance_is
-
-    keeps : KeepsArrays sc w stored lay lay i
-    keeps =
-        keeps_stored sc w stored lay i n.name f.value v f.cell_is
-        (ap or_no_instance (changed_at w i instance instance_there cells')
-        ∙ ap (λ (z : Instance). record z { cells = cells_with z.cells n.name (simple v) }) (sym instance_now))
-
-    place_is : k ≡ high + 2 + f.number
-    place_is = omega (arith, f.index)
-
-    abbrev AfterStore : Type 0
-    AfterStore = Stored tree code texts w lay p i instance instance_there cells' high laid f.number k place_is (Some x) many (λ set. short) keeps changes part outer core.below st.frame
-
-    frames : AfterStore
-    frames =
-        frame_stored tree code texts w lay p i instance instance_there cells' high laid f.number k place_is (Some x) many (λ set. short) keeps changes part outer core.below st.frame s.around f.parent.own
-
-    -- the world with the process's part gone on has the same instances
-    stay : StayBelow stored w' lay lay p (suc (length frames.frame.lower))
-    stay = record { instances = λ j at y e mine lies low. e; places = λ j g e. e; rows = λ j at y e mine lies low. refl }
-
-    abbrev IsStill : Type 0
-    IsStill = FrameStill tree code texts stored w' lay lay p (suc (length frames.frame.lower)) stay part outer new.below frames.frame.cells
-
-    still : IsStill
-    still =
-        frame_still tree code texts stored w' lay lay p (suc (length frames.frame.lower)) stay part outer new.below frames.frame frames.around (omega arith)
-
-    block_is : b ≡ (instance_at w' part.instance).block
-    block_is = same_of w i instance instance_there cells' (λ (z : Instance). z.block) refl part.instance
-
-    abbrev frame' : Frame tree code texts w' lay p part' outer new.below
-    frame' =
-        record {
-          owns = still.frame.owns;
-          lower = still.frame.lower;
-          mark = still.frame.mark;
-          control = still.frame.control;
-          cells = still.frame.cells;
-          words_are = still.frame.words_are;
-          framed = still.frame.framed;
-          routines = still.frame.routines;
-          text = kept.resumed sc ((instance_at w' part.instance).block) part.rest done still.frame.text tt;
-          making = still.frame.making ∙ sym (unmade part.rest (ap makes asks)) ∙ sym (order.resumed sc ((instance_at w' part.instance).block) part.rest done still.frame.text);
-        }
-
-    chained : IsChained sc w' lay part.instance level core.registers.display
-    chained up low =
-        st.chained up low
-        ∙ ap (λ (j : ℕ). numbered lay.places j) (same_ancestors w w' (λ j. same_of w i instance instance_there cells' (λ (z : Instance). z.parent) refl j) up part.instance)
-
-    -- what is known of descriptors and references holds as it did
-    known_now : AreKnown sc w' lay (part' ∷ outer) part.instance st.held
-    known_now =
-        known_of sc stored w' lay (part ∷ outer) (part' ∷ outer) refl (λ j own. own) part.instance st.held
-        (known_stored tree code texts w lay p i instance instance_there cells' high laid f.number k place_is (Some x) many (λ set. short) keeps changes (part ∷ outer) part.instance st.held st.held_are)
-
-    -- ---- the core after it
-
-    long : core.registers.s ≡ length core.below + (length words + 2)
-    long = omega (arith, s.has.is.top, ap length top)
-
-    is_new : IsCore new
-    is_new = record { bottom = length-set core.below k x ∙ s.has.is.bottom; top = omega (arith, long, length-set core.below k x) }
-
-    core_at : CoreAt sc st.held code text level a.0 a.1 new
-    core_at =
-        record {
-          segment = st.there.segment;
-          there = st.there.there;
-          spells = st.there.spells;
-          level_is = st.there.level_is;
-          place_is = refl;
-          is = is_new;
-          mark_is = mark_is;
-          words_are = subst (λ (m : ℕ). SlotsAre sc st.held level (frame core.registers) m a.1 words) (sym (length-set core.below k x)) left_are;
-        }
-      where
-        -- a reference and a value are no marks
-        mark_is : core.registers.f ≡ newest (frame core.registers) (length (slice_set core.below k x)) a.1
-        mark_is =
-            st.there.mark_is
-            ∙ ap (λ (l : List Slot). newest (frame core.registers) (length core.below) l) a.2.lies
-            ∙ ap (λ (m : ℕ). newest (frame core.registers) m a.1) (sym (length-set core.below k x))
+    reads : as_irw y ≡ Some (record { level = couple.level; index = couple.index })
+    reads = ap as_irw y_is ∙ reference_read couple low little
 
     -- the display names the frame
-    shown : display_at core.registers couple.level ≡ Some (record { stack = core.registers.stack; at = high })
-    shown = f.shown ∙ ap (λ (m : ℕ). Some (place m high)) (sym s.has.own)
+    shown : display_at core.registers couple.level ≡ Some (record { stack = core.registers.stack; at = length f.at.lies.frame.lower })
+    shown = f.shown ∙ ap (λ (m : ℕ). Some (place m (length f.at.lies.frame.lower))) (sym s.has.own)
 
-    raw_is : as_irw y ≡ Some (record { level = couple.level; index = couple.index }) → as_indexed y ≡ None → raw code img p ≡ effects.gives (with_core img p new)
-    raw_is reads plain_word =
-        store_raw code img p core s.has a.0 there x y f.word words top couple.level couple.index high shown reads plain_word f.below_lies (value_tag v x x_is) tag
+    -- so the reference names its cell
+    named : cell_of core.registers y ≡ Some (record { frame = record { stack = core.registers.stack; at = length f.at.lies.frame.lower }; index = 2 + f.at.number })
+    named =
+        ap (λ (o : Option Irw). irw_or_sirw core.registers o (as_sirw y)) reads
+        ∙ ap (λ (o : Option Place). cell_in o couple.index) shown
+        ∙ ap (λ (k : ℕ). Some (record { frame = record { stack = core.registers.stack; at = length f.at.lies.frame.lower }; index = k })) f.index
 
-    held : length a.1 ≤ most_in tree w part
-    held = let more : length st.slots ≡ length a.1 + 2 = ap length a.2.lies ∙ omega arith in omega (arith, st.few, more)
-
-    smaller : size new ≤ stack_limit
-    smaller = omega (arith, s.small, ap length top, length-set core.below k x)
-
-    heavy : (j : ℕ) → IsAsHeavy w w' j
-    heavy j = let h : IsAsHeavy w stored j = as_heavy w i instance instance_there cells' many j in record { block = h.block; cells = h.cells }
-
-    light' : bound + 3 ≤ weight tree w' p
-    light' =
-        subst (λ (m : ℕ). bound + 3 ≤ m)
-        (weight_of tree w p q (part ∷ outer) s.at s.todo
-        ∙ sym (same_weight tree w w' (part ∷ outer) (λ j own_part. heavy j))
-        ∙ sym (weight_of tree w' p q' (part' ∷ outer) (numbered_set w.processes p q q' s.at) refl)) s.light
-
-    -- ---- the picture after it
-
-    lives : Living tree code texts w' lay (with_core img p new) p q'
-    lives =
-        living_of tree code texts w' lay (with_core img p new) fragments p q' part' outer bound new new (record {
-          todo = refl;
-          independent = s.independent;
-          without_task = s.without_task;
-          has = has_now img p core new s.has refl is_new;
-          free = s.free;
-          idle = s.idle;
-          sees = s.sees;
-          small = smaller;
-          begun = 0;
-          begins = here (omega (arith, slots_length sc st.held level (frame core.registers) (length core.below) a.1 words left_are, held, s.room, length-set core.below k x));
-          frame = frame';
-          around = still.around;
-          counted = st.counted ∙ sym frames.cells ∙ sym (ap length still.cells_are);
-          chained = subst (λ (m : ℕ). IsChained sc w' lay part.instance (level_of (block_numbered sc.blocks m)) core.registers.display) block_is chained;
-          segment_is = st.segment_is ∙ ap (λ (m : ℕ). segment_of sc.blocks m) block_is;
-          pc = a.0;
-          slots = a.1;
-          known = st.held;
-          known_are = known_now;
-          at = subst (λ (m : ℕ). CoreAt sc st.held code (texts.placed (segment_of sc.blocks m)) (level_of (block_numbered sc.blocks m)) a.0 a.1 new) block_is core_at;
-          held = subst (λ (m : ℕ). length a.1 ≤ most_around tree m) block_is held;
-          comes = subst (λ (m : ℕ). ComesTo sc (context_of code texts sc m) (texts.placed (segment_of sc.blocks m)) (level_of (block_numbered sc.blocks m)) (most_around tree m) (resume sc part.rest done) a.0 a.1) block_is (answered done a.0 a.1 (refl, refl));
-          room = subst (λ (m : ℕ). length new.below + most_around tree m ≤ bound) block_is (omega (arith, s.room, length-set core.below k x));
-          light = light';
-        })
-
-    -- the instances of another process are as they were
-    alike : (r : ℕ) → r ≢ p → AreAlike w w' lay lay r
-    alike r other =
-        alike_but w w' lay r i instance (changed w i instance instance_there cells') instance_there (λ (same : r ≡ instance.process). other (same ∙ f.lies.frame.framed.own)) refl
-
-    pictured : PicturesBy tree code texts w' lay (with_core img p new)
-    pictured =
-        goes_on tree code texts w lay img s.by p q s.at w' lay (with_core img p new) q' refl able_is
-        (s.by.laid ∙ sym (length_set_numbered w.instances i (changed w i instance instance_there cells')))
-        (arrays_stored sc w w' lay i instance instance_there n.name f.value v cell_is refl img.rows s.by.arrays) alike s.by.output refl refl refl refl
-        (system_stays img p core new s.has refl q w s.at) able_p (λ r other_core apart has. others_have img p core new s.has refl r other_core apart has) lives
-
-    does : couple.level < 32 → couple.index < 2 ^ 14 → Does tree code texts w img p
-    does low little =
-        let reads : as_irw y ≡ Some (record { level = couple.level; index = couple.index }) = ap as_irw y_is ∙ reference_read couple low little in
-        let plain_word : as_indexed y ≡ None = ap as_indexed y_is ∙ reference_unindexed couple low little in
-        let is : table code img p ≡ outcomes.gives (with_core img p new) =
-        gives_within code img (with_core img p new) p new.registers (raw_is reads plain_word) (registers_now img p core new s.has refl) (omega (arith, smaller, is_new.top)) in
-        gave (with_core img p new)
-        (action_not_plain code img p core s.has (ops.Plain kinds.Stod) a.0 there
-        (store_class code img p core s.has a.0 there x y f.word words top couple.level couple.index high shown reads plain_word f.below_lies (value_tag v x x_is) tag))
-        is
-        (action_is code img p core s.has (ops.Plain kinds.Stod) a.0 there (outcomes.gives (with_core img p new)) is
-        ∙ ap as_action (stores_variable code img p core s.has a.0 there x y f.word words top couple.level couple.index high shown reads plain_word f.below_lies (value_tag v x x_is) tag)
-        ∙ ap (λ (c : Choice). Some c.action) (sym chosen))
-        (lay, subst (λ (c : Choice). PicturesBy tree code texts c.world lay (with_core img p new)) (sym chosen) pictured)
+    does : Does tree code texts w img p
+    does =
+        variable_stored tree code texts fragments kept order w lay img p q part outer bound core s able_is able_p (record { instance = i; name = n.name }) a.2.kind f.found f.at (own n) v a.2.fits asks refl a.0 a.1
+        (answered done a.0 a.1 (refl, refl)) there (reference couple) a.2.lies refl x y words top x_is named (ap as_indexed y_is ∙ reference_unindexed couple low little) left_are
 
   pub storing : a.2.couple.level < 32 → a.2.couple.index < 2 ^ 14 → Does tree code texts w img p
   storing low little =
@@ -390,4 +118,4 @@ module _ (tree : PProgram) (code : Code) (texts : Texts) (fragments : FragmentsA
       top_slot sc st.held level (frame core.registers) (length core.below) (reference couple ∷ a.1) (reference couple) a.1 first.words_below first.are refl in
       let top : core.words ≡ first.word ∷ second.word ∷ second.words_below =
       two_words core.words first.words_below first.word second.word second.words_below first.is second.is in
-      does found first.word second.word second.words_below top first.slot_is second.slot_is second.are low little
+      does found low little first.word second.word second.words_below top first.slot_is second.slot_is second.are

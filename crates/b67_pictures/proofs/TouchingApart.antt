@@ -8,7 +8,7 @@ use Rattle.algol_tree.specs.declared.tree.PhraseText.{PhraseText}
 use Rattle.algol_tree.specs.Plain as tree_forms
 use Rattle.algol_tree.specs.Plain.{PProgram, PStmts, PDecls}
 use Rattle.algol_tree.specs.Scopes.{Scopes, scopes_of}
-use Rattle.algol_meaning.specs.Value.{Value, number}
+use Rattle.algol_meaning.specs.Value.{Value, Reference, number}
 use Rattle.algol_meaning.specs.Rest.{Place as FoundPlace, own, there, element_of, Given, done, value, cell, place as at_place, entered}
 use Rattle.algol_meaning.specs.World.{Process, Part, World, instance_at}
 use Rattle.algol_meaning.specs.Asks.{Ask, nothing, reads, reads_element, indexes, asks_happened, fails, enters, passes, resolves, reads_result, leaves, stores, selects, turns, goes_to, enters_block, starts, acts, writes, makes_arrays, makes_event, ask}
@@ -56,19 +56,19 @@ use Rattle.b67_pictures.proofs.GivenWords.{AreFit, none_wanted, are_fit, Taken, 
 use Rattle.b67_pictures.proofs.Asked.{reads_seen, stores_seen}
 use Rattle.b67_pictures.proofs.AskedEntries.{enters_seen}
 use Rattle.b67_pictures.proofs.NoNames.{none_formal, read_variable}
-use Rattle.b67_pictures.proofs.Unresolved.{none_resolved}
+use Rattle.b67_pictures.proofs.StoringThere.{FindsVariable, finds_variable}
 use Rattle.b67_pictures.proofs.Scene.{Scene, scene_of, shown_frame}
 use Rattle.b67_pictures.proofs.Slotted.{Top, top_slot}
 use Rattle.b67_pictures.proofs.Yielding.{result_given}
 use Rattle.b67_pictures.proofs.Staying.{text_in, level_in, context_in, most_in}
 use Rattle.b67_pictures.proofs.Words.{no_sirw, reference_read}
-use Rattle.b67_pictures.proofs.Touching.{NearFrame, own_frame, NamesNear}
+use Rattle.b67_pictures.proofs.Touching.{NearFrame, own_frame, own_cell, NamesNear}
 use Rattle.b67_pictures.proofs.TouchingOperators.{StandsNear, privately, near_reaches, operator_private}
 use Rattle.b67_pictures.proofs.TouchingOthers.{LivesThere, lives_there, own_stacks}
 use Rattle.b67_pictures.proofs.TouchingCells.{IsOperand, IsEntry, Names, variable_there, result_there, procedure_there}
 use Rattle.b67_pictures.proofs.TouchingCalls.{under_top, call_names}
 use Rattle.b67_pictures.proofs.TouchingElements.{element_read_near, indexed_near, element_stored_near, passed_near, made_near}
-use Rattle.b67_pictures.proofs.TouchingNames.{value_names, none_named, branch_names, cell_named, no_kind, block_names, entry_names}
+use Rattle.b67_pictures.proofs.TouchingNames.{value_names, none_named, branch_names, cell_named, refers_named, no_kind, block_names, entry_names}
 use Rattle.b67_pictures.proofs.TouchingScene.{by_names, by_class}
 use Rattle.b67_pictures.proofs.TouchingWords.{level_known, couple_fits, procedure_fits, pcw_kind}
 
@@ -147,6 +147,18 @@ module _ (tree : PProgram) (code : Code) (texts : Texts) (nested : AreNested (sc
         (cell_named p img r kinds.Stod (λ f. cc) (r.s - 2) (λ m f. f) second.word
         (under_top img p core s.has (first.word ∷ []) second.word second.words_below top (r.s - 2) (omega (arith, s.has.is.top, ap length top))) (λ follows. follows)
         (record { level = couple.level; index = couple.index }) c.home (ap as_irw second.slot_is ∙ reference_read couple fits.0 fits.1) c.shown c.near)
+
+    there_near : (x : Reference) (v : Value) → At (stores (there x) v) → Comes
+    there_near x v a =
+        let f : FindsVariable tree code texts nested w lay img p q part outer bound core s x a.2.kind v a.1 =
+        finds_variable tree code texts nested w lay img p q part outer bound core s x a.2.kind v a.1 a.2.lies in
+        let top : core.words ≡ (f.first.word ∷ []) ++ f.second.word ∷ f.second.words_below = f.first.is ∙ ap (λ (ws : List Word). f.first.word ∷ ws) f.second.is in
+        let high : ℕ = length f.named.home.lies.frame.lower in
+        by_op (ops.Plain kinds.Stod) a.0 a.2.stands
+        (refers_named p img r kinds.Stod (λ g. cc) (r.s - 2) (λ m g. g) f.second.word
+        (under_top img p core s.has (f.first.word ∷ []) f.second.word f.second.words_below top (r.s - 2) (omega (arith, s.has.is.top, ap length top))) (λ follows. follows)
+        (record { stack = p; displacement = high; index = 2 + f.named.home.number }) f.named.reads
+        (own_cell p img (record { frame = place p high; index = 2 + f.named.home.number }) refl))
 
     left_near : At (leaves done) → Comes
     left_near a = by_op (ops.Plain kinds.Exit) a.0 a.2 (none_named p img r kinds.Exit (λ e. cc) (λ n takes. takes))
@@ -231,7 +243,7 @@ module _ (tree : PProgram) (code : Code) (texts : Texts) (nested : AreNested (sc
     by_ask (leaves (cell c)) e a = absurd a
     by_ask (leaves (at_place y)) e a = place_near y a
     by_ask (leaves entered) e a = absurd a
-    by_ask (stores (there y) v) e a = absurd (none_resolved tree code texts w lay img p q part outer bound core s y a.2.kind v a.1 a.2.lies)
+    by_ask (stores (there y) v) e a = there_near y v a
     by_ask (stores (element_of y ks) v) e a = element_stored_near tree code texts nested w lay img p q part outer bound core s y ks v a
     by_ask nothing e a = absurd a
     by_ask (reads_element n ks v) e a = element_read_near tree code texts nested w lay img p q part outer bound core s n ks v e a

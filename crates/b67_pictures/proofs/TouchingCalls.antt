@@ -30,10 +30,9 @@ use Rattle.b67_cores.proofs.Moving.{slots_length}
 use Rattle.b67_faithful.proofs.Contradictions.{none_some}
 use Rattle.b67_footprints.proofs.Lists.{Each, each_turned, each_at}
 use Rattle.b67_pictures.proofs.Actuals.{Given_words, given_words}
-use Rattle.b67_pictures.proofs.Homes.{get-behind}
 use Rattle.b67_pictures.proofs.Rows.{words_are}
 use Rattle.b67_pictures.proofs.Slotted.{Top, top_slot}
-use Rattle.b67_pictures.proofs.StackWords.{word-over, word-under, stack-over}
+use Rattle.b67_pictures.proofs.StackWords.{word-over, word-under, stack-over, get-behind}
 use Rattle.b67_pictures.proofs.Touching.{system_cell, NamesNear}
 use Rattle.b67_pictures.proofs.TouchingNames.{entry_names}
 use Rattle.b67_pictures.proofs.TouchingWords.{numbers_small, pcw_kind, tag_operand}

@@ -33,7 +33,7 @@ use Rattle.b67_fitting.specs.Nested.{IsDeclared, AreNested}
 use Rattle.b67_pictures.specs.Arrays.{Layout}
 use Rattle.b67_pictures.specs.Frames.{CellsAre}
 use Rattle.b67_pictures.proofs.FreshCells.{cells_joined}
-use Rattle.b67_pictures.proofs.Homes.{Home, home, get-behind}
+use Rattle.b67_pictures.proofs.Homes.{Home, home}
 use Rattle.b67_pictures.proofs.Lying.{Lies, lies_in, IsParent, parents_in}
 use Rattle.b67_pictures.proofs.Numbers.{get_below}
 use Rattle.b67_pictures.proofs.Rows.{words_are}
@@ -41,7 +41,7 @@ use Rattle.b67_pictures.proofs.Scene.{Scene, shown_frame}
 use Rattle.b67_pictures.specs.Frames.{block_controls}
 use Rattle.b67_pictures.proofs.ControlWords.{get_control}
 use Rattle.b67_pictures.proofs.Segmented.{procedure_segment, get_mapped}
-use Rattle.b67_pictures.proofs.StackWords.{get-front}
+use Rattle.b67_pictures.proofs.StackWords.{get-front, get-behind}
 use Rattle.b67_pictures.proofs.Parents.{length_around}
 use Rattle.b67_pictures.proofs.Staying.{level_in}
 use Rattle.b67_pictures.proofs.Touching.{NearCell, own_cell}
@@ -134,12 +134,12 @@ module _ (tree : PProgram) (code : Code) (texts : Texts) (nested : AreNested (sc
   variable_there n kind couple seen v =
       let h : Home tree code texts w lay img p q part outer bound core s n kind couple = home tree code texts w lay img p q part outer bound core s n kind couple seen v in
       record {
-        home = place p (length h.lies.frame.lower);
+        home = place p (length h.at.lies.frame.lower);
         shown = h.shown;
-        near = near_own (length h.lies.frame.lower) couple.index;
-        word = h.word;
-        lies = below_there (length h.lies.frame.lower + couple.index) h.word h.below_lies;
-        is = value_tag h.value h.word h.word_is;
+        near = near_own (length h.at.lies.frame.lower) couple.index;
+        word = h.at.word;
+        lies = below_there (length h.at.lies.frame.lower + couple.index) h.at.word h.below_lies;
+        is = value_tag h.at.value h.at.word h.at.word_is;
       }
 
   -- ---- the own result

@@ -7,7 +7,7 @@ use Rattle.b67_control.specs.declared.Irw.{Irw}
 use Rattle.b67_control.specs.declared.Pcw.{Pcw}
 use Rattle.b67_control.specs.declared.Sirw.{Sirw}
 use Rattle.b67_control.specs.Control.{as_irw, as_sirw, as_pcw}
-use Rattle.b67_control.proofs.ControlLaws.{irw_laws, as_pcw-other}
+use Rattle.b67_control.proofs.ControlLaws.{irw_laws, as_pcw-other, sirw_laws}
 use Rattle.b67_ops.specs.declared.BranchKind.{BranchKind}
 use Rattle.b67_ops.specs.declared.Couple.{Couple}
 use Rattle.b67_ops.specs.declared.Operator.{Operator}
@@ -37,6 +37,13 @@ module _ (p : ℕ) (img : Image) (r : Registers) where
   no_cell : (w : Word) → as_irw w ≡ None → as_sirw w ≡ None → (c : Cell) → cell_of r w ≡ Some c → ⊥
   no_cell w no_irw no_sirw c e =
       none_some (sym (ap (λ (i : Option Irw). irw_or_sirw r i (as_sirw w)) no_irw ∙ ap (λ (s : Option Sirw). irw_or_sirw r None s) no_sirw) ∙ e)
+
+  referred_cell : (w : Word) (s : Sirw) → as_sirw w ≡ Some s → (c : Cell) → cell_of r w ≡ Some c → c ≡ sirw_cell s
+  referred_cell w s reads c e =
+      some_same
+      (sym e
+      ∙ ap (λ (i : Option Irw). irw_or_sirw r i (as_sirw w)) (irw_laws.other w (λ k. let is = sym (sirw_laws.kind w s reads) ∙ k in cc))
+      ∙ ap (λ (o : Option Sirw). irw_or_sirw r None o) reads)
 
   one_cell : (w : Word) (i : Irw) (f : Place) → as_irw w ≡ Some i → display_at r i.level ≡ Some f → (c : Cell) → cell_of r w ≡ Some c → c ≡ record { frame = f; index = i.index }
   one_cell w i f reads shown c e =
@@ -148,6 +155,11 @@ module _ (p : ℕ) (img : Image) (r : Registers) where
       cell_named stays i f reads shown near =
           word_named (λ (c : Cell). c ≡ record { frame = f; index = i.index }) (one_cell x i f reads shown) (λ b w s follows same there is. absurd (stays follows))
           (λ c same. subst (NearCell p img) (sym same) near)
+
+      -- .. where the word is read alike everywhere
+      pub refers_named : (Follows (ops.Plain kind) → ⊥) → (s : Sirw) → as_sirw x ≡ Some s → NearCell p img (sirw_cell s) → NamesNear p img (ops.Plain kind) r
+      refers_named stays s reads near =
+          word_named (λ (c : Cell). c ≡ sirw_cell s) (referred_cell x s reads) (λ b w t follows same there is. absurd (stays follows)) (λ c same. subst (NearCell p img) (sym same) near)
 
       -- it goes on from the cell that the word names to the one to which that refers, and no further
       module _ (i : Irw) (home : Place) (v : Word) (t : Sirw) (w : Word) (reads : as_irw x ≡ Some i) (shown : display_at r i.level ≡ Some home) (near : NearCell p img (record { frame = home; index = i.index }))

@@ -240,7 +240,7 @@ module _ (sc : Scopes) (w : World) (lay : Layout) (Home : ℕ → ℕ → Type 0
   held_leads (element r ks kind) x is = subst (LinksTo Home) (sym is.word_is) (descriptor_leads Home root _)
   held_leads (cell_named n) x is = subst (LinksTo Home) (sym is.word_is) (cell_word_leads Home root _)
   held_leads (actual e kind) x is = subst (LinksTo Home) (sym is.word_is) (cell_word_leads Home root _)
-  held_leads (variable r kind) x is = absurd is
+  held_leads (variable r kind) x is = subst (LinksTo Home) (sym is.word_is) (cell_word_leads Home root _)
   held_leads (passed (wants.array shape) (refers r)) x is = subst (LinksTo Home) (sym is.word_is) (cell_word_leads Home root _)
   held_leads (passed _ c) x is = absurd is
 

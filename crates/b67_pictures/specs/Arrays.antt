@@ -20,8 +20,8 @@ use Rattle.b67_table.specs.Arrays.{array_word}
 use Rattle.b67_table.specs.References.{cell_word}
 use Rattle.b67_templates.specs.Fragments.{HasKind}
 use Rattle.b67_templates.specs.Cells as wants
-use Rattle.b67_templates.specs.Cells.{Agrees, simple_cells, made_of, made_from, made_base, IsVariable, IsDeclaredArray, IsOwnActual}
-use Rattle.b67_standing.specs.Stepping.{Held, row, element, cell_named, actual, passed}
+use Rattle.b67_templates.specs.Cells.{Agrees, Found, found_from, simple_cells, made_of, made_from, made_base, IsVariable, IsDeclaredArray, IsOwnActual}
+use Rattle.b67_standing.specs.Stepping.{Held, row, element, variable, cell_named, actual, passed}
 use Rattle.b67_cores.specs.Slots.{Known, ValueIs}
 
 -- ---- layouts
@@ -198,6 +198,16 @@ module _ (sc : Scopes) (w : World) (lay : Layout) where
           index = made_base sc (block_numbered sc.blocks ((instance_at w r.instance).block)) + array.number;
         })
 
+  -- .. to the simple cell of a variable of this kind, in such an instance
+  pub record LeadsToVariable (parts : List Part) (kind : Kind) (r : Reference) (word : Word) : Type 0 where
+    pub own : IsOwn parts r.instance
+    pub found : Found
+    pub there : found_from 0 (simple_cells sc (block_numbered sc.blocks ((instance_at w r.instance).block))) r.name ≡ Some found
+    pub wanted_is : found.cell.wanted ≡ wants.value kind
+    pub frame : Place
+    pub laid : numbered lay.places r.instance ≡ Some frame
+    pub word_is : word ≡ cell_word (record { frame = frame; index = 2 + found.number })
+
   -- what a name leads to from a part of instance i
   abbrev pub named_from : ℕ → Named → Reference
   named_from i n = record { instance = ancestor w ((use_of sc n).up) i; name = n.name }
@@ -266,6 +276,7 @@ module _ (sc : Scopes) (w : World) (lay : Layout) where
   abbrev pub HeldIs : List Part → ℕ → Held → Word → Type 0
   HeldIs parts i (row n ks) word = IsRow parts i n ks word
   HeldIs parts i (element r ks kind) word = IsElement parts r ks kind word
+  HeldIs parts i (variable r kind) word = LeadsToVariable parts kind r word
   HeldIs parts i (cell_named n) word = IsNamed parts i n word
   HeldIs parts i (actual e kind) word = IsActual parts i e kind word
   HeldIs parts i (passed (wants.array shape) (reference r)) word = LeadsTo parts shape r word

@@ -1,0 +1,140 @@
+-- A store into the variable to whose cell the reference under the top leads.
+use Rattle.std.proofs.Common.{◌≡◌, refl, sym, ap, ◌∙◌, ℕ, ◌+◌, ◌<◌, ◌≤◌, ◌^◌, List, ◌∷◌, length, Option, Some, None, Ok, arith}
+use Rattle.b67_list.specs.Numbered.{numbered}
+use Rattle.algol_tree.specs.declared.tree.Kind.{Kind}
+use Rattle.algol_tree.specs.Blocks.{block_numbered}
+use Rattle.algol_tree.specs.Plain.{PProgram}
+use Rattle.algol_tree.specs.Scopes.{Scopes, scopes_of}
+use Rattle.algol_meaning.specs.Value.{Value, Reference}
+use Rattle.algol_meaning.specs.Rest.{Answer, done, there}
+use Rattle.algol_meaning.specs.World.{Part, Process, able, World}
+use Rattle.algol_meaning.specs.Asks.{stores, ask, resume}
+use Rattle.algol_paths.specs.Laws.{RestsKeepToTheirText, AllIsMadeInOrder}
+use Rattle.b67_word.specs.declared.Place.{Place}
+use Rattle.b67_word.specs.Word.{Word}
+use Rattle.b67_control.specs.declared.Irw.{Irw}
+use Rattle.b67_control.specs.declared.Sirw.{Sirw}
+use Rattle.b67_control.specs.Control.{as_irw, as_sirw}
+use Rattle.b67_control.proofs.ControlLaws.{irw_laws, sirw_laws}
+use Rattle.b67_ops.specs.declared.Operator.TheVariants as ops
+use Rattle.b67_ops.specs.declared.PlainKind.TheVariants as kinds
+use Rattle.b67_segment.specs.declared.code.Code.{Code}
+use Rattle.b67_table.specs.declared.ProcessState.TheVariants.{Able}
+use Rattle.b67_table.specs.Arrays.{as_indexed, indexed_in}
+use Rattle.b67_table.specs.Chains.{place}
+use Rattle.b67_table.specs.Image.{Image}
+use Rattle.b67_table.specs.Private.{frame}
+use Rattle.b67_table.specs.References.{cell_word, irw_or_sirw, cell_of}
+use Rattle.b67_table.specs.Table.{operator_at}
+use Rattle.b67_templates.specs.Cells.{simple_cells}
+use Rattle.b67_templates.specs.Programs.{Texts}
+use Rattle.b67_standing.specs.Stepping.{Slot, operand, descriptor, variable}
+use Rattle.b67_standing.specs.Standing.{ActionAt, Acted, ComesTo}
+use Rattle.b67_cores.specs.Cores.{Core}
+use Rattle.b67_cores.specs.Stretches.{FragmentsArePerformed}
+use Rattle.b67_faithful.proofs.Contradictions.{some_same}
+use Rattle.b67_fitting.specs.Nested.{AreNested}
+use Rattle.b67_pictures.specs.Arrays.{Layout, LeadsToVariable}
+use Rattle.b67_pictures.specs.Acting.{Does}
+use Rattle.b67_pictures.proofs.ArrayPlaces.{cell_read, number_within}
+use Rattle.b67_pictures.proofs.FreshCells.{words_long}
+use Rattle.b67_pictures.proofs.Homes.{operator_there}
+use Rattle.b67_pictures.proofs.Knowing.{known_is}
+use Rattle.b67_pictures.proofs.Lying.{lies_low}
+use Rattle.b67_pictures.proofs.Numbers.{get_below}
+use Rattle.b67_pictures.proofs.Scene.{Scene}
+use Rattle.b67_pictures.proofs.Slotted.{Top, top_slot}
+use Rattle.b67_pictures.proofs.Staying.{text_in, level_in, context_in, most_in}
+use Rattle.b67_pictures.proofs.Storing.{two_words}
+use Rattle.b67_pictures.proofs.StoringVariable.{variable_stored}
+use Rattle.b67_pictures.proofs.VariableHomes.{VariableHome, variable_home}
+use Rattle.b67_pictures.proofs.Words.{cell_describes_nothing}
+
+-- a reference that is read alike everywhere is read in no other way
+pub no_other_reference : (w : Word) (s : Sirw) → as_sirw w ≡ Some s → as_irw w ≡ None
+no_other_reference w s e = irw_laws.other w (λ k. let is = sym (sirw_laws.kind w s e) ∙ k in cc)
+
+-- ---- what a process finds under the top
+
+module _ (tree : PProgram) (code : Code) (texts : Texts) (nested : AreNested (scopes_of tree)) (w : World) (lay : Layout) (img : Image)
+    (p : ℕ) (q : Process) (part : Part) (outer : List Part) (bound : ℕ) (core : Core) (s : Scene tree code texts w lay img p q part outer bound core) where
+  abbrev sc : Scopes
+  sc = scopes_of tree
+
+  module _ (r : Reference) (kind : Kind) (word : Word) (leads : LeadsToVariable sc w lay (part ∷ outer) kind r word) where
+    -- the variable, and that the word names its cell
+    pub record NamesVariable : Type 0 where
+      pub home : VariableHome tree code texts w lay img p q part outer bound core s r kind leads.found
+      pub reads : as_sirw word ≡ Some (record { stack = p; displacement = length home.lies.frame.lower; index = 2 + home.number })
+
+    names_it : VariableHome tree code texts w lay img p q part outer bound core s r kind leads.found → NamesVariable
+    names_it h =
+        let high : ℕ = length h.lies.frame.lower in
+        let frame_is : leads.frame ≡ place p high = some_same (sym leads.laid ∙ ap (λ (j : ℕ). numbered lay.places j) (sym h.lies.instance_is) ∙ h.lies.frame.framed.laid) in
+        let few_words : h.number < length (simple_cells sc (block_numbered sc.blocks h.lies.frame.framed.instance.block)) =
+        omega (
+          arith,
+          get_below h.lies.frame.framed.values h.number h.word h.value_lies,
+          words_long (simple_cells sc (block_numbered sc.blocks h.lies.frame.framed.instance.block)) h.lies.frame.framed.simple h.lies.frame.framed.values h.lies.frame.framed.simple_are,
+        ) in
+        let low : high + 2 + length h.lies.frame.cells ≤ length core.below = lies_low tree code texts w lay p (part ∷ outer) r.instance core.below h.lies in
+        record {
+          home = h;
+          reads =
+              ap as_sirw leads.word_is
+              ∙ ap (λ (f : Place). as_sirw (cell_word (record { frame = f; index = 2 + leads.found.number }))) frame_is
+              ∙ ap (λ (k : ℕ). as_sirw (cell_word (record { frame = place p high; index = 2 + k }))) h.number_is
+              ∙ cell_read (record { frame = place p high; index = 2 + h.number }) (omega (arith, number_within w.processes p q s.at, s.by.few)) (omega (arith, low, s.small))
+              (omega (arith, few_words, (nested.each h.lies.frame.framed.instance.block h.lies.frame.framed.known).few));
+        }
+
+    pub names_variable : NamesVariable
+    names_variable =
+        names_it
+        (variable_home tree code texts w lay img p q part outer bound core s r kind leads.found leads.own leads.there leads.wanted_is)
+
+  -- the words of a value on the reference to a variable
+  pub record FindsVariable (r : Reference) (kind : Kind) (v : Value) (below : List Slot) : Type 0 where
+    pub first : Top sc s.stands.held (level_in tree w part) (frame core.registers) (length core.below) (operand v) (descriptor (variable r kind) ∷ below) core.words
+    pub second : Top sc s.stands.held (level_in tree w part) (frame core.registers) (length core.below) (descriptor (variable r kind)) below first.words_below
+    pub leads : LeadsToVariable sc w lay (part ∷ outer) kind r second.word
+    pub named : NamesVariable r kind second.word leads
+
+  pub finds_variable : (r : Reference) (kind : Kind) (v : Value) (below : List Slot) → s.stands.slots ≡ operand v ∷ descriptor (variable r kind) ∷ below → FindsVariable r kind v below
+  finds_variable r kind v below lies =
+      let under : List Slot = descriptor (variable r kind) ∷ below in
+      let first : Top sc s.stands.held (level_in tree w part) (frame core.registers) (length core.below) (operand v) under core.words =
+      top_slot sc s.stands.held (level_in tree w part) (frame core.registers) (length core.below) s.stands.slots (operand v) under core.words s.stands.there.words_are lies in
+      let second : Top sc s.stands.held (level_in tree w part) (frame core.registers) (length core.below) (descriptor (variable r kind)) below first.words_below =
+      top_slot sc s.stands.held (level_in tree w part) (frame core.registers) (length core.below) under (descriptor (variable r kind)) below first.words_below first.are refl in
+      let leads : LeadsToVariable sc w lay (part ∷ outer) kind r second.word =
+      known_is sc w lay (part ∷ outer) part.instance s.stands.held s.stands.held_are (variable r kind) second.word second.slot_is in
+      record { first = first; second = second; leads = leads; named = names_variable r kind second.word leads }
+
+-- ---- the action
+
+module _ (tree : PProgram) (code : Code) (texts : Texts) (nested : AreNested (scopes_of tree)) (fragments : FragmentsArePerformed) (keeps : RestsKeepToTheirText) (order : AllIsMadeInOrder)
+    (w : World) (lay : Layout) (img : Image) (p : ℕ) (q : Process) (part : Part) (outer : List Part) (bound : ℕ) (core : Core) (s : Scene tree code texts w lay img p q part outer bound core)
+    (able_is : q.state ≡ able) (able_p : numbered img.states p ≡ Some Able) (r : Reference) (v : Value) (asks : ask part.rest ≡ stores (there r) v)
+    (a : ActionAt (scopes_of tree) (context_in tree code texts w part) (text_in tree texts w part) (level_in tree w part) (most_in tree w part) (stores (there r) v) s.stands.pc s.stands.slots)
+    (answered : (x : Answer) (at : ℕ) (left : List Slot) →
+    Acted (scopes_of tree) (context_in tree code texts w part) (text_in tree texts w part) (level_in tree w part) (most_in tree w part) (stores (there r) v) s.stands.pc s.stands.slots a x at left →
+    ComesTo (scopes_of tree) (context_in tree code texts w part) (text_in tree texts w part) (level_in tree w part) (most_in tree w part) (resume (scopes_of tree) part.rest x) at left) where
+  at_store : operator_at code core.registers ≡ Ok (ops.Plain kinds.Stod, a.0)
+  at_store = operator_there (scopes_of tree) s.stands.held code (text_in tree texts w part) (level_in tree w part) s.stands.pc s.stands.slots core (ops.Plain kinds.Stod) a.0 s.stands.there a.2.stands
+
+  does : FindsVariable tree code texts nested w lay img p q part outer bound core s r a.2.kind v a.1 → Does tree code texts w img p
+  does f =
+      let h : VariableHome tree code texts w lay img p q part outer bound core s r a.2.kind f.leads.found = f.named.home in
+      let high : ℕ = length h.lies.frame.lower in
+      let names : cell_of core.registers f.second.word ≡ Some (record { frame = record { stack = core.registers.stack; at = high }; index = 2 + h.number }) =
+      ap (λ (o : Option Irw). irw_or_sirw core.registers o (as_sirw f.second.word)) (no_other_reference f.second.word _ f.named.reads)
+      ∙ ap (λ (o : Option Sirw). irw_or_sirw core.registers None o) f.named.reads
+      ∙ ap (λ (n : ℕ). Some (record { frame = record { stack = n; at = high }; index = 2 + h.number })) (sym s.has.own) in
+      let plain_word : as_indexed f.second.word ≡ None = ap as_indexed f.leads.word_is ∙ ap indexed_in (cell_describes_nothing _) in
+      variable_stored tree code texts fragments keeps order w lay img p q part outer bound core s able_is able_p r a.2.kind f.leads.found h (there r) v a.2.fits asks refl a.0 a.1
+      (answered done a.0 a.1 (refl, refl)) at_store (descriptor (variable r a.2.kind)) a.2.lies refl f.first.word f.second.word f.second.words_below
+      (two_words core.words f.first.words_below f.first.word f.second.word f.second.words_below f.first.is f.second.is) f.first.slot_is names plain_word f.second.are
+
+  pub storing_there : Does tree code texts w img p
+  storing_there = does (finds_variable tree code texts nested w lay img p q part outer bound core s r a.2.kind v a.1 a.2.lies)
