@@ -58,6 +58,11 @@ cell_describes_nothing (wants.array shape) (event e) w is = absurd is
 cell_describes_nothing (wants.array shape) (array a) w is = absurd is
 cell_describes_nothing (wants.array shape) (named n) w is = absurd is
 cell_describes_nothing (wants.array shape) (reference r) w is = is
+cell_describes_nothing (wants.by_name kind) (simple v) w is = absurd is
+cell_describes_nothing (wants.by_name kind) (event e) w is = absurd is
+cell_describes_nothing (wants.by_name kind) (array a) w is = absurd is
+cell_describes_nothing (wants.by_name kind) (named n) w is = absurd is
+cell_describes_nothing (wants.by_name kind) (reference r) w is = is
 cell_describes_nothing _ c w is = absurd is
 
 pub cells_describe_nothing : (ss : List Simple) (cells : List NamedCell) (words : List Word) → CellsAre ss cells words → DescribeNothing words

@@ -1,4 +1,4 @@
--- The cells of the parameters of a procedure that is entered: values, and references that lead to arrays.
+-- The cells of the parameters of a procedure that is entered: values, and references that stand for something else.
 use Rattle.std.proofs.Common.{◌≡◌, refl, sym, ap, ◌∙◌, subst, ℕ, zero, suc, List, [], ◌∷◌, ◌++◌, Some}
 use Rattle.std.specs.Prelude.{slice_get, map}
 use Rattle.algol_tree.specs.declared.tree.Kind.{Kind}
@@ -21,29 +21,25 @@ use Rattle.b67_standing.specs.Stepping.{cell_named, passed as passed_held}
 use Rattle.b67_cores.specs.Slots.{Known}
 use Rattle.b67_fitting.specs.Nested.{AreTold, IsTold, by_value, an_array}
 use Rattle.b67_faithful.proofs.Contradictions.{some_same, none_some}
-use Rattle.b67_pictures.specs.Arrays.{Layout, named_from, LeadsTo, IsNamed, AreKnown}
-use Rattle.b67_pictures.specs.Frames.{CellIs, CellsAre}
+use Rattle.b67_pictures.specs.Arrays.{Layout, named_from, LeadsTo, Denotes, IsNamed, AreKnown}
+use Rattle.b67_pictures.specs.Frames.{CellIs, Refers, CellsAre}
 use Rattle.b67_pictures.proofs.AskedEntries.{InReferred}
 use Rattle.b67_pictures.proofs.GivenWords.{AreFit, none_wanted, a_value, a_name, a_cell, a_variable, an_actual, a_name_cell, ActualsAre}
 use Rattle.b67_pictures.proofs.Knowing.{known_is}
 use Rattle.b67_pictures.proofs.Words.{cell_describes_nothing}
 use Rattle.b67_pictures.proofs.Zeros.{HaveKinds}
 
--- what has a kind is no array
-no_array : {X : Type 0} (kind : Kind) (shape : Shape) → wants.value kind ≡ wants.array shape → X
-no_array kind shape e = absurd (let clash : wants.value kind ≡ wants.array shape = e in cc)
-
 -- no parameter is by name
 not_told : {X : Type 0} (q : Parameter) (s : Simple) (kind : Kind) → IsTold q s → wants.by_name kind ≡ s.wanted → X
 not_told q s kind (by_value other is v) e = absurd (let clash : wants.by_name kind ≡ wants.value other = e ∙ is in cc)
 not_told q s kind (an_array shape is v) e = absurd (let clash : wants.by_name kind ≡ wants.array shape = e ∙ is in cc)
 
--- ---- cells that lead to arrays
+-- ---- cells that stand for something else
 
 module _ (sc : Scopes) (w : World) (lay : Layout) (parts : List Part) where
-  -- of a parameter that is an array
+  -- of a parameter that does
   abbrev pub LeadsSo : Simple → NamedCell → Word → Type 0
-  LeadsSo s c x = (shape : Shape) → s.wanted ≡ wants.array shape → (r : Reference) × (c.cell ≡ reference r) × LeadsTo sc w lay parts shape r x
+  LeadsSo s c x = Refers s.wanted → Denotes sc w lay parts s.wanted c.cell x
 
   abbrev pub LeadAll : List Simple → List NamedCell → List Word → Type 0
   LeadAll [] [] [] = Unit {0}
@@ -51,16 +47,16 @@ module _ (sc : Scopes) (w : World) (lay : Layout) (parts : List Part) where
   LeadAll _ _ _ = ⊥
 
   -- one of them
-  pub lead_there : (ss : List Simple) (cells : List NamedCell) (words : List Word) → LeadAll ss cells words → (k : ℕ) (s : Simple) (shape : Shape) → slice_get ss k ≡ Some s → s.wanted ≡ wants.array shape →
-      (c : NamedCell) × (word : Word) × (r : Reference) × (slice_get cells k ≡ Some c) × (slice_get words k ≡ Some word) × (c.cell ≡ reference r) × LeadsTo sc w lay parts shape r word
-  lead_there [] cells words all k s shape there told = none_some there
-  lead_there (t ∷ ss) [] words all k s shape there told = absurd all
-  lead_there (t ∷ ss) (c ∷ cells) [] all k s shape there told = absurd all
-  lead_there (t ∷ ss) (c ∷ cells) (x ∷ words) all zero s shape there told =
+  pub lead_there : (ss : List Simple) (cells : List NamedCell) (words : List Word) → LeadAll ss cells words → (k : ℕ) (s : Simple) → slice_get ss k ≡ Some s → Refers s.wanted →
+      (c : NamedCell) × (word : Word) × (slice_get cells k ≡ Some c) × (slice_get words k ≡ Some word) × Denotes sc w lay parts s.wanted c.cell word
+  lead_there [] cells words all k s there asked = none_some there
+  lead_there (t ∷ ss) [] words all k s there asked = absurd all
+  lead_there (t ∷ ss) (c ∷ cells) [] all k s there asked = absurd all
+  lead_there (t ∷ ss) (c ∷ cells) (x ∷ words) all zero s there asked =
       let same : t ≡ s = some_same there in
-      let one = all.0 shape (ap (λ (u : Simple). u.wanted) same ∙ told) in
-      (c, x, one.0, refl, refl, one.1, one.2)
-  lead_there (t ∷ ss) (c ∷ cells) (x ∷ words) all (suc k) s shape there told = lead_there ss cells words all.1 k s shape there told
+      let one : Denotes sc w lay parts t.wanted c.cell x = all.0 (subst (λ (u : Simple). Refers u.wanted) (sym same) asked) in
+      (c, x, refl, refl, subst (λ (u : Simple). Denotes sc w lay parts u.wanted c.cell x) same one)
+  lead_there (t ∷ ss) (c ∷ cells) (x ∷ words) all (suc k) s there asked = lead_there ss cells words all.1 k s there asked
 
   pub lead_both : (ss : List Simple) (cells : List NamedCell) (words : List Word) (ss' : List Simple) (cells' : List NamedCell) (words' : List Word) → LeadAll ss cells words → LeadAll ss' cells' words' →
       LeadAll (ss ++ ss') (cells ++ cells') (words ++ words')
@@ -78,7 +74,7 @@ module _ (sc : Scopes) (w : World) (lay : Layout) (parts : List Part) where
   kinds_lead [] (c ∷ cells) words have are = absurd are
   kinds_lead (s ∷ ss) [] words have are = absurd are
   kinds_lead (s ∷ ss) (c ∷ cells) [] have are = absurd are
-  kinds_lead (s ∷ ss) (c ∷ cells) (x ∷ words) have are = ((λ shape told. no_array have.0.0 shape (sym have.0.1 ∙ told)), kinds_lead ss cells words have.1 are.2)
+  kinds_lead (s ∷ ss) (c ∷ cells) (x ∷ words) have are = ((λ asked. absurd (subst (λ (o : Wanted). Refers o) have.0.1 asked)), kinds_lead ss cells words have.1 are.2)
 
 -- ---- what is given
 
@@ -100,17 +96,21 @@ module _ (sc : Scopes) (context : Context) (w : World) (lay : Layout) (p : ℕ) 
       AreGivenCells (s ∷ ss) (q' ∷ ps) (g ∷ gs) (x ∷ words)
   one_given s ss q' ps g gs x words name is lead more = record { cells = (name, is, more.cells); lead = (lead, more.lead) }
 
-  -- a reference that leads to an array
-  reference_given : (s : Simple) (ss : List Simple) (q' : Parameter) (ps : List Parameter) (g : Given) (gs : List Given) (x : Word) (words : List Word) (shape : Shape) (r : Reference) → q'.name ≡ s.name →
+  -- a reference that stands for what is wanted
+  reference_given : (s : Simple) (ss : List Simple) (q' : Parameter) (ps : List Parameter) (g : Given) (gs : List Given) (x : Word) (words : List Word) (o : Wanted) (r : Reference) → q'.name ≡ s.name →
+      o ≡ s.wanted → given_cell sc w p q part outer g ≡ reference r → CellIs o (reference r) x → Denotes sc w lay (part ∷ outer) o (reference r) x → AreGivenCells ss ps gs words →
+      AreGivenCells (s ∷ ss) (q' ∷ ps) (g ∷ gs) (x ∷ words)
+  reference_given s ss q' ps g gs x words o r name wanted is plain denotes more =
+      one_given s ss q' ps g gs x words name
+      (subst (λ (t : Wanted). CellIs t (given_cell sc w p q part outer g) x) wanted (subst (λ (c : Cell). CellIs o c x) (sym is) plain))
+      (λ asked. subst (λ (t : Wanted). Denotes sc w lay (part ∷ outer) t (given_cell sc w p q part outer g) x) wanted (subst (λ (c : Cell). Denotes sc w lay (part ∷ outer) o c x) (sym is) denotes)) more
+
+  -- of an array
+  array_given : (s : Simple) (ss : List Simple) (q' : Parameter) (ps : List Parameter) (g : Given) (gs : List Given) (x : Word) (words : List Word) (shape : Shape) (r : Reference) → q'.name ≡ s.name →
       wants.array shape ≡ s.wanted → given_cell sc w p q part outer g ≡ reference r → LeadsTo sc w lay (part ∷ outer) shape r x → AreGivenCells ss ps gs words →
       AreGivenCells (s ∷ ss) (q' ∷ ps) (g ∷ gs) (x ∷ words)
-  reference_given s ss q' ps g gs x words shape r name wanted is lead more =
-      one_given s ss q' ps g gs x words name
-      (subst (λ (o : Wanted). CellIs o (given_cell sc w p q part outer g) x) wanted
-      (subst (λ (c : Cell). CellIs (wants.array shape) c x) (sym is) (ap as_descriptor lead.word_is ∙ cell_describes_nothing _)))
-      (λ other told.
-      let same : shape ≡ other = cc (wanted ∙ told) in
-      (r, is, subst (λ (t : Shape). LeadsTo sc w lay (part ∷ outer) t r x) same lead)) more
+  array_given s ss q' ps g gs x words shape r name wanted is lead more =
+      reference_given s ss q' ps g gs x words (wants.array shape) r name wanted is (ap as_descriptor lead.word_is ∙ cell_describes_nothing _) lead more
 
   pub given_are : {wanted : List Wanted} {gs : List Given} → AreFit sc context wanted gs → (ss : List Simple) (ps : List Parameter) → AreTold ps ss → wanted ≡ map (λ (c : Simple). c.wanted) ss →
       InReferred P gs → (words : List Word) → Words wanted gs words → AreGivenCells ss ps gs words
@@ -126,20 +126,20 @@ module _ (sc : Scopes) (context : Context) (w : World) (lay : Layout) (p : ℕ) 
       let here : wants.value kind ≡ s.wanted = cc in
       let behind : others ≡ map (λ (c : Simple). c.wanted) ss = cc in
       one_given s ss q' ps (valued v) gs x words told.0 (subst (λ (o : Wanted). CellIs o (simple v) x) here (fits, is.0))
-      (λ shape told. no_array kind shape (here ∙ told)) (given_are rest ss ps told.2 behind seen words is.1)
+      (λ asked. absurd (subst (λ (o : Wanted). Refers o) (sym here) asked)) (given_are rest ss ps told.2 behind seen words is.1)
   given_are (a_name shape n d c array agrees rest) [] [] told wanted seen words is = cc
   given_are (a_name shape n d c array agrees rest) (s ∷ ss) (q' ∷ ps) told wanted seen [] is = absurd is
   given_are (a_name {wanted = others} {gs = gs} shape n d c array agrees rest) (s ∷ ss) (q' ∷ ps) told wanted seen (x ∷ words) is =
       let here : wants.array shape ≡ s.wanted = cc in
       let behind : others ≡ map (λ (c : Simple). c.wanted) ss = cc in
-      reference_given s ss q' ps (refers n) gs x words shape (named_from sc w lay part.instance n) told.0 here refl
+      array_given s ss q' ps (refers n) gs x words shape (named_from sc w lay part.instance n) told.0 here refl
       (leads n seen.0 shape d c array agrees x (known_is sc w lay (part ∷ outer) part.instance known are (cell_named n) x is.0)) (given_are rest ss ps told.2 behind seen.1 words is.1)
   given_are (a_cell shape r rest) [] [] told wanted seen words is = cc
   given_are (a_cell shape r rest) (s ∷ ss) (q' ∷ ps) told wanted seen [] is = absurd is
   given_are (a_cell {wanted = others} {gs = gs} shape r rest) (s ∷ ss) (q' ∷ ps) told wanted seen (x ∷ words) is =
       let here : wants.array shape ≡ s.wanted = cc in
       let behind : others ≡ map (λ (c : Simple). c.wanted) ss = cc in
-      reference_given s ss q' ps (passed (reference r)) gs x words shape r told.0 here refl (known_is sc w lay (part ∷ outer) part.instance known are (passed_held (wants.array shape) (reference r)) x is.0)
+      array_given s ss q' ps (passed (reference r)) gs x words shape r told.0 here refl (known_is sc w lay (part ∷ outer) part.instance known are (passed_held (wants.array shape) (reference r)) x is.0)
       (given_are rest ss ps told.2 behind seen words is.1)
   given_are (a_variable kind n c is rest) [] [] told wanted seen words are = cc
   given_are (a_variable kind n c is rest) (s ∷ ss) (q' ∷ ps) told wanted seen words are = let here : wants.by_name kind ≡ s.wanted = cc in not_told q' s kind told.1 here

@@ -66,7 +66,7 @@ use Rattle.b67_pictures.proofs.FreshCells.{fresh_are, fresh_lead, simple_many, w
 use Rattle.b67_pictures.proofs.GivenWords.{ActualsAre}
 use Rattle.b67_pictures.proofs.Growing.{numbered_last, numbered_before, numbered_low}
 use Rattle.b67_pictures.proofs.Kept.{AreAlike}
-use Rattle.b67_pictures.proofs.Knowing.{leads_lasts, known_of}
+use Rattle.b67_pictures.proofs.Knowing.{denotes_lasts, known_of}
 use Rattle.b67_pictures.proofs.Landing.{living_of}
 use Rattle.b67_pictures.proofs.Linked.{all_each, level_around, shown_chained}
 use Rattle.b67_pictures.proofs.Lying.{StayBelow}
@@ -356,16 +356,14 @@ module _ (tree : PProgram) (code : Code) (texts : Texts) (nested : LiesNested tr
           simple = fresh_cells b given;
           values = taken ++ zeros;
           simple_are = cells_are;
-          formals = λ k t shape there told.
-              let g = lead_there sc w lay (part ∷ outer) (simple_cells sc b) (fresh_cells b given) (taken ++ zeros) cells_lead k t shape there told in (
+          formals = λ k t there refers.
+              let g = lead_there sc w lay (part ∷ outer) (simple_cells sc b) (fresh_cells b given) (taken ++ zeros) cells_lead k t there refers in (
                 g.0,
                 g.1,
                 g.2,
                 g.3,
-                g.4,
-                g.5,
-                leads_lasts sc w w' lay lay' (part ∷ outer) (part' ∷ outer) (parts_remain tree code texts w w' lay lay' p limit stay part outer core s.stands s.around all_low (part' ∷ outer) (λ m own. own))
-                    shape g.2 g.1 g.6,
+                denotes_lasts sc w w' lay lay' (part ∷ outer) (part' ∷ outer)
+                    (parts_remain tree code texts w w' lay lay' p limit stay part outer core s.stands s.around all_low (part' ∷ outer) (λ m own. own)) t.wanted g.0.cell g.1 g.4,
               );
           ats = body.ats;
           each_has_place = each_has_place;

@@ -16,10 +16,10 @@ use Rattle.b67_word.specs.Word.{Word}
 use Rattle.b67_table.specs.References.{cell_word}
 use Rattle.b67_templates.specs.Cells as wants
 use Rattle.b67_ops.specs.declared.Couple.{Couple}
-use Rattle.b67_templates.specs.Cells.{simple_cells, found_from, made_base, made_of, made_from, IsOwnActual}
+use Rattle.b67_templates.specs.Cells.{Wanted, simple_cells, found_from, made_base, made_of, made_from, IsOwnActual}
 use Rattle.b67_standing.specs.Stepping.{Held, row, element, variable, cell_named, actual, passed}
 use Rattle.b67_cores.specs.Slots.{Known, IsKnown}
-use Rattle.b67_pictures.specs.Arrays.{Allotted, Layout, IsOwn, IsArrayOf, IsIn, LeadsTo, LeadsToVariable, named_from, Names, an_array_named, a_variable_named, IsNamed, IsActual, IsRow, IsElement, HeldIs, AreKnown}
+use Rattle.b67_pictures.specs.Arrays.{Allotted, Layout, IsOwn, IsArrayOf, IsIn, LeadsTo, LeadsToVariable, Denotes, named_from, Names, an_array_named, a_variable_named, IsNamed, IsActual, IsRow, IsElement, HeldIs, AreKnown}
 
 -- what is known of a word is so
 pub known_is : (sc : Scopes) (w : World) (lay : Layout) (parts : List Part) (i : ℕ) (known : List Known) → AreKnown sc w lay parts i known → (held : Held) (word : Word) → IsKnown known held word →
@@ -28,6 +28,33 @@ known_is sc w lay parts i [] are held word is = absurd is
 known_is sc w lay parts i (x ∷ known) are held word (inl same) =
     subst (λ (u : Word). HeldIs sc w lay parts i held u) same.1 (subst (λ (h : Held). HeldIs sc w lay parts i h x.word) same.0 are.0)
 known_is sc w lay parts i (x ∷ known) are held word (inr later) = known_is sc w lay parts i known are.1 held word later
+
+-- ---- what a parameter's cell stands for
+
+-- it has a reference
+pub reference_denoted : (sc : Scopes) (w : World) (lay : Layout) (parts : List Part) (wanted : Wanted) (c : Cell) (word : Word) → Denotes sc w lay parts wanted c word → (r : Reference) × (c ≡ reference r)
+reference_denoted sc w lay parts (wants.array shape) (reference r) word is = (r, refl)
+reference_denoted sc w lay parts (wants.by_name kind) (reference r) word is = (r, refl)
+reference_denoted sc w lay parts _ c word is = absurd is
+
+-- what stands for that from some parts does so from more
+pub denotes_so : (sc : Scopes) (w : World) (lay : Layout) (parts parts' : List Part) → ((j : ℕ) → IsOwn parts j → IsOwn parts' j) → (wanted : Wanted) (c : Cell) (word : Word) →
+    Denotes sc w lay parts wanted c word → Denotes sc w lay parts' wanted c word
+denotes_so sc w lay parts parts' owned (wants.array shape) (reference r) word h =
+    record {
+      own = owned r.instance h.own;
+      declared = h.declared;
+      agrees = h.agrees;
+      cell = h.cell;
+      allotted = h.allotted;
+      array = h.array;
+      frame = h.frame;
+      laid = h.laid;
+      word_is = h.word_is;
+    }
+denotes_so sc w lay parts parts' owned (wants.by_name kind) (reference r) word h =
+    record { own = owned r.instance h.own; found = h.found; there = h.there; wanted_is = h.wanted_is; frame = h.frame; laid = h.laid; word_is = h.word_is }
+denotes_so sc w lay parts parts' owned _ c word h = absurd h
 
 -- an instance of these parts, or none
 abbrev pub IsOwnOrNone : List Part → ℕ → Type 0
@@ -101,6 +128,11 @@ module _ (sc : Scopes) (w w' : World) (lay lay' : Layout) where
           laid = remain.places r.instance h.frame h.own h.laid;
           word_is = h.word_is;
         }
+
+    pub denotes_lasts : (wanted : Wanted) (c : Cell) (word : Word) → Denotes sc w lay parts wanted c word → Denotes sc w' lay' parts' wanted c word
+    denotes_lasts (wants.array shape) (reference r) word h = leads_lasts shape r word h
+    denotes_lasts (wants.by_name kind) (reference r) word h = variable_lasts kind r word h
+    denotes_lasts _ c word h = absurd h
 
     module _ (i : ℕ) (climbs : Climbs i) where
       home_lasts : (n : Named) → followed w' (named_from sc w' lay' i n) ≡ followed w (named_from sc w lay i n)
@@ -185,8 +217,7 @@ module _ (sc : Scopes) (w w' : World) (lay lay' : Layout) where
       held_lasts (cell_named n) word h = named_lasts n word h
       held_lasts (actual e kind) word h = actual_lasts e kind word h
       held_lasts (variable r kind) word h = variable_lasts kind r word h
-      held_lasts (passed (wants.array shape) (reference r)) word h = leads_lasts shape r word h
-      held_lasts (passed _ c) word h = absurd h
+      held_lasts (passed wanted c) word h = denotes_lasts wanted c word h
 
       -- so all of it holds later
       pub known_lasts : (known : List Known) → AreKnown sc w lay parts i known → AreKnown sc w' lay' parts' i known

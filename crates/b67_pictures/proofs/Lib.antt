@@ -128,6 +128,7 @@ pub mod Joining
 pub mod Concluding
 pub mod AskedElements
 pub mod ArrayPlaces
+pub mod ReferenceHomes
 pub mod FormalHomes
 pub mod ArrayHomes
 pub mod Described

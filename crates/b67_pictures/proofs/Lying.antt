@@ -27,7 +27,7 @@ use Rattle.b67_faithful.specs.Weight.{part_weight, parts_weight, tokens_around}
 use Rattle.b67_faithful.proofs.Contradictions.{some_same, none_some}
 use Rattle.b67_pictures.specs.Arrays.{Allotted, Layout, IsOwn, AreMade, AreKnown}
 use Rattle.b67_pictures.specs.Frames.{most_around, IsComplete, IsPlaced, outermost, inside, home_of, Framed, result_of_part, Frame, Stands, Waits, Around}
-use Rattle.b67_pictures.proofs.Knowing.{Remain, IsOwnOrNone, keeps_same, leads_lasts, climbs_own, known_lasts}
+use Rattle.b67_pictures.proofs.Knowing.{Remain, IsOwnOrNone, keeps_same, denotes_lasts, climbs_own, known_lasts}
 use Rattle.b67_pictures.proofs.Numbers.{get_within}
 use Rattle.b67_pictures.proofs.Parents.{length_around}
 
@@ -264,9 +264,9 @@ module _ (tree : PProgram) (code : Code) (texts : Texts) (w w' : World) (lay lay
         simple = f.framed.simple;
         values = f.framed.values;
         simple_are = f.framed.simple_are;
-        formals = λ k s shape there told.
-            let g = f.framed.formals k s shape there told in
-            (g.0, g.1, g.2, g.3, g.4, g.5, leads_lasts sc w w' lay lay' outer outer (outer_remain outer f.lower f.mark f.control (wanted_old part) a (omega (arith, low))) shape g.2 g.1 g.6);
+        formals = λ k s there refers.
+            let g = f.framed.formals k s there refers in
+            (g.0, g.1, g.2, g.3, denotes_lasts sc w w' lay lay' outer outer (outer_remain outer f.lower f.mark f.control (wanted_old part) a (omega (arith, low))) s.wanted g.0.cell g.1 g.4);
         ats = f.framed.ats;
         each_has_place = f.framed.each_has_place;
         arrays = f.framed.arrays;

@@ -76,6 +76,7 @@ past_values (s ∷ ss) (c ∷ cells) (w ∷ ws) more name a are is = by_name (pa
     no_array o (simple v) holds e = cc
     no_array (wants.value kind) (array b) holds e = holds
     no_array (wants.array shape) (array b) holds e = holds
+    no_array (wants.by_name kind) (array b) holds e = holds
     no_array _ (array b) holds e = holds
     no_array o (event b) holds e = cc
     no_array o (named b) holds e = cc

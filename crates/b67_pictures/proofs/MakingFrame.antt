@@ -38,7 +38,7 @@ use Rattle.b67_pictures.proofs.Completing.{made_many}
 use Rattle.b67_pictures.proofs.ControlWords.{block_few, as_many_controls, controls_many}
 use Rattle.b67_pictures.proofs.FreshCells.{words_long}
 use Rattle.b67_pictures.proofs.Kept.{AreAlike}
-use Rattle.b67_pictures.proofs.Knowing.{leads_lasts}
+use Rattle.b67_pictures.proofs.Knowing.{denotes_lasts}
 use Rattle.b67_pictures.proofs.Lying.{Lies, lies_low, lies_around, StayBelow, same_instance, home_after, weight_stays, around_stays, outer_remain}
 use Rattle.b67_pictures.proofs.MakingAsked.{makes_first}
 use Rattle.b67_pictures.proofs.Numbers.{numbered_set}
@@ -268,15 +268,14 @@ module _ (tree : PProgram) (code : Code) (texts : Texts) (nested : AreNested (sc
           simple = framed.simple;
           values = framed.values;
           simple_are = framed.simple_are;
-          formals = λ k t shape there told.
-              let g = framed.formals k t shape there told in (
+          formals = λ k t there refers.
+              let g = framed.formals k t there refers in (
                 g.0,
                 g.1,
                 g.2,
                 g.3,
-                g.4,
-                g.5,
-                leads_lasts sc w w' lay lay' outer outer (outer_remain tree code texts w w' lay lay' p (length f.lower) stays outer f.lower f.mark f.control (wanted_in tree w part) s.around (omega arith)) shape g.2 g.1 g.6,
+                denotes_lasts sc w w' lay lay' outer outer (outer_remain tree code texts w w' lay lay' p (length f.lower) stays outer f.lower f.mark f.control (wanted_in tree w part) s.around (omega arith)) t.wanted
+                    g.0.cell g.1 g.4,
               );
           ats = framed.ats;
           each_has_place = framed.each_has_place;

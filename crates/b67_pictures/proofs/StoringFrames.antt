@@ -28,7 +28,7 @@ use Rattle.b67_faithful.proofs.Contradictions.{some_same}
 use Rattle.b67_pictures.specs.Arrays.{Allotted, Layout, AreMade, AreKnown, IsOwn}
 use Rattle.b67_pictures.specs.Frames.{CellsAre, block_controls, most_around, IsComplete, IsPlaced, outermost, inside, home_of, Framed, RoutinesStand, Frame, Waits, Around}
 use Rattle.b67_pictures.proofs.FreshCells.{words_long}
-use Rattle.b67_pictures.proofs.Knowing.{KeepsArrays, Remain, keeps_same, leads_lasts, known_lasts, climbs_all}
+use Rattle.b67_pictures.proofs.Knowing.{KeepsArrays, Remain, keeps_same, reference_denoted, denotes_lasts, known_lasts, climbs_all}
 use Rattle.b67_pictures.proofs.Numbers.{same_or_not, numbered_set, numbered_other}
 use Rattle.b67_pictures.proofs.StackWords.{length-set}
 use Rattle.b67_pictures.proofs.Staying.{most_in, wanted_in, IsAsHeavy, same_weight}
@@ -256,10 +256,11 @@ module _ (tree : PProgram) (code : Code) (texts : Texts) (w : World) (lay : Layo
           simple = c.simple;
           values = put word f.framed.values far;
           simple_are = c.simple_are;
-          formals = λ n t shape there told.
-              let g = f.framed.formals n t shape (ap (λ (y : Instance). slice_get (simple_cells sc (block_numbered sc.blocks y.block)) n) is_x ∙ there) told in
-              let stay = c.references n g.0 g.1 g.2 g.3 g.4 g.5 in
-              (g.0, g.1, g.2, stay.0, stay.1, g.5, leads_lasts sc w w' lay lay outer outer (all_remain outer) shape g.2 g.1 g.6);
+          formals = λ n t there refers.
+              let g = f.framed.formals n t (ap (λ (y : Instance). slice_get (simple_cells sc (block_numbered sc.blocks y.block)) n) is_x ∙ there) refers in
+              let d = reference_denoted sc w lay outer t.wanted g.0.cell g.1 g.4 in
+              let stay = c.references n g.0 g.1 d.0 g.2 g.3 d.1 in
+              (g.0, g.1, stay.0, stay.1, denotes_lasts sc w w' lay lay outer outer (all_remain outer) t.wanted g.0.cell g.1 g.4);
           ats = f.framed.ats;
           each_has_place = subst (λ (y : Instance). length f.framed.ats ≡ length (actuals_of sc (block_numbered sc.blocks y.block))) is_x f.framed.each_has_place;
           arrays = c.arrays;
@@ -296,9 +297,9 @@ module _ (tree : PProgram) (code : Code) (texts : Texts) (w : World) (lay : Layo
         simple = f.framed.simple;
         values = f.framed.values;
         simple_are = f.framed.simple_are;
-        formals = λ n t shape there told.
-            let g = f.framed.formals n t shape there told in
-            (g.0, g.1, g.2, g.3, g.4, g.5, leads_lasts sc w w' lay lay outer outer (all_remain outer) shape g.2 g.1 g.6);
+        formals = λ n t there refers.
+            let g = f.framed.formals n t there refers in
+            (g.0, g.1, g.2, g.3, denotes_lasts sc w w' lay lay outer outer (all_remain outer) t.wanted g.0.cell g.1 g.4);
         ats = f.framed.ats;
         each_has_place = f.framed.each_has_place;
         arrays = f.framed.arrays;

@@ -13,7 +13,7 @@ use Rattle.algol_tree.specs.Scopes.{Scopes, scopes_of, use_of}
 use Rattle.algol_tree.specs.Sorts.{same_name}
 use Rattle.algol_meaning.specs.Value.{Value, Bounds, Cell, simple, event, array, named, reference as refers}
 use Rattle.algol_meaning.specs.World.{NamedCell, Instance, Part, World, or_no_instance}
-use Rattle.algol_paths.specs.Arrays.{Made, an_array, an_event, Shape}
+use Rattle.algol_paths.specs.Arrays.{Made, an_array, an_event}
 use Rattle.b67_word.specs.declared.Place.{Place}
 use Rattle.b67_word.specs.Word.{Word, field}
 use Rattle.b67_control.specs.Kind as kind
@@ -49,8 +49,8 @@ use Rattle.b67_cores.specs.Stretches.{control_words}
 use Rattle.b67_cores.proofs.Moving.{slots_length}
 use Rattle.b67_faithful.proofs.Contradictions.{some_same}
 use Rattle.b67_fitting.specs.Nested.{AreNested}
-use Rattle.b67_pictures.specs.Arrays.{Allotted, Layout, DescriptorIs, AreMade, HeldIs, AreKnown}
-use Rattle.b67_pictures.specs.Frames.{CellIs, CellsAre, block_controls, IsPlaced, outermost, inside, home_of, result_of_part, Frame, Stands, Waits, Around, level_at}
+use Rattle.b67_pictures.specs.Arrays.{Allotted, Layout, DescriptorIs, AreMade, Denotes, HeldIs, AreKnown}
+use Rattle.b67_pictures.specs.Frames.{CellIs, Refers, CellsAre, block_controls, IsPlaced, outermost, inside, home_of, result_of_part, Frame, Stands, Waits, Around, level_at}
 use Rattle.b67_pictures.proofs.Lying.{Lies, lies_low, lies_around}
 use Rattle.b67_pictures.proofs.Numbers.{get_below}
 use Rattle.b67_pictures.proofs.StackWords.{reverse-cons}
@@ -190,8 +190,9 @@ module _ (Home : ℕ → ℕ → Type 0) (root : (n : ℕ) → Home 0 n) where
   -- ---- cells
 
   -- a value; of a reference it is known otherwise
-  cell_leads : (o : Wanted) (c : Cell) (w : Word) → CellIs o c w → ((shape : Shape) → o ≡ wants.array shape → LinksTo Home w) → LinksTo Home w
-  cell_leads (wants.array shape) c w is referred = referred shape refl
+  cell_leads : (o : Wanted) (c : Cell) (w : Word) → CellIs o c w → (Refers o → LinksTo Home w) → LinksTo Home w
+  cell_leads (wants.array shape) c w is referred = referred tt
+  cell_leads (wants.by_name kind) c w is referred = referred tt
   cell_leads (wants.value k) (simple v) w is referred = value_leads v w is.1
   cell_leads (wants.value k) (event e) w is referred = absurd is
   cell_leads (wants.value k) (array a) w is referred = absurd is
@@ -200,14 +201,14 @@ module _ (Home : ℕ → ℕ → Type 0) (root : (n : ℕ) → Home 0 n) where
   cell_leads _ c w is referred = absurd is
 
   cells_lead : (ss : List Simple) (cells : List NamedCell) (words : List Word) → CellsAre ss cells words →
-      ((k : ℕ) (s : Simple) (shape : Shape) (w : Word) → slice_get ss k ≡ Some s → s.wanted ≡ wants.array shape → slice_get words k ≡ Some w → LinksTo Home w) → AllLead words
+      ((k : ℕ) (s : Simple) (w : Word) → slice_get ss k ≡ Some s → Refers s.wanted → slice_get words k ≡ Some w → LinksTo Home w) → AllLead words
   cells_lead [] [] [] are referred = tt
   cells_lead [] [] (w ∷ words) are referred = absurd are
   cells_lead [] (c ∷ cells) words are referred = absurd are
   cells_lead (s ∷ ss) [] words are referred = absurd are
   cells_lead (s ∷ ss) (c ∷ cells) [] are referred = absurd are
   cells_lead (s ∷ ss) (c ∷ cells) (w ∷ words) are referred =
-      (cell_leads s.wanted c.cell w are.1 (λ shape told. referred 0 s shape w refl told refl), cells_lead ss cells words are.2 (λ k t shape x there told lies. referred (suc k) t shape x there told lies))
+      (cell_leads s.wanted c.cell w are.1 (λ asked. referred 0 s w refl asked refl), cells_lead ss cells words are.2 (λ k t x there asked lies. referred (suc k) t x there asked lies))
 
   controls_lead : (pcws : List Pcw) → AllLead (control_words pcws)
   controls_lead [] = tt
@@ -235,14 +236,18 @@ abbrev pub KnownLead : (ℕ → ℕ → Type 0) → List Known → Type 0
 KnownLead Home known = (h : Held) (x : Word) → IsKnown known h x → LinksTo Home x
 
 module _ (sc : Scopes) (w : World) (lay : Layout) (Home : ℕ → ℕ → Type 0) (root : (n : ℕ) → Home 0 n) (parts : List Part) (i : ℕ) where
+  pub denoted_leads : (wanted : Wanted) (c : Cell) (x : Word) → Denotes sc w lay parts wanted c x → LinksTo Home x
+  denoted_leads (wants.array shape) (refers r) x is = subst (LinksTo Home) (sym is.word_is) (cell_word_leads Home root _)
+  denoted_leads (wants.by_name kind) (refers r) x is = subst (LinksTo Home) (sym is.word_is) (cell_word_leads Home root _)
+  denoted_leads _ c x is = absurd is
+
   held_leads : (h : Held) (x : Word) → HeldIs sc w lay parts i h x → LinksTo Home x
   held_leads (row n ks) x is = subst (LinksTo Home) (sym is.word_is) (descriptor_leads Home root _)
   held_leads (element r ks kind) x is = subst (LinksTo Home) (sym is.word_is) (descriptor_leads Home root _)
   held_leads (cell_named n) x is = subst (LinksTo Home) (sym is.word_is) (cell_word_leads Home root _)
   held_leads (actual e kind) x is = subst (LinksTo Home) (sym is.word_is) (cell_word_leads Home root _)
   held_leads (variable r kind) x is = subst (LinksTo Home) (sym is.word_is) (cell_word_leads Home root _)
-  held_leads (passed (wants.array shape) (refers r)) x is = subst (LinksTo Home) (sym is.word_is) (cell_word_leads Home root _)
-  held_leads (passed _ c) x is = absurd is
+  held_leads (passed wanted c) x is = denoted_leads wanted c x is
 
   pub known_lead : (known : List Known) → AreKnown sc w lay parts i known → KnownLead Home known
   known_lead [] are h x is = absurd is
@@ -355,12 +360,12 @@ module _ (tree : PProgram) (code : Code) (texts : Texts) (nested : AreNested (sc
         by_parent zero f l = root_near home f
         by_parent (suc i) f l = laid_near outer lower low (suc i) home f l
 
-    -- the cells of parameters that are arrays
-    formals_lead : (part : Part) (outer : List Part) (words : List Word) (f : Frame tree code texts w lay p part outer words) (k : ℕ) (s : Simple) (shape : Shape) (x : Word) →
-        slice_get (simple_cells sc (block_numbered sc.blocks f.framed.instance.block)) k ≡ Some s → s.wanted ≡ wants.array shape → slice_get f.framed.values k ≡ Some x → LinksTo Home x
-    formals_lead part outer words f k s shape x there told lies =
-        let g = f.framed.formals k s shape there told in
-        subst (LinksTo Home) (some_same (sym g.4 ∙ lies)) (subst (LinksTo Home) (sym g.6.word_is) (cell_word_leads Home root _))
+    -- the cells of parameters that stand for something else
+    formals_lead : (part : Part) (outer : List Part) (words : List Word) (f : Frame tree code texts w lay p part outer words) (k : ℕ) (s : Simple) (x : Word) →
+        slice_get (simple_cells sc (block_numbered sc.blocks f.framed.instance.block)) k ≡ Some s → Refers s.wanted → slice_get f.framed.values k ≡ Some x → LinksTo Home x
+    formals_lead part outer words f k s x there asked lies =
+        let g = f.framed.formals k s there asked in
+        subst (LinksTo Home) (some_same (sym g.3 ∙ lies)) (denoted_leads sc w lay Home root outer part.instance s.wanted g.0.cell g.1 g.4)
 
     frame_leads : (part : Part) (outer : List Part) (words : List Word) (f : Frame tree code texts w lay p part outer words) → Outer outer f.lower f.mark f.control (wanted_of part) → length f.lower ≤ limit → AllLead Home root f.lower → AllLead Home root words
     frame_leads part outer words f a ends low =

@@ -20,7 +20,7 @@ use Rattle.b67_table.specs.Arrays.{array_word}
 use Rattle.b67_table.specs.References.{cell_word}
 use Rattle.b67_templates.specs.Fragments.{HasKind}
 use Rattle.b67_templates.specs.Cells as wants
-use Rattle.b67_templates.specs.Cells.{Agrees, Found, found_from, simple_cells, made_of, made_from, made_base, IsVariable, IsDeclaredArray, IsOwnActual}
+use Rattle.b67_templates.specs.Cells.{Wanted, Agrees, Found, found_from, simple_cells, made_of, made_from, made_base, IsVariable, IsDeclaredArray, IsOwnActual}
 use Rattle.b67_standing.specs.Stepping.{Held, row, element, variable, cell_named, actual, passed}
 use Rattle.b67_cores.specs.Slots.{Known, ValueIs}
 
@@ -208,6 +208,13 @@ module _ (sc : Scopes) (w : World) (lay : Layout) where
     pub laid : numbered lay.places r.instance ≡ Some frame
     pub word_is : word ≡ cell_word (record { frame = frame; index = 2 + found.number })
 
+  -- The word of a parameter's cell, of which that is wanted: a reference to the cell of an array of that shape, or to that of a variable of that
+  -- kind.
+  abbrev pub Denotes : List Part → Wanted → Cell → Word → Type 0
+  Denotes parts (wants.array shape) (reference r) word = LeadsTo parts shape r word
+  Denotes parts (wants.by_name kind) (reference r) word = LeadsToVariable parts kind r word
+  Denotes parts _ c word = ⊥
+
   -- what a name leads to from a part of instance i
   abbrev pub named_from : ℕ → Named → Reference
   named_from i n = record { instance = ancestor w ((use_of sc n).up) i; name = n.name }
@@ -279,8 +286,7 @@ module _ (sc : Scopes) (w : World) (lay : Layout) where
   HeldIs parts i (variable r kind) word = LeadsToVariable parts kind r word
   HeldIs parts i (cell_named n) word = IsNamed parts i n word
   HeldIs parts i (actual e kind) word = IsActual parts i e kind word
-  HeldIs parts i (passed (wants.array shape) (reference r)) word = LeadsTo parts shape r word
-  HeldIs parts i _ word = ⊥
+  HeldIs parts i (passed wanted c) word = Denotes parts wanted c word
 
   -- what is known of words on the stack is so
   abbrev pub AreKnown : List Part → ℕ → List Known → Type 0

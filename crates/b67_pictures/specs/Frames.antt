@@ -5,12 +5,12 @@ use Rattle.algol_tree.specs.Blocks.{Block, block_numbered, around}
 use Rattle.algol_tree.specs.Cells.{level_of}
 use Rattle.algol_tree.specs.Plain.{PProgram}
 use Rattle.algol_tree.specs.Scopes.{Scopes, scopes_of}
-use Rattle.algol_meaning.specs.Value.{Reference, Cell, simple, reference}
+use Rattle.algol_meaning.specs.Value.{Cell, simple, reference}
 use Rattle.algol_meaning.specs.World.{NamedCell, Instance, Part, World, instance_at, ancestor}
 use Rattle.algol_meaning.specs.Rest.{Answer}
 use Rattle.algol_meaning.specs.Asks.{nothing, ask, resume}
 use Rattle.algol_meaning.specs.Critical.{is_evaluation}
-use Rattle.algol_paths.specs.Arrays.{Made, Shape, all_to_make}
+use Rattle.algol_paths.specs.Arrays.{Made, all_to_make}
 use Rattle.algol_paths.specs.Laws.{KeepsToText}
 use Rattle.algol_paths.specs.Segments.{segment_of}
 use Rattle.b67_word.specs.declared.Place.{Place}
@@ -38,16 +38,22 @@ use Rattle.b67_cores.specs.Cores.{Core}
 use Rattle.b67_cores.specs.Slots.{ValueIs, Known, newest, SlotsAre}
 use Rattle.b67_cores.specs.Stretches.{CoreAt, control_words}
 use Rattle.b67_faithful.specs.Weight.{tokens_around, parts_weight}
-use Rattle.b67_pictures.specs.Arrays.{Layout, IsOwn, AreMade, LeadsTo, AreKnown}
+use Rattle.b67_pictures.specs.Arrays.{Layout, IsOwn, AreMade, Denotes, AreKnown}
 
 -- ---- cells
 
--- the word of a cell of which that is wanted: of a variable its value, which has the kind of its declaration; of a parameter that is an array
--- a reference, which describes no row
+-- the word of a cell of which that is wanted: of a variable its value, which has the kind of its declaration; of a parameter that stands for an
+-- array or for a variable a reference, which describes no row
 abbrev pub CellIs : Wanted → Cell → Word → Type 0
 CellIs (wants.value k) (simple v) w = HasKind k v × ValueIs v w
 CellIs (wants.array shape) (reference r) w = as_descriptor w ≡ None
+CellIs (wants.by_name kind) (reference r) w = as_descriptor w ≡ None
 CellIs _ _ w = ⊥
+
+-- a cell of which that is wanted stands for something else
+abbrev pub Refers : Wanted → Type 0
+Refers (wants.value k) = ⊥
+Refers _ = Unit {0}
 
 -- the words of an instance's cells, in the order of its block
 abbrev pub CellsAre : List Simple → List NamedCell → List Word → Type 0
@@ -104,10 +110,9 @@ module _ (sc : Scopes) (w : World) (lay : Layout) where
     pub simple : List NamedCell
     pub values : List Word
     pub simple_are : CellsAre (simple_cells sc (block_numbered sc.blocks instance.block)) simple values
-    -- each parameter that is an array leads to one
-    pub formals : (k : ℕ) (s : Simple) (shape : Shape) → slice_get (simple_cells sc (block_numbered sc.blocks instance.block)) k ≡ Some s → s.wanted ≡ wants.array shape →
-        (c : NamedCell) × (word : Word) × (r : Reference) × (slice_get simple k ≡ Some c) × (slice_get values k ≡ Some word) × (c.cell ≡ reference r)
-        × LeadsTo sc w lay outer shape r word
+    -- each parameter that stands for something leads to it
+    pub formals : (k : ℕ) (s : Simple) → slice_get (simple_cells sc (block_numbered sc.blocks instance.block)) k ≡ Some s → Refers s.wanted →
+        (c : NamedCell) × (word : Word) × (slice_get simple k ≡ Some c) × (slice_get values k ≡ Some word) × Denotes sc w lay outer s.wanted c.cell word
     -- after them lie the control words of the block's procedures and of its actuals, whose code stands at these places, and then the
     -- descriptors of the arrays that are made
     pub ats : List ℕ
