@@ -1,18 +1,19 @@
--- The name of an array whose head asks for an element of it, for an index or for its passing is seen from the text of its part. All arrays of
--- the part's own instance are made, or the name stands in a bound.
+-- The name for which a head asks, for an element of an array, for an index, for what a parameter stands for or for its passing, is seen from the
+-- text of its part. All arrays of the part's own instance are made, or the name stands in a bound.
 use Rattle.std.proofs.Common.{◌≡◌, ◌⊎◌, inl, inr, refl, subst, [], Option, Some, None}
 use Rattle.algol_tree.specs.declared.tree.Named.{Named}
 use Rattle.algol_tree.specs.Plain.{PBody}
 use Rattle.algol_meaning.specs.Rest.{Hole, read, element, index, happens, broken, enter, inside, subscript, argument, left, right, negated, inverted, condition, Actuals, pass, in_value, Aim, resolve, place_index, inside_place, place_subscript, Rest, over, reading, giving, giving_place, store, select, turning, going, entering_block, entering, starting, acting, line, arrays, event, within, dropping, evaluating, locating, aiming, storing, choosing, looping, checking, counting, differing, stepping, selecting, calling, preparing, writing, bounding}
-use Rattle.algol_meaning.specs.Asks.{Ask, reads_element, indexes, passes, ask, ask_hole, ask_actuals, ask_aim}
+use Rattle.algol_meaning.specs.Asks.{Ask, reads_element, indexes, passes, ask, ask_hole, ask_actuals, ask_aim, resolves}
 use Rattle.algol_paths.specs.Arrays.{all_to_make}
 use Rattle.algol_paths.specs.Texts.{InHole, InActuals, InAim, InRest}
 
--- the array of which an element or an index is asked for, or that is passed
+-- the array of which an element or an index is asked for, the parameter that is passed, or by name that is resolved
 abbrev pub array_asked : Ask → Option Named
 array_asked (reads_element n ks v) = Some n
 array_asked (indexes n ks v) = Some n
 array_asked (passes n) = Some n
+array_asked (resolves n) = Some n
 array_asked _ = None
 
 module _ (P : Named → Type 0) (n : Named) where
@@ -38,7 +39,7 @@ module _ (P : Named → Type 0) (n : Named) where
     actuals_ask (in_value gs h sorts es) e is = hole_asks h e is.1
 
   aim_asks : (a : Aim) → array_asked (ask_aim a) ≡ Some n → InAim P a → P n
-  aim_asks (resolve m) e is = cc
+  aim_asks (resolve m) e is = let same : m ≡ n = cc in subst P same is
   aim_asks (place_index m ks i es) e is = let same : m ≡ n = cc in subst P same is.0
   aim_asks inside_place e is = cc
   aim_asks (place_subscript m ks h es) e is = hole_asks h e is.1

@@ -1,5 +1,5 @@
 -- The control words among the cells of a frame: of the procedures that its block declares, and of its actuals.
-use Rattle.std.proofs.Common.{◌≡◌, refl, ap, ◌∙◌, ℕ, suc, ◌+◌, ◌<◌, ◌≤◌, List, [], ◌∷◌, length, Some, arith, length-append}
+use Rattle.std.proofs.Common.{◌≡◌, refl, ap, ◌∙◌, subst, ℕ, zero, suc, ◌+◌, ◌<◌, ◌≤◌, List, [], ◌∷◌, length, Some, arith, length-append}
 use Rattle.std.specs.Prelude.{slice_get}
 use Rattle.algol_tree.specs.declared.TheConstants.{MOST_BLOCK_CELLS}
 use Rattle.algol_tree.specs.declared.tree.Named.{Named}
@@ -10,16 +10,17 @@ use Rattle.algol_paths.specs.Segments.{segment_of}
 use Rattle.b67_control.specs.declared.Pcw.{Pcw}
 use Rattle.b67_control.specs.Control.{pcw_word}
 use Rattle.b67_segment.specs.Operators.{Placed}
-use Rattle.b67_templates.specs.Fragments.{code_at, procedure_controls}
-use Rattle.b67_templates.specs.Cells.{simple_cells, procedures, control_segments, Actual, actuals_of, made_of}
+use Rattle.b67_templates.specs.Fragments.{code_at, routine_at, procedure_controls}
+use Rattle.b67_templates.specs.Cells.{simple_cells, procedures, control_segments, Actual, has_place, actuals_of, made_of}
 use Rattle.b67_templates.specs.Contexts.{Context}
-use Rattle.b67_templates.specs.Code.{RoutinesAt, routine_controls}
+use Rattle.b67_templates.specs.Code.{RoutineAt, RoutinesAt, routine_controls}
 use Rattle.b67_cores.specs.Stretches.{control_words}
+use Rattle.b67_faithful.proofs.Contradictions.{some_same, none_some}
 use Rattle.b67_fitting.specs.Nested.{AreNested}
 use Rattle.b67_fitting.proofs.Unnamed.{nested_no_actuals}
 use Rattle.b67_pictures.specs.Frames.{block_controls, controls_count}
 use Rattle.b67_pictures.proofs.Segmented.{get_mapped, length_mapped}
-use Rattle.b67_pictures.proofs.StackWords.{get-front}
+use Rattle.b67_pictures.proofs.StackWords.{get-front, get-behind}
 
 -- the cells of a block are few: simple cells, control words, and what actions make
 pub block_few : (sc : Scopes) → AreNested sc → (j : ℕ) → j < length sc.blocks →
@@ -62,3 +63,49 @@ get_control sc j ats k s e =
     get_mapped (λ (pcw : Pcw). pcw_word pcw) (block_controls sc j ats) k c
     (get-front (procedure_controls (level_of b) (control_segments sc b.decls)) (routine_controls (segment_of sc.blocks j) (level_of b) (actuals_of sc b) ats) k c
     (get_mapped (λ (segment : ℕ). code_at segment 0 (level_of b + 1)) (control_segments sc b.decls) k s e))
+
+-- ---- the code of an actual
+
+-- it stands at its place
+pub record RoutineThere (sc : Scopes) (context : Context) (ps : List Placed) (level : ℕ) (a : Actual) (ats : List ℕ) (k : ℕ) : Type 0 where
+  pub at : ℕ
+  pub is : slice_get ats k ≡ Some at
+  pub code : RoutineAt sc context ps level a at
+
+pub routine_there : (sc : Scopes) (context : Context) (ps : List Placed) (level : ℕ) (actuals : List Actual) (ats : List ℕ) → RoutinesAt sc context ps level actuals ats → (k : ℕ) (a : Actual) →
+    slice_get actuals k ≡ Some a → RoutineThere sc context ps level a ats k
+routine_there sc context ps level [] ats are k a e = none_some e
+routine_there sc context ps level (b ∷ actuals) ats are zero a e =
+    record {
+      at = are.0;
+      is = ap (λ (as' : List ℕ). slice_get as' 0) are.2;
+      code = subst (λ (x : Actual). RoutineAt sc context ps level x are.0) (some_same e) are.3;
+    }
+routine_there sc context ps level (b ∷ actuals) ats are (suc k) a e =
+    let r : RoutineThere sc context ps level a are.1 k = routine_there sc context ps level actuals are.1 are.4 k a e in
+    record { at = r.at; is = ap (λ (as' : List ℕ). slice_get as' (suc k)) are.2 ∙ r.is; code = r.code }
+
+routine_got : (segment level : ℕ) (actuals : List Actual) (ats : List ℕ) (k : ℕ) (a : Actual) (at : ℕ) → slice_get actuals k ≡ Some a → slice_get ats k ≡ Some at →
+    slice_get (routine_controls segment level actuals ats) k ≡ Some (routine_at (has_place a.expr) segment at (level + 1))
+routine_got segment level [] ats k a at e f = none_some e
+routine_got segment level (b ∷ actuals) [] k a at e f = none_some f
+routine_got segment level (b ∷ actuals) (n ∷ ats) zero a at e f =
+    ap (λ (x : Actual). Some (routine_at (has_place x.expr) segment n (level + 1))) (some_same e)
+    ∙ ap (λ (m : ℕ). Some (routine_at (has_place a.expr) segment m (level + 1))) (some_same f)
+routine_got segment level (b ∷ actuals) (n ∷ ats) (suc k) a at e f = routine_got segment level actuals ats k a at e f
+
+-- its control word, by the number of the actual: after those of the procedures
+pub get_routine : (sc : Scopes) (j : ℕ) (ats : List ℕ) (k : ℕ) (a : Actual) (at : ℕ) → slice_get (actuals_of sc (block_numbered sc.blocks j)) k ≡ Some a → slice_get ats k ≡ Some at →
+    slice_get (control_words (block_controls sc j ats)) (length (procedures (block_numbered sc.blocks j).decls) + k)
+    ≡ Some (pcw_word (routine_at (has_place a.expr) (segment_of sc.blocks j) at (level_of (block_numbered sc.blocks j) + 1)))
+get_routine sc j ats k a at e f =
+    let b : Block = block_numbered sc.blocks j in
+    let c : Pcw = routine_at (has_place a.expr) (segment_of sc.blocks j) at (level_of b + 1) in
+    get_mapped (λ (pcw : Pcw). pcw_word pcw) (block_controls sc j ats) (length (procedures b.decls) + k) c
+    (get-behind (procedure_controls (level_of b) (control_segments sc b.decls)) (routine_controls (segment_of sc.blocks j) (level_of b) (actuals_of sc b) ats) k (length (procedures b.decls) + k)
+    (omega (
+      arith,
+      length_mapped (λ (segment : ℕ). code_at segment 0 (level_of b + 1)) (control_segments sc b.decls),
+      length_mapped (λ (n : Named). segment_of sc.blocks (number_at sc.blocks n.spot)) (procedures b.decls),
+    ))
+    ∙ routine_got (segment_of sc.blocks j) (level_of b) (actuals_of sc b) ats k a at e f)

@@ -21,7 +21,7 @@ use Rattle.b67_segment.specs.declared.code.Code.{Code}
 use Rattle.b67_table.specs.declared.ProcessState.TheVariants.{Able}
 use Rattle.b67_table.specs.Image.{Image}
 use Rattle.b67_templates.specs.Contexts.{Yields}
-use Rattle.b67_templates.specs.Cells.{Simple, Found, found_from, simple_cells, IsVariable}
+use Rattle.b67_templates.specs.Cells.{Simple, Found, found_from, simple_cells, IsVariable, IsRead, of_variable, of_formal}
 use Rattle.b67_templates.specs.Programs.{Texts}
 use Rattle.b67_standing.specs.Stepping.{Slot}
 use Rattle.b67_standing.specs.Standing.{ActionAt, Acted, Entered, Gives, pushed, ComesTo, GoesOn}
@@ -33,10 +33,10 @@ use Rattle.b67_pictures.specs.Arrays.{Layout}
 use Rattle.b67_pictures.specs.Acting.{Does}
 use Rattle.b67_pictures.proofs.Scene.{Scene}
 use Rattle.b67_pictures.proofs.Staying.{text_in, level_in, context_in, most_in}
-use Rattle.b67_pictures.proofs.NoNames.{none_formal, read_variable}
+use Rattle.b67_pictures.proofs.Resolving.{resolving}
 use Rattle.b67_pictures.proofs.StoringThere.{storing_there}
 use Rattle.b67_pictures.proofs.Yielding.{no_element}
-use Rattle.b67_pictures.proofs.Reading.{reading}
+use Rattle.b67_pictures.proofs.Reading.{reading, reading_name}
 use Rattle.b67_pictures.proofs.ReadingResult.{reading_result}
 use Rattle.b67_pictures.proofs.Storing.{storing}
 use Rattle.b67_pictures.proofs.Failing.{failing}
@@ -108,6 +108,9 @@ module _ (tree : PProgram) (code : Code) (texts : Texts) where
 
   module _ (nested : AreNested (scopes_of tree)) (fragments : FragmentsArePerformed) (keeps : RestsKeepToTheirText) (order : AllIsMadeInOrder) (rests : RestsGoOn) (others : OthersAreDone) (w : World) (lay : Layout) (img : Image)
       (p : ℕ) (q : Process) (part : Part) (outer : List Part) (bound : ℕ) (core : Core) (s : Scene tree code texts w lay img p q part outer bound core) (able_is : q.state ≡ able) (able_p : numbered img.states p ≡ Some Able) where
+    abbrev IsReadThere : Named → Type 0
+    IsReadThere n = ActionAt (scopes_of tree) (context_in tree code texts w part) (text_in tree texts w part) (level_in tree w part) (most_in tree w part) (reads n) s.stands.pc s.stands.slots
+
     -- the part's level is one that the machine has
     low : level_in tree w part ≤ MOST_LEVEL
     low =
@@ -116,9 +119,16 @@ module _ (tree : PProgram) (code : Code) (texts : Texts) where
         ap (λ (o : Option Instance). level_of (block_numbered (scopes_of tree).blocks ((or_no_instance o).block))) framed.is in
         omega (arith, same, (nested.each framed.instance.block framed.known).low)
 
+    -- by what is read
+    read_by : (n : Named) (e : ask part.rest ≡ reads n) (a : IsReadThere n) → ((r : Answer) (at : ℕ) (left : List Slot) →
+        Acted (scopes_of tree) (context_in tree code texts w part) (text_in tree texts w part) (level_in tree w part) (most_in tree w part) (reads n) s.stands.pc s.stands.slots a r at left →
+        ComesTo (scopes_of tree) (context_in tree code texts w part) (text_in tree texts w part) (level_in tree w part) (most_in tree w part) (resume (scopes_of tree) part.rest r) at left) →
+        IsRead (scopes_of tree) (level_in tree w part) n a.0 a.2.0 → Does tree code texts w img p
+    read_by n e a answered (of_variable v) = reading tree code texts fragments keeps order w lay img p q part outer bound core s able_is able_p n e a answered v
+    read_by n e a answered (of_formal v) = reading_name tree code texts fragments keeps order w lay img p q part outer bound core s able_is able_p n e a answered nested v
+
     by_ask : (k : Ask) → ask part.rest ≡ k → GoesOnFrom w lay img p q part outer bound core s k
-    by_ask (reads n) e a answered waits returns = reading tree code texts fragments keeps order w lay img p q part outer bound core s able_is able_p n e a
-        (read_variable (scopes_of tree) nested (level_in tree w part) n a.0 a.2.0 a.2.1) answered
+    by_ask (reads n) e a answered waits returns = read_by n e a answered a.2.1
     by_ask (fails fault) e a answered waits returns = failing tree code texts w lay img p q part outer bound core s fault e a
     by_ask (stores (own n) v) e a answered waits returns =
         storing tree code texts fragments keeps order w lay img p q part outer bound core s able_is able_p n v e a answered (omega (arith, a.2.variable.level_is, low))
@@ -143,7 +153,7 @@ module _ (tree : PProgram) (code : Code) (texts : Texts) where
     by_ask (enters n gs) e a answered waits returns = others.calling n gs w lay img p q part outer bound core s able_is able_p e a answered waits returns
     by_ask (passes n) e a answered waits returns = others.passing n w lay img p q part outer bound core s able_is able_p e a answered waits returns
     by_ask (resolves n) e a answered waits returns =
-        absurd (none_formal (scopes_of tree) nested (level_in tree w part) n a.0 a.3.couple a.3.is_formal)
+        resolving tree code texts nested fragments keeps order w lay img p q part outer bound core s able_is able_p n e a answered
     by_ask (reads_result name) e a answered waits returns =
         reading_result tree code texts nested fragments keeps order w lay img p q part outer bound core s able_is able_p name e a answered
     by_ask (goes_to n) e a answered waits returns = absurd a

@@ -35,7 +35,6 @@ pub mod Segmented
 pub mod ControlWords
 pub mod Zeros
 pub mod FreshCells
-pub mod NoNames
 pub mod Scene
 pub mod Ancestors
 pub mod StoringFrames
@@ -130,6 +129,9 @@ pub mod AskedElements
 pub mod ArrayPlaces
 pub mod ReferenceHomes
 pub mod FormalHomes
+pub mod NamedVariables
+pub mod NameHomes
+pub mod ActualHomes
 pub mod ArrayHomes
 pub mod Described
 pub mod IndexRows
@@ -140,4 +142,5 @@ pub mod Indexing
 pub mod ElementStoring
 pub mod PassRow
 pub mod Passing
+pub mod Resolving
 pub mod ElementActions

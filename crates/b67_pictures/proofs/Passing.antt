@@ -1,12 +1,16 @@
--- The passing of a parameter that stands for an array: the reference in its cell is given on.
-use Rattle.std.proofs.Common.{◌≡◌, inl, refl, sym, ap, ◌∙◌, subst, ℕ, ◌≤◌, List, ◌∷◌, length, Some, Ok, arith}
+-- The passing of a parameter that stands for an array, or for a variable: the reference in its cell is given on.
+use Rattle.std.proofs.Common.{◌≡◌, inl, refl, sym, ap, ◌∙◌, subst, ℕ, ◌+◌, ◌≤◌, List, ◌∷◌, length, Some, Ok, arith}
 use Rattle.b67_list.specs.Numbered.{numbered}
 use Rattle.algol_tree.specs.declared.tree.Named.{Named}
 use Rattle.algol_tree.specs.Plain.{PProgram}
 use Rattle.algol_tree.specs.Scopes.{Scopes, scopes_of}
-use Rattle.algol_meaning.specs.Value.{Cell, reference}
+use Rattle.algol_tree.specs.declared.tree.Kind.{Kind}
+use Rattle.algol_meaning.specs.Value.{Reference, Cell, reference}
+use Rattle.b67_word.specs.Word.{Word}
+use Rattle.b67_control.specs.declared.Sirw.{Sirw}
+use Rattle.b67_store.specs.Store.{word_at}
 use Rattle.algol_meaning.specs.Rest.{Answer, cell}
-use Rattle.algol_meaning.specs.World.{Process, Part, able, World, instance_at}
+use Rattle.algol_meaning.specs.World.{Process, Part, able, World, instance_at, cell_at}
 use Rattle.algol_meaning.specs.Actions.{Pass}
 use Rattle.algol_meaning.specs.Asks.{Ask, passes, ask, resume}
 use Rattle.algol_meaning.specs.Choice.{choice_of, goes}
@@ -15,7 +19,7 @@ use Rattle.algol_paths.specs.Blocks.{IsSeen, IsSeenAround, IsInner}
 use Rattle.algol_paths.specs.Laws.{RestsKeepToTheirText, AllIsMadeInOrder}
 use Rattle.b67_ops.specs.declared.Operator.TheVariants as ops
 use Rattle.b67_ops.specs.declared.PlainKind.TheVariants as kinds
-use Rattle.b67_control.specs.Control.{as_irw}
+use Rattle.b67_control.specs.Control.{as_irw, as_sirw}
 use Rattle.b67_segment.specs.Operators.{Placed}
 use Rattle.b67_segment.specs.declared.code.Code.{Code}
 use Rattle.b67_templates.specs.Programs.{Texts}
@@ -24,17 +28,17 @@ use Rattle.b67_table.specs.declared.ProcessState.TheVariants.{Able}
 use Rattle.b67_table.specs.Image.{Image}
 use Rattle.b67_table.specs.Effect as effects
 use Rattle.b67_table.specs.Outcome as outcomes
-use Rattle.b67_table.specs.Private.{frame}
+use Rattle.b67_table.specs.Private.{frame, display_at}
 use Rattle.b67_table.specs.Table.{operator_at}
 use Rattle.b67_templates.specs.Cells as wants
-use Rattle.b67_templates.specs.Cells.{Wanted, Agrees, IsFormalArray}
+use Rattle.b67_templates.specs.Cells.{Wanted, Agrees}
 use Rattle.b67_standing.specs.Stepping.{Slot, reference as reference_slot, descriptor, passed as passed_held}
 use Rattle.b67_standing.specs.Standing.{IsPassed, Passable, array_passed, name_passed, ActionAt, Acted, ComesTo, PassesAt}
 use Rattle.b67_cores.specs.Cores.{Core, with_core}
 use Rattle.b67_cores.specs.Slots.{Known, newest}
 use Rattle.b67_cores.specs.Stretches.{CoreAt, FragmentsArePerformed}
 use Rattle.b67_fitting.specs.Nested.{AreNested}
-use Rattle.b67_pictures.specs.Arrays.{Layout, LeadsTo, HeldIs}
+use Rattle.b67_pictures.specs.Arrays.{Layout, Denotes, named_from}
 use Rattle.b67_pictures.specs.Acting.{Does}
 use Rattle.b67_pictures.proofs.AskedElements.{array_asked, array_seen}
 use Rattle.b67_pictures.proofs.ArrayPlaces.{array_index}
@@ -42,7 +46,7 @@ use Rattle.b67_pictures.proofs.FormalHomes.{FormalHome, formal_home, leads_so}
 use Rattle.b67_pictures.proofs.Homes.{operator_there}
 use Rattle.b67_pictures.proofs.Indexing.{more_known}
 use Rattle.b67_pictures.proofs.InFrame.{does_in_frame}
-use Rattle.b67_pictures.proofs.NoNames.{none_formal}
+use Rattle.b67_pictures.proofs.NameHomes.{NameHome, name_home}
 use Rattle.b67_pictures.proofs.PassRow.{pass_raw, pass_class}
 use Rattle.b67_pictures.proofs.TopRow.{with_other}
 use Rattle.b67_pictures.proofs.Rows.{action_not_plain, action_is}
@@ -62,38 +66,74 @@ module _ (tree : PProgram) (code : Code) (texts : Texts) (nested : AreNested (sc
   abbrev block : ℕ
   block = (instance_at w part.instance).block
 
-  -- the parameter stands for an array that agrees with what is wanted
-  pub record IsArrayPassed : Type 0 where
-    pub shape : Shape
-    pub actual : Shape
-    pub wanted_is : wanted ≡ wants.array shape
-    pub is_formal : IsFormalArray (scopes_of tree) (level_in tree w part) n actual found.couple
-    pub agrees : Agrees shape actual
-
-  array_passed_there : IsArrayPassed
-  array_passed_there = by_passable wanted found.passable refl
-    where
-      by_passable : (o : Wanted) → Passable (scopes_of tree) (context_in tree code texts w part) (text_in tree texts w part) (level_in tree w part) (most_in tree w part) n found.couple o → wanted ≡ o → IsArrayPassed
-      by_passable o (array_passed shape actual is agrees) e = record { shape = shape; actual = actual; wanted_is = e; is_formal = is; agrees = agrees }
-      by_passable o (name_passed kind is) e = absurd (none_formal (scopes_of tree) nested (level_in tree w part) n kind found.couple is)
-
-  -- on top the reference to the cell of the parameter
+  -- The parameter's cell has a reference to what is wanted; on top lies the reference to that cell.
   pub record FindsFormal : Type 0 where
-    pub passed : IsArrayPassed
-    pub home : FormalHome tree code texts nested w lay img p q part outer bound core s n passed.actual found.couple
+    pub r : Reference
+    pub cell_is : cell_at w (named_from (scopes_of tree) w lay part.instance n) ≡ reference r
+    pub word : Word
+    pub denotes : Denotes (scopes_of tree) w lay (part ∷ outer) wanted (reference r) word
+    pub may_pass : IsPassed wanted (reference r)
+    pub other : Sirw
+    pub refers : as_sirw word ≡ Some other
+    pub at : ℕ
+    pub shown : display_at core.registers found.couple.level ≡ Some (place p at)
+    pub lies : word_at img.stacks (place p (at + found.couple.index)) ≡ Some word
     pub top : Top (scopes_of tree) s.stands.held (level_in tree w part) (frame core.registers) (length core.below) (reference_slot found.couple) below core.words
     pub names : as_irw top.word ≡ Some (record { level = found.couple.level; index = found.couple.index })
 
+  seen : IsSeen (scopes_of tree) block n
+  seen =
+      (array_seen (IsSeen (scopes_of tree) block) n (IsInner (scopes_of tree) block) (IsSeenAround (scopes_of tree) block) (λ (around_it : IsSeenAround (scopes_of tree) block n). around_it.0) part.rest
+      (ap array_asked asks) s.stands.frame.text).seen
+
+  on_top : Top (scopes_of tree) s.stands.held (level_in tree w part) (frame core.registers) (length core.below) (reference_slot found.couple) below core.words
+  on_top =
+      top_slot (scopes_of tree) s.stands.held (level_in tree w part) (frame core.registers) (length core.below) s.stands.slots (reference_slot found.couple) below core.words
+      s.stands.there.words_are found.lies
+
+  -- an array that agrees with what is wanted
+  finds_array : (shape actual : Shape) → wanted ≡ wants.array shape → Agrees shape actual → FormalHome tree code texts nested w lay img p q part outer bound core s n actual found.couple → FindsFormal
+  finds_array shape actual e agrees h =
+      record {
+        r = h.r;
+        cell_is = h.cell_is;
+        word = h.word;
+        denotes = subst (λ (o : Wanted). Denotes (scopes_of tree) w lay (part ∷ outer) o (reference h.r) h.word) (sym e)
+            (leads_so (scopes_of tree) w lay (part ∷ outer) (part ∷ outer) (λ j own. own) actual shape (λ b is. (is.0 ∙ agrees.0, is.1 ∙ agrees.1)) h.r h.word h.leads);
+        may_pass = subst (λ (o : Wanted). IsPassed o (reference h.r)) (sym e) tt;
+        other = record { stack = p; displacement = h.target.at; index = array_index tree code texts w lay img p q part outer bound core s h.r.instance h.leads.array.number };
+        refers = h.reads;
+        at = h.at;
+        shown = h.shown;
+        lies = h.lies;
+        top = on_top;
+        names = ap as_irw on_top.slot_is ∙ reference_read found.couple h.fits.0 h.fits.1;
+      }
+
+  -- a variable of that kind
+  finds_name : (kind : Kind) → wanted ≡ wants.by_name kind → NameHome tree code texts nested w lay img p q part outer bound core s n kind found.couple → FindsFormal
+  finds_name kind e h =
+      record {
+        r = h.home.r;
+        cell_is = h.home.cell_is;
+        word = h.home.word;
+        denotes = subst (λ (o : Wanted). Denotes (scopes_of tree) w lay (part ∷ outer) o (reference h.home.r) h.home.word) (sym e) h.home.denotes;
+        may_pass = subst (λ (o : Wanted). IsPassed o (reference h.home.r)) (sym e) tt;
+        other = record { stack = p; displacement = length h.named.home.lies.frame.lower; index = 2 + h.named.home.number };
+        refers = h.named.reads;
+        at = h.home.at;
+        shown = h.home.shown;
+        lies = h.home.lies;
+        top = on_top;
+        names = ap as_irw on_top.slot_is ∙ reference_read found.couple h.home.fits.0 h.home.fits.1;
+      }
+
   pub finds_formal : FindsFormal
-  finds_formal =
-      let sc : Scopes = scopes_of tree in
-      let seen : IsSeen sc block n = (array_seen (IsSeen sc block) n (IsInner sc block) (IsSeenAround sc block) (λ (around_it : IsSeenAround sc block n). around_it.0) part.rest (ap array_asked asks) s.stands.frame.text).seen in
-      let passed : IsArrayPassed = array_passed_there in
-      let h : FormalHome tree code texts nested w lay img p q part outer bound core s n passed.actual found.couple =
-      formal_home tree code texts nested w lay img p q part outer bound core s n passed.actual found.couple seen passed.is_formal in
-      let t : Top sc s.stands.held (level_in tree w part) (frame core.registers) (length core.below) (reference_slot found.couple) below core.words =
-      top_slot sc s.stands.held (level_in tree w part) (frame core.registers) (length core.below) s.stands.slots (reference_slot found.couple) below core.words s.stands.there.words_are found.lies in
-      record { passed = passed; home = h; top = t; names = ap as_irw t.slot_is ∙ reference_read found.couple h.fits.0 h.fits.1 }
+  finds_formal = by_passable wanted found.passable refl
+    where
+      by_passable : (o : Wanted) → Passable (scopes_of tree) (context_in tree code texts w part) (text_in tree texts w part) (level_in tree w part) (most_in tree w part) n found.couple o → wanted ≡ o → FindsFormal
+      by_passable o (array_passed shape actual is agrees) e = finds_array shape actual e agrees (formal_home tree code texts nested w lay img p q part outer bound core s n actual found.couple seen is)
+      by_passable o (name_passed kind is) e = finds_name kind e (name_home tree code texts nested w lay img p q part outer bound core s n kind found.couple seen is)
 
 -- ---- the action
 
@@ -129,29 +169,13 @@ module _ (tree : PProgram) (code : Code) (texts : Texts) (nested : AreNested (sc
   there = operator_there sc s.stands.held code text level s.stands.pc s.stands.slots core (ops.Plain kinds.Lodt) next s.stands.there found.stands
 
   module _ (f : FindsFormal tree code texts nested w lay img p q part outer bound core s n asks wanted next below found) where
-    abbrev h : FormalHome tree code texts nested w lay img p q part outer bound core s n f.passed.actual found.couple
-    h = f.home
-
-    abbrev shape : Shape
-    shape = f.passed.shape
-
-    -- the array agrees with what is wanted
-    leads : LeadsTo sc w lay (part ∷ outer) shape h.r h.word
-    leads = leads_so sc w lay (part ∷ outer) (part ∷ outer) (λ j own. own) f.passed.actual shape (λ b is. (is.0 ∙ f.passed.agrees.0, is.1 ∙ f.passed.agrees.1)) h.r h.word h.leads
-
-    passed_is : HeldIs sc w lay (part ∷ outer) part.instance (passed_held wanted (reference h.r)) h.word
-    passed_is = subst (λ (o : Wanted). HeldIs sc w lay (part ∷ outer) part.instance (passed_held o (reference h.r)) h.word) (sym f.passed.wanted_is) leads
-
-    may_pass : IsPassed wanted (reference h.r)
-    may_pass = subst (λ (o : Wanted). IsPassed o (reference h.r)) (sym f.passed.wanted_is) tt
-
     abbrev one : Known
-    one = record { held = passed_held wanted (reference h.r); word = h.word }
+    one = record { held = passed_held wanted (reference f.r); word = f.word }
 
     abbrev new : Core
-    new = with_other core h.word f.top.words_below next
+    new = with_other core f.word f.top.words_below next
 
-    core_at : CoreAt sc (one ∷ s.stands.held) code text level next (descriptor (passed_held wanted (reference h.r)) ∷ below) new
+    core_at : CoreAt sc (one ∷ s.stands.held) code text level next (descriptor (passed_held wanted (reference f.r)) ∷ below) new
     core_at =
         record {
           segment = s.stands.there.segment;
@@ -164,23 +188,23 @@ module _ (tree : PProgram) (code : Code) (texts : Texts) (nested : AreNested (sc
           words_are = (inl (refl, refl), more_known s.stands.held one sc level (frame core.registers) (length core.below) below f.top.words_below f.top.are);
         }
 
-    few : length (descriptor (passed_held wanted (reference h.r)) ∷ below) ≤ most_in tree w part
+    few : length (descriptor (passed_held wanted (reference f.r)) ∷ below) ≤ most_in tree w part
     few = omega (arith, ap length found.lies, s.stands.few)
 
     passing_does : Does tree code texts w img p
     passing_does =
-        does_in_frame tree code texts fragments keeps order w lay img p q part outer bound core s able_is able_p (unmade part.rest (ap makes asks)) (cell (reference h.r)) tt w.output new refl (record { is = refl })
-        (one ∷ s.stands.held) (passed_is, s.stands.held_are) next (descriptor (passed_held wanted (reference h.r)) ∷ below) core_at few
-        (answered (cell (reference h.r)) next (descriptor (passed_held wanted (reference h.r)) ∷ below) (refl, refl, may_pass)) Pass
+        does_in_frame tree code texts fragments keeps order w lay img p q part outer bound core s able_is able_p (unmade part.rest (ap makes asks)) (cell (reference f.r)) tt w.output new refl (record { is = refl })
+        (one ∷ s.stands.held) (f.denotes, s.stands.held_are) next (descriptor (passed_held wanted (reference f.r)) ∷ below) core_at few
+        (answered (cell (reference f.r)) next (descriptor (passed_held wanted (reference f.r)) ∷ below) (refl, refl, f.may_pass)) Pass
         (action_not_plain code img p core s.has (ops.Plain kinds.Lodt) next there
-        (pass_class code img p core s.has next there f.top.word f.top.words_below f.top.is found.couple.level found.couple.index f.names (place p h.at) h.shown h.word h.lies
-        (record { stack = p; displacement = h.target.at; index = array_index tree code texts w lay img p q part outer bound core s h.r.instance h.leads.array.number }) h.reads))
-        (pass_raw code img p core s.has next there f.top.word f.top.words_below f.top.is found.couple.level found.couple.index f.names (place p h.at) h.shown h.word h.lies
-        (record { stack = p; displacement = h.target.at; index = array_index tree code texts w lay img p q part outer bound core s h.r.instance h.leads.array.number }) h.reads
+        (pass_class code img p core s.has next there f.top.word f.top.words_below f.top.is found.couple.level found.couple.index f.names (place p f.at) f.shown f.word f.lies
+        f.other f.refers))
+        (pass_raw code img p core s.has next there f.top.word f.top.words_below f.top.is found.couple.level found.couple.index f.names (place p f.at) f.shown f.word f.lies
+        f.other f.refers
         ∙ ap (λ (o : List (List ℕ)). effects.gives (record (with_core img p new) { output = o })) s.by.output)
         (choice_is sc w p q part outer s.at s.todo
         ∙ ap (λ (k : Ask). choice_of sc w p q part outer k) asks
-        ∙ ap (λ (c : Cell). goes sc w p q part outer Pass w (cell c)) h.cell_is)
+        ∙ ap (λ (c : Cell). goes sc w p q part outer Pass w (cell c)) f.cell_is)
         (λ t. action_is code img p core s.has (ops.Plain kinds.Lodt) next there (outcomes.gives (record (with_core img p new) { output = w.output })) t)
 
   pub passing : Does tree code texts w img p

@@ -1,25 +1,29 @@
--- A read.
-use Rattle.std.proofs.Common.{◌≡◌, refl, sym, ap, ◌∙◌, ℕ, ◌+◌, List, ◌∷◌, length, Some, Ok, arith}
+-- A read of a variable, or of the variable that a parameter by name stands for.
+use Rattle.std.proofs.Common.{◌≡◌, refl, sym, ap, ◌∙◌, ℕ, ◌+◌, List, ◌∷◌, length, Option, Some, Ok, arith}
 use Rattle.std.specs.Prelude.{slice_get}
 use Rattle.b67_list.specs.Numbered.{numbered}
 use Rattle.algol_tree.specs.declared.tree.Named.{Named}
 use Rattle.algol_tree.specs.Plain.{PProgram}
 use Rattle.algol_tree.specs.Scopes.{Scopes, scopes_of}
-use Rattle.algol_meaning.specs.Value.{Cell}
+use Rattle.algol_meaning.specs.Value.{Value, Cell}
 use Rattle.algol_meaning.specs.Rest.{Answer, value}
-use Rattle.algol_meaning.specs.World.{Process, Part, able, World, instance_at}
+use Rattle.algol_meaning.specs.World.{Process, Part, able, World, instance_at, cell_at, value_in}
 use Rattle.algol_meaning.specs.Actions.{Read}
 use Rattle.algol_meaning.specs.Asks.{Ask, reads, ask, resume}
-use Rattle.algol_meaning.specs.Choice.{choice_of, read_of}
+use Rattle.algol_meaning.specs.Choice.{choice_of, read_of, goes}
 use Rattle.algol_paths.specs.Blocks.{IsSeen, IsSeenAround, IsInner}
 use Rattle.algol_paths.specs.Laws.{RestsKeepToTheirText, AllIsMadeInOrder}
+use Rattle.b67_word.specs.declared.Place.{Place}
 use Rattle.b67_word.specs.Word.{Word}
 use Rattle.b67_ops.specs.declared.Operator.TheVariants as ops
 use Rattle.b67_segment.specs.declared.code.Code.{Code}
-use Rattle.b67_templates.specs.Cells.{IsVariable}
+use Rattle.b67_templates.specs.Fragments.{HasKind}
+use Rattle.b67_templates.specs.Cells.{IsVariable, IsFormalName}
 use Rattle.b67_templates.specs.Programs.{Texts}
 use Rattle.b67_store.specs.Store.{word_at}
 use Rattle.b67_table.specs.Chains.{place}
+use Rattle.b67_table.specs.declared.Cell as cells
+use Rattle.b67_table.specs.References.{cell_in, couple_cell}
 use Rattle.b67_table.specs.declared.ProcessState.TheVariants.{Able}
 use Rattle.b67_table.specs.Image.{Image}
 use Rattle.b67_table.specs.Effect as effects
@@ -30,7 +34,7 @@ use Rattle.b67_standing.specs.Standing.{ActionAt, Acted, ComesTo}
 use Rattle.b67_cores.specs.Cores.{Core, IsCore, with_core}
 use Rattle.b67_cores.specs.Stretches.{CoreAt, FragmentsArePerformed}
 use Rattle.b67_faithful.specs.Correspondence.{as_action}
-use Rattle.b67_pictures.specs.Arrays.{Layout}
+use Rattle.b67_pictures.specs.Arrays.{Layout, named_from}
 use Rattle.b67_pictures.specs.Acting.{Does}
 use Rattle.b67_pictures.proofs.Asked.{reads_seen}
 use Rattle.b67_pictures.proofs.Homes.{operator_there, Home, home}
@@ -40,8 +44,12 @@ use Rattle.b67_pictures.proofs.Scene.{Scene}
 use Rattle.b67_pictures.proofs.Stage.{choice_is}
 use Rattle.b67_pictures.proofs.StackWords.{get-front}
 use Rattle.b67_pictures.proofs.Staying.{text_in, level_in, context_in, most_in}
-use Rattle.b67_pictures.proofs.ReachingRows.{with_top}
-use Rattle.b67_pictures.proofs.ValueRow.{reads_value, value_raw, value_class}
+use Rattle.b67_cores.specs.Slots.{ValueIs}
+use Rattle.b67_fitting.specs.Nested.{AreNested}
+use Rattle.b67_pictures.proofs.NameHomes.{NameHome, name_home}
+use Rattle.b67_pictures.proofs.Reaching.{Reaches, reached_there, reached_through}
+use Rattle.b67_pictures.proofs.ReachingRows.{with_top, value_reached_class, value_read_raw, value_read_letter}
+use Rattle.b67_pictures.proofs.VariableHomes.{VariableHome}
 use Rattle.b67_pictures.proofs.Words.{value_tag, no_sirw, no_pcw}
 use Rattle.b67_pictures.proofs.Unmade.{makes, unmade}
 
@@ -50,43 +58,37 @@ module _ (tree : PProgram) (code : Code) (texts : Texts) (fragments : FragmentsA
   abbrev sc : Scopes
   sc = scopes_of tree
 
-  module _ (n : Named) (asks : ask part.rest ≡ reads n) (a : ActionAt sc (context_in tree code texts w part) (text_in tree texts w part) (level_in tree w part) (most_in tree w part) (reads n) s.stands.pc s.stands.slots)
-      (v : IsVariable sc (level_in tree w part) n a.0 a.2.0)
+  abbrev IsAction : Named → Type 0
+  IsAction n = ActionAt sc (context_in tree code texts w part) (text_in tree texts w part) (level_in tree w part) (most_in tree w part) (reads n) s.stands.pc s.stands.slots
+
+  module _ (n : Named) (asks : ask part.rest ≡ reads n) (a : IsAction n)
       (answered : (r : Answer) (at : ℕ) (after : List Slot) → Acted sc (context_in tree code texts w part) (text_in tree texts w part) (level_in tree w part) (most_in tree w part) (reads n) s.stands.pc s.stands.slots a r at after →
       ComesTo sc (context_in tree code texts w part) (text_in tree texts w part) (level_in tree w part) (most_in tree w part) (resume sc part.rest r) at after) where
-    -- the operator, and where it finds the variable
+    -- the operator
     there : operator_at code core.registers ≡ Ok (ops.Valc a.2.0, a.1)
     there = operator_there sc s.stands.held code (text_in tree texts w part) (level_in tree w part) s.stands.pc s.stands.slots core (ops.Valc a.2.0) a.1 s.stands.there a.2.2
 
-    abbrev Found : Type 0
-    Found = Home tree code texts w lay img p q part outer bound core s n a.0 a.2.0
+    seen : IsSeen sc ((instance_at w part.instance).block) n
+    seen =
+        reads_seen (IsSeen sc ((instance_at w part.instance).block)) n (IsInner sc ((instance_at w part.instance).block)) (IsSeenAround sc ((instance_at w part.instance).block))
+        (λ (is : IsSeenAround sc ((instance_at w part.instance).block) n). is.0) part.rest asks s.stands.frame.text
 
-    found : Found
-    found =
-        home tree code texts w lay img p q part outer bound core s n a.0 a.2.0
-        (reads_seen (IsSeen sc ((instance_at w part.instance).block)) n (IsInner sc ((instance_at w part.instance).block)) (IsSeenAround sc ((instance_at w part.instance).block))
-        (λ (seen : IsSeenAround sc ((instance_at w part.instance).block) n). seen.0) part.rest asks s.stands.frame.text) v
+    abbrev meant : Cell
+    meant = cell_at w (named_from sc w lay part.instance n)
 
-    module _ (f : Found) where
-      tag : f.at.word.tag ≡ 0
-      tag = value_tag f.at.value f.at.word f.at.word_is
-
-      abbrev at : ℕ
-      at = length f.at.lies.frame.lower
-
-      lies : word_at img.stacks (record { stack = p; at = at + a.2.0.index }) ≡ Some f.at.word
-      lies =
-          ap (λ (k : ℕ). word_at img.stacks (record { stack = k; at = at + a.2.0.index })) (sym s.has.own)
-          ∙ ap (λ (ws : List Word). slice_get ws (at + a.2.0.index)) (words_are img p core s.has)
-          ∙ get-front core.below _ (at + a.2.0.index) f.at.word f.below_lies
+    -- the word of a value is reached from the cell that the couple names
+    module _ (from to : cells.Cell) (shown : couple_cell core.registers a.2.0.level a.2.0.index ≡ Some from) (x : Word) (reaches : Reaches img.stacks from x to)
+        (v : Value) (x_is : ValueIs v x) (fits : HasKind a.0 v) (reads_so : read_of sc w p q part outer meant ≡ goes sc w p q part outer Read w (value v)) where
+      tag : x.tag ≡ 0
+      tag = value_tag v x x_is
 
       abbrev new : Core
-      new = with_top core f.at.word a.1
+      new = with_top core x a.1
 
       is_new : IsCore new
       is_new = record { bottom = s.has.is.bottom; top = omega (arith, s.has.is.top) }
 
-      core_at : CoreAt sc s.stands.held code (text_in tree texts w part) (level_in tree w part) a.1 (operand f.at.value ∷ s.stands.slots) new
+      core_at : CoreAt sc s.stands.held code (text_in tree texts w part) (level_in tree w part) a.1 (operand v ∷ s.stands.slots) new
       core_at =
           record {
             segment = s.stands.there.segment;
@@ -96,22 +98,62 @@ module _ (tree : PProgram) (code : Code) (texts : Texts) (fragments : FragmentsA
             place_is = refl;
             is = is_new;
             mark_is = s.stands.there.mark_is;
-            words_are = (f.at.word_is, s.stands.there.words_are);
+            words_are = (x_is, s.stands.there.words_are);
           }
 
-      pub read_does : Does tree code texts w img p
+      read_does : Does tree code texts w img p
       read_does =
-          does_in_frame tree code texts fragments keeps order w lay img p q part outer bound core s able_is able_p (unmade part.rest (ap makes asks)) (value f.at.value) tt w.output new refl (record { is = refl }) s.stands.held s.stands.held_are a.1 (operand f.at.value ∷ s.stands.slots)
-          core_at (omega (arith, a.3)) (answered (value f.at.value) a.1 (operand f.at.value ∷ s.stands.slots) (refl, refl, f.at.fits)) Read
-          (action_not_plain code img p core s.has (ops.Valc a.2.0) a.1 there
-          (value_class code img p core s.has a.2.0 a.1 there (place p at) f.shown f.at.word lies tag (no_sirw f.at.word tag) (no_pcw f.at.word tag)))
-          (value_raw code img p core s.has a.2.0 a.1 there (place p at) f.shown f.at.word lies tag (no_sirw f.at.word tag) (no_pcw f.at.word tag)
+          does_in_frame tree code texts fragments keeps order w lay img p q part outer bound core s able_is able_p (unmade part.rest (ap makes asks)) (value v) tt w.output new refl (record { is = refl }) s.stands.held s.stands.held_are a.1 (operand v ∷ s.stands.slots)
+          core_at (omega (arith, a.3)) (answered (value v) a.1 (operand v ∷ s.stands.slots) (refl, refl, fits)) Read
+          (action_not_plain code img p core s.has (ops.Valc a.2.0) a.1 there (value_reached_class code img p core s.has a.2.0 a.1 there from to shown x reaches))
+          (value_read_raw code img p core s.has a.2.0 a.1 there from to shown x reaches tag (no_pcw x tag)
           ∙ ap (λ (o : List (List ℕ)). effects.gives (record (with_core img p new) { output = o })) s.by.output)
           (choice_is sc w p q part outer s.at s.todo
           ∙ ap (λ (k : Ask). choice_of sc w p q part outer k) asks
-          ∙ ap (λ (c : Cell). read_of sc w p q part outer c) f.at.cell_is)
+          ∙ reads_so)
           (λ t. action_is code img p core s.has (ops.Valc a.2.0) a.1 there (outcomes.gives (record (with_core img p new) { output = w.output })) t
-          ∙ ap as_action (reads_value code img p core s.has a.2.0 a.1 there (place p at) f.shown f.at.word lies tag (no_sirw f.at.word tag) (no_pcw f.at.word tag)))
+          ∙ ap as_action (value_read_letter code img p core s.has a.2.0 a.1 there from to shown x reaches (no_pcw x tag)))
 
-    pub reading : Does tree code texts w img p
-    reading = read_does found
+    -- what lies below the floor lies in the stack
+    below_there : (k : ℕ) (x : Word) → slice_get core.below k ≡ Some x → word_at img.stacks (place p k) ≡ Some x
+    below_there k x e =
+        ap (λ (r : ℕ). word_at img.stacks (place r k)) (sym s.has.own)
+        ∙ ap (λ (ws : List Word). slice_get ws k) (words_are img p core s.has)
+        ∙ get-front core.below _ k x e
+
+    -- ---- a variable
+
+    abbrev IsHome : Type 0
+    IsHome = Home tree code texts w lay img p q part outer bound core s n a.0 a.2.0
+
+    variable_read : IsHome → Does tree code texts w img p
+    variable_read f =
+        let at : ℕ = length f.at.lies.frame.lower in
+        let from : cells.Cell = record { frame = place p at; index = a.2.0.index } in
+        read_does from from (ap (λ (o : Option Place). cell_in o a.2.0.index) f.shown) f.at.word
+        (reached_there img.stacks from f.at.word (below_there (at + a.2.0.index) f.at.word f.below_lies) (no_sirw f.at.word (value_tag f.at.value f.at.word f.at.word_is)))
+        f.at.value f.at.word_is f.at.fits (ap (λ (c : Cell). read_of sc w p q part outer c) f.at.cell_is)
+
+    pub reading : IsVariable sc (level_in tree w part) n a.0 a.2.0 → Does tree code texts w img p
+    reading v = variable_read (home tree code texts w lay img p q part outer bound core s n a.0 a.2.0 seen v)
+
+    -- ---- a parameter by name, whose cell has a reference to a variable
+
+    module _ (nested : AreNested (scopes_of tree)) where
+      abbrev IsNameHome : Type 0
+      IsNameHome = NameHome tree code texts nested w lay img p q part outer bound core s n a.0 a.2.0
+
+      name_read : IsNameHome → Does tree code texts w img p
+      name_read f =
+          let v : VariableHome tree code texts w lay img p q part outer bound core s f.home.r a.0 f.home.denotes.found = f.named.home in
+          let at : ℕ = length v.lies.frame.lower in
+          let from : cells.Cell = record { frame = place p f.home.at; index = a.2.0.index } in
+          let to : cells.Cell = record { frame = place p at; index = 2 + v.number } in
+          read_does from to (ap (λ (o : Option Place). cell_in o a.2.0.index) f.home.shown) v.word
+          (reached_through img.stacks from f.home.word (record { stack = p; displacement = at; index = 2 + v.number }) v.word f.home.lies f.named.reads (below_there (at + (2 + v.number)) v.word v.below_lies)
+          (no_sirw v.word (value_tag v.value v.word v.word_is)))
+          v.value v.word_is v.fits
+          (ap (λ (c : Cell). read_of sc w p q part outer c) f.home.cell_is ∙ ap (λ (c : Cell). goes sc w p q part outer Read w (value (value_in c))) v.cell_is)
+
+      pub reading_name : IsFormalName sc (level_in tree w part) n a.0 a.2.0 → Does tree code texts w img p
+      reading_name v = name_read (name_home tree code texts nested w lay img p q part outer bound core s n a.0 a.2.0 seen v)

@@ -1,8 +1,7 @@
 -- A store into the variable to whose cell the reference under the top leads.
-use Rattle.std.proofs.Common.{◌≡◌, refl, sym, ap, ◌∙◌, ℕ, ◌+◌, ◌<◌, ◌≤◌, ◌^◌, List, ◌∷◌, length, Option, Some, None, Ok, arith}
+use Rattle.std.proofs.Common.{◌≡◌, refl, sym, ap, ◌∙◌, ℕ, ◌+◌, ◌<◌, ◌≤◌, ◌^◌, List, ◌∷◌, length, Option, Some, None, Ok}
 use Rattle.b67_list.specs.Numbered.{numbered}
 use Rattle.algol_tree.specs.declared.tree.Kind.{Kind}
-use Rattle.algol_tree.specs.Blocks.{block_numbered}
 use Rattle.algol_tree.specs.Plain.{PProgram}
 use Rattle.algol_tree.specs.Scopes.{Scopes, scopes_of}
 use Rattle.algol_meaning.specs.Value.{Value, Reference}
@@ -10,7 +9,6 @@ use Rattle.algol_meaning.specs.Rest.{Answer, done, there}
 use Rattle.algol_meaning.specs.World.{Part, Process, able, World}
 use Rattle.algol_meaning.specs.Asks.{stores, ask, resume}
 use Rattle.algol_paths.specs.Laws.{RestsKeepToTheirText, AllIsMadeInOrder}
-use Rattle.b67_word.specs.declared.Place.{Place}
 use Rattle.b67_word.specs.Word.{Word}
 use Rattle.b67_control.specs.declared.Irw.{Irw}
 use Rattle.b67_control.specs.declared.Sirw.{Sirw}
@@ -21,33 +19,27 @@ use Rattle.b67_ops.specs.declared.PlainKind.TheVariants as kinds
 use Rattle.b67_segment.specs.declared.code.Code.{Code}
 use Rattle.b67_table.specs.declared.ProcessState.TheVariants.{Able}
 use Rattle.b67_table.specs.Arrays.{as_indexed, indexed_in}
-use Rattle.b67_table.specs.Chains.{place}
 use Rattle.b67_table.specs.Image.{Image}
 use Rattle.b67_table.specs.Private.{frame}
-use Rattle.b67_table.specs.References.{cell_word, irw_or_sirw, cell_of}
+use Rattle.b67_table.specs.References.{irw_or_sirw, cell_of}
 use Rattle.b67_table.specs.Table.{operator_at}
-use Rattle.b67_templates.specs.Cells.{simple_cells}
 use Rattle.b67_templates.specs.Programs.{Texts}
 use Rattle.b67_standing.specs.Stepping.{Slot, operand, descriptor, variable}
 use Rattle.b67_standing.specs.Standing.{ActionAt, Acted, ComesTo}
 use Rattle.b67_cores.specs.Cores.{Core}
 use Rattle.b67_cores.specs.Stretches.{FragmentsArePerformed}
-use Rattle.b67_faithful.proofs.Contradictions.{some_same}
 use Rattle.b67_fitting.specs.Nested.{AreNested}
 use Rattle.b67_pictures.specs.Arrays.{Layout, LeadsToVariable}
 use Rattle.b67_pictures.specs.Acting.{Does}
-use Rattle.b67_pictures.proofs.ArrayPlaces.{cell_read, number_within}
-use Rattle.b67_pictures.proofs.FreshCells.{words_long}
 use Rattle.b67_pictures.proofs.Homes.{operator_there}
 use Rattle.b67_pictures.proofs.Knowing.{known_is}
-use Rattle.b67_pictures.proofs.Lying.{lies_low}
-use Rattle.b67_pictures.proofs.Numbers.{get_below}
+use Rattle.b67_pictures.proofs.NamedVariables.{NamesVariable, names_variable}
 use Rattle.b67_pictures.proofs.Scene.{Scene}
 use Rattle.b67_pictures.proofs.Slotted.{Top, top_slot}
 use Rattle.b67_pictures.proofs.Staying.{text_in, level_in, context_in, most_in}
 use Rattle.b67_pictures.proofs.Storing.{two_words}
 use Rattle.b67_pictures.proofs.StoringVariable.{variable_stored}
-use Rattle.b67_pictures.proofs.VariableHomes.{VariableHome, variable_home}
+use Rattle.b67_pictures.proofs.VariableHomes.{VariableHome}
 use Rattle.b67_pictures.proofs.Words.{cell_describes_nothing}
 
 -- a reference that is read alike everywhere is read in no other way
@@ -61,44 +53,12 @@ module _ (tree : PProgram) (code : Code) (texts : Texts) (nested : AreNested (sc
   abbrev sc : Scopes
   sc = scopes_of tree
 
-  module _ (r : Reference) (kind : Kind) (word : Word) (leads : LeadsToVariable sc w lay (part ∷ outer) kind r word) where
-    -- the variable, and that the word names its cell
-    pub record NamesVariable : Type 0 where
-      pub home : VariableHome tree code texts w lay img p q part outer bound core s r kind leads.found
-      pub reads : as_sirw word ≡ Some (record { stack = p; displacement = length home.lies.frame.lower; index = 2 + home.number })
-
-    names_it : VariableHome tree code texts w lay img p q part outer bound core s r kind leads.found → NamesVariable
-    names_it h =
-        let high : ℕ = length h.lies.frame.lower in
-        let frame_is : leads.frame ≡ place p high = some_same (sym leads.laid ∙ ap (λ (j : ℕ). numbered lay.places j) (sym h.lies.instance_is) ∙ h.lies.frame.framed.laid) in
-        let few_words : h.number < length (simple_cells sc (block_numbered sc.blocks h.lies.frame.framed.instance.block)) =
-        omega (
-          arith,
-          get_below h.lies.frame.framed.values h.number h.word h.value_lies,
-          words_long (simple_cells sc (block_numbered sc.blocks h.lies.frame.framed.instance.block)) h.lies.frame.framed.simple h.lies.frame.framed.values h.lies.frame.framed.simple_are,
-        ) in
-        let low : high + 2 + length h.lies.frame.cells ≤ length core.below = lies_low tree code texts w lay p (part ∷ outer) r.instance core.below h.lies in
-        record {
-          home = h;
-          reads =
-              ap as_sirw leads.word_is
-              ∙ ap (λ (f : Place). as_sirw (cell_word (record { frame = f; index = 2 + leads.found.number }))) frame_is
-              ∙ ap (λ (k : ℕ). as_sirw (cell_word (record { frame = place p high; index = 2 + k }))) h.number_is
-              ∙ cell_read (record { frame = place p high; index = 2 + h.number }) (omega (arith, number_within w.processes p q s.at, s.by.few)) (omega (arith, low, s.small))
-              (omega (arith, few_words, (nested.each h.lies.frame.framed.instance.block h.lies.frame.framed.known).few));
-        }
-
-    pub names_variable : NamesVariable
-    names_variable =
-        names_it
-        (variable_home tree code texts w lay img p q part outer bound core s r kind leads.found leads.own leads.there leads.wanted_is)
-
   -- the words of a value on the reference to a variable
   pub record FindsVariable (r : Reference) (kind : Kind) (v : Value) (below : List Slot) : Type 0 where
     pub first : Top sc s.stands.held (level_in tree w part) (frame core.registers) (length core.below) (operand v) (descriptor (variable r kind) ∷ below) core.words
     pub second : Top sc s.stands.held (level_in tree w part) (frame core.registers) (length core.below) (descriptor (variable r kind)) below first.words_below
     pub leads : LeadsToVariable sc w lay (part ∷ outer) kind r second.word
-    pub named : NamesVariable r kind second.word leads
+    pub named : NamesVariable tree code texts nested w lay img p q part outer bound core s r kind second.word leads
 
   pub finds_variable : (r : Reference) (kind : Kind) (v : Value) (below : List Slot) → s.stands.slots ≡ operand v ∷ descriptor (variable r kind) ∷ below → FindsVariable r kind v below
   finds_variable r kind v below lies =
@@ -109,7 +69,7 @@ module _ (tree : PProgram) (code : Code) (texts : Texts) (nested : AreNested (sc
       top_slot sc s.stands.held (level_in tree w part) (frame core.registers) (length core.below) under (descriptor (variable r kind)) below first.words_below first.are refl in
       let leads : LeadsToVariable sc w lay (part ∷ outer) kind r second.word =
       known_is sc w lay (part ∷ outer) part.instance s.stands.held s.stands.held_are (variable r kind) second.word second.slot_is in
-      record { first = first; second = second; leads = leads; named = names_variable r kind second.word leads }
+      record { first = first; second = second; leads = leads; named = names_variable tree code texts nested w lay img p q part outer bound core s r kind second.word leads }
 
 -- ---- the action
 

@@ -3,6 +3,7 @@ use Rattle.std.proofs.Common.{◌≡◌, refl, sym, ap, ◌∙◌, subst, ℕ, �
 use Rattle.std.specs.Prelude.{if◌then◌else◌, nat_le, pos}
 use Rattle.b67_list.specs.Numbered.{numbered}
 use Rattle.algol_tree.specs.declared.token.Spot.{Spot}
+use Rattle.algol_tree.specs.declared.tree.Kind.{Kind}
 use Rattle.algol_tree.specs.declared.tree.Named.{Named}
 use Rattle.algol_tree.specs.declared.tree.PhraseText.{PhraseText}
 use Rattle.algol_tree.specs.Plain as tree_forms
@@ -35,7 +36,7 @@ use Rattle.b67_table.specs.Private.{display_at, frame}
 use Rattle.b67_table.specs.Rows.{level_below}
 use Rattle.b67_table.specs.Sound.{Lives, OperatorTouches}
 use Rattle.b67_table.specs.Touches.{IsPrivate}
-use Rattle.b67_templates.specs.Cells.{Wanted, parameter_wants}
+use Rattle.b67_templates.specs.Cells.{Wanted, parameter_wants, IsRead, of_variable, of_formal}
 use Rattle.b67_templates.specs.Code.{stmts_count}
 use Rattle.b67_templates.specs.Contexts.{Context}
 use Rattle.b67_templates.specs.Fragments.{Has, operator_for, code_at}
@@ -55,20 +56,22 @@ use Rattle.b67_pictures.specs.Pictures.{Living, PicturesBy}
 use Rattle.b67_pictures.proofs.GivenWords.{AreFit, none_wanted, are_fit, Taken, taken_words}
 use Rattle.b67_pictures.proofs.Asked.{reads_seen, stores_seen}
 use Rattle.b67_pictures.proofs.AskedEntries.{enters_seen}
-use Rattle.b67_pictures.proofs.NoNames.{none_formal, read_variable}
+use Rattle.b67_pictures.proofs.NameHomes.{NameHome, name_home}
+use Rattle.b67_pictures.proofs.Resolving.{FindsName, finds_name}
+use Rattle.b67_pictures.proofs.VariableHomes.{VariableHome}
 use Rattle.b67_pictures.proofs.StoringThere.{FindsVariable, finds_variable}
 use Rattle.b67_pictures.proofs.Scene.{Scene, scene_of, shown_frame}
 use Rattle.b67_pictures.proofs.Slotted.{Top, top_slot}
 use Rattle.b67_pictures.proofs.Yielding.{result_given}
 use Rattle.b67_pictures.proofs.Staying.{text_in, level_in, context_in, most_in}
-use Rattle.b67_pictures.proofs.Words.{no_sirw, reference_read}
+use Rattle.b67_pictures.proofs.Words.{value_tag, no_sirw, reference_read}
 use Rattle.b67_pictures.proofs.Touching.{NearFrame, own_frame, own_cell, NamesNear}
 use Rattle.b67_pictures.proofs.TouchingOperators.{StandsNear, privately, near_reaches, operator_private}
 use Rattle.b67_pictures.proofs.TouchingOthers.{LivesThere, lives_there, own_stacks}
-use Rattle.b67_pictures.proofs.TouchingCells.{IsOperand, IsEntry, Names, variable_there, result_there, procedure_there}
-use Rattle.b67_pictures.proofs.TouchingCalls.{under_top, call_names}
+use Rattle.b67_pictures.proofs.TouchingCells.{IsOperand, IsEntry, Names, below_there, variable_there, result_there, procedure_there}
+use Rattle.b67_pictures.proofs.TouchingCalls.{under_top, over_top, call_names}
 use Rattle.b67_pictures.proofs.TouchingElements.{element_read_near, indexed_near, element_stored_near, passed_near, made_near}
-use Rattle.b67_pictures.proofs.TouchingNames.{value_names, none_named, branch_names, cell_named, refers_named, no_kind, block_names, entry_names}
+use Rattle.b67_pictures.proofs.TouchingNames.{value_names, value_names_through, through_named, none_named, branch_names, cell_named, refers_named, no_kind, block_names, entry_names}
 use Rattle.b67_pictures.proofs.TouchingScene.{by_names, by_class}
 use Rattle.b67_pictures.proofs.TouchingWords.{level_known, couple_fits, procedure_fits, pcw_kind}
 
@@ -121,11 +124,24 @@ module _ (tree : PProgram) (code : Code) (texts : Texts) (nested : AreNested (sc
 
     -- ---- actions
 
+    -- the cell of a parameter by name leads to one of the own stack
+    name_near : (n : Named) (kind : Kind) (couple : Couple) (next : ℕ) → Has text level s.stands.pc (ops.Valc couple) next → NameHome tree code texts nested w lay img p q part outer bound core s n kind couple → Comes
+    name_near n kind couple next has_it h =
+        let v : VariableHome tree code texts w lay img p q part outer bound core s h.home.r kind h.home.denotes.found = h.named.home in
+        let at : ℕ = length v.lies.frame.lower in
+        by_op (ops.Valc couple) next has_it
+        (value_names_through p img r couple (place p h.home.at) h.home.shown (own_cell p img (record { frame = place p h.home.at; index = couple.index }) refl) h.home.word h.home.lies
+        (record { stack = p; displacement = at; index = 2 + v.number }) h.named.reads (own_cell p img (record { frame = place p at; index = 2 + v.number }) refl) v.word
+        (below_there tree code texts nested w lay img p q part outer bound core s (at + (2 + v.number)) v.word v.below_lies) (no_sirw v.word (value_tag v.value v.word v.word_is)))
+
     read_near : (n : Named) → ask part.rest ≡ reads n → At (reads n) → Comes
     read_near n e a =
         let seen : IsSeen sc block n = reads_seen (IsSeen sc block) n (IsInner sc block) (IsSeenAround sc block) (λ (seen : IsSeenAround sc block n). seen.0) part.rest e s.stands.frame.text in
-        operand_near a.2.0 a.1 a.2.2 (variable_there tree code texts nested w lay img p q part outer bound core s n a.0 a.2.0 seen
-        (read_variable sc nested level n a.0 a.2.0 a.2.1))
+        by_read seen a.2.1
+      where
+        by_read : IsSeen sc block n → IsRead sc level n a.0 a.2.0 → Comes
+        by_read seen (of_variable v) = operand_near a.2.0 a.1 a.2.2 (variable_there tree code texts nested w lay img p q part outer bound core s n a.0 a.2.0 seen v)
+        by_read seen (of_formal v) = name_near n a.0 a.2.0 a.1 a.2.2 (name_home tree code texts nested w lay img p q part outer bound core s n a.0 a.2.0 seen v)
 
     result_near : (name : List ℕ) → At (reads_result name) → Comes
     result_near name a =
@@ -147,6 +163,18 @@ module _ (tree : PProgram) (code : Code) (texts : Texts) (nested : AreNested (sc
         (cell_named p img r kinds.Stod (λ f. cc) (r.s - 2) (λ m f. f) second.word
         (under_top img p core s.has (first.word ∷ []) second.word second.words_below top (r.s - 2) (omega (arith, s.has.is.top, ap length top))) (λ follows. follows)
         (record { level = couple.level; index = couple.index }) c.home (ap as_irw second.slot_is ∙ reference_read couple fits.0 fits.1) c.shown c.near)
+
+    resolved_near : (n : Named) → ask part.rest ≡ resolves n → At (resolves n) → Comes
+    resolved_near n e a =
+        let f : FindsName tree code texts nested w lay img p q part outer bound core s n e a.0 a.1 a.2 a.3 = finds_name tree code texts nested w lay img p q part outer bound core s n e a.0 a.1 a.2 a.3 in
+        let v : VariableHome tree code texts w lay img p q part outer bound core s f.home.home.r a.0 f.home.home.denotes.found = f.home.named.home in
+        let at : ℕ = length v.lies.frame.lower in
+        by_op (ops.Plain kinds.Eval) a.1 a.3.stands
+        (through_named p img r kinds.Eval (λ g. cc) (r.s - 1) (λ m g. g) f.top.word (over_top img p core s.has f.top.word f.top.words_below f.top.is)
+        (record { level = a.3.couple.level; index = a.3.couple.index }) (place p f.home.home.at) f.home.home.word (record { stack = p; displacement = at; index = 2 + v.number }) v.word f.names f.home.home.shown
+        (own_cell p img (record { frame = place p f.home.home.at; index = a.3.couple.index }) refl) f.home.home.lies f.home.named.reads
+        (own_cell p img (record { frame = place p at; index = 2 + v.number }) refl)
+        (below_there tree code texts nested w lay img p q part outer bound core s (at + (2 + v.number)) v.word v.below_lies) (no_sirw v.word (value_tag v.value v.word v.word_is)))
 
     there_near : (x : Reference) (v : Value) → At (stores (there x) v) → Comes
     there_near x v a =
@@ -250,7 +278,7 @@ module _ (tree : PProgram) (code : Code) (texts : Texts) (nested : AreNested (sc
     by_ask (indexes n ks v) e a = indexed_near tree code texts nested w lay img p q part outer bound core s n ks v e a
     by_ask (asks_happened n) e a = absurd a
     by_ask (passes n) e a = passed_near tree code texts nested w lay img p q part outer bound core s n e a
-    by_ask (resolves n) e a = absurd (none_formal sc nested level n a.0 a.3.couple a.3.is_formal)
+    by_ask (resolves n) e a = resolved_near n e a
     by_ask (goes_to n) e a = absurd a
     by_ask (starts n gs task) e a = absurd a
     by_ask (acts y n) e a = absurd a

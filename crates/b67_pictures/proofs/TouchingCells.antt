@@ -124,7 +124,7 @@ module _ (tree : PProgram) (code : Code) (texts : Texts) (nested : AreNested (sc
   near_own n index = own_cell p img (record { frame = place p n; index = index }) refl
 
   -- what lies below the floor lies in the stack
-  below_there : (n : ℕ) (x : Word) → slice_get core.below n ≡ Some x → word_at img.stacks (place p n) ≡ Some x
+  pub below_there : (n : ℕ) (x : Word) → slice_get core.below n ≡ Some x → word_at img.stacks (place p n) ≡ Some x
   below_there n x e =
       ap (λ (k : ℕ). slice_get (words_of img.stacks k) n) (sym s.has.own)
       ∙ ap (λ (ws : List Word). slice_get ws n) (words_are img p core s.has)

@@ -118,7 +118,7 @@ module _ (tree : PProgram) (code : Code) (texts : Texts) (nested : AreNested (sc
         by_names tree code texts nested w lay img p q part outer bound core s (ops.Plain kinds.Lodt) a.1 a.3.stands
         (cell_named p img core.registers kinds.Lodt (λ e. cc) (core.registers.s - 1) (λ m e. e) f.top.word
         (over_top img p core s.has f.top.word f.top.words_below f.top.is) (λ follows. follows)
-        (record { level = a.3.couple.level; index = a.3.couple.index }) (place p f.home.at) f.names f.home.shown (own_cell p img (record { frame = place p f.home.at; index = a.3.couple.index }) refl))
+        (record { level = a.3.couple.level; index = a.3.couple.index }) (place p f.at) f.names f.shown (own_cell p img (record { frame = place p f.at; index = a.3.couple.index }) refl))
 
     pub made_near : (kind : Kind) (ns : List Named) (pairs : List PPair) (vs : List Value) → At (makes_arrays kind ns pairs vs) → StandsNear code p img core.registers
     made_near kind ns pairs vs a =

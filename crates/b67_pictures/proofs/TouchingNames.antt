@@ -81,6 +81,49 @@ module _ (p : ℕ) (img : Image) (r : Registers) where
           around = λ g x pcw is there reads e. cc;
         }
 
+  -- ---- VALC, of a cell that has a reference to one that holds none
+
+  module _ (couple : Couple) (f : Place) (shown : display_at r couple.level ≡ Some f) (near : NearCell p img (record { frame = f; index = couple.index })) (v : Word)
+      (lies : word_at img.stacks (place f.stack (f.at + couple.index)) ≡ Some v) (t : Sirw) (leads : as_sirw v ≡ Some t) (near_there : NearCell p img (sirw_cell t)) (w : Word)
+      (further : word_at img.stacks (cell_place (sirw_cell t)) ≡ Some w) (no_sirw : as_sirw w ≡ None) where
+    abbrev OnWay : Cell → Type 0
+    OnWay c = (c ≡ record { frame = f; index = couple.index }) ⊎ (c ≡ sirw_cell t)
+
+    this_couple : (other : Couple) → ops.Valc couple ≡ ops.Valc other → couple ≡ other
+    this_couple other e = cc
+
+    first_there : (c : Cell) (other : Couple) → ops.Valc couple ≡ ops.Valc other → couple_cell r other.level other.index ≡ Some c → OnWay c
+    first_there c other is e =
+        inl (some_same (sym e ∙ sym (ap (λ (k : Couple). couple_cell r k.level k.index) (this_couple other is)) ∙ ap (λ (o : Option Place). cell_in o couple.index) shown))
+
+    led_on : (b : Cell) (x : Word) (s : Sirw) → OnWay b → word_at img.stacks (cell_place b) ≡ Some x → as_sirw x ≡ Some s → OnWay (sirw_cell s)
+    led_on b x s (inl same) there is =
+        let word : v ≡ x = one_word (place f.stack (f.at + couple.index)) v x lies (subst (λ (k : Cell). word_at img.stacks (cell_place k) ≡ Some x) same there) in
+        inr (ap sirw_cell (some_same (sym is ∙ ap as_sirw (sym word) ∙ leads)))
+    led_on b x s (inr same) there is =
+        none_some (sym no_sirw ∙ ap as_sirw (one_word (cell_place (sirw_cell t)) w x further (subst (λ (k : Cell). word_at img.stacks (cell_place k) ≡ Some x) same there)) ∙ is)
+
+    way_near : (c : Cell) → OnWay c → NearCell p img c
+    way_near c (inl same) = subst (NearCell p img) (sym same) near
+    way_near c (inr same) = subst (NearCell p img) (sym same) near_there
+
+    way_named : AreNamed img (ops.Valc couple) r OnWay
+    way_named =
+        record {
+          couple = first_there;
+          taken = λ c n x takes there e. absurd takes;
+          reference = λ b x s follows same there is. led_on b x s same there is;
+          argument = λ c y x n is there kind after lies_there e. cc;
+          its_argument = λ b c y x n is same there kind after lies_there e. cc;
+        }
+
+    pub value_names_through : NamesNear p img (ops.Valc couple) r
+    value_names_through =
+        record {
+          cells = λ c k. way_near c (named_are img (ops.Valc couple) r OnWay way_named k);
+          around = λ g x pcw is there reads e. cc;
+        }
+
   -- ---- a branch
 
   pub branch_names : (kind : BranchKind) (target : ℕ) → NamesNear p img (ops.Branch kind target) r
@@ -182,7 +225,7 @@ module _ (p : ℕ) (img : Image) (r : Registers) where
         both_near c (inl same) = subst (NearCell p img) (sym same) near
         both_near c (inr same) = subst (NearCell p img) (sym same) near_there
 
-        through_named : NamesNear p img (ops.Plain kind) r
+        pub through_named : NamesNear p img (ops.Plain kind) r
         through_named = word_named Both (λ c e. inl (one_cell x i home reads shown c e)) go_on both_near
 
       -- an array is found
