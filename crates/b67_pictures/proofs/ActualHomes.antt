@@ -24,7 +24,7 @@ use Rattle.b67_cores.specs.Cores.{Core}
 use Rattle.b67_cores.specs.Stretches.{control_words}
 use Rattle.b67_faithful.proofs.Contradictions.{some_same}
 use Rattle.b67_fitting.specs.Nested.{AreNested}
-use Rattle.b67_pictures.specs.Arrays.{Layout, IsActual}
+use Rattle.b67_pictures.specs.Arrays.{Layout, IsActual, IsOwn}
 use Rattle.b67_pictures.specs.Frames.{block_controls}
 use Rattle.b67_pictures.proofs.ArrayPlaces.{cell_read, number_within}
 use Rattle.b67_pictures.proofs.ControlWords.{block_few, RoutineThere, routine_there, get_routine}
@@ -39,7 +39,7 @@ module _ (tree : PProgram) (code : Code) (texts : Texts) (nested : AreNested (sc
   abbrev sc : Scopes
   sc = scopes_of tree
 
-  module _ (i : ℕ) (e : PExpr) (kind : Kind) (word : Word) (is : IsActual sc w lay (part ∷ outer) i e kind word) where
+  module _ (i : ℕ) (e : PExpr) (kind : Kind) (word : Word) (is : IsActual sc w lay (IsOwn (part ∷ outer)) i e kind word) where
     abbrev actual : Actual
     actual = record { expr = e; kind = kind }
 

@@ -37,7 +37,7 @@ at_element at n = record { presence = true; copy = true; indexed = true; mother 
 
 module _ (tree : PProgram) (code : Code) (texts : Texts) (w : World) (lay : Layout) (img : Image)
     (p : ℕ) (q : Process) (part : Part) (outer : List Part) (bound : ℕ) (core : Core) (s : Scene tree code texts w lay img p q part outer bound core)
-    (r : Reference) (ks : List ℕ) (kind : Kind) (word : Word) (e : IsElement (scopes_of tree) w lay (part ∷ outer) r ks kind word) where
+    (r : Reference) (ks : List ℕ) (kind : Kind) (word : Word) (e : IsElement (scopes_of tree) w lay (IsOwn (part ∷ outer)) r ks kind word) where
   abbrev sc : Scopes
   sc = scopes_of tree
 

@@ -41,7 +41,7 @@ use Rattle.b67_letters.specs.declared.Letter.TheVariants as letters
 use Rattle.b67_letters.specs.Letters.{told_by, element_or_not, stored_letter, operator_letter}
 use Rattle.b67_faithful.specs.Correspondence.{as_action}
 use Rattle.b67_faithful.specs.Weight.{weight}
-use Rattle.b67_pictures.specs.Arrays.{Layout, AreMade, HoldElements, ArraysAre, IsElement, AreKnown}
+use Rattle.b67_pictures.specs.Arrays.{Layout, AreMade, HoldElements, ArraysAre, IsElement, AreKnown, IsOwn}
 use Rattle.b67_pictures.specs.Acting.{Does, gave}
 use Rattle.b67_pictures.specs.Frames.{CellsAre, most_around, IsChained, Frame, Stands}
 use Rattle.b67_pictures.specs.Pictures.{Living, PicturesBy}
@@ -103,7 +103,7 @@ module _ (tree : PProgram) (code : Code) (texts : Texts) (fragments : FragmentsA
   there : operator_at code core.registers ≡ Ok (ops.Plain kinds.Stod, next)
   there = operator_there sc st.held code text level st.pc st.slots core (ops.Plain kinds.Stod) next st.there a.2.stands
 
-  module _ (x y : Word) (words : List Word) (top : core.words ≡ x ∷ y ∷ words) (x_is : ValueIs v x) (e : IsElement sc w lay (part ∷ outer) r ks a.2.kind y)
+  module _ (x y : Word) (words : List Word) (top : core.words ≡ x ∷ y ∷ words) (x_is : ValueIs v x) (e : IsElement sc w lay (IsOwn (part ∷ outer)) r ks a.2.kind y)
       (left_are : SlotsAre sc st.held level (frame core.registers) (length core.below) below words) (h : ElementHome tree code texts w lay img p q part outer bound core s r ks a.2.kind y e) where
     -- the instance of the array, whose frame lies in the stack
     abbrev i : ℕ
@@ -257,7 +257,7 @@ module _ (tree : PProgram) (code : Code) (texts : Texts) (fragments : FragmentsA
         ∙ ap (λ (j : ℕ). numbered lay.places j) (same_ancestors w w' (λ j. same_of w i instance instance_there cells' (λ (z : Instance). z.parent) refl j) up part.instance)
 
     -- what is known of descriptors holds as it did
-    known_now : AreKnown sc w' lay (part' ∷ outer) part.instance st.held
+    known_now : AreKnown sc w' lay (IsOwn (part' ∷ outer)) part.instance st.held
     known_now =
         known_of sc stored w' lay (part ∷ outer) (part' ∷ outer) refl (λ j own. own) part.instance st.held
         (known_stored tree code texts w lay p i instance instance_there cells' high h.lies.frame.framed.laid 0 (high + 2 + 0) refl None many (λ set. absurd set) keeps changes (part ∷ outer) part.instance st.held st.held_are)
@@ -378,7 +378,7 @@ module _ (tree : PProgram) (code : Code) (texts : Texts) (fragments : FragmentsA
       top_slot sc st.held level (frame core.registers) (length core.below) st.slots (operand v) (descriptor (element r ks a.2.kind) ∷ below) core.words st.there.words_are a.2.lies in
       let second : Top sc st.held level (frame core.registers) (length core.below) (descriptor (element r ks a.2.kind)) below first.words_below =
       top_slot sc st.held level (frame core.registers) (length core.below) (descriptor (element r ks a.2.kind) ∷ below) (descriptor (element r ks a.2.kind)) below first.words_below first.are refl in
-      let e : IsElement sc w lay (part ∷ outer) r ks a.2.kind second.word =
+      let e : IsElement sc w lay (IsOwn (part ∷ outer)) r ks a.2.kind second.word =
       known_is sc w lay (part ∷ outer) part.instance st.held st.held_are (element r ks a.2.kind) second.word second.slot_is in
       does first.word second.word second.words_below (first.is ∙ ap (λ (ws : List Word). first.word ∷ ws) second.is) first.slot_is e second.are
       (element_home tree code texts w lay img p q part outer bound core s r ks a.2.kind second.word e)

@@ -34,7 +34,7 @@ use Rattle.b67_pictures.proofs.ReferenceHomes.{ReferenceHome, reference_home}
 
 -- a reference that leads from some parts leads from more, for each shape with which all agree that agree with the first
 pub leads_so : (sc : Scopes) (w : World) (lay : Layout) (parts parts' : List Part) → ((j : ℕ) → IsOwn parts j → IsOwn parts' j) → (shape shape' : Shape) → ((a : Shape) → Agrees shape a → Agrees shape' a) →
-    (r : Reference) (word : Word) → LeadsTo sc w lay parts shape r word → LeadsTo sc w lay parts' shape' r word
+    (r : Reference) (word : Word) → LeadsTo sc w lay (IsOwn parts) shape r word → LeadsTo sc w lay (IsOwn parts') shape' r word
 leads_so sc w lay parts parts' owned shape shape' agree r word h =
     record {
       own = owned r.instance h.own;
@@ -67,7 +67,7 @@ module _ (tree : PProgram) (code : Code) (texts : Texts) (nested : AreNested (sc
     pub r : Reference
     pub cell_is : cell_at w (named n) ≡ reference r
     pub word : Word
-    pub leads : LeadsTo sc w lay (part ∷ outer) shape r word
+    pub leads : LeadsTo sc w lay (IsOwn (part ∷ outer)) shape r word
     pub target : ArrayPlace tree code texts w lay img p q part outer bound core s r.instance r.name leads.declared leads.cell leads.allotted leads.array
     pub reads : as_sirw word ≡ Some (record { stack = p; displacement = target.at; index = array_index tree code texts w lay img p q part outer bound core s r.instance leads.array.number })
     pub at : ℕ

@@ -21,7 +21,7 @@ use Rattle.b67_standing.specs.Stepping.{cell_named, passed as passed_held}
 use Rattle.b67_cores.specs.Slots.{Known}
 use Rattle.b67_fitting.specs.Nested.{AreTold, IsTold, by_value, an_array}
 use Rattle.b67_faithful.proofs.Contradictions.{some_same, none_some}
-use Rattle.b67_pictures.specs.Arrays.{Layout, named_from, LeadsTo, Denotes, IsNamed, AreKnown}
+use Rattle.b67_pictures.specs.Arrays.{Layout, named_from, LeadsTo, Denotes, IsNamed, AreKnown, IsOwn}
 use Rattle.b67_pictures.specs.Frames.{CellIs, Refers, CellsAre}
 use Rattle.b67_pictures.proofs.AskedEntries.{InReferred}
 use Rattle.b67_pictures.proofs.GivenWords.{AreFit, none_wanted, a_value, a_name, a_cell, a_variable, an_actual, a_name_cell, ActualsAre}
@@ -39,7 +39,7 @@ not_told q s kind (an_array shape is v) e = absurd (let clash : wants.by_name ki
 module _ (sc : Scopes) (w : World) (lay : Layout) (parts : List Part) where
   -- of a parameter that does
   abbrev pub LeadsSo : Simple → NamedCell → Word → Type 0
-  LeadsSo s c x = Refers s.wanted → Denotes sc w lay parts s.wanted c.cell x
+  LeadsSo s c x = Refers s.wanted → Denotes sc w lay (IsOwn parts) s.wanted c.cell x
 
   abbrev pub LeadAll : List Simple → List NamedCell → List Word → Type 0
   LeadAll [] [] [] = Unit {0}
@@ -48,14 +48,14 @@ module _ (sc : Scopes) (w : World) (lay : Layout) (parts : List Part) where
 
   -- one of them
   pub lead_there : (ss : List Simple) (cells : List NamedCell) (words : List Word) → LeadAll ss cells words → (k : ℕ) (s : Simple) → slice_get ss k ≡ Some s → Refers s.wanted →
-      (c : NamedCell) × (word : Word) × (slice_get cells k ≡ Some c) × (slice_get words k ≡ Some word) × Denotes sc w lay parts s.wanted c.cell word
+      (c : NamedCell) × (word : Word) × (slice_get cells k ≡ Some c) × (slice_get words k ≡ Some word) × Denotes sc w lay (IsOwn parts) s.wanted c.cell word
   lead_there [] cells words all k s there asked = none_some there
   lead_there (t ∷ ss) [] words all k s there asked = absurd all
   lead_there (t ∷ ss) (c ∷ cells) [] all k s there asked = absurd all
   lead_there (t ∷ ss) (c ∷ cells) (x ∷ words) all zero s there asked =
       let same : t ≡ s = some_same there in
-      let one : Denotes sc w lay parts t.wanted c.cell x = all.0 (subst (λ (u : Simple). Refers u.wanted) (sym same) asked) in
-      (c, x, refl, refl, subst (λ (u : Simple). Denotes sc w lay parts u.wanted c.cell x) same one)
+      let one : Denotes sc w lay (IsOwn parts) t.wanted c.cell x = all.0 (subst (λ (u : Simple). Refers u.wanted) (sym same) asked) in
+      (c, x, refl, refl, subst (λ (u : Simple). Denotes sc w lay (IsOwn parts) u.wanted c.cell x) same one)
   lead_there (t ∷ ss) (c ∷ cells) (x ∷ words) all (suc k) s there asked = lead_there ss cells words all.1 k s there asked
 
   pub lead_both : (ss : List Simple) (cells : List NamedCell) (words : List Word) (ss' : List Simple) (cells' : List NamedCell) (words' : List Word) → LeadAll ss cells words → LeadAll ss' cells' words' →
@@ -78,10 +78,10 @@ module _ (sc : Scopes) (w : World) (lay : Layout) (parts : List Part) where
 
 -- ---- what is given
 
-module _ (sc : Scopes) (context : Context) (w : World) (lay : Layout) (p : ℕ) (q : Process) (part : Part) (outer : List Part) (level home base : ℕ) (known : List Known) (are : AreKnown sc w lay (part ∷ outer) part.instance known)
+module _ (sc : Scopes) (context : Context) (w : World) (lay : Layout) (p : ℕ) (q : Process) (part : Part) (outer : List Part) (level home base : ℕ) (known : List Known) (are : AreKnown sc w lay (IsOwn (part ∷ outer)) part.instance known)
     (P : Named → Type 0)
-    (leads : (n : Named) → P n → (shape : Shape) (d : DeclaredArray) (c : Couple) → IsDeclaredArray sc context.level n d c → Agrees shape (shape_of d) → (x : Word) → IsNamed sc w lay (part ∷ outer) part.instance n x →
-    LeadsTo sc w lay (part ∷ outer) shape (named_from sc w lay part.instance n) x) where
+    (leads : (n : Named) → P n → (shape : Shape) (d : DeclaredArray) (c : Couple) → IsDeclaredArray sc context.level n d c → Agrees shape (shape_of d) → (x : Word) → IsNamed sc w lay (IsOwn (part ∷ outer)) part.instance n x →
+    LeadsTo sc w lay (IsOwn (part ∷ outer)) shape (named_from sc w lay part.instance n) x) where
   -- the cells of the parameters, which have these words
   pub record AreGivenCells (ss : List Simple) (ps : List Parameter) (gs : List Given) (words : List Word) : Type 0 where
     pub cells : CellsAre ss (parameter_cells ps (given_cells sc w p q part outer gs)) words
@@ -98,16 +98,16 @@ module _ (sc : Scopes) (context : Context) (w : World) (lay : Layout) (p : ℕ) 
 
   -- a reference that stands for what is wanted
   reference_given : (s : Simple) (ss : List Simple) (q' : Parameter) (ps : List Parameter) (g : Given) (gs : List Given) (x : Word) (words : List Word) (o : Wanted) (r : Reference) → q'.name ≡ s.name →
-      o ≡ s.wanted → given_cell sc w p q part outer g ≡ reference r → CellIs o (reference r) x → Denotes sc w lay (part ∷ outer) o (reference r) x → AreGivenCells ss ps gs words →
+      o ≡ s.wanted → given_cell sc w p q part outer g ≡ reference r → CellIs o (reference r) x → Denotes sc w lay (IsOwn (part ∷ outer)) o (reference r) x → AreGivenCells ss ps gs words →
       AreGivenCells (s ∷ ss) (q' ∷ ps) (g ∷ gs) (x ∷ words)
   reference_given s ss q' ps g gs x words o r name wanted is plain denotes more =
       one_given s ss q' ps g gs x words name
       (subst (λ (t : Wanted). CellIs t (given_cell sc w p q part outer g) x) wanted (subst (λ (c : Cell). CellIs o c x) (sym is) plain))
-      (λ asked. subst (λ (t : Wanted). Denotes sc w lay (part ∷ outer) t (given_cell sc w p q part outer g) x) wanted (subst (λ (c : Cell). Denotes sc w lay (part ∷ outer) o c x) (sym is) denotes)) more
+      (λ asked. subst (λ (t : Wanted). Denotes sc w lay (IsOwn (part ∷ outer)) t (given_cell sc w p q part outer g) x) wanted (subst (λ (c : Cell). Denotes sc w lay (IsOwn (part ∷ outer)) o c x) (sym is) denotes)) more
 
   -- of an array
   array_given : (s : Simple) (ss : List Simple) (q' : Parameter) (ps : List Parameter) (g : Given) (gs : List Given) (x : Word) (words : List Word) (shape : Shape) (r : Reference) → q'.name ≡ s.name →
-      wants.array shape ≡ s.wanted → given_cell sc w p q part outer g ≡ reference r → LeadsTo sc w lay (part ∷ outer) shape r x → AreGivenCells ss ps gs words →
+      wants.array shape ≡ s.wanted → given_cell sc w p q part outer g ≡ reference r → LeadsTo sc w lay (IsOwn (part ∷ outer)) shape r x → AreGivenCells ss ps gs words →
       AreGivenCells (s ∷ ss) (q' ∷ ps) (g ∷ gs) (x ∷ words)
   array_given s ss q' ps g gs x words shape r name wanted is lead more =
       reference_given s ss q' ps g gs x words (wants.array shape) r name wanted is (ap as_descriptor lead.word_is ∙ cell_describes_nothing _) lead more

@@ -50,7 +50,7 @@ use Rattle.b67_faithful.specs.Faithful.{IsShort}
 use Rattle.b67_faithful.specs.Weight.{tokens_around, part_weight, weight, parts_weight}
 use Rattle.b67_faithful.proofs.Contradictions.{none_some, some_same}
 use Rattle.b67_fitting.specs.Nested.{LiesNested, IsText}
-use Rattle.b67_pictures.specs.Arrays.{Allotted, Layout, AreMade, AreKnown}
+use Rattle.b67_pictures.specs.Arrays.{Allotted, Layout, AreMade, AreKnown, IsOwn}
 use Rattle.b67_pictures.specs.Acting.{Does, gave}
 use Rattle.b67_pictures.specs.Frames.{block_controls, controls_count, most_around, CellsAre, IsChained, IsComplete, home_of, inside, Framed, RoutinesStand, Frame, Waits, Around}
 use Rattle.b67_pictures.specs.Pictures.{Living, Pictures, PicturesBy}
@@ -435,7 +435,7 @@ module _ (tree : PProgram) (code : Code) (texts : Texts) (nested : LiesNested tr
         (entries.own_is tree code texts nested short w lay img p q part outer bound core s wanted gs slot next waiting h j begin e ∙ same_lower)
         (entries.second tree code texts nested short w lay img p q part outer bound core s wanted gs slot next waiting h j begin e).are)
 
-    known_now : AreKnown sc w' lay' (part' ∷ outer) i s.stands.held
+    known_now : AreKnown sc w' lay' (IsOwn (part' ∷ outer)) i s.stands.held
     known_now =
         known_of sc w' w' lay' (part ∷ outer) (part' ∷ outer) refl (λ m own. own) i s.stands.held
         (known_stays tree code texts w w' lay lay' p limit stay part outer core s.stands s.around all_low s.stands.held s.stands.held_are)

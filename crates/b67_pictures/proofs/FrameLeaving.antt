@@ -48,7 +48,7 @@ use Rattle.b67_cores.proofs.Moving.{slots_length}
 use Rattle.b67_faithful.specs.Correspondence.{operator_action}
 use Rattle.b67_faithful.specs.Weight.{weight}
 use Rattle.b67_faithful.proofs.Contradictions.{some_same}
-use Rattle.b67_pictures.specs.Arrays.{Layout, ArraysAre, AreKnown}
+use Rattle.b67_pictures.specs.Arrays.{Layout, ArraysAre, AreKnown, IsOwn}
 use Rattle.b67_pictures.specs.Acting.{Does, gave}
 use Rattle.b67_pictures.specs.Frames.{most_around, Frame, Waits}
 use Rattle.b67_pictures.specs.Pictures.{Living, Pictures, PicturesBy}
@@ -289,7 +289,7 @@ module _ (tree : PProgram) (code : Code) (texts : Texts) (stand : HaveTexts tree
     block_now = sym (same_now next.instance).block
 
     -- what is known of descriptors and references holds as it did
-    known_now : AreKnown sc w' lay (next ∷ parts) next.instance u.held
+    known_now : AreKnown sc w' lay (IsOwn (next ∷ parts)) next.instance u.held
     known_now = known_after tree code texts w w' lay lay p f stay next parts u.below u.frame s.around.1 (omega (arith, low, height)) u.held u.held_are
 
     -- ---- the part around goes on

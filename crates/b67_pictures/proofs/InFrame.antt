@@ -31,7 +31,7 @@ use Rattle.b67_cores.specs.Cores.{Core, size, HasCore, with_core}
 use Rattle.b67_cores.specs.Slots.{Known}
 use Rattle.b67_cores.specs.Stretches.{CoreAt, FragmentsArePerformed}
 use Rattle.b67_cores.proofs.Moving.{slots_length}
-use Rattle.b67_pictures.specs.Arrays.{Layout, AreKnown}
+use Rattle.b67_pictures.specs.Arrays.{Layout, AreKnown, IsOwn}
 use Rattle.b67_pictures.specs.Acting.{Does, gave, stopped}
 use Rattle.b67_pictures.specs.Frames.{IsChained, Frame}
 use Rattle.b67_pictures.specs.Pictures.{Pictures, PicturesBy}
@@ -54,7 +54,7 @@ module _ (tree : PProgram) (code : Code) (texts : Texts) (fragments : FragmentsA
     (p : ℕ) (q : Process) (part : Part) (outer : List Part) (bound : ℕ) (core : Core) (s : Scene tree code texts w lay img p q part outer bound core) (able_is : q.state ≡ able) (able_p : numbered img.states p ≡ Some Able)
     (unmade : all_left_to_make part.rest ≡ all_to_make part.rest)
     (a : Answer) (nameless : InAnswer (IsSeen (scopes_of tree) ((instance_at w part.instance).block)) a) (out : List (List ℕ)) (new : Core) (below : new.below ≡ core.below) (frame_is : SameFrame core.registers new.registers)
-    (known : List Known) (known_are : AreKnown (scopes_of tree) w lay (part ∷ outer) part.instance known)
+    (known : List Known) (known_are : AreKnown (scopes_of tree) w lay (IsOwn (part ∷ outer)) part.instance known)
     (pc : ℕ) (slots : List Slot) (there : CoreAt (scopes_of tree) known code (text_in tree texts w part) (level_in tree w part) pc slots new) (few : length slots ≤ most_in tree w part)
     (comes : ComesTo (scopes_of tree) (context_in tree code texts w part) (text_in tree texts w part) (level_in tree w part) (most_in tree w part) (resume (scopes_of tree) part.rest a) pc slots) where
   abbrev pub part' : Part

@@ -44,7 +44,7 @@ use Rattle.b67_cores.specs.Cores.{Core, with_core}
 use Rattle.b67_cores.specs.Slots.{Known, SlotIs, SlotsAre}
 use Rattle.b67_cores.specs.Stretches.{FragmentsArePerformed}
 use Rattle.b67_fitting.specs.Nested.{AreNested}
-use Rattle.b67_pictures.specs.Arrays.{Layout, row_length, HoldElements, row_copy, element_copy, IsRow, IsElement, HeldIs}
+use Rattle.b67_pictures.specs.Arrays.{Layout, row_length, HoldElements, row_copy, element_copy, IsRow, IsElement, HeldIs, IsOwn}
 use Rattle.b67_pictures.specs.Acting.{Does, failed_by}
 use Rattle.b67_pictures.specs.Pictures.{Pictures}
 use Rattle.b67_pictures.proofs.ArrayHomes.{MeantArray, array_home}
@@ -120,7 +120,7 @@ module _ (tree : PProgram) (code : Code) (texts : Texts) (nested : AreNested (sc
 
     -- one within them: the word of a descriptor comes in place of the two
     module _ (mother : Bool) (moved_subscript : ℤ) (d : Descriptor) (below : List Slot) (f : Finds tree code texts nested w lay img p q part outer bound core s mother moved_subscript d below)
-        (k : ℕ) (e : subscript_place ((use_of sc n).sort) h.cell ks z ≡ Some k) (held : Held) (word : Word) (held_is : HeldIs sc w lay (part ∷ outer) part.instance held word)
+        (k : ℕ) (e : subscript_place ((use_of sc n).sort) h.cell ks z ≡ Some k) (held : Held) (word : Word) (held_is : HeldIs sc w lay (IsOwn (part ∷ outer)) part.instance held word)
         (comes : ComesTo sc (context_in tree code texts w part) text level (most_in tree w part) (resume sc part.rest (place (element_of home (ks ++ k ∷ [])))) next (descriptor held ∷ below))
         (class_is : class_at op core.registers.place ≡ classes.Action) (raw_is : raw code img p ≡ effects.gives (with_core img p (with_one core word f.words next)))
         (acts : (after : Image) → as_action (letter_by (outcomes.gives after) (operator_letter op img core.registers)) ≡ Some Index) where
@@ -184,7 +184,7 @@ module _ (tree : PProgram) (code : Code) (texts : Texts) (nested : AreNested (sc
           let under : k < size_of l.first = index_below l.moved_subscript (size_of l.first) k e in
           let f : RowFound sc w lay img.rows h.array.kind h.cell h.allotted row_holds l.second l.mother k =
           row_found sc w lay img.rows h.array.kind h.cell h.allotted row_holds l.first l.second l.mother k l.bounds l.mother_is l.many under in
-          let held_is : IsRow sc w lay (part ∷ outer) part.instance n (ks ++ k ∷ []) (row_copy sc w lay (size_of l.second) f.number) =
+          let held_is : IsRow sc w lay (IsOwn (part ∷ outer)) part.instance n (ks ++ k ∷ []) (row_copy sc w lay (size_of l.second) f.number) =
           record {
             home = home;
             home_is = refl;
@@ -241,7 +241,7 @@ module _ (tree : PProgram) (code : Code) (texts : Texts) (nested : AreNested (sc
           (index_raw code img p core s.has next element_there
           ∙ index_faults img p core s.has l.finds.first l.finds.second l.finds.words l.finds.top l.moved_subscript last_array l.finds.is_whole l.finds.array_is next e)
       of_element_at (Some k) e =
-          let held_is : IsElement sc w lay (part ∷ outer) home (ks ++ k ∷ []) kind (element_copy sc w lay k l.number) =
+          let held_is : IsElement sc w lay (IsOwn (part ∷ outer)) home (ks ++ k ∷ []) kind (element_copy sc w lay k l.number) =
           record {
             own = h.own;
             declared = h.array;

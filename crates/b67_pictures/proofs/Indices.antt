@@ -29,7 +29,7 @@ use Rattle.b67_cores.specs.Slots.{Known, newest, SlotsAre}
 use Rattle.b67_cores.specs.Stretches.{CoreAt}
 use Rattle.b67_faithful.proofs.Contradictions.{some_same}
 use Rattle.b67_fitting.specs.Nested.{AreNested}
-use Rattle.b67_pictures.specs.Arrays.{Allotted, Layout, DescriptorIs, AreSized, IsArrayOf, IsIn, row_copy, named_from, IsRow}
+use Rattle.b67_pictures.specs.Arrays.{Allotted, Layout, DescriptorIs, AreSized, IsArrayOf, IsIn, row_copy, named_from, IsRow, IsOwn}
 use Rattle.b67_pictures.proofs.ArrayHomes.{Reaches, directly, by_reference, MeantArray}
 use Rattle.b67_pictures.proofs.Described.{whole_read, IsDescriptor, is_descriptor, whole_array, is_whole_array, IsFound, itself, in_cell, through_cell}
 use Rattle.b67_pictures.proofs.ElementRows.{array_read, row_copy_read}
@@ -189,7 +189,7 @@ module _ (tree : PProgram) (code : Code) (texts : Texts) (nested : AreNested (sc
       two : Two_slots (descriptor (row n (j ∷ []))) (moved second_low subscript) below
       two = two_slots (descriptor (row n (j ∷ []))) (moved second_low subscript) below lies
 
-      of_row : IsRow sc w lay (part ∷ outer) part.instance n (j ∷ []) two.upper.word
+      of_row : IsRow sc w lay (IsOwn (part ∷ outer)) part.instance n (j ∷ []) two.upper.word
       of_row = known_is sc w lay (part ∷ outer) part.instance s.stands.held s.stands.held_are (row n (j ∷ [])) two.upper.word two.upper.slot_is
 
       -- it is of this array

@@ -22,24 +22,24 @@ use Rattle.b67_cores.specs.Slots.{Known, IsKnown}
 use Rattle.b67_pictures.specs.Arrays.{Allotted, Layout, IsOwn, IsArrayOf, IsIn, LeadsTo, LeadsToVariable, Denotes, named_from, Names, an_array_named, a_variable_named, IsNamed, IsActual, IsRow, IsElement, HeldIs, AreKnown}
 
 -- what is known of a word is so
-pub known_is : (sc : Scopes) (w : World) (lay : Layout) (parts : List Part) (i : ℕ) (known : List Known) → AreKnown sc w lay parts i known → (held : Held) (word : Word) → IsKnown known held word →
-    HeldIs sc w lay parts i held word
+pub known_is : (sc : Scopes) (w : World) (lay : Layout) (parts : List Part) (i : ℕ) (known : List Known) → AreKnown sc w lay (IsOwn parts) i known → (held : Held) (word : Word) → IsKnown known held word →
+    HeldIs sc w lay (IsOwn parts) i held word
 known_is sc w lay parts i [] are held word is = absurd is
 known_is sc w lay parts i (x ∷ known) are held word (inl same) =
-    subst (λ (u : Word). HeldIs sc w lay parts i held u) same.1 (subst (λ (h : Held). HeldIs sc w lay parts i h x.word) same.0 are.0)
+    subst (λ (u : Word). HeldIs sc w lay (IsOwn parts) i held u) same.1 (subst (λ (h : Held). HeldIs sc w lay (IsOwn parts) i h x.word) same.0 are.0)
 known_is sc w lay parts i (x ∷ known) are held word (inr later) = known_is sc w lay parts i known are.1 held word later
 
 -- ---- what a parameter's cell stands for
 
 -- it has a reference
-pub reference_denoted : (sc : Scopes) (w : World) (lay : Layout) (parts : List Part) (wanted : Wanted) (c : Cell) (word : Word) → Denotes sc w lay parts wanted c word → (r : Reference) × (c ≡ reference r)
+pub reference_denoted : (sc : Scopes) (w : World) (lay : Layout) (parts : List Part) (wanted : Wanted) (c : Cell) (word : Word) → Denotes sc w lay (IsOwn parts) wanted c word → (r : Reference) × (c ≡ reference r)
 reference_denoted sc w lay parts (wants.array shape) (reference r) word is = (r, refl)
 reference_denoted sc w lay parts (wants.by_name kind) (reference r) word is = (r, refl)
 reference_denoted sc w lay parts _ c word is = absurd is
 
 -- what stands for that from some parts does so from more
 pub denotes_so : (sc : Scopes) (w : World) (lay : Layout) (parts parts' : List Part) → ((j : ℕ) → IsOwn parts j → IsOwn parts' j) → (wanted : Wanted) (c : Cell) (word : Word) →
-    Denotes sc w lay parts wanted c word → Denotes sc w lay parts' wanted c word
+    Denotes sc w lay (IsOwn parts) wanted c word → Denotes sc w lay (IsOwn parts') wanted c word
 denotes_so sc w lay parts parts' owned (wants.array shape) (reference r) word h =
     record {
       own = owned r.instance h.own;
@@ -98,7 +98,7 @@ module _ (sc : Scopes) (w w' : World) (lay lay' : Layout) where
 
   module _ (parts parts' : List Part) (remain : Remain parts parts') where
     -- a reference leads where it led
-    pub leads_lasts : (shape : Shape) (r : Reference) (word : Word) → LeadsTo sc w lay parts shape r word → LeadsTo sc w' lay' parts' shape r word
+    pub leads_lasts : (shape : Shape) (r : Reference) (word : Word) → LeadsTo sc w lay (IsOwn parts) shape r word → LeadsTo sc w' lay' (IsOwn parts') shape r word
     leads_lasts shape r word h =
         let k : KeepsArrays r.instance = remain.keeps r.instance h.own in
         record {
@@ -117,7 +117,7 @@ module _ (sc : Scopes) (w w' : World) (lay lay' : Layout) where
               })) (sym k.block);
         }
 
-    pub variable_lasts : (kind : Kind) (r : Reference) (word : Word) → LeadsToVariable sc w lay parts kind r word → LeadsToVariable sc w' lay' parts' kind r word
+    pub variable_lasts : (kind : Kind) (r : Reference) (word : Word) → LeadsToVariable sc w lay (IsOwn parts) kind r word → LeadsToVariable sc w' lay' (IsOwn parts') kind r word
     variable_lasts kind r word h =
         record {
           own = remain.owned r.instance h.own;
@@ -129,7 +129,7 @@ module _ (sc : Scopes) (w w' : World) (lay lay' : Layout) where
           word_is = h.word_is;
         }
 
-    pub denotes_lasts : (wanted : Wanted) (c : Cell) (word : Word) → Denotes sc w lay parts wanted c word → Denotes sc w' lay' parts' wanted c word
+    pub denotes_lasts : (wanted : Wanted) (c : Cell) (word : Word) → Denotes sc w lay (IsOwn parts) wanted c word → Denotes sc w' lay' (IsOwn parts') wanted c word
     denotes_lasts (wants.array shape) (reference r) word h = leads_lasts shape r word h
     denotes_lasts (wants.by_name kind) (reference r) word h = variable_lasts kind r word h
     denotes_lasts _ c word h = absurd h
@@ -140,7 +140,7 @@ module _ (sc : Scopes) (w w' : World) (lay lay' : Layout) where
           ap (λ (j : ℕ). followed w' (record { instance = j; name = n.name })) (climbs.same ((use_of sc n).up))
           ∙ climbs.leads ((use_of sc n).up) n.name
 
-      row_lasts : (n : Named) (ks : List ℕ) (word : Word) → IsRow sc w lay parts i n ks word → IsRow sc w' lay' parts' i n ks word
+      row_lasts : (n : Named) (ks : List ℕ) (word : Word) → IsRow sc w lay (IsOwn parts) i n ks word → IsRow sc w' lay' (IsOwn parts') i n ks word
       row_lasts n ks word h =
           let k : KeepsArrays h.home.instance = remain.keeps h.home.instance h.own in
           record {
@@ -163,7 +163,7 @@ module _ (sc : Scopes) (w w' : World) (lay lay' : Layout) where
             word_is = h.word_is;
           }
 
-      element_lasts : (r : Reference) (ks : List ℕ) (kind : Kind) (word : Word) → IsElement sc w lay parts r ks kind word → IsElement sc w' lay' parts' r ks kind word
+      element_lasts : (r : Reference) (ks : List ℕ) (kind : Kind) (word : Word) → IsElement sc w lay (IsOwn parts) r ks kind word → IsElement sc w' lay' (IsOwn parts') r ks kind word
       element_lasts r ks kind word h =
           let k : KeepsArrays r.instance = remain.keeps r.instance h.own in
           record {
@@ -186,7 +186,7 @@ module _ (sc : Scopes) (w w' : World) (lay lay' : Layout) where
       still_names level n couple (an_array_named d is) = an_array_named d is
       still_names level n couple (a_variable_named kind is) = a_variable_named kind is
 
-      named_lasts : (n : Named) (word : Word) → IsNamed sc w lay parts i n word → IsNamed sc w' lay' parts' i n word
+      named_lasts : (n : Named) (word : Word) → IsNamed sc w lay (IsOwn parts) i n word → IsNamed sc w' lay' (IsOwn parts') i n word
       named_lasts n word h =
           let up : ℕ = (use_of sc n).up in
           record {
@@ -199,7 +199,7 @@ module _ (sc : Scopes) (w w' : World) (lay lay' : Layout) where
             word_is = h.word_is;
           }
 
-      actual_lasts : (e : PExpr) (kind : Kind) (word : Word) → IsActual sc w lay parts i e kind word → IsActual sc w' lay' parts' i e kind word
+      actual_lasts : (e : PExpr) (kind : Kind) (word : Word) → IsActual sc w lay (IsOwn parts) i e kind word → IsActual sc w' lay' (IsOwn parts') i e kind word
       actual_lasts e kind word h =
           record {
             own = remain.owned i h.own;
@@ -211,7 +211,7 @@ module _ (sc : Scopes) (w w' : World) (lay lay' : Layout) where
             word_is = h.word_is;
           }
 
-      held_lasts : (held : Held) (word : Word) → HeldIs sc w lay parts i held word → HeldIs sc w' lay' parts' i held word
+      held_lasts : (held : Held) (word : Word) → HeldIs sc w lay (IsOwn parts) i held word → HeldIs sc w' lay' (IsOwn parts') i held word
       held_lasts (row n ks) word h = row_lasts n ks word h
       held_lasts (element r ks kind) word h = element_lasts r ks kind word h
       held_lasts (cell_named n) word h = named_lasts n word h
@@ -220,7 +220,7 @@ module _ (sc : Scopes) (w w' : World) (lay lay' : Layout) where
       held_lasts (passed wanted c) word h = denotes_lasts wanted c word h
 
       -- so all of it holds later
-      pub known_lasts : (known : List Known) → AreKnown sc w lay parts i known → AreKnown sc w' lay' parts' i known
+      pub known_lasts : (known : List Known) → AreKnown sc w lay (IsOwn parts) i known → AreKnown sc w' lay' (IsOwn parts') i known
       known_lasts [] are = tt
       known_lasts (x ∷ known) are = (held_lasts x.held x.word are.0, known_lasts known are.1)
 
@@ -281,7 +281,7 @@ keeps_same sc w w' lay lay' j same rows =
 
 -- what is known is known of other parts with the same instances, and in a world with the same instances
 pub known_of : (sc : Scopes) (w w' : World) (lay : Layout) (parts parts' : List Part) → w'.instances ≡ w.instances → ((j : ℕ) → IsOwn parts j → IsOwn parts' j) → (i : ℕ) (known : List Known) →
-    AreKnown sc w lay parts i known → AreKnown sc w' lay parts' i known
+    AreKnown sc w lay (IsOwn parts) i known → AreKnown sc w' lay (IsOwn parts') i known
 known_of sc w w' lay parts parts' same owned i =
     let keeps : (j : ℕ) → KeepsArrays sc w w' lay lay j = λ j. keeps_same sc w w' lay lay j (ap (λ (xs : List Instance). or_no_instance (numbered xs j)) same) refl in
     known_lasts sc w w' lay lay parts parts' (record { owned = owned; keeps = λ j own. keeps j; places = λ j f own laid. laid }) i (climbs_all sc w w' lay lay keeps i)

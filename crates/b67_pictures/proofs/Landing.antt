@@ -20,7 +20,7 @@ use Rattle.b67_cores.specs.Slots.{Known}
 use Rattle.b67_cores.specs.Stretches.{CoreAt, Arrives, FragmentsArePerformed}
 use Rattle.b67_cores.proofs.Moving.{slots_length, steps_on}
 use Rattle.b67_faithful.specs.Weight.{weight}
-use Rattle.b67_pictures.specs.Arrays.{Layout, AreKnown}
+use Rattle.b67_pictures.specs.Arrays.{Layout, AreKnown, IsOwn}
 use Rattle.b67_pictures.specs.Frames.{IsChained, Frame, Around, Frames}
 use Rattle.b67_pictures.specs.Pictures.{innermost_most, Living}
 use Rattle.b67_pictures.proofs.Staying.{text_in, level_in, context_in, most_in, wanted_in}
@@ -54,7 +54,7 @@ module _ (tree : PProgram) (code : Code) (texts : Texts) (w : World) (lay : Layo
     pub pc : ℕ
     pub slots : List Slot
     pub known : List Known
-    pub known_are : AreKnown (scopes_of tree) w lay (part ∷ outer) part.instance known
+    pub known_are : AreKnown (scopes_of tree) w lay (IsOwn (part ∷ outer)) part.instance known
     pub at : CoreAt (scopes_of tree) known code (text_in tree texts w part) (level_in tree w part) pc slots core
     pub held : length slots ≤ most_in tree w part
     pub comes : ComesTo (scopes_of tree) (context_in tree code texts w part) (text_in tree texts w part) (level_in tree w part) (most_in tree w part) part.rest pc slots

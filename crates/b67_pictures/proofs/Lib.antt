@@ -64,6 +64,7 @@ pub mod EntryRow
 pub mod EnterBlockRow
 pub mod EnterProcedureRow
 pub mod NamedArrays
+pub mod VariablesGiven
 pub mod Entries
 pub mod FrameEntering
 pub mod BlockEntering

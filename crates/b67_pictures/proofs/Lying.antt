@@ -319,7 +319,7 @@ module _ (tree : PProgram) (code : Code) (texts : Texts) (w w' : World) (lay lay
         }
 
     -- what is known of descriptors and references holds as it did
-    pub known_after : (known : List Known) → AreKnown sc w lay (part ∷ outer) part.instance known → AreKnown sc w' lay' (part ∷ outer) part.instance known
+    pub known_after : (known : List Known) → AreKnown sc w lay (IsOwn (part ∷ outer)) part.instance known → AreKnown sc w' lay' (IsOwn (part ∷ outer)) part.instance known
     known_after =
         known_lasts sc w w' lay lay' (part ∷ outer) (part ∷ outer) remain part.instance
         (climbs_own sc w w' lay lay' (part ∷ outer) remain.keeps (next_own tree code texts w lay p part outer words f a) part.instance (inl refl))

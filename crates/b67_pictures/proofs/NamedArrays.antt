@@ -17,7 +17,7 @@ use Rattle.b67_table.specs.References.{cell_word}
 use Rattle.b67_templates.specs.Cells.{Agrees, simple_cells, made_base, found_from, IsDeclaredArray, made_of, made_from, FoundMade}
 use Rattle.b67_templates.specs.Programs.{Texts}
 use Rattle.b67_faithful.proofs.Contradictions.{some_same}
-use Rattle.b67_pictures.specs.Arrays.{Layout, named_from, LeadsTo, Names, an_array_named, a_variable_named, IsNamed}
+use Rattle.b67_pictures.specs.Arrays.{Layout, named_from, LeadsTo, Names, an_array_named, a_variable_named, IsNamed, IsOwn}
 use Rattle.b67_pictures.specs.Frames.{IsComplete, Frame, Around}
 use Rattle.b67_pictures.proofs.AskedEntries.{InReferred}
 use Rattle.b67_pictures.proofs.Completing.{complete_of}
@@ -70,7 +70,7 @@ module _ (tree : PProgram) (code : Code) (texts : Texts) (w : World) (lay : Layo
   up_complete (suc k) made further = further (omega arith)
 
   module _ (level : ℕ) (n : Named) (seen : IsSeenMade tree w part n) (shape : Shape) (d : DeclaredArray) (c : Couple) (v : IsDeclaredArray sc level n d c) (agrees : Agrees shape (shape_of d))
-      (x : Word) (h : IsNamed sc w lay (part ∷ outer) part.instance n x) where
+      (x : Word) (h : IsNamed sc w lay (IsOwn (part ∷ outer)) part.instance n x) where
     abbrev up : ℕ
     up = (use_of sc n).up
 
@@ -131,7 +131,7 @@ module _ (tree : PProgram) (code : Code) (texts : Texts) (w : World) (lay : Layo
               )
           by_name (a_variable_named kind is) = absurd (let clash : false ≡ true = sym (ap is_variable v.sort_is) ∙ is.variable in cc)
 
-      leads_there : LeadsTo sc w lay (part ∷ outer) shape (named_from sc w lay part.instance n) x
+      leads_there : LeadsTo sc w lay (IsOwn (part ∷ outer)) shape (named_from sc w lay part.instance n) x
       leads_there =
           record {
             own = parent.own;
@@ -150,5 +150,5 @@ module _ (tree : PProgram) (code : Code) (texts : Texts) (w : World) (lay : Layo
             word_is = h.word_is ∙ ap (λ (k : ℕ). cell_word (record { frame = h.frame; index = k })) index_is;
           }
 
-    pub named_leads : LeadsTo sc w lay (part ∷ outer) shape (named_from sc w lay part.instance n) x
+    pub named_leads : LeadsTo sc w lay (IsOwn (part ∷ outer)) shape (named_from sc w lay part.instance n) x
     named_leads = leads_there (lies_frame tree code texts w lay p part outer words f a home parent.own)

@@ -22,7 +22,7 @@ use Rattle.b67_standing.specs.Stepping.{variable}
 use Rattle.b67_cores.specs.Cores.{Core}
 use Rattle.b67_faithful.proofs.Contradictions.{some_same}
 use Rattle.b67_fitting.specs.Nested.{AreNested}
-use Rattle.b67_pictures.specs.Arrays.{Layout, LeadsToVariable}
+use Rattle.b67_pictures.specs.Arrays.{Layout, LeadsToVariable, IsOwn}
 use Rattle.b67_pictures.proofs.ArrayPlaces.{cell_read, number_within}
 use Rattle.b67_pictures.proofs.FreshCells.{words_long}
 use Rattle.b67_pictures.proofs.Lying.{lies_low}
@@ -35,7 +35,7 @@ module _ (tree : PProgram) (code : Code) (texts : Texts) (nested : AreNested (sc
   abbrev sc : Scopes
   sc = scopes_of tree
 
-  module _ (r : Reference) (kind : Kind) (word : Word) (leads : LeadsToVariable sc w lay (part ∷ outer) kind r word) where
+  module _ (r : Reference) (kind : Kind) (word : Word) (leads : LeadsToVariable sc w lay (IsOwn (part ∷ outer)) kind r word) where
     -- the variable, and that the word names its cell
     pub record NamesVariable : Type 0 where
       pub home : VariableHome tree code texts w lay img p q part outer bound core s r kind leads.found

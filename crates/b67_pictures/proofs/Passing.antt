@@ -38,7 +38,7 @@ use Rattle.b67_cores.specs.Cores.{Core, with_core}
 use Rattle.b67_cores.specs.Slots.{Known, newest}
 use Rattle.b67_cores.specs.Stretches.{CoreAt, FragmentsArePerformed}
 use Rattle.b67_fitting.specs.Nested.{AreNested}
-use Rattle.b67_pictures.specs.Arrays.{Layout, Denotes, named_from}
+use Rattle.b67_pictures.specs.Arrays.{Layout, Denotes, named_from, IsOwn}
 use Rattle.b67_pictures.specs.Acting.{Does}
 use Rattle.b67_pictures.proofs.AskedElements.{array_asked, array_seen}
 use Rattle.b67_pictures.proofs.ArrayPlaces.{array_index}
@@ -71,7 +71,7 @@ module _ (tree : PProgram) (code : Code) (texts : Texts) (nested : AreNested (sc
     pub r : Reference
     pub cell_is : cell_at w (named_from (scopes_of tree) w lay part.instance n) ≡ reference r
     pub word : Word
-    pub denotes : Denotes (scopes_of tree) w lay (part ∷ outer) wanted (reference r) word
+    pub denotes : Denotes (scopes_of tree) w lay (IsOwn (part ∷ outer)) wanted (reference r) word
     pub may_pass : IsPassed wanted (reference r)
     pub other : Sirw
     pub refers : as_sirw word ≡ Some other
@@ -98,7 +98,7 @@ module _ (tree : PProgram) (code : Code) (texts : Texts) (nested : AreNested (sc
         r = h.r;
         cell_is = h.cell_is;
         word = h.word;
-        denotes = subst (λ (o : Wanted). Denotes (scopes_of tree) w lay (part ∷ outer) o (reference h.r) h.word) (sym e)
+        denotes = subst (λ (o : Wanted). Denotes (scopes_of tree) w lay (IsOwn (part ∷ outer)) o (reference h.r) h.word) (sym e)
             (leads_so (scopes_of tree) w lay (part ∷ outer) (part ∷ outer) (λ j own. own) actual shape (λ b is. (is.0 ∙ agrees.0, is.1 ∙ agrees.1)) h.r h.word h.leads);
         may_pass = subst (λ (o : Wanted). IsPassed o (reference h.r)) (sym e) tt;
         other = record { stack = p; displacement = h.target.at; index = array_index tree code texts w lay img p q part outer bound core s h.r.instance h.leads.array.number };
@@ -117,7 +117,7 @@ module _ (tree : PProgram) (code : Code) (texts : Texts) (nested : AreNested (sc
         r = h.home.r;
         cell_is = h.home.cell_is;
         word = h.home.word;
-        denotes = subst (λ (o : Wanted). Denotes (scopes_of tree) w lay (part ∷ outer) o (reference h.home.r) h.home.word) (sym e) h.home.denotes;
+        denotes = subst (λ (o : Wanted). Denotes (scopes_of tree) w lay (IsOwn (part ∷ outer)) o (reference h.home.r) h.home.word) (sym e) h.home.denotes;
         may_pass = subst (λ (o : Wanted). IsPassed o (reference h.home.r)) (sym e) tt;
         other = record { stack = p; displacement = length h.named.home.lies.frame.lower; index = 2 + h.named.home.number };
         refers = h.named.reads;

@@ -24,7 +24,7 @@ use Rattle.b67_templates.specs.Programs.{Texts}
 use Rattle.b67_cores.specs.Cores.{Core}
 use Rattle.b67_fitting.specs.Nested.{AreNested}
 use Rattle.b67_faithful.proofs.Contradictions.{some_same}
-use Rattle.b67_pictures.specs.Arrays.{Layout, Denotes, named_from}
+use Rattle.b67_pictures.specs.Arrays.{Layout, Denotes, named_from, IsOwn}
 use Rattle.b67_pictures.specs.Frames.{CellsAre, Refers}
 use Rattle.b67_pictures.proofs.ArrayPlaces.{frame_lies}
 use Rattle.b67_pictures.proofs.Knowing.{denotes_so, reference_denoted}
@@ -89,7 +89,7 @@ module _ (tree : PProgram) (code : Code) (texts : Texts) (nested : AreNested (sc
     pub r : Reference
     pub cell_is : cell_at w (named n) ≡ reference r
     pub word : Word
-    pub denotes : Denotes sc w lay (part ∷ outer) wanted (reference r) word
+    pub denotes : Denotes sc w lay (IsOwn (part ∷ outer)) wanted (reference r) word
     pub at : ℕ
     pub shown : display_at core.registers couple.level ≡ Some (place p at)
     pub lies : word_at img.stacks (place p (at + couple.index)) ≡ Some word
@@ -130,7 +130,7 @@ module _ (tree : PProgram) (code : Code) (texts : Texts) (nested : AreNested (sc
       abbrev Denoting : Type 0
       Denoting =
           (d : NamedCell) × (word : Word) × (slice_get l.frame.framed.simple c.far ≡ Some d) × (slice_get l.frame.framed.values c.far ≡ Some word)
-          × Denotes sc w lay l.outer found.cell.wanted d.cell word
+          × Denotes sc w lay (IsOwn l.outer) found.cell.wanted d.cell word
 
       g : Denoting
       g = l.frame.framed.formals c.far found.cell c.lies (subst (λ (o : Wanted). Refers o) (sym wanted_is) refers)
@@ -141,10 +141,10 @@ module _ (tree : PProgram) (code : Code) (texts : Texts) (nested : AreNested (sc
       referred : Referred
       referred = reference_denoted sc w lay l.outer found.cell.wanted g.0.cell g.1 g.4
 
-      denotes_here : Denotes sc w lay (part ∷ outer) wanted (reference referred.0) g.1
+      denotes_here : Denotes sc w lay (IsOwn (part ∷ outer)) wanted (reference referred.0) g.1
       denotes_here =
           denotes_so sc w lay l.outer (part ∷ outer) l.inside wanted (reference referred.0) g.1
-          (subst (λ (k : Cell). Denotes sc w lay l.outer wanted k g.1) referred.1 (subst (λ (o : Wanted). Denotes sc w lay l.outer o g.0.cell g.1) wanted_is g.4))
+          (subst (λ (k : Cell). Denotes sc w lay (IsOwn l.outer) wanted k g.1) referred.1 (subst (λ (o : Wanted). Denotes sc w lay (IsOwn l.outer) o g.0.cell g.1) wanted_is g.4))
 
       -- the cell lies before the arrays
       cell_here : cell_at w (named n) ≡ reference referred.0

@@ -42,7 +42,7 @@ use Rattle.b67_cores.specs.Slots.{Known, newest}
 use Rattle.b67_cores.specs.Stretches.{CoreAt, FragmentsArePerformed}
 use Rattle.b67_faithful.specs.Correspondence.{as_action}
 use Rattle.b67_fitting.specs.Nested.{AreNested}
-use Rattle.b67_pictures.specs.Arrays.{Layout, LeadsToVariable}
+use Rattle.b67_pictures.specs.Arrays.{Layout, LeadsToVariable, IsOwn}
 use Rattle.b67_pictures.specs.Acting.{Does}
 use Rattle.b67_pictures.proofs.AskedElements.{array_asked, array_seen}
 use Rattle.b67_pictures.proofs.Homes.{operator_there}
@@ -154,8 +154,8 @@ module _ (tree : PProgram) (code : Code) (texts : Texts) (nested : AreNested (sc
     reaches =
         reached_through img.stacks from h.home.word (record { stack = p; displacement = at; index = 2 + v.number }) v.word h.home.lies h.named.reads lies (no_sirw v.word tag)
 
-    leads : LeadsToVariable sc w lay (part ∷ outer) kind h.home.r (cell_word to)
-    leads = subst (λ (x : Word). LeadsToVariable sc w lay (part ∷ outer) kind h.home.r x) h.named.word_is h.home.denotes
+    leads : LeadsToVariable sc w lay (IsOwn (part ∷ outer)) kind h.home.r (cell_word to)
+    leads = subst (λ (x : Word). LeadsToVariable sc w lay (IsOwn (part ∷ outer)) kind h.home.r x) h.named.word_is h.home.denotes
 
     abbrev one : Known
     one = record { held = variable h.home.r kind; word = cell_word to }

@@ -175,7 +175,7 @@ module _ (tree : PProgram) (code : Code) (texts : Texts) (w w' : World) (lay lay
         }
 
     -- what is known of descriptors and references holds as it did
-    pub known_stays : (known : List Known) → AreKnown sc w lay (part ∷ outer) i known → AreKnown sc w' lay' (part ∷ outer) i known
+    pub known_stays : (known : List Known) → AreKnown sc w lay (IsOwn (part ∷ outer)) i known → AreKnown sc w' lay' (IsOwn (part ∷ outer)) i known
     known_stays = known_after tree code texts w w' lay lay' p limit stay part outer core.below s.frame a frame_below
 
     here : instance_at w i ≡ instance_at w' i

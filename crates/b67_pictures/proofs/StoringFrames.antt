@@ -226,7 +226,7 @@ module _ (tree : PProgram) (code : Code) (texts : Texts) (w : World) (lay : Layo
   all_remain parts = record { owned = λ j own. own; keeps = λ j own. each_keeps j; places = λ j f own laid. laid }
 
   -- what is known of them holds as it did
-  pub known_stored : (parts : List Part) (j : ℕ) (known : List Known) → AreKnown sc w lay parts j known → AreKnown sc (stored_world w i x at with_cells) lay parts j known
+  pub known_stored : (parts : List Part) (j : ℕ) (known : List Known) → AreKnown sc w lay (IsOwn parts) j known → AreKnown sc (stored_world w i x at with_cells) lay (IsOwn parts) j known
   known_stored parts j = known_lasts sc w w' lay lay parts parts (all_remain parts) j (climbs_all sc w w' lay lay each_keeps j)
 
   -- the frame of the instance

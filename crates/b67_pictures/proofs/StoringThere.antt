@@ -29,7 +29,7 @@ use Rattle.b67_standing.specs.Standing.{ActionAt, Acted, ComesTo}
 use Rattle.b67_cores.specs.Cores.{Core}
 use Rattle.b67_cores.specs.Stretches.{FragmentsArePerformed}
 use Rattle.b67_fitting.specs.Nested.{AreNested}
-use Rattle.b67_pictures.specs.Arrays.{Layout, LeadsToVariable}
+use Rattle.b67_pictures.specs.Arrays.{Layout, LeadsToVariable, IsOwn}
 use Rattle.b67_pictures.specs.Acting.{Does}
 use Rattle.b67_pictures.proofs.Homes.{operator_there}
 use Rattle.b67_pictures.proofs.Knowing.{known_is}
@@ -57,7 +57,7 @@ module _ (tree : PProgram) (code : Code) (texts : Texts) (nested : AreNested (sc
   pub record FindsVariable (r : Reference) (kind : Kind) (v : Value) (below : List Slot) : Type 0 where
     pub first : Top sc s.stands.held (level_in tree w part) (frame core.registers) (length core.below) (operand v) (descriptor (variable r kind) ∷ below) core.words
     pub second : Top sc s.stands.held (level_in tree w part) (frame core.registers) (length core.below) (descriptor (variable r kind)) below first.words_below
-    pub leads : LeadsToVariable sc w lay (part ∷ outer) kind r second.word
+    pub leads : LeadsToVariable sc w lay (IsOwn (part ∷ outer)) kind r second.word
     pub named : NamesVariable tree code texts nested w lay img p q part outer bound core s r kind second.word leads
 
   pub finds_variable : (r : Reference) (kind : Kind) (v : Value) (below : List Slot) → s.stands.slots ≡ operand v ∷ descriptor (variable r kind) ∷ below → FindsVariable r kind v below
@@ -67,7 +67,7 @@ module _ (tree : PProgram) (code : Code) (texts : Texts) (nested : AreNested (sc
       top_slot sc s.stands.held (level_in tree w part) (frame core.registers) (length core.below) s.stands.slots (operand v) under core.words s.stands.there.words_are lies in
       let second : Top sc s.stands.held (level_in tree w part) (frame core.registers) (length core.below) (descriptor (variable r kind)) below first.words_below =
       top_slot sc s.stands.held (level_in tree w part) (frame core.registers) (length core.below) under (descriptor (variable r kind)) below first.words_below first.are refl in
-      let leads : LeadsToVariable sc w lay (part ∷ outer) kind r second.word =
+      let leads : LeadsToVariable sc w lay (IsOwn (part ∷ outer)) kind r second.word =
       known_is sc w lay (part ∷ outer) part.instance s.stands.held s.stands.held_are (variable r kind) second.word second.slot_is in
       record { first = first; second = second; leads = leads; named = names_variable tree code texts nested w lay img p q part outer bound core s r kind second.word leads }
 

@@ -42,7 +42,7 @@ use Rattle.b67_cores.specs.Stretches.{CoreAt, FragmentsArePerformed}
 use Rattle.b67_cores.proofs.Moving.{slots_length}
 use Rattle.b67_faithful.specs.Correspondence.{as_action}
 use Rattle.b67_faithful.specs.Weight.{weight}
-use Rattle.b67_pictures.specs.Arrays.{Layout, AreMade, AreKnown}
+use Rattle.b67_pictures.specs.Arrays.{Layout, AreMade, AreKnown, IsOwn}
 use Rattle.b67_pictures.specs.Acting.{Does, gave}
 use Rattle.b67_pictures.specs.Frames.{CellsAre, most_around, IsChained, Frame, Stands}
 use Rattle.b67_pictures.specs.Pictures.{Living, PicturesBy}
@@ -241,7 +241,7 @@ module _ (tree : PProgram) (code : Code) (texts : Texts) (fragments : FragmentsA
       ∙ ap (λ (j : ℕ). numbered lay.places j) (same_ancestors w w' (λ j. same_of w i instance instance_there cells' (λ (z : Instance). z.parent) refl j) up part.instance)
 
   -- what is known of descriptors and references holds as it did
-  known_now : AreKnown sc w' lay (part' ∷ outer) part.instance st.held
+  known_now : AreKnown sc w' lay (IsOwn (part' ∷ outer)) part.instance st.held
   known_now =
       known_of sc stored w' lay (part ∷ outer) (part' ∷ outer) refl (λ j own. own) part.instance st.held
       (known_stored tree code texts w lay p i instance instance_there cells' high laid h.number k place_is (Some x) many (λ set. short) keeps changes (part ∷ outer) part.instance st.held st.held_are)

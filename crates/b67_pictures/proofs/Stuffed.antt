@@ -18,14 +18,14 @@ use Rattle.b67_standing.specs.Stepping.{Held, Stuffable, of_array, of_variable, 
 use Rattle.b67_cores.specs.Cores.{Core}
 use Rattle.b67_cores.specs.Slots.{Known}
 use Rattle.b67_cores.specs.Stretches.{Sees, IsStuffed, AreStuffed}
-use Rattle.b67_pictures.specs.Arrays.{Layout, an_array_named, a_variable_named, HeldIs, AreKnown}
+use Rattle.b67_pictures.specs.Arrays.{Layout, an_array_named, a_variable_named, HeldIs, AreKnown, IsOwn}
 use Rattle.b67_pictures.specs.Frames.{IsChained, Frame, Around}
 use Rattle.b67_pictures.proofs.Lying.{Lies, lies_frame, own_parent}
 use Rattle.b67_pictures.proofs.Staying.{level_in, context_in, wanted_in}
 
 -- what is known of each is so of both
-pub known_both : (sc : Scopes) (w : World) (lay : Layout) (parts : List Part) (i : ℕ) (added known : List Known) → AreKnown sc w lay parts i added → AreKnown sc w lay parts i known →
-    AreKnown sc w lay parts i (added ++ known)
+pub known_both : (sc : Scopes) (w : World) (lay : Layout) (parts : List Part) (i : ℕ) (added known : List Known) → AreKnown sc w lay (IsOwn parts) i added → AreKnown sc w lay (IsOwn parts) i known →
+    AreKnown sc w lay (IsOwn parts) i (added ++ known)
 known_both sc w lay parts i [] known more are = are
 known_both sc w lay parts i (x ∷ added) known more are = (more.0, known_both sc w lay parts i added known more.1 are)
 
@@ -56,7 +56,7 @@ module _ (tree : PProgram) (code : Code) (texts : Texts) (w : World) (lay : Layo
   context = context_in tree code texts w part
 
   named_stuffed : (held : Held) (couple : Couple) (word : Word) (frame : Place) → Stuffable sc context held couple → place_at core.registers.display couple.level ≡ Some frame →
-      word ≡ cell_word (record { frame = frame; index = couple.index }) → HeldIs sc w lay (part ∷ outer) part.instance held word
+      word ≡ cell_word (record { frame = frame; index = couple.index }) → HeldIs sc w lay (IsOwn (part ∷ outer)) part.instance held word
   named_stuffed held couple word frame (of_array n d c is) shown word_is =
       let up : ℕ = (use_of sc n).up in
       let near : up + OUTER_LEVEL ≤ level = omega (arith, is.made.level_is, is.made.outer) in
@@ -96,11 +96,11 @@ module _ (tree : PProgram) (code : Code) (texts : Texts) (w : World) (lay : Layo
         word_is = word_is;
       }
 
-  one_stuffed : (x : Known) → IsStuffed sc context core x → HeldIs sc w lay (part ∷ outer) part.instance x.held x.word
+  one_stuffed : (x : Known) → IsStuffed sc context core x → HeldIs sc w lay (IsOwn (part ∷ outer)) part.instance x.held x.word
   one_stuffed x s =
-      subst (λ (h : Held). HeldIs sc w lay (part ∷ outer) part.instance h x.word) (sym s.held_is) (named_stuffed s.held s.couple x.word s.frame s.stuffable s.shown s.word_is)
+      subst (λ (h : Held). HeldIs sc w lay (IsOwn (part ∷ outer)) part.instance h x.word) (sym s.held_is) (named_stuffed s.held s.couple x.word s.frame s.stuffable s.shown s.word_is)
 
   -- all of them are known
-  pub stuffed_known : (known : List Known) → AreStuffed (scopes_of tree) (context_in tree code texts w part) core known → AreKnown (scopes_of tree) w lay (part ∷ outer) part.instance known
+  pub stuffed_known : (known : List Known) → AreStuffed (scopes_of tree) (context_in tree code texts w part) core known → AreKnown (scopes_of tree) w lay (IsOwn (part ∷ outer)) part.instance known
   stuffed_known [] are = tt
   stuffed_known (x ∷ known) are = (one_stuffed x are.0, stuffed_known known are.1)

@@ -30,7 +30,7 @@ use Rattle.b67_cores.specs.Cores.{Core}
 use Rattle.b67_fitting.specs.Nested.{AreNested}
 use Rattle.b67_footprints.specs.Reaching.{TakesBy}
 use Rattle.b67_footprints.proofs.Operators.{indexed_is}
-use Rattle.b67_pictures.specs.Arrays.{Layout, IsElement}
+use Rattle.b67_pictures.specs.Arrays.{Layout, IsElement, IsOwn}
 use Rattle.b67_pictures.proofs.ArrayHomes.{MeantArray, array_home}
 use Rattle.b67_pictures.proofs.ArraysGiven.{arrays_given, given_lie}
 use Rattle.b67_pictures.proofs.AskedElements.{array_asked}
@@ -104,7 +104,7 @@ module _ (tree : PProgram) (code : Code) (texts : Texts) (nested : AreNested (sc
         top_slot sc s.stands.held level (frame core.registers) (length core.below) s.stands.slots (operand v) (descriptor (element r ks a.2.kind) ∷ a.1) core.words s.stands.there.words_are a.2.lies in
         let second : Top sc s.stands.held level (frame core.registers) (length core.below) (descriptor (element r ks a.2.kind)) a.1 first.words_below =
         top_slot sc s.stands.held level (frame core.registers) (length core.below) (descriptor (element r ks a.2.kind) ∷ a.1) (descriptor (element r ks a.2.kind)) a.1 first.words_below first.are refl in
-        let e : IsElement sc w lay (part ∷ outer) r ks a.2.kind second.word =
+        let e : IsElement sc w lay (IsOwn (part ∷ outer)) r ks a.2.kind second.word =
         known_is sc w lay (part ∷ outer) part.instance s.stands.held s.stands.held_are (element r ks a.2.kind) second.word second.slot_is in
         let h : ElementHome tree code texts w lay img p q part outer bound core s r ks a.2.kind second.word e = element_home tree code texts w lay img p q part outer bound core s r ks a.2.kind second.word e in
         let d : IsDescriptor second.word (at_element e.at e.number) = is_descriptor second.word (at_element e.at e.number) (indexed_is second.word (at_element e.at e.number) h.reads) in

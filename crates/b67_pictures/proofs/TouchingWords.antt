@@ -49,7 +49,7 @@ use Rattle.b67_cores.specs.Stretches.{control_words}
 use Rattle.b67_cores.proofs.Moving.{slots_length}
 use Rattle.b67_faithful.proofs.Contradictions.{some_same}
 use Rattle.b67_fitting.specs.Nested.{AreNested}
-use Rattle.b67_pictures.specs.Arrays.{Allotted, Layout, DescriptorIs, AreMade, Denotes, HeldIs, AreKnown}
+use Rattle.b67_pictures.specs.Arrays.{Allotted, Layout, DescriptorIs, AreMade, Denotes, HeldIs, AreKnown, IsOwn}
 use Rattle.b67_pictures.specs.Frames.{CellIs, Refers, CellsAre, block_controls, IsPlaced, outermost, inside, home_of, result_of_part, Frame, Stands, Waits, Around, level_at}
 use Rattle.b67_pictures.proofs.Lying.{Lies, lies_low, lies_around}
 use Rattle.b67_pictures.proofs.Numbers.{get_below}
@@ -236,12 +236,12 @@ abbrev pub KnownLead : (ℕ → ℕ → Type 0) → List Known → Type 0
 KnownLead Home known = (h : Held) (x : Word) → IsKnown known h x → LinksTo Home x
 
 module _ (sc : Scopes) (w : World) (lay : Layout) (Home : ℕ → ℕ → Type 0) (root : (n : ℕ) → Home 0 n) (parts : List Part) (i : ℕ) where
-  pub denoted_leads : (wanted : Wanted) (c : Cell) (x : Word) → Denotes sc w lay parts wanted c x → LinksTo Home x
+  pub denoted_leads : (wanted : Wanted) (c : Cell) (x : Word) → Denotes sc w lay (IsOwn parts) wanted c x → LinksTo Home x
   denoted_leads (wants.array shape) (refers r) x is = subst (LinksTo Home) (sym is.word_is) (cell_word_leads Home root _)
   denoted_leads (wants.by_name kind) (refers r) x is = subst (LinksTo Home) (sym is.word_is) (cell_word_leads Home root _)
   denoted_leads _ c x is = absurd is
 
-  held_leads : (h : Held) (x : Word) → HeldIs sc w lay parts i h x → LinksTo Home x
+  held_leads : (h : Held) (x : Word) → HeldIs sc w lay (IsOwn parts) i h x → LinksTo Home x
   held_leads (row n ks) x is = subst (LinksTo Home) (sym is.word_is) (descriptor_leads Home root _)
   held_leads (element r ks kind) x is = subst (LinksTo Home) (sym is.word_is) (descriptor_leads Home root _)
   held_leads (cell_named n) x is = subst (LinksTo Home) (sym is.word_is) (cell_word_leads Home root _)
@@ -249,7 +249,7 @@ module _ (sc : Scopes) (w : World) (lay : Layout) (Home : ℕ → ℕ → Type 0
   held_leads (variable r kind) x is = subst (LinksTo Home) (sym is.word_is) (cell_word_leads Home root _)
   held_leads (passed wanted c) x is = denoted_leads wanted c x is
 
-  pub known_lead : (known : List Known) → AreKnown sc w lay parts i known → KnownLead Home known
+  pub known_lead : (known : List Known) → AreKnown sc w lay (IsOwn parts) i known → KnownLead Home known
   known_lead [] are h x is = absurd is
   known_lead (k ∷ known) are h x is = by_place is (known_lead known are.1 h x)
     where

@@ -158,7 +158,9 @@ module _ (sc : Scopes) (w : World) (lay : Layout) where
     pub opened : open_rows rows ≡ live_rows w.instances
     pub few : (i : ℕ) (x : Instance) → numbered w.instances i ≡ Some x → x.left ≡ false → rows_of_cells x.cells ≤ 2 * size_of_cells x.cells
 
-  -- ---- descriptors and references on the stack
+  -- ---- descriptors and references on the stack, and in cells
+
+  -- `Stand` says which instances stand: what a word stands for is in one of these.
 
   -- an instance's array by its name
   pub record IsArrayOf (i : ℕ) (name : List ℕ) (declared : DeclaredArray) (cell : ArrayCell) (a : Allotted) : Type 0 where
@@ -180,10 +182,9 @@ module _ (sc : Scopes) (w : World) (lay : Layout) where
   abbrev pub element_copy : ℕ → ℕ → Word
   element_copy at n = descriptor_word (record { presence = true; copy = true; indexed = true; mother = false; length = at; address = n })
 
-  -- The reference leads to the cell of an array that agrees with this shape, in an instance that one of these parts has for its own; this is
-  -- its word, wherever it is read.
-  pub record LeadsTo (parts : List Part) (shape : Shape) (r : Reference) (word : Word) : Type 0 where
-    pub own : IsOwn parts r.instance
+  -- The reference leads to the cell of an array that agrees with this shape; this is its word, wherever it is read.
+  pub record LeadsTo (Stand : ℕ → Type 0) (shape : Shape) (r : Reference) (word : Word) : Type 0 where
+    pub own : Stand r.instance
     pub declared : DeclaredArray
     pub agrees : Agrees shape (shape_of declared)
     pub cell : ArrayCell
@@ -198,9 +199,9 @@ module _ (sc : Scopes) (w : World) (lay : Layout) where
           index = made_base sc (block_numbered sc.blocks ((instance_at w r.instance).block)) + array.number;
         })
 
-  -- .. to the simple cell of a variable of this kind, in such an instance
-  pub record LeadsToVariable (parts : List Part) (kind : Kind) (r : Reference) (word : Word) : Type 0 where
-    pub own : IsOwn parts r.instance
+  -- .. to the simple cell of a variable of this kind
+  pub record LeadsToVariable (Stand : ℕ → Type 0) (kind : Kind) (r : Reference) (word : Word) : Type 0 where
+    pub own : Stand r.instance
     pub found : Found
     pub there : found_from 0 (simple_cells sc (block_numbered sc.blocks ((instance_at w r.instance).block))) r.name ≡ Some found
     pub wanted_is : found.cell.wanted ≡ wants.value kind
@@ -210,20 +211,20 @@ module _ (sc : Scopes) (w : World) (lay : Layout) where
 
   -- The word of a parameter's cell, of which that is wanted: a reference to the cell of an array of that shape, or to that of a variable of that
   -- kind.
-  abbrev pub Denotes : List Part → Wanted → Cell → Word → Type 0
-  Denotes parts (wants.array shape) (reference r) word = LeadsTo parts shape r word
-  Denotes parts (wants.by_name kind) (reference r) word = LeadsToVariable parts kind r word
-  Denotes parts _ c word = ⊥
+  abbrev pub Denotes : (ℕ → Type 0) → Wanted → Cell → Word → Type 0
+  Denotes Stand (wants.array shape) (reference r) word = LeadsTo Stand shape r word
+  Denotes Stand (wants.by_name kind) (reference r) word = LeadsToVariable Stand kind r word
+  Denotes Stand _ c word = ⊥
 
   -- what a name leads to from a part of instance i
   abbrev pub named_from : ℕ → Named → Reference
   named_from i n = record { instance = ancestor w ((use_of sc n).up) i; name = n.name }
 
-  -- For the innermost of these parts, whose instance is i: the array stands in an instance that one of them has for its own.
-  pub record IsRow (parts : List Part) (i : ℕ) (n : Named) (ks : List ℕ) (word : Word) : Type 0 where
+  -- a copy of the descriptor of a row, of the array that a name means from a part of instance i
+  pub record IsRow (Stand : ℕ → Type 0) (i : ℕ) (n : Named) (ks : List ℕ) (word : Word) : Type 0 where
     pub home : Reference
     pub home_is : home ≡ followed w (named_from i n)
-    pub own : IsOwn parts home.instance
+    pub own : Stand home.instance
     pub declared : DeclaredArray
     pub cell : ArrayCell
     pub allotted : Allotted
@@ -239,8 +240,8 @@ module _ (sc : Scopes) (w : World) (lay : Layout) where
     pub few : number < row_limit
     pub word_is : word ≡ row_copy (size_of second) number
 
-  pub record IsElement (parts : List Part) (r : Reference) (ks : List ℕ) (kind : Kind) (word : Word) : Type 0 where
-    pub own : IsOwn parts r.instance
+  pub record IsElement (Stand : ℕ → Type 0) (r : Reference) (ks : List ℕ) (kind : Kind) (word : Word) : Type 0 where
+    pub own : Stand r.instance
     pub declared : DeclaredArray
     pub kind_is : declared.kind ≡ kind
     pub cell : ArrayCell
@@ -259,10 +260,9 @@ module _ (sc : Scopes) (w : World) (lay : Layout) where
     an_array_named : (declared : DeclaredArray) → IsDeclaredArray sc level n declared couple → Names level n couple
     a_variable_named : (kind : Kind) → IsVariable sc level n kind couple → Names level n couple
 
-  -- The reference to the cell that such a name means from a part of instance i, in an instance that one of these parts has for its own; this
-  -- is its word, wherever it is read.
-  pub record IsNamed (parts : List Part) (i : ℕ) (n : Named) (word : Word) : Type 0 where
-    pub own : IsOwn parts (ancestor w ((use_of sc n).up) i)
+  -- The reference to the cell that such a name means from a part of instance i; this is its word, wherever it is read.
+  pub record IsNamed (Stand : ℕ → Type 0) (i : ℕ) (n : Named) (word : Word) : Type 0 where
+    pub own : Stand (ancestor w ((use_of sc n).up) i)
     pub level : ℕ
     pub couple : Couple
     pub names : Names level n couple
@@ -271,8 +271,8 @@ module _ (sc : Scopes) (w : World) (lay : Layout) where
     pub word_is : word ≡ cell_word (record { frame = frame; index = couple.index })
 
   -- .. to the cell of an actual that stands in the text of that instance's block
-  pub record IsActual (parts : List Part) (i : ℕ) (e : PExpr) (kind : Kind) (word : Word) : Type 0 where
-    pub own : IsOwn parts i
+  pub record IsActual (Stand : ℕ → Type 0) (i : ℕ) (e : PExpr) (kind : Kind) (word : Word) : Type 0 where
+    pub own : Stand i
     pub level : ℕ
     pub couple : Couple
     pub stands : IsOwnActual sc ((instance_at w i).block) level e kind couple
@@ -280,15 +280,15 @@ module _ (sc : Scopes) (w : World) (lay : Layout) where
     pub laid : numbered lay.places i ≡ Some frame
     pub word_is : word ≡ cell_word (record { frame = frame; index = couple.index })
 
-  abbrev pub HeldIs : List Part → ℕ → Held → Word → Type 0
-  HeldIs parts i (row n ks) word = IsRow parts i n ks word
-  HeldIs parts i (element r ks kind) word = IsElement parts r ks kind word
-  HeldIs parts i (variable r kind) word = LeadsToVariable parts kind r word
-  HeldIs parts i (cell_named n) word = IsNamed parts i n word
-  HeldIs parts i (actual e kind) word = IsActual parts i e kind word
-  HeldIs parts i (passed wanted c) word = Denotes parts wanted c word
+  abbrev pub HeldIs : (ℕ → Type 0) → ℕ → Held → Word → Type 0
+  HeldIs Stand i (row n ks) word = IsRow Stand i n ks word
+  HeldIs Stand i (element r ks kind) word = IsElement Stand r ks kind word
+  HeldIs Stand i (variable r kind) word = LeadsToVariable Stand kind r word
+  HeldIs Stand i (cell_named n) word = IsNamed Stand i n word
+  HeldIs Stand i (actual e kind) word = IsActual Stand i e kind word
+  HeldIs Stand i (passed wanted c) word = Denotes Stand wanted c word
 
   -- what is known of words on the stack is so
-  abbrev pub AreKnown : List Part → ℕ → List Known → Type 0
-  AreKnown parts i [] = Unit {0}
-  AreKnown parts i (x ∷ known) = HeldIs parts i x.held x.word × AreKnown parts i known
+  abbrev pub AreKnown : (ℕ → Type 0) → ℕ → List Known → Type 0
+  AreKnown Stand i [] = Unit {0}
+  AreKnown Stand i (x ∷ known) = HeldIs Stand i x.held x.word × AreKnown Stand i known

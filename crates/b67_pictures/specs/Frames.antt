@@ -112,7 +112,7 @@ module _ (sc : Scopes) (w : World) (lay : Layout) where
     pub simple_are : CellsAre (simple_cells sc (block_numbered sc.blocks instance.block)) simple values
     -- each parameter that stands for something leads to it
     pub formals : (k : ℕ) (s : Simple) → slice_get (simple_cells sc (block_numbered sc.blocks instance.block)) k ≡ Some s → Refers s.wanted →
-        (c : NamedCell) × (word : Word) × (slice_get simple k ≡ Some c) × (slice_get values k ≡ Some word) × Denotes sc w lay outer s.wanted c.cell word
+        (c : NamedCell) × (word : Word) × (slice_get simple k ≡ Some c) × (slice_get values k ≡ Some word) × Denotes sc w lay (IsOwn outer) s.wanted c.cell word
     -- after them lie the control words of the block's procedures and of its actuals, whose code stands at these places, and then the
     -- descriptors of the arrays that are made
     pub ats : List ℕ
@@ -189,7 +189,7 @@ module _ (tree : PProgram) (code : Code) (texts : Texts) (w : World) (lay : Layo
     pub pc : ℕ
     pub slots : List Slot
     pub held : List Known
-    pub held_are : AreKnown (scopes_of tree) w lay (part ∷ outer) part.instance held
+    pub held_are : AreKnown (scopes_of tree) w lay (IsOwn (part ∷ outer)) part.instance held
     pub stands : StandsFor (scopes_of tree) (context_at part) (text_of part) (level_at part) (most_of part) part.rest pc slots
     pub there : CoreAt (scopes_of tree) held code (text_of part) (level_at part) pc slots core
     pub few : length slots ≤ most_of part
@@ -208,7 +208,7 @@ module _ (tree : PProgram) (code : Code) (texts : Texts) (w : World) (lay : Layo
         ComesTo (scopes_of tree) (context_at part) (text_of part) (level_at part) (most_of part) (resume (scopes_of tree) part.rest a) pc (pushed wanted a slots)
     pub few : length slots + 1 ≤ most_of part
     pub held : List Known
-    pub held_are : AreKnown (scopes_of tree) w lay (part ∷ outer) part.instance held
+    pub held_are : AreKnown (scopes_of tree) w lay (IsOwn (part ∷ outer)) part.instance held
     pub words_are : SlotsAre (scopes_of tree) held (level_at part) (length frame.lower) (length below) slots words
     pub home : Place
     pub df : ℕ
