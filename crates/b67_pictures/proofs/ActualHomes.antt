@@ -1,5 +1,5 @@
 -- Where a process finds the control word of an actual's code: in the frame of one of its parts, and where that code stands.
-use Rattle.std.proofs.Common.{◌≡◌, sym, ap, ◌∙◌, subst, ℕ, suc, ◌+◌, ◌<◌, ◌≤◌, ◌^◌, List, ◌∷◌, ◌++◌, length, Some, arith}
+use Rattle.std.proofs.Common.{◌≡◌, sym, ap, ◌∙◌, subst, ℕ, suc, ◌+◌, List, ◌∷◌, ◌++◌, length, Some, arith}
 use Rattle.std.specs.Prelude.{slice_get}
 use Rattle.b67_list.specs.Numbered.{numbered}
 use Rattle.algol_tree.specs.declared.tree.Kind.{Kind}

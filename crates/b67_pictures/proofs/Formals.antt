@@ -5,6 +5,7 @@ use Rattle.algol_tree.specs.declared.tree.Kind.{Kind}
 use Rattle.algol_tree.specs.declared.tree.Named.{Named}
 use Rattle.algol_tree.specs.Scopes.{Scopes}
 use Rattle.algol_tree.specs.Sorts.{Parameter}
+use Rattle.algol_meaning.specs.Value as cells
 use Rattle.algol_meaning.specs.Value.{Reference, Cell, reference, simple}
 use Rattle.algol_meaning.specs.Choice.{given_cell, given_cells}
 use Rattle.algol_meaning.specs.Instances.{parameter_cells}
@@ -16,12 +17,12 @@ use Rattle.b67_control.specs.Control.{as_descriptor}
 use Rattle.b67_ops.specs.declared.Couple.{Couple}
 use Rattle.b67_templates.specs.Contexts.{Context}
 use Rattle.b67_templates.specs.Cells as wants
-use Rattle.b67_templates.specs.Cells.{Simple, Wanted, Agrees, IsDeclaredArray}
+use Rattle.b67_templates.specs.Cells.{Simple, Wanted, Agrees, IsVariable, IsDeclaredArray}
 use Rattle.b67_standing.specs.Stepping.{cell_named, passed as passed_held}
 use Rattle.b67_cores.specs.Slots.{Known}
 use Rattle.b67_fitting.specs.Nested.{AreTold, IsTold, by_value, an_array}
 use Rattle.b67_faithful.proofs.Contradictions.{some_same, none_some}
-use Rattle.b67_pictures.specs.Arrays.{Layout, named_from, LeadsTo, Denotes, IsNamed, AreKnown, IsOwn}
+use Rattle.b67_pictures.specs.Arrays.{Layout, named_from, LeadsTo, LeadsToVariable, Denotes, IsNamed, AreKnown, IsOwn}
 use Rattle.b67_pictures.specs.Frames.{CellIs, Refers, CellsAre}
 use Rattle.b67_pictures.proofs.AskedEntries.{InReferred}
 use Rattle.b67_pictures.proofs.GivenWords.{AreFit, none_wanted, a_value, a_name, a_cell, a_variable, an_actual, a_name_cell, ActualsAre}
@@ -29,7 +30,7 @@ use Rattle.b67_pictures.proofs.Knowing.{known_is}
 use Rattle.b67_pictures.proofs.Words.{cell_describes_nothing}
 use Rattle.b67_pictures.proofs.Zeros.{HaveKinds}
 
--- no parameter is by name
+-- no parameter is by name of which an actual with a cell of its own is given
 not_told : {X : Type 0} (q : Parameter) (s : Simple) (kind : Kind) → IsTold q s → wants.by_name kind ≡ s.wanted → X
 not_told q s kind (by_value other is v) e = absurd (let clash : wants.by_name kind ≡ wants.value other = e ∙ is in cc)
 not_told q s kind (an_array shape is v) e = absurd (let clash : wants.by_name kind ≡ wants.array shape = e ∙ is in cc)
@@ -81,7 +82,9 @@ module _ (sc : Scopes) (w : World) (lay : Layout) (parts : List Part) where
 module _ (sc : Scopes) (context : Context) (w : World) (lay : Layout) (p : ℕ) (q : Process) (part : Part) (outer : List Part) (level home base : ℕ) (known : List Known) (are : AreKnown sc w lay (IsOwn (part ∷ outer)) part.instance known)
     (P : Named → Type 0)
     (leads : (n : Named) → P n → (shape : Shape) (d : DeclaredArray) (c : Couple) → IsDeclaredArray sc context.level n d c → Agrees shape (shape_of d) → (x : Word) → IsNamed sc w lay (IsOwn (part ∷ outer)) part.instance n x →
-    LeadsTo sc w lay (IsOwn (part ∷ outer)) shape (named_from sc w lay part.instance n) x) where
+    LeadsTo sc w lay (IsOwn (part ∷ outer)) shape (named_from sc w lay part.instance n) x)
+    (leads_variable : (n : Named) → P n → (kind : Kind) (c : Couple) → IsVariable sc context.level n kind c → (x : Word) → IsNamed sc w lay (IsOwn (part ∷ outer)) part.instance n x →
+    LeadsToVariable sc w lay (IsOwn (part ∷ outer)) kind (named_from sc w lay part.instance n) x) where
   -- the cells of the parameters, which have these words
   pub record AreGivenCells (ss : List Simple) (ps : List Parameter) (gs : List Given) (words : List Word) : Type 0 where
     pub cells : CellsAre ss (parameter_cells ps (given_cells sc w p q part outer gs)) words
@@ -112,6 +115,13 @@ module _ (sc : Scopes) (context : Context) (w : World) (lay : Layout) (p : ℕ) 
   array_given s ss q' ps g gs x words shape r name wanted is lead more =
       reference_given s ss q' ps g gs x words (wants.array shape) r name wanted is (ap as_descriptor lead.word_is ∙ cell_describes_nothing _) lead more
 
+  -- of a variable
+  variable_given : (s : Simple) (ss : List Simple) (q' : Parameter) (ps : List Parameter) (g : Given) (gs : List Given) (x : Word) (words : List Word) (kind : Kind) (r : Reference) → q'.name ≡ s.name →
+      wants.by_name kind ≡ s.wanted → given_cell sc w p q part outer g ≡ reference r → LeadsToVariable sc w lay (IsOwn (part ∷ outer)) kind r x → AreGivenCells ss ps gs words →
+      AreGivenCells (s ∷ ss) (q' ∷ ps) (g ∷ gs) (x ∷ words)
+  variable_given s ss q' ps g gs x words kind r name wanted is lead more =
+      reference_given s ss q' ps g gs x words (wants.by_name kind) r name wanted is (ap as_descriptor lead.word_is ∙ cell_describes_nothing _) lead more
+
   pub given_are : {wanted : List Wanted} {gs : List Given} → AreFit sc context wanted gs → (ss : List Simple) (ps : List Parameter) → AreTold ps ss → wanted ≡ map (λ (c : Simple). c.wanted) ss →
       InReferred P gs → (words : List Word) → Words wanted gs words → AreGivenCells ss ps gs words
   given_are none_wanted [] [] told wanted seen [] is = record { cells = tt; lead = tt }
@@ -141,9 +151,24 @@ module _ (sc : Scopes) (context : Context) (w : World) (lay : Layout) (p : ℕ) 
       let behind : others ≡ map (λ (c : Simple). c.wanted) ss = cc in
       array_given s ss q' ps (passed (reference r)) gs x words shape r told.0 here refl (known_is sc w lay (part ∷ outer) part.instance known are (passed_held (wants.array shape) (reference r)) x is.0)
       (given_are rest ss ps told.2 behind seen words is.1)
-  given_are (a_variable kind n c is rest) [] [] told wanted seen words are = cc
-  given_are (a_variable kind n c is rest) (s ∷ ss) (q' ∷ ps) told wanted seen words are = let here : wants.by_name kind ≡ s.wanted = cc in not_told q' s kind told.1 here
-  given_are (an_actual kind e c is rest) [] [] told wanted seen words are = cc
-  given_are (an_actual kind e c is rest) (s ∷ ss) (q' ∷ ps) told wanted seen words are = let here : wants.by_name kind ≡ s.wanted = cc in not_told q' s kind told.1 here
-  given_are (a_name_cell kind c is rest) [] [] told wanted seen words are = cc
-  given_are (a_name_cell kind c is rest) (s ∷ ss) (q' ∷ ps) told wanted seen words are = let here : wants.by_name kind ≡ s.wanted = cc in not_told q' s kind told.1 here
+  given_are (a_variable kind n c v rest) [] [] told wanted seen words is = cc
+  given_are (a_variable kind n c v rest) (s ∷ ss) (q' ∷ ps) told wanted seen [] is = absurd is
+  given_are (a_variable {wanted = others} {gs = gs} kind n c v rest) (s ∷ ss) (q' ∷ ps) told wanted seen (x ∷ words) is =
+      let here : wants.by_name kind ≡ s.wanted = cc in
+      let behind : others ≡ map (λ (c : Simple). c.wanted) ss = cc in
+      variable_given s ss q' ps (refers n) gs x words kind (named_from sc w lay part.instance n) told.0 here refl
+      (leads_variable n seen.0 kind c v x (known_is sc w lay (part ∷ outer) part.instance known are (cell_named n) x is.0)) (given_are rest ss ps told.2 behind seen.1 words is.1)
+  given_are (an_actual kind e c own rest) [] [] told wanted seen words is = cc
+  given_are (an_actual kind e c own rest) (s ∷ ss) (q' ∷ ps) told wanted seen words is = let here : wants.by_name kind ≡ s.wanted = cc in not_told q' s kind told.1 here
+  given_are (a_name_cell kind c fits rest) [] [] told wanted seen words is = cc
+  given_are (a_name_cell kind c fits rest) (s ∷ ss) (q' ∷ ps) told wanted seen [] is = absurd is
+  given_are (a_name_cell {wanted = others} {gs = gs} kind (reference r) fits rest) (s ∷ ss) (q' ∷ ps) told wanted seen (x ∷ words) is =
+      let here : wants.by_name kind ≡ s.wanted = cc in
+      let behind : others ≡ map (λ (c : Simple). c.wanted) ss = cc in
+      variable_given s ss q' ps (passed (reference r)) gs x words kind r told.0 here refl
+      (known_is sc w lay (part ∷ outer) part.instance known are (passed_held (wants.by_name kind) (reference r)) x is.0) (given_are rest ss ps told.2 behind seen words is.1)
+  given_are (a_name_cell kind (cells.named a) fits rest) (s ∷ ss) (q' ∷ ps) told wanted seen (x ∷ words) is =
+      let here : wants.by_name kind ≡ s.wanted = cc in not_told q' s kind told.1 here
+  given_are (a_name_cell kind (simple v) fits rest) (s ∷ ss) (q' ∷ ps) told wanted seen (x ∷ words) is = absurd fits
+  given_are (a_name_cell kind (cells.event e) fits rest) (s ∷ ss) (q' ∷ ps) told wanted seen (x ∷ words) is = absurd fits
+  given_are (a_name_cell kind (cells.array a) fits rest) (s ∷ ss) (q' ∷ ps) told wanted seen (x ∷ words) is = absurd fits

@@ -1,5 +1,5 @@
 -- EVAL by what is reached from the cell that is named: of a value the cell is left, and code that gives no place is a fault.
-use Rattle.std.proofs.Common.{◌≡◌, refl, ap, ◌∙◌, ℕ, ◌+◌, ◌-◌, ◌≤◌, List, [], ◌∷◌, ◌++◌, Option, Some, None, Bool, false, Result, Ok, arith}
+use Rattle.std.proofs.Common.{◌≡◌, refl, ap, ◌∙◌, ℕ, ◌+◌, ◌-◌, ◌≤◌, List, ◌∷◌, Option, Some, None, Bool, false, Result, Ok, arith}
 use Rattle.std.specs.Prelude.{if◌then◌else◌, ◌==◌}
 use Rattle.b67_num.specs.declared.FaultKind.TheVariants.{NotAVariable}
 use Rattle.b67_word.specs.Word.{Word}

@@ -2,6 +2,7 @@
 use Rattle.std.proofs.Common.{◌≡◌, ◌⊎◌, inl, inr, refl, sym, ap, ◌∙◌, subst, ℕ, suc, ◌+◌, ◌-◌, ◌*◌, ◌≤◌, ◌<◌, List, [], ◌∷◌, ◌++◌, length, Option, Some, None, true, false, arith}
 use Rattle.std.specs.Prelude.{slice_get}
 use Rattle.b67_list.specs.Numbered.{numbered}
+use Rattle.algol_tree.specs.declared.tree.Kind.{Kind}
 use Rattle.algol_tree.specs.declared.tree.Named.{Named}
 use Rattle.algol_tree.specs.Plain.{PProgram}
 use Rattle.algol_tree.specs.Sorts.{Sort, is_variable, is_formal}
@@ -32,7 +33,7 @@ use Rattle.b67_table.specs.Chains.{place}
 use Rattle.b67_table.specs.Image.{Image}
 use Rattle.b67_table.specs.Private.{frame, display_at}
 use Rattle.b67_templates.specs.Contexts.{Yields, yields_of, Context}
-use Rattle.b67_templates.specs.Cells.{Simple, parameter_cells, parameter_wants, simple_cells, procedures, IsProcedure}
+use Rattle.b67_templates.specs.Cells.{Simple, parameter_cells, parameter_wants, simple_cells, procedures, IsVariable, IsProcedure}
 use Rattle.b67_templates.specs.Depths.{decls_depth, stmts_depth}
 use Rattle.b67_templates.specs.Fragments.{code_at}
 use Rattle.b67_templates.proofs.Few.{actuals_are_few}
@@ -46,7 +47,7 @@ use Rattle.b67_cores.specs.Stretches.{BlocksBegin, FragmentsArePerformed, contro
 use Rattle.b67_faithful.specs.Faithful.{IsShort}
 use Rattle.b67_faithful.specs.Weight.{tokens_around}
 use Rattle.b67_fitting.specs.Nested.{LiesNested, IsDeclared, AreParameters}
-use Rattle.b67_pictures.specs.Arrays.{Layout}
+use Rattle.b67_pictures.specs.Arrays.{Layout, named_from, LeadsToVariable, IsNamed, IsOwn}
 use Rattle.b67_pictures.specs.Acting.{Does}
 use Rattle.b67_pictures.specs.Frames.{block_controls, controls_count, most_around, IsComplete}
 use Rattle.b67_pictures.proofs.AskedEntries.{InReferred, InEntry, enters_seen, entered_in_bound}
@@ -69,6 +70,7 @@ use Rattle.b67_pictures.proofs.Stage.{choice_is}
 use Rattle.b67_pictures.proofs.Parents.{length_around}
 use Rattle.b67_pictures.proofs.Staying.{text_in, level_in, context_in, most_in}
 use Rattle.b67_pictures.proofs.Unmade.{makes, unmade}
+use Rattle.b67_pictures.proofs.VariablesGiven.{variable_leads}
 use Rattle.b67_pictures.proofs.Words.{reference_read}
 
 -- what makes the arrays of a procedure, and its statements, with the control words of those that it declares, need no more words than its
@@ -355,13 +357,17 @@ module _ (tree : PProgram) (code : Code) (program : ProgramAt code tree) (nested
   abbrev AreCellsThere : List Cell → List Word → Type 0
   AreCellsThere given ws = AreCells tree code texts nested short fragments begins_so keeps order w lay img p q part outer bound core s able_is able_p callee given ws
 
+  variables_lead : (m : Named) → IsSeenMade tree w part m → (kind : Kind) (y : Couple) → IsVariable sc level m kind y → (x : Word) → IsNamed sc w lay (IsOwn (part ∷ outer)) part.instance m x →
+      LeadsToVariable sc w lay (IsOwn (part ∷ outer)) kind (named_from sc w lay part.instance m) x
+  variables_lead m seen kind y v x h = variable_leads tree code texts w lay p part outer core.below s.stands.frame s.around level m seen.0 kind y v x h
+
   -- the cells of its parameters
   cells_there : (ws : List Word) → ActualsAre sc s.stands.held level (frame core.registers) (length core.below) (parameter_wants sc callee) gs ws → AreCellsThere (given_cells sc w p q part outer gs) ws
   cells_there ws are =
       let g : AreGivenCells sc context w lay p q part outer level (frame core.registers) (length core.below) s.stands.held s.stands.held_are (IsSeenMade tree w part)
-      (named_leads tree code texts w lay p part outer core.below s.stands.frame s.around level) (parameter_cells sc b) b.parameters gs ws =
+      (named_leads tree code texts w lay p part outer core.below s.stands.frame s.around level) variables_lead (parameter_cells sc b) b.parameters gs ws =
       given_are sc context w lay p q part outer level (frame core.registers) (length core.below) s.stands.held s.stands.held_are (IsSeenMade tree w part)
-      (named_leads tree code texts w lay p part outer core.below s.stands.frame s.around level) fit (parameter_cells sc b) b.parameters parameters.told refl arrays_seen ws are in
+      (named_leads tree code texts w lay p part outer core.below s.stands.frame s.around level) variables_lead fit (parameter_cells sc b) b.parameters parameters.told refl arrays_seen ws are in
       record { cells = g.cells; lead = g.lead }
 
   pub entering_procedure : Does tree code texts w img p

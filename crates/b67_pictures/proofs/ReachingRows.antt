@@ -1,5 +1,5 @@
 -- VALC by what is reached from the cell that is named: a value is read.
-use Rattle.std.proofs.Common.{◌≡◌, refl, ap, ◌∙◌, ℕ, ◌+◌, ◌-◌, ◌≤◌, List, [], ◌∷◌, ◌++◌, Option, Some, None, Result, Ok}
+use Rattle.std.proofs.Common.{◌≡◌, refl, ap, ◌∙◌, ℕ, ◌+◌, List, [], ◌∷◌, ◌++◌, Option, Some, None, Result, Ok}
 use Rattle.std.specs.Prelude.{if◌then◌else◌, ◌==◌}
 use Rattle.b67_word.specs.Word.{Word}
 use Rattle.b67_control.specs.declared.Registers.{Registers}
@@ -15,7 +15,7 @@ use Rattle.b67_table.specs.declared.InterruptKind.{InterruptKind}
 use Rattle.b67_table.specs.declared.Reached.{Reached}
 use Rattle.b67_table.specs.Effect.{Effect, gives}
 use Rattle.b67_table.specs.Image.{Image, with_stacks, with_registers}
-use Rattle.b67_table.specs.Look.{found, ◌>->◌, seen}
+use Rattle.b67_table.specs.Look.{found, seen}
 use Rattle.b67_table.specs.Program.{Program, Change, does, effect_of, asked, see, ◌>>=◌}
 use Rattle.b67_table.specs.References.{couple_cell, reached, invalid}
 use Rattle.b67_table.specs.Rows.{row, value_call, value_or_entry, value_pushed}
