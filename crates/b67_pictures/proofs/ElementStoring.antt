@@ -196,7 +196,7 @@ module _ (tree : PProgram) (code : Code) (texts : Texts) (fragments : FragmentsA
     changes first values arrays declared descriptors are made has_cells =
         record {
           simple = first;
-          references = λ n c word r there lies is. (there, lies);
+          references = λ n c word there lies is. (there, lies);
           arrays = cells_with arrays r.name (array later);
           simple_are = are;
           made = made_stays r.name e.cell later (record { bounds = refl; many = length-set e.cell.elements (flat 0 e.cell.bounds ks) v }) declared arrays (lay.rows i) descriptors

@@ -61,7 +61,7 @@ cell_describes_nothing (wants.array shape) (reference r) w is = is
 cell_describes_nothing (wants.by_name kind) (simple v) w is = absurd is
 cell_describes_nothing (wants.by_name kind) (event e) w is = absurd is
 cell_describes_nothing (wants.by_name kind) (array a) w is = absurd is
-cell_describes_nothing (wants.by_name kind) (named n) w is = absurd is
+cell_describes_nothing (wants.by_name kind) (named n) w is = is
 cell_describes_nothing (wants.by_name kind) (reference r) w is = is
 cell_describes_nothing _ c w is = absurd is
 

@@ -6,10 +6,10 @@ use Rattle.algol_tree.specs.declared.tree.Named.{Named}
 use Rattle.algol_tree.specs.Scopes.{Scopes}
 use Rattle.algol_tree.specs.Sorts.{Parameter}
 use Rattle.algol_meaning.specs.Value as cells
-use Rattle.algol_meaning.specs.Value.{Reference, Cell, reference, simple}
+use Rattle.algol_meaning.specs.Value.{Reference, NameCell, Cell, reference, simple}
 use Rattle.algol_meaning.specs.Choice.{given_cell, given_cells}
 use Rattle.algol_meaning.specs.Instances.{parameter_cells}
-use Rattle.algol_meaning.specs.Rest.{Given, valued, passed, refers}
+use Rattle.algol_meaning.specs.Rest.{Given, valued, passed, refers, names}
 use Rattle.algol_meaning.specs.World.{NamedCell, Part, Process, World}
 use Rattle.algol_paths.specs.Arrays.{DeclaredArray, Shape, shape_of}
 use Rattle.b67_word.specs.Word.{Word}
@@ -18,22 +18,17 @@ use Rattle.b67_ops.specs.declared.Couple.{Couple}
 use Rattle.b67_templates.specs.Contexts.{Context}
 use Rattle.b67_templates.specs.Cells as wants
 use Rattle.b67_templates.specs.Cells.{Simple, Wanted, Agrees, IsVariable, IsDeclaredArray}
-use Rattle.b67_standing.specs.Stepping.{cell_named, passed as passed_held}
+use Rattle.b67_standing.specs.Stepping.{cell_named, actual as actual_held, passed as passed_held}
 use Rattle.b67_cores.specs.Slots.{Known}
-use Rattle.b67_fitting.specs.Nested.{AreTold, IsTold, by_value, an_array}
+use Rattle.b67_fitting.specs.Nested.{AreTold}
 use Rattle.b67_faithful.proofs.Contradictions.{some_same, none_some}
-use Rattle.b67_pictures.specs.Arrays.{Layout, named_from, LeadsTo, LeadsToVariable, Denotes, IsNamed, AreKnown, IsOwn}
+use Rattle.b67_pictures.specs.Arrays.{Layout, named_from, LeadsTo, LeadsToVariable, Denotes, IsNamed, IsActual, AreKnown, IsOwn}
 use Rattle.b67_pictures.specs.Frames.{CellIs, Refers, CellsAre}
 use Rattle.b67_pictures.proofs.AskedEntries.{InReferred}
 use Rattle.b67_pictures.proofs.GivenWords.{AreFit, none_wanted, a_value, a_name, a_cell, a_variable, an_actual, a_name_cell, ActualsAre}
 use Rattle.b67_pictures.proofs.Knowing.{known_is}
 use Rattle.b67_pictures.proofs.Words.{cell_describes_nothing}
 use Rattle.b67_pictures.proofs.Zeros.{HaveKinds}
-
--- no parameter is by name of which an actual with a cell of its own is given
-not_told : {X : Type 0} (q : Parameter) (s : Simple) (kind : Kind) → IsTold q s → wants.by_name kind ≡ s.wanted → X
-not_told q s kind (by_value other is v) e = absurd (let clash : wants.by_name kind ≡ wants.value other = e ∙ is in cc)
-not_told q s kind (an_array shape is v) e = absurd (let clash : wants.by_name kind ≡ wants.array shape = e ∙ is in cc)
 
 -- ---- cells that stand for something else
 
@@ -99,28 +94,34 @@ module _ (sc : Scopes) (context : Context) (w : World) (lay : Layout) (p : ℕ) 
       AreGivenCells (s ∷ ss) (q' ∷ ps) (g ∷ gs) (x ∷ words)
   one_given s ss q' ps g gs x words name is lead more = record { cells = (name, is, more.cells); lead = (lead, more.lead) }
 
-  -- a reference that stands for what is wanted
-  reference_given : (s : Simple) (ss : List Simple) (q' : Parameter) (ps : List Parameter) (g : Given) (gs : List Given) (x : Word) (words : List Word) (o : Wanted) (r : Reference) → q'.name ≡ s.name →
-      o ≡ s.wanted → given_cell sc w p q part outer g ≡ reference r → CellIs o (reference r) x → Denotes sc w lay (IsOwn (part ∷ outer)) o (reference r) x → AreGivenCells ss ps gs words →
-      AreGivenCells (s ∷ ss) (q' ∷ ps) (g ∷ gs) (x ∷ words)
-  reference_given s ss q' ps g gs x words o r name wanted is plain denotes more =
+  -- one that stands for what is wanted
+  referred_given : (s : Simple) (ss : List Simple) (q' : Parameter) (ps : List Parameter) (g : Given) (gs : List Given) (x : Word) (words : List Word) (o : Wanted) (c : Cell) → q'.name ≡ s.name →
+      o ≡ s.wanted → given_cell sc w p q part outer g ≡ c → CellIs o c x → Denotes sc w lay (IsOwn (part ∷ outer)) o c x → AreGivenCells ss ps gs words → AreGivenCells (s ∷ ss) (q' ∷ ps) (g ∷ gs) (x ∷ words)
+  referred_given s ss q' ps g gs x words o c name wanted is plain denotes more =
       one_given s ss q' ps g gs x words name
-      (subst (λ (t : Wanted). CellIs t (given_cell sc w p q part outer g) x) wanted (subst (λ (c : Cell). CellIs o c x) (sym is) plain))
-      (λ asked. subst (λ (t : Wanted). Denotes sc w lay (IsOwn (part ∷ outer)) t (given_cell sc w p q part outer g) x) wanted (subst (λ (c : Cell). Denotes sc w lay (IsOwn (part ∷ outer)) o c x) (sym is) denotes)) more
+      (subst (λ (t : Wanted). CellIs t (given_cell sc w p q part outer g) x) wanted (subst (λ (d : Cell). CellIs o d x) (sym is) plain))
+      (λ asked. subst (λ (t : Wanted). Denotes sc w lay (IsOwn (part ∷ outer)) t (given_cell sc w p q part outer g) x) wanted (subst (λ (d : Cell). Denotes sc w lay (IsOwn (part ∷ outer)) o d x) (sym is) denotes)) more
 
   -- of an array
   array_given : (s : Simple) (ss : List Simple) (q' : Parameter) (ps : List Parameter) (g : Given) (gs : List Given) (x : Word) (words : List Word) (shape : Shape) (r : Reference) → q'.name ≡ s.name →
       wants.array shape ≡ s.wanted → given_cell sc w p q part outer g ≡ reference r → LeadsTo sc w lay (IsOwn (part ∷ outer)) shape r x → AreGivenCells ss ps gs words →
       AreGivenCells (s ∷ ss) (q' ∷ ps) (g ∷ gs) (x ∷ words)
   array_given s ss q' ps g gs x words shape r name wanted is lead more =
-      reference_given s ss q' ps g gs x words (wants.array shape) r name wanted is (ap as_descriptor lead.word_is ∙ cell_describes_nothing _) lead more
+      referred_given s ss q' ps g gs x words (wants.array shape) (reference r) name wanted is (ap as_descriptor lead.word_is ∙ cell_describes_nothing _) lead more
 
   -- of a variable
   variable_given : (s : Simple) (ss : List Simple) (q' : Parameter) (ps : List Parameter) (g : Given) (gs : List Given) (x : Word) (words : List Word) (kind : Kind) (r : Reference) → q'.name ≡ s.name →
       wants.by_name kind ≡ s.wanted → given_cell sc w p q part outer g ≡ reference r → LeadsToVariable sc w lay (IsOwn (part ∷ outer)) kind r x → AreGivenCells ss ps gs words →
       AreGivenCells (s ∷ ss) (q' ∷ ps) (g ∷ gs) (x ∷ words)
   variable_given s ss q' ps g gs x words kind r name wanted is lead more =
-      reference_given s ss q' ps g gs x words (wants.by_name kind) r name wanted is (ap as_descriptor lead.word_is ∙ cell_describes_nothing _) lead more
+      referred_given s ss q' ps g gs x words (wants.by_name kind) (reference r) name wanted is (ap as_descriptor lead.word_is ∙ cell_describes_nothing _) lead more
+
+  -- of an actual
+  actual_given : (s : Simple) (ss : List Simple) (q' : Parameter) (ps : List Parameter) (g : Given) (gs : List Given) (x : Word) (words : List Word) (kind : Kind) (a : NameCell) → q'.name ≡ s.name →
+      wants.by_name kind ≡ s.wanted → given_cell sc w p q part outer g ≡ cells.named a → IsActual sc w lay (IsOwn (part ∷ outer)) a.instance a.actual kind x → AreGivenCells ss ps gs words →
+      AreGivenCells (s ∷ ss) (q' ∷ ps) (g ∷ gs) (x ∷ words)
+  actual_given s ss q' ps g gs x words kind a name wanted is lead more =
+      referred_given s ss q' ps g gs x words (wants.by_name kind) (cells.named a) name wanted is (ap as_descriptor lead.word_is ∙ cell_describes_nothing _) lead more
 
   pub given_are : {wanted : List Wanted} {gs : List Given} → AreFit sc context wanted gs → (ss : List Simple) (ps : List Parameter) → AreTold ps ss → wanted ≡ map (λ (c : Simple). c.wanted) ss →
       InReferred P gs → (words : List Word) → Words wanted gs words → AreGivenCells ss ps gs words
@@ -159,7 +160,12 @@ module _ (sc : Scopes) (context : Context) (w : World) (lay : Layout) (p : ℕ) 
       variable_given s ss q' ps (refers n) gs x words kind (named_from sc w lay part.instance n) told.0 here refl
       (leads_variable n seen.0 kind c v x (known_is sc w lay (part ∷ outer) part.instance known are (cell_named n) x is.0)) (given_are rest ss ps told.2 behind seen.1 words is.1)
   given_are (an_actual kind e c own rest) [] [] told wanted seen words is = cc
-  given_are (an_actual kind e c own rest) (s ∷ ss) (q' ∷ ps) told wanted seen words is = let here : wants.by_name kind ≡ s.wanted = cc in not_told q' s kind told.1 here
+  given_are (an_actual kind e c own rest) (s ∷ ss) (q' ∷ ps) told wanted seen [] is = absurd is
+  given_are (an_actual {wanted = others} {gs = gs} kind e c own rest) (s ∷ ss) (q' ∷ ps) told wanted seen (x ∷ words) is =
+      let here : wants.by_name kind ≡ s.wanted = cc in
+      let behind : others ≡ map (λ (c : Simple). c.wanted) ss = cc in
+      actual_given s ss q' ps (names e) gs x words kind (record { actual = e; instance = part.instance }) told.0 here refl
+      (known_is sc w lay (part ∷ outer) part.instance known are (actual_held e kind) x is.0) (given_are rest ss ps told.2 behind seen words is.1)
   given_are (a_name_cell kind c fits rest) [] [] told wanted seen words is = cc
   given_are (a_name_cell kind c fits rest) (s ∷ ss) (q' ∷ ps) told wanted seen [] is = absurd is
   given_are (a_name_cell {wanted = others} {gs = gs} kind (reference r) fits rest) (s ∷ ss) (q' ∷ ps) told wanted seen (x ∷ words) is =
@@ -167,8 +173,11 @@ module _ (sc : Scopes) (context : Context) (w : World) (lay : Layout) (p : ℕ) 
       let behind : others ≡ map (λ (c : Simple). c.wanted) ss = cc in
       variable_given s ss q' ps (passed (reference r)) gs x words kind r told.0 here refl
       (known_is sc w lay (part ∷ outer) part.instance known are (passed_held (wants.by_name kind) (reference r)) x is.0) (given_are rest ss ps told.2 behind seen words is.1)
-  given_are (a_name_cell kind (cells.named a) fits rest) (s ∷ ss) (q' ∷ ps) told wanted seen (x ∷ words) is =
-      let here : wants.by_name kind ≡ s.wanted = cc in not_told q' s kind told.1 here
+  given_are (a_name_cell {wanted = others} {gs = gs} kind (cells.named a) fits rest) (s ∷ ss) (q' ∷ ps) told wanted seen (x ∷ words) is =
+      let here : wants.by_name kind ≡ s.wanted = cc in
+      let behind : others ≡ map (λ (c : Simple). c.wanted) ss = cc in
+      actual_given s ss q' ps (passed (cells.named a)) gs x words kind a told.0 here refl
+      (known_is sc w lay (part ∷ outer) part.instance known are (passed_held (wants.by_name kind) (cells.named a)) x is.0) (given_are rest ss ps told.2 behind seen words is.1)
   given_are (a_name_cell kind (simple v) fits rest) (s ∷ ss) (q' ∷ ps) told wanted seen (x ∷ words) is = absurd fits
   given_are (a_name_cell kind (cells.event e) fits rest) (s ∷ ss) (q' ∷ ps) told wanted seen (x ∷ words) is = absurd fits
   given_are (a_name_cell kind (cells.array a) fits rest) (s ∷ ss) (q' ∷ ps) told wanted seen (x ∷ words) is = absurd fits

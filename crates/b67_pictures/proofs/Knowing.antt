@@ -8,7 +8,7 @@ use Rattle.algol_tree.specs.Plain.{PExpr}
 use Rattle.algol_tree.specs.Blocks.{block_numbered}
 use Rattle.algol_tree.specs.Scopes.{Scopes, use_of}
 use Rattle.algol_tree.specs.Sorts.{same_name}
-use Rattle.algol_meaning.specs.Value.{Value, Reference, Bounds, ArrayCell, Cell, simple, event, array, named, reference}
+use Rattle.algol_meaning.specs.Value.{Value, Reference, Bounds, ArrayCell, NameCell, Cell, simple, event, array, named, reference}
 use Rattle.algol_meaning.specs.World.{NamedCell, Instance, Part, World, instance_at, or_no_instance, ancestor, cell_in, cells_with, by_cell, followed}
 use Rattle.algol_paths.specs.Arrays.{DeclaredArray, Shape}
 use Rattle.b67_word.specs.declared.Place.{Place}
@@ -31,11 +31,16 @@ known_is sc w lay parts i (x ∷ known) are held word (inr later) = known_is sc 
 
 -- ---- what a parameter's cell stands for
 
--- it has a reference
-pub reference_denoted : (sc : Scopes) (w : World) (lay : Layout) (parts : List Part) (wanted : Wanted) (c : Cell) (word : Word) → Denotes sc w lay (IsOwn parts) wanted c word → (r : Reference) × (c ≡ reference r)
-reference_denoted sc w lay parts (wants.array shape) (reference r) word is = (r, refl)
-reference_denoted sc w lay parts (wants.by_name kind) (reference r) word is = (r, refl)
-reference_denoted sc w lay parts _ c word is = absurd is
+-- it has a reference, or names an actual
+pub data HasReferred (wanted : Wanted) (c : Cell) : Type 0 where
+  has_reference : (r : Reference) → c ≡ reference r → HasReferred wanted c
+  has_actual : (kind : Kind) (a : NameCell) → wanted ≡ wants.by_name kind → c ≡ named a → HasReferred wanted c
+
+pub referred_denoted : (sc : Scopes) (w : World) (lay : Layout) (parts : List Part) (wanted : Wanted) (c : Cell) (word : Word) → Denotes sc w lay (IsOwn parts) wanted c word → HasReferred wanted c
+referred_denoted sc w lay parts (wants.array shape) (reference r) word is = has_reference r refl
+referred_denoted sc w lay parts (wants.by_name kind) (reference r) word is = has_reference r refl
+referred_denoted sc w lay parts (wants.by_name kind) (named a) word is = has_actual kind a refl refl
+referred_denoted sc w lay parts _ c word is = absurd is
 
 -- what stands for that from some parts does so from more
 pub denotes_so : (sc : Scopes) (w : World) (lay : Layout) (parts parts' : List Part) → ((j : ℕ) → IsOwn parts j → IsOwn parts' j) → (wanted : Wanted) (c : Cell) (word : Word) →
@@ -54,6 +59,8 @@ denotes_so sc w lay parts parts' owned (wants.array shape) (reference r) word h 
     }
 denotes_so sc w lay parts parts' owned (wants.by_name kind) (reference r) word h =
     record { own = owned r.instance h.own; found = h.found; there = h.there; wanted_is = h.wanted_is; frame = h.frame; laid = h.laid; word_is = h.word_is }
+denotes_so sc w lay parts parts' owned (wants.by_name kind) (named a) word h =
+    record { own = owned a.instance h.own; level = h.level; couple = h.couple; stands = h.stands; frame = h.frame; laid = h.laid; word_is = h.word_is }
 denotes_so sc w lay parts parts' owned _ c word h = absurd h
 
 -- an instance of these parts, or none
@@ -129,9 +136,22 @@ module _ (sc : Scopes) (w w' : World) (lay lay' : Layout) where
           word_is = h.word_is;
         }
 
+    actual_lasts : (i : ℕ) (e : PExpr) (kind : Kind) (word : Word) → IsActual sc w lay (IsOwn parts) i e kind word → IsActual sc w' lay' (IsOwn parts') i e kind word
+    actual_lasts i e kind word h =
+        record {
+          own = remain.owned i h.own;
+          level = h.level;
+          couple = h.couple;
+          stands = subst (λ (b : ℕ). IsOwnActual sc b h.level e kind h.couple) (sym (remain.keeps i h.own).block) h.stands;
+          frame = h.frame;
+          laid = remain.places i h.frame h.own h.laid;
+          word_is = h.word_is;
+        }
+
     pub denotes_lasts : (wanted : Wanted) (c : Cell) (word : Word) → Denotes sc w lay (IsOwn parts) wanted c word → Denotes sc w' lay' (IsOwn parts') wanted c word
     denotes_lasts (wants.array shape) (reference r) word h = leads_lasts shape r word h
     denotes_lasts (wants.by_name kind) (reference r) word h = variable_lasts kind r word h
+    denotes_lasts (wants.by_name kind) (named a) word h = actual_lasts a.instance a.actual kind word h
     denotes_lasts _ c word h = absurd h
 
     module _ (i : ℕ) (climbs : Climbs i) where
@@ -199,23 +219,11 @@ module _ (sc : Scopes) (w w' : World) (lay lay' : Layout) where
             word_is = h.word_is;
           }
 
-      actual_lasts : (e : PExpr) (kind : Kind) (word : Word) → IsActual sc w lay (IsOwn parts) i e kind word → IsActual sc w' lay' (IsOwn parts') i e kind word
-      actual_lasts e kind word h =
-          record {
-            own = remain.owned i h.own;
-            level = h.level;
-            couple = h.couple;
-            stands = subst (λ (b : ℕ). IsOwnActual sc b h.level e kind h.couple) (sym (remain.keeps i h.own).block) h.stands;
-            frame = h.frame;
-            laid = remain.places i h.frame h.own h.laid;
-            word_is = h.word_is;
-          }
-
       held_lasts : (held : Held) (word : Word) → HeldIs sc w lay (IsOwn parts) i held word → HeldIs sc w' lay' (IsOwn parts') i held word
       held_lasts (row n ks) word h = row_lasts n ks word h
       held_lasts (element r ks kind) word h = element_lasts r ks kind word h
       held_lasts (cell_named n) word h = named_lasts n word h
-      held_lasts (actual e kind) word h = actual_lasts e kind word h
+      held_lasts (actual e kind) word h = actual_lasts i e kind word h
       held_lasts (variable r kind) word h = variable_lasts kind r word h
       held_lasts (passed wanted c) word h = denotes_lasts wanted c word h
 

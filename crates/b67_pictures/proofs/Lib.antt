@@ -131,6 +131,7 @@ pub mod ArrayPlaces
 pub mod ReferenceHomes
 pub mod FormalHomes
 pub mod NamedVariables
+pub mod NoNames
 pub mod NameHomes
 pub mod ActualHomes
 pub mod ArrayHomes

@@ -27,8 +27,9 @@ use Rattle.b67_faithful.proofs.Contradictions.{some_same}
 use Rattle.b67_pictures.specs.Arrays.{Layout, Denotes, named_from, IsOwn}
 use Rattle.b67_pictures.specs.Frames.{CellsAre, Refers}
 use Rattle.b67_pictures.proofs.ArrayPlaces.{frame_lies}
-use Rattle.b67_pictures.proofs.Knowing.{denotes_so, reference_denoted}
+use Rattle.b67_pictures.proofs.Knowing.{denotes_so, HasReferred, has_reference, has_actual, referred_denoted}
 use Rattle.b67_pictures.proofs.Lying.{Lies, lies_in, IsParent, parents_in}
+use Rattle.b67_pictures.proofs.NoNames.{none_there}
 use Rattle.b67_pictures.proofs.Numbers.{get_below}
 use Rattle.b67_pictures.proofs.Parents.{length_around}
 use Rattle.b67_pictures.proofs.Scene.{Scene}
@@ -139,7 +140,11 @@ module _ (tree : PProgram) (code : Code) (texts : Texts) (nested : AreNested (sc
       Referred = (r : Reference) × (g.0.cell ≡ reference r)
 
       referred : Referred
-      referred = reference_denoted sc w lay l.outer found.cell.wanted g.0.cell g.1 g.4
+      referred = by_denoted (referred_denoted sc w lay l.outer found.cell.wanted g.0.cell g.1 g.4)
+        where
+          by_denoted : HasReferred found.cell.wanted g.0.cell → Referred
+          by_denoted (has_reference r e) = (r, e)
+          by_denoted (has_actual kind a is_wanted e) = absurd (none_there sc nested ((use_of sc n).block) n.name found kind named_there is_wanted)
 
       denotes_here : Denotes sc w lay (IsOwn (part ∷ outer)) wanted (reference referred.0) g.1
       denotes_here =

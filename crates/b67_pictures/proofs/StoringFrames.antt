@@ -7,6 +7,7 @@ use Rattle.algol_tree.specs.Blocks.{block_numbered, around}
 use Rattle.algol_tree.specs.Cells.{level_of}
 use Rattle.algol_tree.specs.Plain.{PProgram}
 use Rattle.algol_tree.specs.Scopes.{Scopes, scopes_of}
+use Rattle.algol_meaning.specs.Value.{Cell}
 use Rattle.algol_meaning.specs.World.{NamedCell, Instance, Part, World, instance_at, or_no_instance, with_instance, ancestor}
 use Rattle.algol_meaning.specs.Rest.{Answer}
 use Rattle.algol_meaning.specs.Asks.{resume}
@@ -18,7 +19,7 @@ use Rattle.b67_word.specs.Word.{Word}
 use Rattle.b67_segment.specs.declared.code.Code.{Code}
 use Rattle.b67_table.specs.Chains.{place}
 use Rattle.b67_templates.specs.Contexts.{Yields, yields_of}
-use Rattle.b67_templates.specs.Cells.{Simple, simple_cells, actuals_of, made_of}
+use Rattle.b67_templates.specs.Cells.{Simple, Wanted, simple_cells, actuals_of, made_of}
 use Rattle.b67_templates.specs.Programs.{Texts, context_of}
 use Rattle.b67_standing.specs.Standing.{Gives, pushed, ComesTo}
 use Rattle.b67_cores.specs.Slots.{Known, newest, SlotsAre}
@@ -28,11 +29,11 @@ use Rattle.b67_faithful.proofs.Contradictions.{some_same}
 use Rattle.b67_pictures.specs.Arrays.{Allotted, Layout, AreMade, AreKnown, IsOwn}
 use Rattle.b67_pictures.specs.Frames.{CellsAre, block_controls, most_around, IsComplete, IsPlaced, outermost, inside, home_of, Framed, RoutinesStand, Frame, Waits, Around}
 use Rattle.b67_pictures.proofs.FreshCells.{words_long}
-use Rattle.b67_pictures.proofs.Knowing.{KeepsArrays, Remain, keeps_same, reference_denoted, denotes_lasts, known_lasts, climbs_all}
+use Rattle.b67_pictures.proofs.Knowing.{KeepsArrays, Remain, keeps_same, HasReferred, has_reference, has_actual, referred_denoted, denotes_lasts, known_lasts, climbs_all}
 use Rattle.b67_pictures.proofs.Numbers.{same_or_not, numbered_set, numbered_other}
 use Rattle.b67_pictures.proofs.StackWords.{length-set}
 use Rattle.b67_pictures.proofs.Staying.{most_in, wanted_in, IsAsHeavy, same_weight}
-use Rattle.b67_pictures.proofs.Variables.{ReferencesStay}
+use Rattle.b67_pictures.proofs.Variables.{HasNoValue, ReferencesStay}
 use Rattle.b67_pictures.proofs.Lying.{below_frame, Lies, lies_low, lies_around, StayBelow, home_after, around_stays}
 
 -- ---- lists
@@ -115,6 +116,11 @@ module _ (w : World) (i : ℕ) (x : Instance) (at : numbered w.instances i ≡ S
       }
 
 -- ---- the frames after it
+
+-- what a parameter's cell stands for is no value
+no_value : {wanted : Wanted} {c : Cell} → HasReferred wanted c → HasNoValue c
+no_value (has_reference r e) = subst HasNoValue (sym e) tt
+no_value (has_actual kind a wanted e) = subst HasNoValue (sym e) tt
 
 -- The cells of an instance after it: the words of the simple cells are these, references stay, and the arrays have their descriptors and
 -- rows. Before they were those cells, with those words.
@@ -258,8 +264,7 @@ module _ (tree : PProgram) (code : Code) (texts : Texts) (w : World) (lay : Layo
           simple_are = c.simple_are;
           formals = λ n t there refers.
               let g = f.framed.formals n t (ap (λ (y : Instance). slice_get (simple_cells sc (block_numbered sc.blocks y.block)) n) is_x ∙ there) refers in
-              let d = reference_denoted sc w lay outer t.wanted g.0.cell g.1 g.4 in
-              let stay = c.references n g.0 g.1 d.0 g.2 g.3 d.1 in
+              let stay = c.references n g.0 g.1 g.2 g.3 (no_value (referred_denoted sc w lay outer t.wanted g.0.cell g.1 g.4)) in
               (g.0, g.1, stay.0, stay.1, denotes_lasts sc w w' lay lay outer outer (all_remain outer) t.wanted g.0.cell g.1 g.4);
           ats = f.framed.ats;
           each_has_place = subst (λ (y : Instance). length f.framed.ats ≡ length (actuals_of sc (block_numbered sc.blocks y.block))) is_x f.framed.each_has_place;

@@ -239,6 +239,7 @@ module _ (sc : Scopes) (w : World) (lay : Layout) (Home : ℕ → ℕ → Type 0
   pub denoted_leads : (wanted : Wanted) (c : Cell) (x : Word) → Denotes sc w lay (IsOwn parts) wanted c x → LinksTo Home x
   denoted_leads (wants.array shape) (refers r) x is = subst (LinksTo Home) (sym is.word_is) (cell_word_leads Home root _)
   denoted_leads (wants.by_name kind) (refers r) x is = subst (LinksTo Home) (sym is.word_is) (cell_word_leads Home root _)
+  denoted_leads (wants.by_name kind) (named a) x is = subst (LinksTo Home) (sym is.word_is) (cell_word_leads Home root _)
   denoted_leads _ c x is = absurd is
 
   held_leads : (h : Held) (x : Word) → HeldIs sc w lay (IsOwn parts) i h x → LinksTo Home x

@@ -3,7 +3,7 @@ use Rattle.std.proofs.Common.{◌≡◌, refl, sym, ap, ◌∙◌, subst, ℕ, z
 use Rattle.std.specs.Prelude.{slice_get, slice_set, if◌then◌else◌}
 use Rattle.algol_tree.specs.declared.tree.Kind.{Kind}
 use Rattle.algol_tree.specs.Sorts.{same_name}
-use Rattle.algol_meaning.specs.Value.{Value, Reference, Cell, simple, event, array, named, reference}
+use Rattle.algol_meaning.specs.Value.{Value, Cell, simple, event, array, named, reference}
 use Rattle.algol_meaning.specs.World.{NamedCell, cell_in, cells_with}
 use Rattle.b67_word.specs.Word.{Word}
 use Rattle.b67_templates.specs.Fragments.{HasKind}
@@ -135,15 +135,24 @@ cell_changed (s ∷ ss) (c ∷ cells) (x ∷ words) from name f k v w far are e 
 
 -- ---- references
 
--- Each of the one cells that is a reference is one of the others, with its word.
+-- it has no value
+abbrev pub HasNoValue : Cell → Type 0
+HasNoValue (simple v) = ⊥
+HasNoValue _ = Unit {0}
+
+-- Each of the one cells that has no value is one of the others, with its word.
 abbrev pub ReferencesStay : List NamedCell → List Word → List NamedCell → List Word → Type 0
 ReferencesStay cells words cells' words' =
-    (k : ℕ) (c : NamedCell) (word : Word) (r : Reference) → slice_get cells k ≡ Some c → slice_get words k ≡ Some word → c.cell ≡ reference r →
+    (k : ℕ) (c : NamedCell) (word : Word) → slice_get cells k ≡ Some c → slice_get words k ≡ Some word → HasNoValue c.cell →
     (slice_get cells' k ≡ Some c) × (slice_get words' k ≡ Some word)
 
 -- a cell of a kind is none
-no_reference : (o : Wanted) (k : Kind) (c : Cell) (w : Word) (r : Reference) → CellIs o c w → o ≡ wants.value k → c ≡ reference r → ⊥
-no_reference o k c w r is kind same = absurd (subst (λ (d : Cell). CellIs (wants.value k) d w) same (subst (λ (p : Wanted). CellIs p c w) kind is))
+no_reference : (o : Wanted) (k : Kind) (c : Cell) (w : Word) → CellIs o c w → o ≡ wants.value k → HasNoValue c → ⊥
+no_reference o k (simple v) w is kind none = none
+no_reference o k (event e) w is kind none = subst (λ (p : Wanted). CellIs p (event e) w) kind is
+no_reference o k (array a) w is kind none = subst (λ (p : Wanted). CellIs p (array a) w) kind is
+no_reference o k (named a) w is kind none = subst (λ (p : Wanted). CellIs p (named a) w) kind is
+no_reference o k (reference r) w is kind none = subst (λ (p : Wanted). CellIs p (reference r) w) kind is
 
 -- so references stay where a variable changes
 pub references_stored : (ss : List Simple) (cells : List NamedCell) (words : List Word) (from : ℕ) (name : List ℕ) (f : Found) (k : Kind) (v : Value) (w : Word) (far : ℕ) → CellsAre ss cells words →
@@ -169,10 +178,10 @@ references_stored (s ∷ ss) (c ∷ cells) (x ∷ words) from name f k v w far a
         (subst (λ (cs : List NamedCell). ReferencesStay (c ∷ cells) (x ∷ words) cs (w ∷ words)) (sym cells_are) (stay_behind kind_is))
       where
         stay_behind : s.wanted ≡ wants.value k → ReferencesStay (c ∷ cells) (x ∷ words) (record c { cell = simple v } ∷ cells) (w ∷ words)
-        stay_behind kind_is zero d word r there lies is =
+        stay_behind kind_is zero d word there lies is =
             let same : c ≡ d = some_same there in
-            absurd (no_reference s.wanted k c.cell x r are.1 kind_is (ap (λ (y : NamedCell). y.cell) same ∙ is))
-        stay_behind kind_is (suc m) d word r there lies is = (there, lies)
+            absurd (no_reference s.wanted k c.cell x are.1 kind_is (subst (λ (y : NamedCell). HasNoValue y.cell) (sym same) is))
+        stay_behind kind_is (suc m) d word there lies is = (there, lies)
     by_name there rest false h same zero number =
         let later = there h in
         absurd (omega (arith, number, later.number))
@@ -184,5 +193,5 @@ references_stored (s ∷ ss) (c ∷ cells) (x ∷ words) from name f k v w far a
       where
         stay_on : ReferencesStay cells words (cells_with cells name (simple v)) (slice_set words far w) →
             ReferencesStay (c ∷ cells) (x ∷ words) (c ∷ cells_with cells name (simple v)) (x ∷ slice_set words far w)
-        stay_on behind zero d word r there lies is = (there, lies)
-        stay_on behind (suc m) d word r there lies is = behind m d word r there lies is
+        stay_on behind zero d word there lies is = (there, lies)
+        stay_on behind (suc m) d word there lies is = behind m d word there lies is

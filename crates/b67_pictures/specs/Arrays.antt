@@ -7,6 +7,7 @@ use Rattle.algol_tree.specs.Plain.{PExpr}
 use Rattle.algol_tree.specs.Blocks.{block_numbered}
 use Rattle.algol_tree.specs.Scopes.{Scopes, use_of}
 use Rattle.algol_meaning.specs.declared.TheConstants.{MOST_ELEMENTS}
+use Rattle.algol_meaning.specs.Value as meant
 use Rattle.algol_meaning.specs.Value.{Value, Reference, Bounds, ArrayCell, Cell, array, reference}
 use Rattle.algol_meaning.specs.Arrays.{size_of, elements_of, size_of_cells, size_unless, live_elements}
 use Rattle.algol_meaning.specs.World.{NamedCell, Instance, Part, World, instance_at, ancestor, cell_in, followed}
@@ -209,11 +210,22 @@ module _ (sc : Scopes) (w : World) (lay : Layout) where
     pub laid : numbered lay.places r.instance ≡ Some frame
     pub word_is : word ≡ cell_word (record { frame = frame; index = 2 + found.number })
 
-  -- The word of a parameter's cell, of which that is wanted: a reference to the cell of an array of that shape, or to that of a variable of that
-  -- kind.
+  -- the reference to the cell of an actual that stands in the text of that instance's block
+  pub record IsActual (Stand : ℕ → Type 0) (i : ℕ) (e : PExpr) (kind : Kind) (word : Word) : Type 0 where
+    pub own : Stand i
+    pub level : ℕ
+    pub couple : Couple
+    pub stands : IsOwnActual sc ((instance_at w i).block) level e kind couple
+    pub frame : Place
+    pub laid : numbered lay.places i ≡ Some frame
+    pub word_is : word ≡ cell_word (record { frame = frame; index = couple.index })
+
+  -- The word of a parameter's cell, of which that is wanted: a reference to the cell of an array of that shape; to that of a variable of that
+  -- kind, or of an actual of that kind.
   abbrev pub Denotes : (ℕ → Type 0) → Wanted → Cell → Word → Type 0
   Denotes Stand (wants.array shape) (reference r) word = LeadsTo Stand shape r word
   Denotes Stand (wants.by_name kind) (reference r) word = LeadsToVariable Stand kind r word
+  Denotes Stand (wants.by_name kind) (meant.named a) word = IsActual Stand a.instance a.actual kind word
   Denotes Stand _ c word = ⊥
 
   -- what a name leads to from a part of instance i
@@ -268,16 +280,6 @@ module _ (sc : Scopes) (w : World) (lay : Layout) where
     pub names : Names level n couple
     pub frame : Place
     pub laid : numbered lay.places (ancestor w ((use_of sc n).up) i) ≡ Some frame
-    pub word_is : word ≡ cell_word (record { frame = frame; index = couple.index })
-
-  -- .. to the cell of an actual that stands in the text of that instance's block
-  pub record IsActual (Stand : ℕ → Type 0) (i : ℕ) (e : PExpr) (kind : Kind) (word : Word) : Type 0 where
-    pub own : Stand i
-    pub level : ℕ
-    pub couple : Couple
-    pub stands : IsOwnActual sc ((instance_at w i).block) level e kind couple
-    pub frame : Place
-    pub laid : numbered lay.places i ≡ Some frame
     pub word_is : word ≡ cell_word (record { frame = frame; index = couple.index })
 
   abbrev pub HeldIs : (ℕ → Type 0) → ℕ → Held → Word → Type 0

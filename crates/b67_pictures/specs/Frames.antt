@@ -5,6 +5,7 @@ use Rattle.algol_tree.specs.Blocks.{Block, block_numbered, around}
 use Rattle.algol_tree.specs.Cells.{level_of}
 use Rattle.algol_tree.specs.Plain.{PProgram}
 use Rattle.algol_tree.specs.Scopes.{Scopes, scopes_of}
+use Rattle.algol_meaning.specs.Value as meant
 use Rattle.algol_meaning.specs.Value.{Cell, simple, reference}
 use Rattle.algol_meaning.specs.World.{NamedCell, Instance, Part, World, instance_at, ancestor}
 use Rattle.algol_meaning.specs.Rest.{Answer}
@@ -43,11 +44,12 @@ use Rattle.b67_pictures.specs.Arrays.{Layout, IsOwn, AreMade, Denotes, AreKnown}
 -- ---- cells
 
 -- the word of a cell of which that is wanted: of a variable its value, which has the kind of its declaration; of a parameter that stands for an
--- array or for a variable a reference, which describes no row
+-- array, for a variable or for an actual a reference, which describes no row
 abbrev pub CellIs : Wanted → Cell → Word → Type 0
 CellIs (wants.value k) (simple v) w = HasKind k v × ValueIs v w
 CellIs (wants.array shape) (reference r) w = as_descriptor w ≡ None
 CellIs (wants.by_name kind) (reference r) w = as_descriptor w ≡ None
+CellIs (wants.by_name kind) (meant.named a) w = as_descriptor w ≡ None
 CellIs _ _ w = ⊥
 
 -- a cell of which that is wanted stands for something else
