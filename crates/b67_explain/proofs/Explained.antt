@@ -37,11 +37,11 @@ all_split : (P : ℕ → Type 0) (xs ys : List ℕ) → AllByRecursion P (xs ++ 
 all_split P [] ys h = (tt, h)
 all_split P (x ∷ xs) ys h = let rest = all_split P xs ys h.1 in ((h.0, rest.0), rest.1)
 
-all_back : (P : ℕ → Type 0) (xs : List ℕ) → AllByRecursion P (reverse xs) → AllByRecursion P xs
+pub all_back : (P : ℕ → Type 0) (xs : List ℕ) → AllByRecursion P (reverse xs) → AllByRecursion P xs
 all_back P [] h = tt
 all_back P (x ∷ xs) h = let both = all_split P (reverse xs) (x ∷ []) (subst (AllByRecursion P) (reverse-cons x xs) h) in (both.1.0, all_back P xs both.0)
 
-count_for_each : {code : Code} {h counts : List ℕ} {img : Image} → Runs code h counts img → length counts ≡ length h
+pub count_for_each : {code : Code} {h counts : List ℕ} {img : Image} → Runs code h counts img → length counts ≡ length h
 count_for_each begin = refl
 count_for_each (entry runs e) = ap suc (count_for_each runs)
 

@@ -6,3 +6,4 @@ mod Ending
 mod Outputs
 mod Printed
 pub mod Explained
+pub mod Ran

@@ -1,0 +1,127 @@
+-- What is given of an act, and its numbers.
+use Rattle.std.specs.Prelude.{sum, slice_set}
+use Rattle.std.proofs.Common.{◌≡◌, ◌≢◌, refl, sym, ap, subst, ◌∙◌, ℕ, zero, suc, ◌+◌, ◌-◌, ◌≤◌, ◌<◌, Bool, true, false, List, [], ◌∷◌, ◌++◌, length, length-append, append_assoc, Option, Some, None, arith}
+use Rattle.std.proofs.lemmas.List.{length-reverse}
+use Rattle.b67_list.specs.Numbered.{numbered, set_numbered}
+use Rattle.b67_schedule.specs.Schedules.{entries, Kept as Schedule}
+use Rattle.b67_segment.specs.declared.code.Code.{Code}
+use Rattle.b67_words.specs.declared.TheConstants.{MOST_BUDGET}
+use Rattle.b67_table.specs.Image.{Image, is_able}
+use Rattle.b67_table.specs.Limits.{most_processes}
+use Rattle.b67_table.specs.Sound.{Sound}
+use Rattle.b67_table.specs.Valid.{IsValid}
+use Rattle.b67_machine.specs.declared.entry.Performed.{Performed}
+use Rattle.b67_machine.specs.Kept.{Kept, counted}
+use Rattle.b67_machine.specs.Stepping.{Performs}
+use Rattle.b67_stands.specs.Running.{Running, answer_of}
+use Rattle.b67_action.specs.Able.{one_if, able_in, newly}
+use Rattle.b67_exec.specs.Turns.{if_able}
+use Rattle.b67_stands.specs.Placing.{holder_of, IsOut, joining}
+use Rattle.b67_stands.specs.Stands.{Stands}
+use Rattle.b67_stands.specs.Calls.{is_action, Records, ActsOnce}
+use Rattle.b67_stands.proofs.Tails.{tail_most}
+use Rattle.b67_stands.proofs.Counts.{count_most, entries_few}
+use Rattle.b67_stands.proofs.Places.{held_able}
+use Rattle.b67_stands.proofs.Taking.{number_of, waiting_few}
+use Rattle.b67_stands.proofs.Acting.{Given, placed_then}
+use Rattle.b67_plant.proofs.Handing.{set_is}
+
+-- ---- numbers
+
+pub budget_is : MOST_BUDGET ≡ 4194304
+budget_is = refl
+
+pub entries_spent : (code : Code) (budget : ℕ) (old : Running) → Stands code budget old → length (entries old.schedule.runs) ≤ old.spent
+entries_spent code budget old s =
+    let r = s.leads.run in
+    omega (arith, ap length r.order, length-reverse r.history, entries_few code r.history r.counts r.before_tails r.runs, s.spends)
+
+pub counted_spent : (code : Code) (budget : ℕ) (old : Running) (p : ℕ) → Stands code budget old → counted old.machine.counts p ≤ old.spent + old.spent
+counted_spent code budget old p s =
+    let r = s.leads.run in
+    omega (arith, s.counts p, count_most p r.history r.counts, tail_most s.tails p, s.spends)
+
+-- ---- who is out
+
+pub held_number : (code : Code) (budget : ℕ) (old : Running) (p : ℕ) → Stands code budget old → answer_of budget old ≡ None → 1 ≤ holder_of old.out p
+    → (1 ≤ p) × (p ≤ most_processes)
+held_number code budget old p s going h =
+    number_of code old.machine.image p s.valid (held_able old.machine.image old.waiting old.out p (s.placed going) h)
+
+-- ---- an act
+
+pub once : (budget : ℕ) (old : Running) (p : ℕ) (performed : Performed) (new : Running) (b : ℕ) → b ≡ budget → Performs old.machine p (b - old.spent) performed new.machine
+    → (x : Bool) → is_action performed.done ≡ x → new.spent ≡ old.spent + performed.plain + one_if x → Records x old p new → new.takes ≡ old.takes → new.leaves ≡ old.leaves
+    → ActsOnce budget old p performed new
+once budget old p performed new b e k x f spent records takes leaves = record {
+  machine = subst (λ (n : ℕ). Performs old.machine p (n - old.spent) performed new.machine) e k;
+  spent = spent ∙ ap (λ (y : Bool). old.spent + performed.plain + one_if y) (sym f);
+  records = subst (λ (y : Bool). Records y old p new) (sym f) records;
+  takes = takes;
+  leaves = leaves;
+}
+
+pub given : (code : Code) (budget : ℕ) (old : Running) (p : ℕ) (performed : Performed) (new : Running) → Sound code → Stands code budget old → answer_of budget old ≡ None
+    → 1 ≤ holder_of old.out p → IsValid new.machine.code new.machine.image → ActsOnce budget old p performed new → Given code budget old p performed new
+given code budget old p performed new sound stands going held valid acts =
+    record { sound = sound; stands = stands; going = going; held = held; valid = valid; acts = acts }
+
+regroup : (w r n a : List ℕ) → ((w ++ r) ++ n) ++ a ≡ w ++ ((r ++ n) ++ a)
+regroup w r n a = append_assoc (w ++ r) n a ∙ append_assoc w r (n ++ a) ∙ ap (λ (z : List ℕ). w ++ z) (sym (append_assoc r n a))
+
+-- the queue behind the action, as it was filled
+pub queue_is : (old : Running) (m : Kept) (p before : ℕ) (waiting : List ℕ) → before ≡ old.machine.image.started
+    → waiting ≡ old.waiting ++ m.released ++ newly before m.image.started ++ if_able (able_in m.image p) p
+    → waiting ≡ old.waiting ++ joining old.machine.image m.image p m.released
+queue_is old m p before waiting e f =
+    f ∙ ap (λ (k : ℕ). old.waiting ++ m.released ++ newly k m.image.started ++ if_able (able_in m.image p) p) e
+    ∙ regroup old.waiting m.released (newly old.machine.image.started m.image.started) (if_able (able_in m.image p) p)
+
+-- the plant after an action
+abbrev pub entered : Running → ℕ → Performed → Kept → Schedule → ℕ → Running
+entered old p performed m schedule acts = record old {
+  machine = m;
+  waiting = old.waiting ++ joining old.machine.image m.image p m.released;
+  out = set_numbered old.out p 0;
+  schedule = schedule;
+  spent = old.spent + performed.plain + 1;
+  acts = acts;
+}
+
+pub entered_once : (budget : ℕ) (old : Running) (p : ℕ) (performed : Performed) (m : Kept) (schedule : Schedule) (acts b : ℕ) → b ≡ budget
+    → Performs old.machine p (b - old.spent) performed m → is_action performed.done ≡ true → entries schedule.runs ≡ entries old.schedule.runs ++ p ∷ [] → acts ≡ old.acts + 1
+    → ActsOnce budget old p performed (entered old p performed m schedule acts)
+entered_once budget old p performed m schedule acts b e k f added counted' =
+    once budget old p performed (entered old p performed m schedule acts) b e k true f refl (record { schedule = added; out = refl; waiting = refl; acts = counted' }) refl refl
+
+-- and as its fields were written
+pub entered_is : (old : Running) (p : ℕ) (performed : Performed) (m : Kept) (schedule : Schedule) (acts before takes leaves : ℕ) (waiting out : List ℕ) → 1 ≤ p
+    → before ≡ old.machine.image.started → waiting ≡ old.waiting ++ m.released ++ newly before m.image.started ++ if_able (able_in m.image p) p
+    → out ≡ slice_set old.out (p - 1) 0 → takes ≡ old.takes → leaves ≡ old.leaves
+    → record {
+      machine = m;
+      waiting = waiting;
+      takes = takes;
+      out = out;
+      schedule = schedule;
+      spent = old.spent + performed.plain + 1;
+      acts = acts;
+      leaves = leaves;
+    } ≡ entered old p performed m schedule acts
+entered_is old p performed m schedule acts before takes leaves waiting out one e w o t l =
+    ap (λ (x : List ℕ). record (entered old p performed m schedule acts) { waiting = x; out = out; takes = takes; leaves = leaves }) (queue_is old m p before waiting e w)
+    ∙ ap (λ (x : List ℕ). record (entered old p performed m schedule acts) { out = x; takes = takes; leaves = leaves }) (o ∙ set_is old.out p 0 one)
+    ∙ ap (λ (x : ℕ). record (entered old p performed m schedule acts) { takes = x; leaves = leaves }) t
+    ∙ ap (λ (x : ℕ). record (entered old p performed m schedule acts) { leaves = x }) l
+
+-- there is room in the queue
+pub queue_fits : (code : Code) (budget : ℕ) (old : Running) (p : ℕ) (performed : Performed) (m : Kept) (schedule : Schedule) (acts : ℕ)
+    → Given code budget old p performed (entered old p performed m schedule acts) → is_action performed.done ≡ true → length old.waiting + length m.released ≤ most_processes
+queue_fits code budget old p performed m schedule acts x e =
+    let new : Running = entered old p performed m schedule acts in
+    let few = waiting_few m.code m.image new.waiting new.out x.valid (placed_then code budget old p performed new x e) in
+    let j : List ℕ = (m.released ++ newly old.machine.image.started m.image.started) ++ if_able (able_in m.image p) p in
+    let a = length-append old.waiting ((m.released ++ newly old.machine.image.started m.image.started) ++ if_able (able_in m.image p) p) in
+    let b = length-append (m.released ++ newly old.machine.image.started m.image.started) (if_able (able_in m.image p) p) in
+    let d = length-append m.released (newly old.machine.image.started m.image.started) in
+    omega (arith, few, a, b, d)

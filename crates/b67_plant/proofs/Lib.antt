@@ -1,0 +1,4 @@
+pub mod Handing
+pub mod Entered
+pub mod Lacking
+pub mod Refused

@@ -1,0 +1,110 @@
+// All processors, and what is known after they have joined.
+ghost use Rattle.std.specs.Prelude.{◌≡◌, ◌≢◌, ◌+◌, ◌<◌, ◌≤◌, All, None, length};
+ghost use Rattle.std.specs.List.{sum_by};
+ghost use Rattle.std.specs.Thread.{IsSync};
+ghost use Rattle.b67_stands.specs.Running.{answer_of};
+ghost use Rattle.b67_stands.specs.Stands.{Stands};
+
+use crate::{Named, Plant, Post, Seat, SharedPlant};
+use b67_processors::{Gate, serve};
+use b67_ready::Rule;
+use b67_segment::Code;
+use b67_store::Core;
+use std::sync::Wait;
+use std::sync::ledger::Ledger;
+use std::thread;
+use std::thread::Threads;
+
+/// The acts of all posts are the book's, and since each has left, the run has an end or lacked memory.
+pub fn gather<N: Named, L: Ledger, C: Core, P: Rule>(
+    plant: &mut Plant<N, L, C, P>,
+    posts: Vec<Post<N, L>>,
+)
+    requires parts { length posts.items ≡ N.parts }
+    requires leaf_parts { length posts.items ≡ L.parts }
+    requires some { 0 < length posts.items }
+    requires each { All (λ post. 0 < post.seat.left) posts.items }
+    ensures ended { answer_of N.budget plant.old ≢ None }
+    ensures same { plant.new ≡ plant.old }
+    ensures acts { sum_by (λ post. post.seat.count) posts.items ≡ plant.old.acts }
+{
+    let mut posts = posts;
+    let Some(first) = posts.pop() else {
+        unreachable!()
+    };
+    let Post { parcel: _, seat } = first;
+    let Seat {
+        count: _,
+        left: _,
+        mut acts,
+        mut leaves,
+    } = seat;
+    while let Some(post) = posts.pop() {
+        let Post { parcel: _, seat } = post;
+        let Seat {
+            count: _,
+            left: _,
+            acts: more,
+            leaves: others,
+        } = seat;
+        acts.merge(more);
+        leaves.merge(others);
+    }
+    plant.acts.audit(&mut acts);
+    plant.leaves.audit(&mut leaves);
+}
+
+// One processor's part.
+fn serve_post<
+    N: Named + Send + Sync,
+    L: Ledger + Send + Sync,
+    C: Core + Send,
+    P: Rule + Send,
+    G: Gate + Sync,
+    R: Threads + Wait + Sync,
+>(rt: &R, shop: &SharedPlant<N, L, C, P>, gate: &G, at: usize, count: usize, post: &mut Post<N, L>)
+    requires { (at < count) × (count ≡ N.processors) × (count < 9) }
+    ensures { post.new.seat.left ≡ post.old.seat.left + 1 }
+{
+    let me = at as u32 + 1;
+    let Post { parcel, seat } = post;
+    let _acts = serve(rt, shop, gate, me, parcel, seat);
+}
+
+/// The run by all processors, one for each post, to its end.
+pub fn run_all<
+    N: Named + Send + Sync,
+    L: Ledger + Send + Sync,
+    C: Core + Send,
+    P: Rule + Send,
+    G: Gate + Sync,
+    R: Threads + Wait + Sync,
+>(
+    rt: &R,
+    gate: &G,
+    plant: Plant<N, L, C, P>,
+    posts: &mut [Post<N, L>],
+    code: Code,
+) -> Plant<N, L, C, P>
+    requires code { code ≡ N.code }
+    requires processors { (length posts.old ≡ N.processors) × (length posts.old < 9) }
+    ensures stands { Stands N.code N.budget result }
+    ensures posts { length posts.new ≡ length posts.old }
+    ensures left { All (λ post. 0 < post.seat.left) posts.new }
+{
+    let shop = SharedPlant::new(plant, code);
+    let shared = &shop;
+    let count = posts.len();
+    thread::for_each_mut(
+        rt,
+        posts,
+        8,
+        &|i: usize, post: &mut Post<N, L>|
+            requires { IsSync R.row × (i < count) × (count ≡ N.processors) × (count < 9) }
+            ensures { post.new.seat.left ≡ post.old.seat.left + 1 }
+        { serve_post(rt, shared, gate, i, count, post) },
+    );
+    let plant = shop.into_plant();
+    let _answer = plant.answer();
+    plant
+}

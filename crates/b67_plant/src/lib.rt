@@ -1,0 +1,140 @@
+//! The run of a code by several processors: a plant under a lock.
+//!
+//! A plant has the machine, the queue of who waits for a processor, with which processor each other process is out, and the schedule of
+//! what was done. Whenever its lock is free it stands: what the machine holds is a run of the code under that schedule.
+#![tactic(auto)]
+
+mod joins;
+mod making;
+mod placing;
+mod shared;
+mod taking;
+
+ghost use Rattle.std.specs.Prelude.{◌≡◌, ℕ, [], length};
+ghost use Rattle.b67_segment.specs.declared.code.Code.{Code as MachineCode};
+
+use b67_machine::Machine;
+use b67_ready::{Dispatcher, Rule};
+use b67_schedule::Schedule;
+use b67_store::Core;
+pub use joins::{gather, run_all};
+pub use shared::{Pass, SharedPlant};
+use std::marker::{Brand, Model};
+use std::sync::ledger::{Book, Ledger, Share};
+pub use taking::{PlantLanding, Taken};
+
+/// Which run a plant is of: nothing of a plant is known across its lock but what its type says.
+pub trait Named: Ledger {
+    ghost code: { MachineCode };
+
+    ghost budget: { ℕ };
+
+    ghost processors: { ℕ };
+
+    ghost pick: { ℕ → ℕ → ℕ };
+}
+
+impl Named for Brand {
+    ghost code = { record { segments = []; formats = [] } };
+
+    ghost budget = { 0 };
+
+    ghost processors = { 0 };
+
+    ghost pick = { λ length takes. 0 };
+}
+
+/// A processor's shares of the books of acts and of leaves.
+#[derive(Drop)]
+pub struct Seat<N: Named, L: Ledger> {
+    count: u64,
+    left: u64,
+    acts: Share<N>,
+    leaves: Share<L>,
+    ghost counted: { count ≡ acts.amount },
+    ghost lefts: { left ≡ leaves.amount },
+    ghost one: { acts.parts ≡ 1 },
+    ghost one_leaf: { leaves.parts ≡ 1 },
+}
+
+/// What a processor works on.
+#[derive(Drop)]
+pub struct Parcel {
+    process: u32,
+}
+
+impl Parcel {
+    /// The process that was taken.
+    pub fn process(&self) -> u32
+        ensures { result ≡ self.now.process }
+    {
+        self.process
+    }
+}
+
+/// What a processor brings along.
+#[derive(Drop)]
+pub struct Post<N: Named, L: Ledger> {
+    parcel: Parcel,
+    seat: Seat<N, L>,
+}
+
+/// The run under the lock.
+#[derive(Drop)]
+pub struct Plant<N: Named, L: Ledger, C: Core, P: Rule> {
+    machine: Machine<C>,
+    ready: Dispatcher<P>,
+    // By the processes' numbers from 1: the processor with which each is out, or 0.
+    out: Vec<u32>,
+    schedule: Schedule,
+    budget: u32,
+    spent: u32,
+    lacked: bool,
+    acts: Book<N>,
+    leaves: Book<L>,
+    left: u64,
+}
+
+impl<N: Named, L: Ledger, C: Core, P: Rule> Model for Plant<N, L, C, P> {
+    ghost use Rattle.b67_stands.specs.Running.{Running};
+    ghost use Rattle.std.specs.Prelude.{◌≡◌, ◌≤◌, ◌<◌, ◌+◌, ℕ, length};
+    ghost use Rattle.b67_schedule.specs.Schedules.{entries, most};
+    ghost use Rattle.b67_table.specs.Limits.{most_processes};
+    ghost use Rattle.b67_table.specs.Sound.{Sound};
+    ghost use Rattle.b67_words.specs.declared.TheConstants.{MOST_BUDGET};
+    ghost use Rattle.b67_stands.specs.Stands.{Stands};
+
+    ghost Value = { Running };
+
+    ghost view = { λ p. record {
+      machine = p.machine;
+      waiting = p.ready.waiting;
+      takes = p.ready.takes;
+      out = p.out.items;
+      schedule = p.schedule;
+      spent = p.spent;
+      acts = p.acts.total;
+      leaves = p.leaves.total;
+    } };
+
+    ghost invariant = { λ p.
+        Stands N.code N.budget (record {
+          machine = p.machine;
+          waiting = p.ready.waiting;
+          takes = p.ready.takes;
+          out = p.out.items;
+          schedule = p.schedule;
+          spent = p.spent;
+          acts = p.acts.total;
+          leaves = p.leaves.total;
+        })
+        × Sound N.code
+        × (p.budget ≡ N.budget)
+        × (p.budget ≤ MOST_BUDGET)
+        × ((n takes : ℕ) → P.pick p.ready.rule n takes ≡ N.pick n takes)
+        × (most_processes + 2 ≤ p.ready.room)
+        × (p.budget ≤ p.schedule.room)
+        × (length p.schedule.runs ≤ length (entries p.schedule.runs))
+        × (p.lacked ≡ p.machine.lacked)
+        × (p.left ≡ p.leaves.total) };
+}

@@ -1,0 +1,17 @@
+-- Each call keeps what stands of a plant.
+use Rattle.b67_stands.specs.Laws.{CallsKeepStands}
+use Rattle.b67_stands.proofs.Firsts.{first_stands}
+use Rattle.b67_stands.proofs.Taking.{takes_keep, leaves_keep}
+use Rattle.b67_stands.proofs.Landing.{lands_keep}
+use Rattle.b67_stands.proofs.Acting.{acts_keep}
+use Rattle.b67_stands.proofs.Idle.{some_out}
+
+pub calls_keep_stands : CallsKeepStands
+calls_keep_stands = record {
+  first = first_stands;
+  take = λ code budget old new pick me p s. takes_keep code budget old s new pick me p;
+  land = lands_keep;
+  act = acts_keep;
+  leave = λ code budget old new s. leaves_keep code budget old s new;
+  idle = some_out;
+}

@@ -1,0 +1,12 @@
+pub mod Tails
+pub mod Counts
+pub mod Places
+pub mod Ends
+pub mod Showing
+pub mod Firsts
+pub mod Taking
+pub mod Landing
+pub mod Acting
+pub mod Idle
+pub mod Kept
+pub mod Alone

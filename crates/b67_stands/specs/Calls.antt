@@ -1,0 +1,84 @@
+-- What the calls on a plant do to it.
+use Rattle.std.specs.Prelude.{◌≡◌, ℕ, ◌+◌, ◌-◌, nat_lt, Bool, true, false, List, [], ◌∷◌, ◌++◌, length, replicate, slice_get, remove, Option, Some, None}
+use Rattle.b67_list.specs.Numbered.{set_numbered}
+use Rattle.b67_schedule.specs.Schedules.{entries}
+use Rattle.b67_segment.specs.declared.code.Code.{Code}
+use Rattle.b67_table.specs.Limits.{most_processes}
+use Rattle.b67_action.specs.Able.{one_if}
+use Rattle.b67_action.specs.declared.done.Done.{Done}
+use Rattle.b67_machine.specs.Beginning.{IsFresh}
+use Rattle.b67_machine.specs.declared.entry.Performed.{Performed}
+use Rattle.b67_machine.specs.Stepping.{operators_in, Goes, Performs}
+use Rattle.b67_ready.specs.Ready.{counted_on}
+use Rattle.b67_stands.specs.Running.{Running}
+use Rattle.b67_stands.specs.Placing.{joining}
+
+-- ---- before the first take
+
+-- process 1 waits, nobody is out, and nothing was done
+pub record IsFirst (code : Code) (s : Running) : Type 0 where
+  pub fresh : IsFresh s.machine
+  pub same : s.machine.code ≡ code
+  pub waiting : s.waiting ≡ 1 ∷ []
+  pub takes : s.takes ≡ 0
+  pub out : s.out ≡ replicate most_processes 0
+  pub schedule : s.schedule.runs ≡ []
+  pub spent : s.spent ≡ 0
+  pub acts : s.acts ≡ 0
+  pub leaves : s.leaves ≡ 0
+
+-- ---- a take
+
+-- the process at the place that is picked is out with the processor, and the others close up
+pub record TakesOne (pick : ℕ → ℕ → ℕ) (me : ℕ) (old : Running) (p : ℕ) (new : Running) : Type 0 where
+  pub picked : slice_get old.waiting (pick (length old.waiting) old.takes) ≡ Some p
+  pub new_is : new ≡ record old {
+    waiting = remove old.waiting (pick (length old.waiting) old.takes);
+    takes = counted_on old.takes;
+    out = set_numbered old.out p me;
+  }
+
+-- ---- a landing
+
+-- so many plain operators of the process have landed
+pub record LandsOnce (old : Running) (p n : ℕ) (new : Running) : Type 0 where
+  pub machine : Goes old.machine p n new.machine
+  pub new_is : new ≡ record old { machine = new.machine; spent = old.spent + n }
+
+-- ---- an act
+
+-- whether an action was performed: a fault is one
+abbrev pub is_action : Option Done → Bool
+is_action None = false
+is_action (Some done) = nat_lt 0 (operators_in done)
+
+-- the entry is on the schedule, the process is out no more, and who can go on is in the queue
+pub record Enters (old : Running) (p : ℕ) (new : Running) : Type 0 where
+  pub schedule : entries new.schedule.runs ≡ entries old.schedule.runs ++ p ∷ []
+  pub out : new.out ≡ set_numbered old.out p 0
+  pub waiting : new.waiting ≡ old.waiting ++ joining old.machine.image new.machine.image p new.machine.released
+  pub acts : new.acts ≡ old.acts + 1
+
+pub record Stays (old new : Running) : Type 0 where
+  pub schedule : new.schedule ≡ old.schedule
+  pub out : new.out ≡ old.out
+  pub waiting : new.waiting ≡ old.waiting
+  pub acts : new.acts ≡ old.acts
+
+abbrev pub Records : Bool → Running → ℕ → Running → Type 0
+Records true old p new = Enters old p new
+Records false old p new = Stays old new
+
+-- So many plain operators of the process, and then its action, within the budget. Where no action was performed, nothing is recorded.
+pub record ActsOnce (budget : ℕ) (old : Running) (p : ℕ) (performed : Performed) (new : Running) : Type 0 where
+  pub machine : Performs old.machine p (budget - old.spent) performed new.machine
+  pub spent : new.spent ≡ old.spent + performed.plain + one_if (is_action performed.done)
+  pub records : Records (is_action performed.done) old p new
+  pub takes : new.takes ≡ old.takes
+  pub leaves : new.leaves ≡ old.leaves
+
+-- ---- a leave
+
+-- a processor has left
+abbrev pub Leaves : Running → Running → Type 0
+Leaves old new = new ≡ record old { leaves = old.leaves + 1 }
