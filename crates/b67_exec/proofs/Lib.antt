@@ -1,4 +1,3 @@
-pub mod Times
 pub mod Waiting
 pub mod Releases
 pub mod Releasing

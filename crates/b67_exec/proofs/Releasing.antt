@@ -14,9 +14,9 @@ use Rattle.b67_table.specs.Valid.{waits}
 use Rattle.b67_table.proofs.EventKept.{or_left, or_right, live_of, within_of}
 use Rattle.b67_action.specs.Able.{times, one_if, able_in, newly, AbleAfter}
 use Rattle.b67_machine.specs.Stepping.{released_where}
+use Rattle.b67_joining.proofs.Times.{is_none, is_one, times_both, none_kept, all_kept, not_newly}
 use Rattle.b67_exec.specs.Turns.{waiting_in, released}
 use Rattle.b67_exec.specs.Turning.{IsListed}
-use Rattle.b67_exec.proofs.Times.{is_none, is_one, times_both, none_kept, all_kept, not_newly}
 use Rattle.b67_exec.proofs.Waiting.{Within, nobody}
 use Rattle.b67_exec.proofs.Releases.{releases_within}
 

@@ -10,13 +10,15 @@ use Rattle.b67_machine.specs.Beginning.{IsFresh}
 use Rattle.b67_machine.specs.Kept.{Kept, Counts, counted}
 use Rattle.b67_machine.specs.Reads.{shown, limit_end, end_by, machine_end}
 use Rattle.b67_machine.proofs.Ends.{goes_on}
+use Rattle.b67_joining.specs.Joining.{IsQueue}
+use Rattle.b67_joining.proofs.Times.{here, elsewhere, times_most}
+use Rattle.b67_joining.proofs.Joining.{first_queue}
 use Rattle.b67_exec.specs.declared.Stopped.{Stopped}
 use Rattle.b67_exec.specs.declared.Stopped.TheVariants as stopped
 use Rattle.b67_exec.specs.Exec.{FrontStops, FrontMakes, IsCause, CountsAre, ExecRun, ExecLacks, stop_of, told}
 use Rattle.b67_exec.specs.Turns.{Turns, goes, stops, turn, turn_by, turn_in, turn_unless, stopped_by, ran, spent_unless, go_on, exec_from, exec_run, first_turns}
-use Rattle.b67_exec.specs.Turning.{IsQueue, IsListed, turns_at, TurnGoes, TurnStops, TurnLacks}
-use Rattle.b67_exec.proofs.Queues.{first_queue, listed_first}
-use Rattle.b67_exec.proofs.Times.{here, elsewhere, times_most}
+use Rattle.b67_exec.specs.Turning.{IsListed, turns_at, TurnGoes, TurnStops, TurnLacks}
+use Rattle.b67_exec.proofs.Queues.{listed_first}
 
 -- ---- the definition
 

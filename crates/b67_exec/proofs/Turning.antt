@@ -11,17 +11,18 @@ use Rattle.b67_table.specs.Valid.{IsValid}
 use Rattle.b67_intrinsics.specs.Called.{IsLeft}
 use Rattle.b67_action.specs.declared.done.Done.{Done}
 use Rattle.b67_action.specs.declared.done.Done.TheVariants.{Went, Waits, Ended, Fault, Interrupt, StackLimit, NoMemory}
-use Rattle.b67_action.specs.Able.{able_in, newly}
 use Rattle.b67_action.specs.Done.{Came, is_performed}
 use Rattle.b67_machine.specs.Kept.{Kept, Counts, counted}
 use Rattle.b67_machine.specs.Reads.{machine_end, end_by}
 use Rattle.b67_machine.specs.Stepping.{image_after, operators_in, limit_of, lacks, Acts, Steps, StepsBy}
+use Rattle.b67_joining.specs.Joining.{IsQueue, joining}
+use Rattle.b67_joining.proofs.Joining.{released_few}
 use Rattle.b67_exec.specs.declared.Stopped.{Stopped}
 use Rattle.b67_exec.specs.declared.Stopped.TheVariants as stopped
 use Rattle.b67_exec.specs.Exec.{told}
-use Rattle.b67_exec.specs.Turns.{Turns, turn, goes, turned, turn_by, turn_in, turn_unless, to_rear, released, if_able}
-use Rattle.b67_exec.specs.Turning.{IsQueue, IsListed, turns_at, TurnGoes, TurnStops, TurnLacks, Turned}
-use Rattle.b67_exec.proofs.Queues.{valid_listed, queue_few, front_able, joined, queue_after}
+use Rattle.b67_exec.specs.Turns.{Turns, turn, goes, turned, turn_by, turn_in, turn_unless, to_rear, released}
+use Rattle.b67_exec.specs.Turning.{IsListed, turns_at, TurnGoes, TurnStops, TurnLacks, Turned}
+use Rattle.b67_exec.proofs.Queues.{valid_listed, queue_few, front_able, queue_after}
 use Rattle.b67_exec.proofs.Releasing.{within_by, released_are}
 
 -- ---- the definition, at an operator
@@ -70,10 +71,10 @@ module _ (old new : Kept) (p : ℕ) (others : List ℕ) (done : Done) (acts : Ac
       (within_by old.code old.image p (is_performed done) new.released acts.released)
 
   abbrev pub rear : List ℕ
-  rear = others ++ (new.released ++ newly old.image.started new.image.started ++ if_able (able_in new.image p) p)
+  rear = others ++ joining old.image.started new.image p new.released
 
   rear_is : others ++ to_rear p old.image new.image ≡ rear
-  rear_is = ap (λ (zs : List ℕ). others ++ (zs ++ newly old.image.started new.image.started ++ if_able (able_in new.image p) p)) released_is
+  rear_is = ap (λ (zs : List ℕ). others ++ joining old.image.started new.image p zs) released_is
 
   turns_are : (d : List ℕ) → turn old.code (turns_at old (p ∷ others) d) ≡ goes (turns_at new rear (p ∷ d))
   turns_are d =
@@ -97,18 +98,15 @@ module _ (old new : Kept) (p : ℕ) (others : List ℕ) (done : Done) (acts : Ac
   pub joins_few : length others + length new.released ≤ most_processes
   joins_few =
       let few = queue_few new.image rear (valid_listed new.code new.image valid) (queue_after old.image new.image p others new.released is (acts.able one)) in
-      let part = new.released ++ newly old.image.started new.image.started in
       omega (
         arith,
         few,
-        length-append others (part ++ if_able (able_in new.image p) p),
-        length-append part (if_able (able_in new.image p) p),
-        length-append new.released (newly old.image.started new.image.started),
+        length-append others (joining old.image.started new.image p new.released),
+        released_few old.image.started new.image p new.released,
       )
 
-  pub goes_through : (next : List ℕ) → next ≡ others ++ new.released ++ newly old.image.started new.image.started ++ if_able (able_in new.image p) p
-      → TurnGoes old (p ∷ others) new next
-  goes_through next e = subst (TurnGoes old (p ∷ others) new) (sym (e ∙ joined old.image new.image p others new.released is)) goes_rear
+  pub goes_through : (next : List ℕ) → next ≡ others ++ joining old.image.started new.image p new.released → TurnGoes old (p ∷ others) new next
+  goes_through next e = subst (TurnGoes old (p ∷ others) new) (sym e) goes_rear
 
 -- ---- an operator that is not
 

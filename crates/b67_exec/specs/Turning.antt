@@ -5,15 +5,11 @@ use Rattle.b67_table.specs.Image.{Image}
 use Rattle.b67_table.specs.Limits.{most_processes}
 use Rattle.b67_table.specs.Valid.{AreEvents}
 use Rattle.b67_intrinsics.specs.Called.{IsLeft}
-use Rattle.b67_action.specs.Able.{times, one_if, able_in}
 use Rattle.b67_machine.specs.Kept.{Kept, Counts, counted}
+use Rattle.b67_joining.specs.Joining.{IsQueue}
 use Rattle.b67_exec.specs.declared.Stopped.{Stopped}
 use Rattle.b67_exec.specs.Turns.{Turns, turn, goes}
 use Rattle.b67_exec.specs.Exec.{FrontStops, FrontMakes}
-
--- each process that is able is in the queue once, and no other is
-abbrev pub IsQueue : Image → List ℕ → Type 0
-IsQueue img queue = (p : ℕ) → times p queue ≡ one_if (able_in img p)
 
 -- what a queue rests on: who waits for an event is in a state of waiting, and there is a process, and at most as many as a run may have
 pub record IsListed (img : Image) : Type 0 where

@@ -1,5 +1,5 @@
 -- The run of a code by turns, for any code: a turn takes the process at the front of a queue and performs its next operator.
-use Rattle.std.specs.Prelude.{ℕ, zero, suc, ◌+◌, if◌then◌else◌, Bool, List, [], ◌∷◌, ◌++◌, filter, flat_map, Option, Some, None}
+use Rattle.std.specs.Prelude.{ℕ, zero, suc, ◌+◌, List, [], ◌∷◌, ◌++◌, filter, flat_map, Option, Some, None}
 use Rattle.b67_segment.specs.declared.code.Code.{Code}
 use Rattle.b67_events.specs.Events.{Event}
 use Rattle.b67_table.specs.Outcome.{Outcome, gives, faults, interrupts, limit}
@@ -7,7 +7,8 @@ use Rattle.b67_table.specs.Image.{Image}
 use Rattle.b67_table.specs.Table.{table, stack_length}
 use Rattle.b67_table.specs.Ending.{ImageEnd, finished, faulted, all_waiting, image_end, failed}
 use Rattle.b67_table.specs.Beginning.{first_image}
-use Rattle.b67_action.specs.Able.{able_in, newly, times}
+use Rattle.b67_action.specs.Able.{able_in, times}
+use Rattle.b67_joining.specs.Joining.{joining}
 use Rattle.b67_exec.specs.declared.Stopped.{Stopped}
 use Rattle.b67_exec.specs.declared.Stopped.TheVariants as stopped
 
@@ -22,13 +23,9 @@ waiting_in events = flat_map (λ (e : Event). e.waiters ++ e.procurers) events
 abbrev pub released : Image → Image → List ℕ
 released old new = filter (able_in new) (waiting_in old.events)
 
--- a process, where it is able
-abbrev pub if_able : Bool → ℕ → List ℕ
-if_able able p = if able then p ∷ [] else []
-
 -- after an operator of a process the released, in their order, then the one that was started, then the process itself where it is able
 abbrev pub to_rear : ℕ → Image → Image → List ℕ
-to_rear p old new = released old new ++ newly old.started new.started ++ if_able (able_in new p) p
+to_rear p old new = joining old.started new p (released old new)
 
 -- ---- turns
 

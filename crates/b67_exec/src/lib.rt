@@ -11,12 +11,12 @@ ghost use Rattle.b67_machine.specs.Beginning.{IsFresh};
 ghost use Rattle.b67_exec.specs.Exec.{ExecRun, Lacks};
 ghost use Rattle.b67_exec.specs.Worked.{TurnsAtWork};
 
+use b67_joining::ROOM;
 use b67_machine::Machine;
 use b67_num::FaultKind;
 use b67_ready::{Dispatcher, Order};
 use b67_store::Core;
 use b67_table::InterruptKind;
-use queue::ROOM;
 use std::alloc::{AllocError, Global};
 use turns::{end_of, turn};
 

@@ -4,11 +4,13 @@ ghost use Rattle.b67_table.specs.Limits.{most_processes};
 ghost use Rattle.b67_machine.specs.Kept.{counted};
 ghost use Rattle.b67_machine.specs.Reads.{machine_end};
 ghost use Rattle.b67_exec.specs.Exec.{stop_of, told};
-ghost use Rattle.b67_exec.specs.Turning.{IsQueue, IsListed, Turned};
+ghost use Rattle.b67_joining.specs.Joining.{IsQueue};
+ghost use Rattle.b67_exec.specs.Turning.{IsListed, Turned};
 
 use crate::Stopped;
-use crate::queue::{join_queue, take_front};
+use crate::queue::take_front;
 use b67_action::Done;
+use b67_joining::join_queue;
 use b67_machine::{End, Machine};
 use b67_ready::{Dispatcher, Order};
 use b67_store::Core;

@@ -2,11 +2,10 @@ use Rattle.std.proofs.Common.{◌≡◌, ◌⊎◌, inl, inr, sym, ap, subst, �
 use Rattle.b67_num.specs.declared.FaultKind.{FaultKind}
 use Rattle.b67_action.specs.declared.done.Done.{Done}
 use Rattle.b67_action.specs.declared.done.Done.TheVariants.{Went, Waits, Ended, Fault}
-use Rattle.b67_action.specs.Able.{able_in, newly}
 use Rattle.b67_machine.specs.Stepping.{operators_in}
 use Rattle.b67_machine.proofs.Ends.{goes_on}
-use Rattle.b67_exec.specs.Turns.{if_able}
-use Rattle.b67_exec.specs.Turning.{IsQueue, TurnGoes}
+use Rattle.b67_joining.specs.Joining.{IsQueue, joining}
+use Rattle.b67_exec.specs.Turning.{TurnGoes}
 use Rattle.b67_exec.proofs.Queues.{queue_some}
 use Rattle.b67_exec.proofs.Turning.{acts_of, joins_few, goes_through}
 use Rattle.b67_exec.proofs.turns.turn.Goals as goal
@@ -45,7 +44,7 @@ returns-in-Went g c =
           (goes_through old new p others c.step.result (acts_of old new p c.step.result c.requires.lacked c.step.ensures.steps)
           (counted_one c.step.result c.in-Went.is) (goes_on old c.requires.going).end (subst (IsQueue old.image) front c.requires.queue) c.requires.listed c.step.ensures.valid
           c.join_queue.new.ready.waiting
-          (subst (λ (n : ℕ). c.join_queue.new.ready.waiting ≡ others ++ new.released ++ newly n new.image.started ++ if_able (able_in new.image p) p) c.started-before.ensures
+          (subst (λ (n : ℕ). c.join_queue.new.ready.waiting ≡ others ++ joining n new.image p new.released) c.started-before.ensures
           c.join_queue.ensures.waiting));
       rule = c.join_queue.ensures.rule ∙ c.take_front-process.ensures.rule;
       room = omega (arith, c.join_queue.ensures.room, c.take_front-process.ensures.room);
