@@ -1,6 +1,6 @@
 -- What is given of an act, and its numbers.
 use Rattle.std.specs.Prelude.{sum, slice_set}
-use Rattle.std.proofs.Common.{◌≡◌, ◌≢◌, refl, sym, ap, subst, ◌∙◌, ℕ, zero, suc, ◌+◌, ◌-◌, ◌≤◌, ◌<◌, Bool, true, false, List, [], ◌∷◌, ◌++◌, length, length-append, append_assoc, Option, Some, None, arith}
+use Rattle.std.proofs.Common.{◌≡◌, ◌≢◌, refl, sym, ap, subst, ◌∙◌, ℕ, zero, suc, ◌+◌, ◌-◌, ◌≤◌, ◌<◌, Bool, true, false, List, [], ◌∷◌, ◌++◌, length, length-append, Option, Some, None, arith}
 use Rattle.std.proofs.lemmas.List.{length-reverse}
 use Rattle.b67_list.specs.Numbered.{numbered, set_numbered}
 use Rattle.b67_schedule.specs.Schedules.{entries, Kept as Schedule}
@@ -14,9 +14,10 @@ use Rattle.b67_machine.specs.declared.entry.Performed.{Performed}
 use Rattle.b67_machine.specs.Kept.{Kept, counted}
 use Rattle.b67_machine.specs.Stepping.{Performs}
 use Rattle.b67_stands.specs.Running.{Running, answer_of}
-use Rattle.b67_action.specs.Able.{one_if, able_in, newly}
-use Rattle.b67_exec.specs.Turns.{if_able}
-use Rattle.b67_stands.specs.Placing.{holder_of, IsOut, joining}
+use Rattle.b67_action.specs.Able.{one_if}
+use Rattle.b67_joining.specs.Joining.{joining}
+use Rattle.b67_joining.proofs.Joining.{released_few}
+use Rattle.b67_stands.specs.Placing.{holder_of, IsOut}
 use Rattle.b67_stands.specs.Stands.{Stands}
 use Rattle.b67_stands.specs.Calls.{is_action, Records, ActsOnce}
 use Rattle.b67_stands.proofs.Tails.{tail_most}
@@ -66,22 +67,16 @@ pub given : (code : Code) (budget : ℕ) (old : Running) (p : ℕ) (performed : 
 given code budget old p performed new sound stands going held valid acts =
     record { sound = sound; stands = stands; going = going; held = held; valid = valid; acts = acts }
 
-regroup : (w r n a : List ℕ) → ((w ++ r) ++ n) ++ a ≡ w ++ ((r ++ n) ++ a)
-regroup w r n a = append_assoc (w ++ r) n a ∙ append_assoc w r (n ++ a) ∙ ap (λ (z : List ℕ). w ++ z) (sym (append_assoc r n a))
-
--- the queue behind the action, as it was filled
+-- the queue after the action, as it was filled
 pub queue_is : (old : Running) (m : Kept) (p before : ℕ) (waiting : List ℕ) → before ≡ old.machine.image.started
-    → waiting ≡ old.waiting ++ m.released ++ newly before m.image.started ++ if_able (able_in m.image p) p
-    → waiting ≡ old.waiting ++ joining old.machine.image m.image p m.released
-queue_is old m p before waiting e f =
-    f ∙ ap (λ (k : ℕ). old.waiting ++ m.released ++ newly k m.image.started ++ if_able (able_in m.image p) p) e
-    ∙ regroup old.waiting m.released (newly old.machine.image.started m.image.started) (if_able (able_in m.image p) p)
+    → waiting ≡ old.waiting ++ joining before m.image p m.released → waiting ≡ old.waiting ++ joining old.machine.image.started m.image p m.released
+queue_is old m p before waiting e f = f ∙ ap (λ (k : ℕ). old.waiting ++ joining k m.image p m.released) e
 
 -- the plant after an action
 abbrev pub entered : Running → ℕ → Performed → Kept → Schedule → ℕ → Running
 entered old p performed m schedule acts = record old {
   machine = m;
-  waiting = old.waiting ++ joining old.machine.image m.image p m.released;
+  waiting = old.waiting ++ joining old.machine.image.started m.image p m.released;
   out = set_numbered old.out p 0;
   schedule = schedule;
   spent = old.spent + performed.plain + 1;
@@ -96,7 +91,7 @@ entered_once budget old p performed m schedule acts b e k f added counted' =
 
 -- and as its fields were written
 pub entered_is : (old : Running) (p : ℕ) (performed : Performed) (m : Kept) (schedule : Schedule) (acts before takes leaves : ℕ) (waiting out : List ℕ) → 1 ≤ p
-    → before ≡ old.machine.image.started → waiting ≡ old.waiting ++ m.released ++ newly before m.image.started ++ if_able (able_in m.image p) p
+    → before ≡ old.machine.image.started → waiting ≡ old.waiting ++ joining before m.image p m.released
     → out ≡ slice_set old.out (p - 1) 0 → takes ≡ old.takes → leaves ≡ old.leaves
     → record {
       machine = m;
@@ -120,8 +115,9 @@ pub queue_fits : (code : Code) (budget : ℕ) (old : Running) (p : ℕ) (perform
 queue_fits code budget old p performed m schedule acts x e =
     let new : Running = entered old p performed m schedule acts in
     let few = waiting_few m.code m.image new.waiting new.out x.valid (placed_then code budget old p performed new x e) in
-    let j : List ℕ = (m.released ++ newly old.machine.image.started m.image.started) ++ if_able (able_in m.image p) p in
-    let a = length-append old.waiting ((m.released ++ newly old.machine.image.started m.image.started) ++ if_able (able_in m.image p) p) in
-    let b = length-append (m.released ++ newly old.machine.image.started m.image.started) (if_able (able_in m.image p) p) in
-    let d = length-append m.released (newly old.machine.image.started m.image.started) in
-    omega (arith, few, a, b, d)
+    omega (
+      arith,
+      few,
+      length-append old.waiting (joining old.machine.image.started m.image p m.released),
+      released_few old.machine.image.started m.image p m.released,
+    )

@@ -8,7 +8,6 @@ ghost use Rattle.b67_stands.specs.Stands.{Stands};
 use crate::{Named, Plant, Post, Seat, SharedPlant};
 use b67_processors::{Gate, serve};
 use b67_ready::Rule;
-use b67_segment::Code;
 use b67_store::Core;
 use std::sync::Wait;
 use std::sync::ledger::Ledger;
@@ -84,15 +83,13 @@ pub fn run_all<
     gate: &G,
     plant: Plant<N, L, C, P>,
     posts: &mut [Post<N, L>],
-    code: Code,
 ) -> Plant<N, L, C, P>
-    requires code { code ≡ N.code }
     requires processors { (length posts.old ≡ N.processors) × (length posts.old < 9) }
     ensures stands { Stands N.code N.budget result }
     ensures posts { length posts.new ≡ length posts.old }
     ensures left { All (λ post. 0 < post.seat.left) posts.new }
 {
-    let shop = SharedPlant::new(plant, code);
+    let shop = SharedPlant::new(plant);
     let shared = &shop;
     let count = posts.len();
     thread::for_each_mut(

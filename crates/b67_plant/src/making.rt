@@ -4,9 +4,11 @@ ghost use Rattle.b67_segment.specs.declared.TheConstants.{MOST_SEGMENT_WORDS};
 ghost use Rattle.b67_table.specs.Sound.{Sound};
 ghost use Rattle.b67_words.specs.declared.TheConstants.{MOST_BUDGET};
 ghost use Rattle.b67_machine.specs.Beginning.{IsFresh};
+ghost use Rattle.b67_stands.specs.Calls.{IsFirst};
 
 use crate::{Named, Parcel, Plant, Post, Seat};
-use b67_going::MOST_PROCESSES;
+use b67_joining::ROOM;
+use b67_limits::MOST_PROCESSES;
 use b67_machine::Machine;
 use b67_ready::{Dispatcher, Rule};
 use b67_schedule::Schedule;
@@ -74,12 +76,13 @@ impl<N: Named, L: Ledger, C: Core, P: Rule> Plant<N, L, C, P> {
         requires leaves { (leaves.name ≡ L.name) × (leaves.parts ≡ L.parts) × (leaves.parts ≡ processors) }
         requires rule { (n takes : ℕ) → P.pick rule n takes ≡ N.pick n takes }
         ensures posts { IfOk result (λ made. length made.1.items ≡ processors) }
+        ensures first { IfOk result (λ made. IsFirst N.code made.0) }
     {
         first_image_is_valid();
         let (acts, all) = acts.open::<N>();
         let (leaves, all_left) = leaves.open::<L>();
         let posts = posts_of(alloc, processors, all, all_left)?;
-        let mut ready = Dispatcher::new(alloc, rule, MOST_PROCESSES + 2)?;
+        let mut ready = Dispatcher::new(alloc, rule, ROOM)?;
         ready.put(1);
         let plant = Plant {
             machine,

@@ -5,18 +5,15 @@ ghost use Rattle.b67_processors.specs.Acts.{IsActed};
 use crate::{Named, Parcel, Plant, PlantLanding, Seat, Taken};
 use b67_processors::{Acted, Landing, Shop, Work};
 use b67_ready::Rule;
-use b67_segment::Code;
 use b67_store::Core;
 use std::sync::ledger::Ledger;
 use std::sync::{Condvar, Mutex, Wait};
 use std::thread::Threads;
 
-/// The plant behind a lock, with its code beside it.
+/// The plant behind a lock.
 pub struct SharedPlant<N: Named, L: Ledger, C: Core, P: Rule> {
     plant: Mutex<Plant<N, L, C, P>>,
     moved: Condvar,
-    code: Code,
-    ghost code_is: { code ≡ N.code },
 }
 
 /// The leave to act in a process.
@@ -52,13 +49,10 @@ fn tried<N: Named, L: Ledger, C: Core, P: Rule>(
 
 impl<N: Named, L: Ledger, C: Core, P: Rule> SharedPlant<N, L, C, P> {
     /// The plant goes behind the lock.
-    pub fn new(plant: Plant<N, L, C, P>, code: Code) -> SharedPlant<N, L, C, P>
-        requires { code ≡ N.code }
-    {
+    pub fn new(plant: Plant<N, L, C, P>) -> SharedPlant<N, L, C, P> {
         SharedPlant {
             plant: Mutex::new(plant),
             moved: Condvar::new(),
-            code,
         }
     }
 
@@ -67,7 +61,6 @@ impl<N: Named, L: Ledger, C: Core, P: Rule> SharedPlant<N, L, C, P> {
         let SharedPlant {
             plant,
             moved: _moved,
-            code: _code,
         } = self;
         plant.into_inner()
     }

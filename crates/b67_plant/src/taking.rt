@@ -9,8 +9,9 @@ ghost use Rattle.b67_stands.specs.Placing.{holder_of};
 ghost use Rattle.b67_stands.specs.Running.{answer_of, spends};
 ghost use Rattle.b67_stands.specs.Stands.{Stands};
 
-use crate::placing::{answer_to, is_action, join_queue, lacks, refusal};
+use crate::placing::{answer_to, is_action, lacks, refusal};
 use crate::{Named, Parcel, Plant, Seat};
+use b67_joining::join_queue;
 use b67_machine::{Machine, Replayed};
 use b67_processors::Acted;
 use b67_ready::Rule;

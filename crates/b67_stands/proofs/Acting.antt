@@ -26,13 +26,14 @@ use Rattle.b67_machine.specs.Replaying.{Stands as Shows}
 use Rattle.b67_machine.specs.Stepping.{Acts, StepsBy, Follows, Goes, operators_in, limit_of, lacks}
 use Rattle.b67_machine.proofs.Ends.{same_end}
 use Rattle.b67_machine.proofs.Ends as machine
+use Rattle.b67_joining.specs.Joining.{joining}
 use Rattle.b67_tails.specs.Tails.{with_more, without, tail_of}
 use Rattle.b67_tails.specs.Going.{LeadsOn}
 use Rattle.b67_tails.proofs.Steps.{Same, number_from, number_within}
 use Rattle.b67_tails.proofs.Past.{plains_same}
 use Rattle.b67_tails.proofs.Acting.{runs_take_operators, runs_take_entries, able_lives}
 use Rattle.b67_stands.specs.Running.{Running, answer_of}
-use Rattle.b67_stands.specs.Placing.{holder_of, IsOut, Placed, joining}
+use Rattle.b67_stands.specs.Placing.{holder_of, IsOut, Placed}
 use Rattle.b67_stands.specs.Stands.{Stands, AtLimit}
 use Rattle.b67_stands.specs.Calls.{is_action, Stays, Enters, Records, ActsOnce}
 use Rattle.b67_stands.proofs.Tails.{sum_more, length_more, sum_without, length_without}
@@ -202,7 +203,7 @@ module _ (code : Code) (budget : ℕ) (old : Running) (p : ℕ) (performed : Per
       let from = able_from old.machine.image between.image new.machine.image p new.machine.released goes.states started_old after in
       let then = placed_acted old.machine.image new.machine.image old.waiting old.out new.machine.released p (x.stands.placed x.going) least within_out x.held from in
       subst (λ (ws : List ℕ). Placed new.machine.image ws new.out) (sym e.waiting)
-      (subst (λ (os : List ℕ). Placed new.machine.image (old.waiting ++ joining old.machine.image new.machine.image p new.machine.released) os) (sym e.out) then)
+      (subst (λ (os : List ℕ). Placed new.machine.image (old.waiting ++ joining old.machine.image.started new.machine.image p new.machine.released) os) (sym e.out) then)
 
   -- the action was performed
   enters : (done : Done) → Records true old p new → Acts between p done new.machine → runs.Acts code p between.image new.machine.image

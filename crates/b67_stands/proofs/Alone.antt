@@ -1,6 +1,7 @@
 -- The turns of one processor.
 use Rattle.std.specs.Prelude.{reverse, slice_get, remove, nat_le, nat_lt, if◌then◌else◌}
-use Rattle.std.proofs.Common.{◌≡◌, ◌≢◌, refl, sym, ap, subst, ◌∙◌, ℕ, suc, ◌+◌, ◌-◌, ◌≤◌, ◌<◌, Bool, true, false, List, [], ◌∷◌, ◌++◌, length, Option, Some, None, arith}
+use Rattle.std.proofs.Common.{◌≡◌, ◌≢◌, refl, sym, ap, subst, ◌∙◌, true≢false, ℕ, suc, ◌+◌, ◌-◌, ◌≤◌, ◌<◌, Bool, true, false, List, [], ◌∷◌, ◌++◌, length, Option, Some, None, arith}
+use Rattle.std.proofs.Math.Decide.{ℕ_discrete}
 use Rattle.std.proofs.lemmas.Bool.{leb-true}
 use Rattle.std.proofs.lemmas.List.{reverse-append, length-reverse}
 use Rattle.b67_list.specs.Numbered.{numbered, set_numbered}
@@ -13,6 +14,7 @@ use Rattle.b67_table.specs.declared.ProcessState.{ProcessState}
 use Rattle.b67_table.specs.Ending.{ImageEnd, image_end, may_act, failed}
 use Rattle.b67_table.specs.Ending as ending
 use Rattle.b67_table.specs.Image.{Image, is_able}
+use Rattle.b67_table.specs.Limits.{most_processes}
 use Rattle.b67_table.specs.Outcome.{Outcome, gives, faults, interrupts}
 use Rattle.b67_table.specs.Runs.{Runs, begin, entry, Entry, Plains, TableRun, acts, fails}
 use Rattle.b67_table.specs.Runs as runs
@@ -29,18 +31,20 @@ use Rattle.b67_machine.proofs.Ends.{same_end}
 use Rattle.b67_machine.proofs.Ends as machine
 use Rattle.b67_machine.proofs.Tailing.{tail_of_next}
 use Rattle.b67_ready.specs.Ready.{most_takes, counted_on}
-use Rattle.b67_exec.specs.Turns.{if_able}
+use Rattle.b67_joining.specs.Joining.{if_able, joining}
 use Rattle.b67_stands.specs.Running.{Running, answer_of}
-use Rattle.b67_stands.specs.Placing.{joining}
+use Rattle.b67_stands.specs.Placing.{holder_of}
 use Rattle.b67_stands.specs.Picked.{Pick, if_started, to_rear, waiting_after, ArePicked}
 use Rattle.b67_stands.specs.Stands.{Stands}
 use Rattle.b67_stands.specs.Calls.{IsFirst, TakesOne, is_action, Stays, Enters, Records, ActsOnce}
-use Rattle.b67_stands.specs.Alone.{IsNext, ByOne, TurnsKeepByOne}
+use Rattle.b67_stands.specs.Alone.{IsNext, ByOne, KeepsByOne, TurnsKeepByOne}
 use Rattle.b67_stands.proofs.Counts.{entries_few}
-use Rattle.b67_stands.proofs.Places.{got_times, waiting_able}
+use Rattle.b67_stands.proofs.Firsts.{none_out}
+use Rattle.b67_stands.proofs.Places.{got_times, waiting_able, holder_own, holder_other, length_set}
 use Rattle.b67_stands.proofs.Taking.{number_of}
 use Rattle.b67_stands.proofs.Ends.{GoesOn, goes_on, budget_ends, limit_ends, lack_ends}
 use Rattle.b67_stands.proofs.Acting.{may_by}
+use Rattle.b67_stands.proofs.Idle.{some_out}
 
 -- ---- at first
 
@@ -52,7 +56,12 @@ first_by_one code budget pick s first = record {
   runs = subst (Runs code [] []) (sym first.fresh.image) begin;
   order = ap entries first.schedule;
   picked = tt;
-  next = λ e. record { shows = refl; waiting = first.waiting; takes = first.takes };
+  next = λ e. record {
+    shows = refl;
+    waiting = first.waiting;
+    takes = first.takes;
+    nobody = λ p. ap (λ (out : List ℕ). holder_of out p) first.out ∙ none_out most_processes p;
+  };
   within = omega (arith, first.spent);
 }
 
@@ -73,7 +82,7 @@ unfolding may_act
 may_able img p e = ap (λ (o : Option ImageEnd). ending.goes_on o (is_able (numbered img.states p))) e
 
 rear_is : (code : Code) (a quiet b : Image) (p : ℕ) (released : List ℕ) → a.started ≡ quiet.started → released ≡ releases code quiet p
-    → started_between quiet.started b.started ≡ starts code quiet p → image_end b ≡ None → joining a b p released ≡ to_rear code quiet p b
+    → started_between quiet.started b.started ≡ starts code quiet p → image_end b ≡ None → joining a.started b p released ≡ to_rear code quiet p b
 rear_is code a quiet b p released n r s e =
     ap (λ (xs : List ℕ). xs ++ newly a.started b.started ++ if_able (able_in b p) p) r
     ∙ ap (λ (k : ℕ). releases code quiet p ++ newly k b.started ++ if_able (able_in b p) p) n
@@ -111,8 +120,21 @@ module _ (code : Code) (budget : ℕ) (pick : Pick) (old new : Running) (me p : 
   able : able_in old.machine.image p ≡ true
   able = waiting_able old.machine.image old.waiting old.out p (stands.placed going) (got_times old.waiting (pick (length old.waiting) old.takes) p got)
 
+  number : (1 ≤ p) × (p ≤ most_processes)
+  number = number_of code old.machine.image p stands.valid able
+
   least : 1 ≤ p
-  least = (number_of code old.machine.image p stands.valid able).0
+  least = number.0
+
+  -- who was out is so no more
+  nobody_out : (q : ℕ) → holder_of (set_numbered (set_numbered old.out p me) p 0) q ≡ 0
+  nobody_out q = by (ℕ_discrete q p)
+    where
+      by : Dec (q ≡ p) → holder_of (set_numbered (set_numbered old.out p me) p 0) q ≡ 0
+      by (yes e) =
+          ap (holder_of (set_numbered (set_numbered old.out p me) p 0)) e
+          ∙ holder_own (set_numbered old.out p me) p 0 number.0 (omega (arith, number.1, length_set old.out p me, stands.holders))
+      by (no h) = holder_other (set_numbered old.out p me) p q 0 h ∙ holder_other old.out p q me h ∙ next.nobody q
 
   code_quiet : quiet.code ≡ code
   code_quiet = ap (λ (k : Kept). k.code) goes.others ∙ stands.same
@@ -213,10 +235,11 @@ module _ (code : Code) (budget : ℕ) (pick : Pick) (old new : Running) (me p : 
             record {
               shows = refl;
               waiting = e.waiting
-                  ∙ ap (λ (xs : List ℕ). xs ++ joining old.machine.image new.machine.image p new.machine.released) others_are
+                  ∙ ap (λ (xs : List ℕ). xs ++ joining old.machine.image.started new.machine.image p new.machine.released) others_are
                   ∙ ap (λ (xs : List ℕ). remove (waiting_after pick one.runs) (pick (length (waiting_after pick one.runs)) (length one.history)) ++ xs)
                   (rear_is code old.machine.image quiet.image new.machine.image p new.machine.released (sym goes.started) released started none);
               takes = omega (arith, takes_are);
+              nobody = λ q. ap (λ (out : List ℕ). holder_of out q) e.out ∙ nobody_out q;
             };
         within = within;
       }
@@ -242,44 +265,59 @@ module _ (code : Code) (budget : ℕ) (pick : Pick) (old new : Running) (me p : 
 
   turn_by : (o : Option Done) → Follows quiet p performed.plain (budget - old.spent) o new.machine
       → Records (is_action o) (taken old (pick (length old.waiting) old.takes) p me) p new → new.spent ≡ old.spent + performed.plain + one_if (is_action o)
-      → ByOne code budget pick new
+      → ByOne code budget pick new × (is_action o ≡ false → answer_of budget new ≢ None)
   unfolding failed
   turn_by None f rec spent =
-      stays rec (budget_ends budget new (omega (arith, spent, f.0, g.less))) (omega (arith, spent, f.0, g.less))
+      let ended = budget_ends budget new (omega (arith, spent, f.0, g.less)) in
+      (stays rec ended (omega (arith, spent, f.0, g.less)), λ e. ended)
   turn_by (Some dones.StackLimit) f rec spent =
       let a : Acts quiet p dones.StackLimit new.machine = subst (λ (b : Bool). StepsBy b quiet p dones.StackLimit new.machine) lacked_quiet f.2 in
-      stays rec (limit_ends budget p new a.limit) (omega (arith, spent, f.0))
+      let ended = limit_ends budget p new a.limit in
+      (stays rec ended (omega (arith, spent, f.0)), λ e. ended)
   turn_by (Some dones.NoMemory) f rec spent =
       let a : Acts quiet p dones.NoMemory new.machine = subst (λ (b : Bool). StepsBy b quiet p dones.NoMemory new.machine) lacked_quiet f.2 in
-      stays rec (lack_ends budget new a.lacked) (omega (arith, spent, f.0))
+      let ended = lack_ends budget new a.lacked in
+      (stays rec ended (omega (arith, spent, f.0)), λ e. ended)
   turn_by (Some (dones.Interrupt kind)) f rec spent =
       let a : Acts quiet p (dones.Interrupt kind) new.machine = subst (λ (b : Bool). StepsBy b quiet p (dones.Interrupt kind) new.machine) lacked_quiet f.2 in
       absurd (sound.tagged (reverse one.history) (tails_of (p ∷ []) performed.plain) quiet.image run_quiet end_quiet p able_quiet
       (kind, subst (λ (c : Code). table c quiet.image p ≡ interrupts kind) code_quiet a.came.0))
   turn_by (Some dones.Went) f rec spent =
-      let a : Acts quiet p dones.Went new.machine = subst (λ (b : Bool). StepsBy b quiet p dones.Went new.machine) lacked_quiet f.2 in
-      enters rec (acts_by a.acted f.1 a.came.0 a.image) (released_by_it a.released) (started_by_it a.started) (omega (arith, spent, f.0))
+      let a : Acts quiet p dones.Went new.machine = subst (λ (b : Bool). StepsBy b quiet p dones.Went new.machine) lacked_quiet f.2 in (
+        enters rec (acts_by a.acted f.1 a.came.0 a.image) (released_by_it a.released) (started_by_it a.started) (omega (arith, spent, f.0)),
+        λ e. absurd (true≢false e),
+      )
   turn_by (Some dones.Waits) f rec spent =
-      let a : Acts quiet p dones.Waits new.machine = subst (λ (b : Bool). StepsBy b quiet p dones.Waits new.machine) lacked_quiet f.2 in
-      enters rec (acts_by a.acted f.1 a.came.0 a.image) (released_by_it a.released) (started_by_it a.started) (omega (arith, spent, f.0))
+      let a : Acts quiet p dones.Waits new.machine = subst (λ (b : Bool). StepsBy b quiet p dones.Waits new.machine) lacked_quiet f.2 in (
+        enters rec (acts_by a.acted f.1 a.came.0 a.image) (released_by_it a.released) (started_by_it a.started) (omega (arith, spent, f.0)),
+        λ e. absurd (true≢false e),
+      )
   turn_by (Some dones.Ended) f rec spent =
-      let a : Acts quiet p dones.Ended new.machine = subst (λ (b : Bool). StepsBy b quiet p dones.Ended new.machine) lacked_quiet f.2 in
-      enters rec (acts_by a.acted f.1 a.came.0 a.image) (released_by_it a.released) (started_by_it a.started) (omega (arith, spent, f.0))
+      let a : Acts quiet p dones.Ended new.machine = subst (λ (b : Bool). StepsBy b quiet p dones.Ended new.machine) lacked_quiet f.2 in (
+        enters rec (acts_by a.acted f.1 a.came.0 a.image) (released_by_it a.released) (started_by_it a.started) (omega (arith, spent, f.0)),
+        λ e. absurd (true≢false e),
+      )
   turn_by (Some (dones.Fault kind)) f rec spent =
-      let a : Acts quiet p (dones.Fault kind) new.machine = subst (λ (b : Bool). StepsBy b quiet p (dones.Fault kind) new.machine) lacked_quiet f.2 in
-      enters rec (fails_by kind a.acted a.came.0 a.came.1 a.image)
-      (released_by_it (a.released ∙ sym (faults_release quiet.code quiet.image p kind a.came.0)))
-      (started_by_it (a.started ∙ sym (faults_start quiet.code quiet.image p kind a.came.0))) (omega (arith, spent, f.0))
+      let a : Acts quiet p (dones.Fault kind) new.machine = subst (λ (b : Bool). StepsBy b quiet p (dones.Fault kind) new.machine) lacked_quiet f.2 in (
+        enters rec (fails_by kind a.acted a.came.0 a.came.1 a.image)
+            (released_by_it (a.released ∙ sym (faults_release quiet.code quiet.image p kind a.came.0)))
+            (started_by_it (a.started ∙ sym (faults_start quiet.code quiet.image p kind a.came.0))) (omega (arith, spent, f.0)),
+        λ e. absurd (true≢false e),
+      )
 
-  pub turned : ByOne code budget pick new
-  turned = turn_by performed.done turn.machine.then turn.records turn.spent
+  pub turned : KeepsByOne code budget pick performed new
+  turned = let k = turn_by performed.done turn.machine.then turn.records turn.spent in record { by_one = k.0; ended = k.1 }
 
 turn_keeps : (code : Code) (budget : ℕ) (pick : Pick) (old between new : Running) (me p : ℕ) (performed : Performed) → Sound code → budget ≤ MOST_BUDGET
     → Stands code budget old → ByOne code budget pick old → answer_of budget old ≡ None → TakesOne pick me old p between → ActsOnce budget between p performed new
-    → ByOne code budget pick new
+    → KeepsByOne code budget pick performed new
 turn_keeps code budget pick old between new me p performed sound small stands one going takes once =
     turned code budget pick old new me p performed sound small stands one going takes.picked
     (subst (λ (s : Running). ActsOnce budget s p performed new) takes.new_is once)
 
+some_wait : (code : Code) (budget : ℕ) (pick : Pick) (s : Running) → Stands code budget s → ByOne code budget pick s → answer_of budget s ≡ None → s.waiting ≢ []
+some_wait code budget pick s stands one going none =
+    let out = some_out code budget s stands going none in omega (arith, out.1, (one.next going).nobody out.0)
+
 pub turns_keep_by_one : TurnsKeepByOne
-turns_keep_by_one = record { first = first_by_one; turn = turn_keeps }
+turns_keep_by_one = record { first = first_by_one; turn = turn_keeps; some = some_wait }

@@ -12,7 +12,7 @@ use Rattle.b67_table.specs.Valid.{IsValid}
 use Rattle.b67_action.specs.Able.{times, one_if, able_in}
 use Rattle.b67_machine.specs.Kept.{or_none}
 use Rattle.b67_tails.specs.Tails.{tail_of}
-use Rattle.b67_exec.proofs.Queues.{first_queue}
+use Rattle.b67_joining.proofs.Joining.{first_queue}
 use Rattle.b67_stands.specs.Running.{Running}
 use Rattle.b67_stands.specs.Placing.{some_holder, holder_of, Placed}
 use Rattle.b67_stands.specs.Stands.{Stands}
@@ -29,7 +29,7 @@ zero_at zero k = refl
 zero_at (suc n) zero = refl
 zero_at (suc n) (suc k) = zero_at n k
 
-none_out : (n p : ℕ) → holder_of (replicate n 0) p ≡ 0
+pub none_out : (n p : ℕ) → holder_of (replicate n 0) p ≡ 0
 none_out n zero = refl
 none_out n (suc k) = zero_at n k
 

@@ -7,12 +7,13 @@ use Rattle.b67_table.specs.declared.ProcessState.{ProcessState}
 use Rattle.b67_table.specs.Image.{Image, is_able}
 use Rattle.b67_table.proofs.Lists.{numbered_set}
 use Rattle.b67_table.proofs.Stacks.{get_numbered_other}
-use Rattle.b67_action.specs.Able.{times, one_if, able_in, newly, AbleAfter}
+use Rattle.b67_action.specs.Able.{times, one_if, able_in, AbleAfter}
 use Rattle.b67_machine.specs.Kept.{or_none, counted}
 use Rattle.b67_tails.specs.Tails.{with_more, without, tail_of}
-use Rattle.b67_exec.specs.Turns.{if_able}
-use Rattle.b67_exec.proofs.Times.{here, elsewhere, one_at_most, is_one, times_both}
-use Rattle.b67_stands.specs.Placing.{some_holder, holder_of, IsOut, Placed, joining}
+use Rattle.b67_joining.specs.Joining.{joining}
+use Rattle.b67_joining.proofs.Times.{here, elsewhere, one_at_most, is_one, times_both}
+use Rattle.b67_joining.proofs.Joining.{joining_own, joining_other}
+use Rattle.b67_stands.specs.Placing.{some_holder, holder_of, IsOut, Placed}
 use Rattle.b67_stands.proofs.Tails.{tail_more_other, tail_without_own, tail_without_other}
 
 remove_own : (xs : List ℕ) (k p : ℕ) → slice_get xs k ≡ Some p → times p (remove xs k) + 1 ≡ times p xs
@@ -34,10 +35,10 @@ pub some_is : (n : ℕ) → 1 ≤ n → some_holder n ≡ 1
 some_is zero h = absurd (omega (arith, h))
 some_is (suc n) h = refl
 
-holder_own : (out : List ℕ) (p v : ℕ) → 1 ≤ p → p ≤ length out → holder_of (set_numbered out p v) p ≡ v
+pub holder_own : (out : List ℕ) (p v : ℕ) → 1 ≤ p → p ≤ length out → holder_of (set_numbered out p v) p ≡ v
 holder_own out p v o h = ap or_none (numbered_set out p v o h)
 
-holder_other : (out : List ℕ) (p q v : ℕ) → q ≢ p → holder_of (set_numbered out p v) q ≡ holder_of out q
+pub holder_other : (out : List ℕ) (p q v : ℕ) → q ≢ p → holder_of (set_numbered out p v) q ≡ holder_of out q
 holder_other out p q v h = ap or_none (get_numbered_other out p q v h)
 
 pub length_set : (out : List ℕ) (p v : ℕ) → length (set_numbered out p v) ≡ length out
@@ -84,43 +85,34 @@ module _ (image : Image) (waiting out : List ℕ) (placed : Placed image waiting
 
 -- ---- an action
 
-actor_own : (b : Bool) (p : ℕ) → times p (if_able b p) ≡ one_if b
-actor_own true p = let s = here p p refl in omega (arith, s)
-actor_own false p = refl
-
-actor_other : (b : Bool) (p q : ℕ) → q ≢ p → times q (if_able b p) ≡ 0
-actor_other true p q h = let s = elsewhere q p h in omega (arith, s)
-actor_other false p q h = refl
-
 module _ (before after : Image) (waiting out released : List ℕ) (p : ℕ) (placed : Placed before waiting out) (one : 1 ≤ p) (within : p ≤ length out)
     (held : 1 ≤ holder_of out p) (able : AbleAfter before after p released) where
-  joined : (q : ℕ) → times q (waiting ++ joining before after p released)
-      ≡ times q waiting + (times q released + times q (newly before.started after.started) + times q (if_able (able_in after p) p))
-  joined q =
-      times_both q waiting (joining before after p released)
-      ∙ ap (λ (k : ℕ). times q waiting + k)
-      (times_both q (released ++ newly before.started after.started) (if_able (able_in after p) p)
-      ∙ ap (λ (k : ℕ). k + times q (if_able (able_in after p) p)) (times_both q released (newly before.started after.started)))
-
-  acted_own : times p (waiting ++ joining before after p released) + some_holder (holder_of (set_numbered out p 0) p) ≡ one_if (able_in after p)
+  acted_own : times p (waiting ++ joining before.started after p released) + some_holder (holder_of (set_numbered out p 0) p) ≡ one_if (able_in after p)
   acted_own =
-      let j = joined p in
       let h = some_is (holder_of out p) held in
       let s : some_holder (holder_of (set_numbered out p 0) p) ≡ 0 = ap some_holder (holder_own out p 0 one within) in
-      omega (arith, j, h, s, placed p, one_at_most (able_in before p), able.own, able.own_new, actor_own (able_in after p) p)
+      omega (
+        arith,
+        times_both p waiting (joining before.started after p released),
+        h,
+        s,
+        placed p,
+        one_at_most (able_in before p),
+        joining_own before after p released able,
+      )
 
-  acted_other : (q : ℕ) → q ≢ p → times q (waiting ++ joining before after p released) + some_holder (holder_of (set_numbered out p 0) q) ≡ one_if (able_in after q)
+  acted_other : (q : ℕ) → q ≢ p
+      → times q (waiting ++ joining before.started after p released) + some_holder (holder_of (set_numbered out p 0) q) ≡ one_if (able_in after q)
   acted_other q g =
-      let j = joined q in
       let s : some_holder (holder_of (set_numbered out p 0) q) ≡ some_holder (holder_of out q) = ap some_holder (holder_other out p q 0 g) in
-      omega (arith, j, s, placed q, able.others q g, actor_other (able_in after p) p q g)
+      omega (arith, times_both q waiting (joining before.started after p released), s, placed q, joining_other before after p released able q g)
 
-  pub placed_acted : Placed after (waiting ++ joining before after p released) (set_numbered out p 0)
+  pub placed_acted : Placed after (waiting ++ joining before.started after p released) (set_numbered out p 0)
   placed_acted q = by (ℕ_discrete q p)
     where
-      by : Dec (q ≡ p) → times q (waiting ++ joining before after p released) + some_holder (holder_of (set_numbered out p 0) q) ≡ one_if (able_in after q)
+      by : Dec (q ≡ p) → times q (waiting ++ joining before.started after p released) + some_holder (holder_of (set_numbered out p 0) q) ≡ one_if (able_in after q)
       by (yes e) =
-          subst (λ (i : ℕ). times i (waiting ++ joining before after p released) + some_holder (holder_of (set_numbered out p 0) i) ≡ one_if (able_in after i)) (sym e) acted_own
+          subst (λ (i : ℕ). times i (waiting ++ joining before.started after p released) + some_holder (holder_of (set_numbered out p 0) i) ≡ one_if (able_in after i)) (sym e) acted_own
       by (no h) = acted_other q h
 
 -- ---- who has a tail

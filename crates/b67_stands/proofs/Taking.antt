@@ -10,7 +10,7 @@ use Rattle.b67_table.specs.Valid.{IsValid}
 use Rattle.b67_table.proofs.Lists.{numbered_from, numbered_within}
 use Rattle.b67_action.specs.Able.{times, able_in}
 use Rattle.b67_ready.specs.Ready.{counted_on}
-use Rattle.b67_exec.proofs.Times.{one_at_most, few_of}
+use Rattle.b67_joining.proofs.Times.{one_at_most, few_of}
 use Rattle.b67_stands.specs.Running.{Running, answer_of}
 use Rattle.b67_stands.specs.Placing.{Placed}
 use Rattle.b67_stands.specs.Stands.{Stands}

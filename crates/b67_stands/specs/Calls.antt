@@ -10,8 +10,8 @@ use Rattle.b67_machine.specs.Beginning.{IsFresh}
 use Rattle.b67_machine.specs.declared.entry.Performed.{Performed}
 use Rattle.b67_machine.specs.Stepping.{operators_in, Goes, Performs}
 use Rattle.b67_ready.specs.Ready.{counted_on}
+use Rattle.b67_joining.specs.Joining.{joining}
 use Rattle.b67_stands.specs.Running.{Running}
-use Rattle.b67_stands.specs.Placing.{joining}
 
 -- ---- before the first take
 
@@ -56,7 +56,7 @@ is_action (Some done) = nat_lt 0 (operators_in done)
 pub record Enters (old : Running) (p : ℕ) (new : Running) : Type 0 where
   pub schedule : entries new.schedule.runs ≡ entries old.schedule.runs ++ p ∷ []
   pub out : new.out ≡ set_numbered old.out p 0
-  pub waiting : new.waiting ≡ old.waiting ++ joining old.machine.image new.machine.image p new.machine.released
+  pub waiting : new.waiting ≡ old.waiting ++ joining old.machine.image.started new.machine.image p new.machine.released
   pub acts : new.acts ≡ old.acts + 1
 
 pub record Stays (old new : Running) : Type 0 where

@@ -1,9 +1,8 @@
 -- Where processes are: in the queue, out with a processor, or neither.
-use Rattle.std.specs.Prelude.{◌≡◌, ◌≤◌, ℕ, zero, suc, ◌+◌, List, ◌++◌}
+use Rattle.std.specs.Prelude.{◌≡◌, ◌≤◌, ℕ, zero, suc, ◌+◌, List}
 use Rattle.b67_table.specs.Image.{Image}
-use Rattle.b67_action.specs.Able.{times, one_if, able_in, newly}
+use Rattle.b67_action.specs.Able.{times, one_if, able_in}
 use Rattle.b67_machine.specs.Kept.{counted}
-use Rattle.b67_exec.specs.Turns.{if_able}
 
 -- the processor with which a process is out, 0 where it is with none
 abbrev pub holder_of : List ℕ → ℕ → ℕ
@@ -20,7 +19,3 @@ IsOut out p = 1 ≤ holder_of out p
 -- each process that is able is in the queue once or out with one processor, not both, and no other is in either
 abbrev pub Placed : Image → List ℕ → List ℕ → Type 0
 Placed image waiting out = (p : ℕ) → times p waiting + some_holder (holder_of out p) ≡ one_if (able_in image p)
-
--- after an action of a process the released, in their order, then the started, then the process itself where it is able
-abbrev pub joining : Image → Image → ℕ → List ℕ → List ℕ
-joining before after p released = released ++ newly before.started after.started ++ if_able (able_in after p) p

@@ -1,5 +1,5 @@
--- What is known of a run once its processors have joined.
-use Rattle.std.specs.Prelude.{◌≡◌, ℕ, List, length, sum, Some}
+-- What is known of a run that has ended.
+use Rattle.std.specs.Prelude.{◌≡◌, ℕ, Some}
 use Rattle.b67_schedule.specs.Schedules.{Kept as Schedule}
 use Rattle.b67_segment.specs.declared.code.Code.{Code}
 use Rattle.b67_machine.specs.Kept.{Kept as Machine}
@@ -9,18 +9,15 @@ use Rattle.b67_stands.specs.Picked.{Pick}
 use Rattle.b67_stands.specs.Stands.{Stands}
 use Rattle.b67_stands.specs.Alone.{ByOne}
 
--- A run of this code by so many processors under that budget has ended so, with this machine and this schedule: a plant with them stands.
--- There is one number of acts for each processor, and they add up to the plant's book.
-pub record HasRun (code : Code) (budget processors : ℕ) (machine : Machine) (schedule : Schedule) (answer : Replayed) (acts : List ℕ) : Type 0 where
+-- A run of this code under that budget has ended so, with this machine and this schedule: a plant with them stands.
+pub record HasRun (code : Code) (budget : ℕ) (machine : Machine) (schedule : Schedule) (answer : Replayed) : Type 0 where
   pub plant : Running
   pub stands : Stands code budget plant
   pub machine_is : plant.machine ≡ machine
   pub schedule_is : plant.schedule ≡ schedule
   pub answered : answer_of budget plant ≡ Some answer
-  pub each : length acts ≡ processors
-  pub all : sum acts ≡ plant.acts
 
 -- And one processor did all the work, under this rule.
-pub record HasRunAlone (code : Code) (budget processors : ℕ) (pick : Pick) (machine : Machine) (schedule : Schedule) (answer : Replayed) (acts : List ℕ) : Type 0 where
-  pub has_run : HasRun code budget processors machine schedule answer acts
+pub record HasRunAlone (code : Code) (budget : ℕ) (pick : Pick) (machine : Machine) (schedule : Schedule) (answer : Replayed) : Type 0 where
+  pub has_run : HasRun code budget machine schedule answer
   pub by_one : ByOne code budget pick has_run.plant
