@@ -39,6 +39,7 @@ use Rattle.b67_stands.specs.Running.{Running, spends, ends, answer_by, answer_of
 use Rattle.b67_stands.specs.Stands.{Stands}
 use Rattle.b67_stands.specs.Alone.{ByOne}
 use Rattle.b67_stands.specs.Picked.{Pick}
+use Rattle.b67_stands.specs.Ran.{HasRun, HasRunAlone}
 use Rattle.b67_turns.proofs.Turning.{picked_runs_are_turns}
 use Rattle.b67_explain.specs.Explaining.{EndIs, Explains, IsOwnEnd, ExplainsRun}
 use Rattle.b67_explain.specs.Alone.{ExplainsAlone}
@@ -313,3 +314,28 @@ module _ (grows : EachRunGrows) (tree : PProgram) (code : Code) (faithful : Fait
           turns = picked_runs_are_turns tree code pick (entries report.schedule.runs) [] one.image faithful run one.picked;
           within = omega (arith, spent_is, one.within);
         }
+
+-- ---- what a run left
+
+module _ (grows : EachRunGrows) (tree : PProgram) (code : Code) (faithful : Faithful tree code) (budget : ℕ) (m : Kept) (schedule : Schedule) (answer : Replayed) (some : answer ≢ NoMemory) where
+  pub left_can_be_told : HasRun code budget m schedule answer → CanBeTold answer (machine_end m)
+  left_can_be_told h =
+      subst (λ (k : Kept). CanBeTold answer (machine_end k)) h.machine_is (ran_can_be_told grows tree code faithful budget h.plant h.stands answer h.answered some)
+
+  module _ (processors : ℕ) (lines : List (List ℕ)) (report : Report) (is : IsReportOf m answer lines processors schedule report) (valid : IsSchedule schedule.runs)
+      (listed : ListingText code lines) where
+    is_of : (h : HasRun code budget m schedule answer) → IsReportOf h.plant.machine answer lines processors h.plant.schedule report
+    is_of h =
+        subst (λ (k : Kept). IsReportOf k answer lines processors h.plant.schedule report) (sym h.machine_is)
+        (subst (λ (x : Schedule). IsReportOf m answer lines processors x report) (sym h.schedule_is) is)
+
+    valid_of : (h : HasRun code budget m schedule answer) → IsSchedule h.plant.schedule.runs
+    valid_of h = subst (λ (x : Schedule). IsSchedule x.runs) (sym h.schedule_is) valid
+
+    pub left_explained : HasRun code budget m schedule answer → ExplainsRun tree processors budget report
+    left_explained h = run_explained grows tree code faithful budget h.plant h.stands answer h.answered some processors lines report (is_of h) (valid_of h) listed
+
+    pub left_alone_explained : (pick : Pick) → HasRunAlone code budget pick m schedule answer → ExplainsAlone tree pick processors budget report
+    left_alone_explained pick h =
+        turns_explained grows tree code faithful budget h.has_run.plant h.has_run.stands answer h.has_run.answered some processors lines report (is_of h.has_run) (valid_of h.has_run) listed
+        pick h.by_one
