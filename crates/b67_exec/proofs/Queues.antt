@@ -1,5 +1,5 @@
 -- The queue of a run by turns.
-use Rattle.std.proofs.Common.{◌≡◌, ◌≢◌, refl, sym, ap, subst, ◌∙◌, ℕ, ◌+◌, ◌≤◌, Bool, true, false, List, [], ◌∷◌, ◌++◌, length, Option, Some, None, arith}
+use Rattle.std.proofs.Common.{◌≡◌, ◌≢◌, refl, sym, ap, subst, ◌∙◌, ℕ, ◌+◌, ◌≤◌, true, false, List, [], ◌∷◌, ◌++◌, length, Option, Some, None, arith}
 use Rattle.std.proofs.Math.Decide.{ℕ_discrete}
 use Rattle.b67_list.specs.Numbered.{numbered}
 use Rattle.b67_segment.specs.declared.code.Code.{Code}

@@ -1,5 +1,5 @@
 use Rattle.std.specs.Prelude.{IfErr}
-use Rattle.std.proofs.Common.{◌≡◌, sym, ap, subst, ◌∙◌, inr, ℕ, suc, ◌+◌, ◌-◌, List, [], ◌∷◌, ◌++◌, Option, Result, Ok, Err, arith}
+use Rattle.std.proofs.Common.{◌≡◌, sym, ap, subst, ◌∙◌, inr, ℕ, suc, ◌-◌, List, [], ◌∷◌, ◌++◌, Option, Result, Ok, Err, arith}
 use Rattle.b67_exec.specs.declared.Stopped.{Stopped}
 use Rattle.b67_exec.specs.Turning.{Turned}
 use Rattle.b67_exec.proofs.Running.{begins, ends, spent, stops_there, lacks_there, goes_there, counts_small, told_none}
