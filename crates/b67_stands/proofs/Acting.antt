@@ -2,7 +2,7 @@
 use Rattle.std.specs.Prelude.{sum}
 use Rattle.std.proofs.Common.{◌≡◌, ◌≢◌, refl, sym, ap, subst, ◌∙◌, true≢false, ℕ, zero, suc, ◌+◌, ◌-◌, ◌≤◌, ◌<◌, Bool, true, false, List, [], ◌∷◌, ◌++◌, length, length-append, Option, Some, None, arith}
 use Rattle.std.proofs.lemmas.List.Sums.{sum_by-cons}
-use Rattle.b67_list.specs.Numbered.{numbered, set_numbered}
+use Rattle.b67_list.specs.Numbered.{numbered}
 use Rattle.b67_num.specs.declared.FaultKind.{FaultKind}
 use Rattle.b67_schedule.specs.Schedules.{entries, Kept as Schedule}
 use Rattle.b67_segment.specs.declared.code.Code.{Code}
@@ -33,9 +33,9 @@ use Rattle.b67_tails.proofs.Steps.{Same, number_from, number_within}
 use Rattle.b67_tails.proofs.Past.{plains_same}
 use Rattle.b67_tails.proofs.Acting.{runs_take_operators, runs_take_entries, able_lives}
 use Rattle.b67_stands.specs.Running.{Running, answer_of}
-use Rattle.b67_stands.specs.Placing.{holder_of, IsOut, Placed}
+use Rattle.b67_stands.specs.Placing.{IsOut, Placed}
 use Rattle.b67_stands.specs.Stands.{Stands, AtLimit}
-use Rattle.b67_stands.specs.Calls.{is_action, Stays, Enters, Records, ActsOnce}
+use Rattle.b67_stands.specs.Calls.{is_action, Enters, Records, ActsOnce}
 use Rattle.b67_stands.proofs.Tails.{sum_more, length_more, sum_without, length_without}
 use Rattle.b67_stands.proofs.Counts.{counts_more, counts_entry, counts_then, no_counts, count_same}
 use Rattle.b67_stands.proofs.Places.{placed_acted, held_able, length_set, able_more, able_without}

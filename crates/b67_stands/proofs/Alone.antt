@@ -1,6 +1,6 @@
 -- The turns of one processor.
 use Rattle.std.specs.Prelude.{reverse, slice_get, remove, nat_le, nat_lt, if◌then◌else◌}
-use Rattle.std.proofs.Common.{◌≡◌, ◌≢◌, refl, sym, ap, subst, ◌∙◌, true≢false, ℕ, suc, ◌+◌, ◌-◌, ◌≤◌, ◌<◌, Bool, true, false, List, [], ◌∷◌, ◌++◌, length, Option, Some, None, arith}
+use Rattle.std.proofs.Common.{◌≡◌, ◌≢◌, refl, sym, ap, subst, ◌∙◌, true≢false, ℕ, ◌+◌, ◌-◌, ◌≤◌, ◌<◌, Bool, true, false, List, [], ◌∷◌, ◌++◌, length, Option, Some, None, arith}
 use Rattle.std.proofs.Math.Decide.{ℕ_discrete}
 use Rattle.std.proofs.lemmas.Bool.{leb-true}
 use Rattle.std.proofs.lemmas.List.{reverse-append, length-reverse}
@@ -34,9 +34,9 @@ use Rattle.b67_ready.specs.Ready.{most_takes, counted_on}
 use Rattle.b67_joining.specs.Joining.{if_able, joining}
 use Rattle.b67_stands.specs.Running.{Running, answer_of}
 use Rattle.b67_stands.specs.Placing.{holder_of}
-use Rattle.b67_stands.specs.Picked.{Pick, if_started, to_rear, waiting_after, ArePicked}
+use Rattle.b67_stands.specs.Picked.{Pick, if_started, to_rear, waiting_after}
 use Rattle.b67_stands.specs.Stands.{Stands}
-use Rattle.b67_stands.specs.Calls.{IsFirst, TakesOne, is_action, Stays, Enters, Records, ActsOnce}
+use Rattle.b67_stands.specs.Calls.{IsFirst, TakesOne, is_action, Records, ActsOnce}
 use Rattle.b67_stands.specs.Alone.{IsNext, ByOne, KeepsByOne, TurnsKeepByOne}
 use Rattle.b67_stands.proofs.Counts.{entries_few}
 use Rattle.b67_stands.proofs.Firsts.{none_out}

@@ -1,6 +1,6 @@
 -- A plant before its first take stands.
 use Rattle.std.specs.Prelude.{replicate, slice_get}
-use Rattle.std.proofs.Common.{◌≡◌, inl, refl, sym, ap, subst, ◌∙◌, true≢false, ℕ, zero, suc, ◌+◌, ◌≤◌, List, [], ◌∷◌, length, Some, None, arith}
+use Rattle.std.proofs.Common.{◌≡◌, inl, refl, sym, ap, subst, ◌∙◌, true≢false, ℕ, zero, suc, List, [], ◌∷◌, length, Some, None, arith}
 use Rattle.std.proofs.lemmas.List.{length-replicate}
 use Rattle.b67_schedule.specs.Schedules.{entries}
 use Rattle.b67_segment.specs.declared.code.Code.{Code}
@@ -9,7 +9,7 @@ use Rattle.b67_table.specs.Image.{Image}
 use Rattle.b67_table.specs.Limits.{most_processes}
 use Rattle.b67_table.specs.Runs.{begin, none}
 use Rattle.b67_table.specs.Valid.{IsValid}
-use Rattle.b67_action.specs.Able.{times, one_if, able_in}
+use Rattle.b67_action.specs.Able.{times}
 use Rattle.b67_machine.specs.Kept.{or_none}
 use Rattle.b67_tails.specs.Tails.{tail_of}
 use Rattle.b67_joining.proofs.Joining.{first_queue}

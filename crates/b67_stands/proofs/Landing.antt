@@ -1,6 +1,6 @@
 -- A plant stands after a stretch of a process has landed.
 use Rattle.std.specs.Prelude.{sum}
-use Rattle.std.proofs.Common.{◌≡◌, refl, sym, ap, subst, ◌∙◌, true≢false, ℕ, ◌+◌, ◌≤◌, ◌<◌, true, false, List, Some, None, arith}
+use Rattle.std.proofs.Common.{◌≡◌, refl, sym, ap, subst, ◌∙◌, true≢false, ℕ, ◌+◌, ◌≤◌, true, false, List, Some, None, arith}
 use Rattle.b67_list.specs.Numbered.{numbered}
 use Rattle.b67_schedule.specs.Schedules.{entries}
 use Rattle.b67_segment.specs.declared.code.Code.{Code}
@@ -11,7 +11,7 @@ use Rattle.b67_table.specs.Image.{Image, is_able, is_live}
 use Rattle.b67_table.specs.Runs.{Plains, count_of}
 use Rattle.b67_table.specs.Valid.{IsValid}
 use Rattle.b67_action.specs.Able.{one_if, able_in}
-use Rattle.b67_machine.specs.Kept.{Kept, counted}
+use Rattle.b67_machine.specs.Kept.{Kept}
 use Rattle.b67_machine.specs.Stepping.{Goes}
 use Rattle.b67_machine.proofs.Ends.{same_end}
 use Rattle.b67_machine.proofs.Ends as machine

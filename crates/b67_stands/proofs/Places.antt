@@ -1,6 +1,6 @@
 -- Who is in the queue, who is out, and who has a tail.
 use Rattle.std.specs.Prelude.{slice_get, slice_set, remove}
-use Rattle.std.proofs.Common.{◌≡◌, ◌≢◌, ◌⊎◌, inl, inr, refl, sym, ap, subst, ◌∙◌, ℕ, zero, suc, ◌+◌, ◌≤◌, Bool, true, false, List, [], ◌∷◌, ◌++◌, length, Some, arith}
+use Rattle.std.proofs.Common.{◌≡◌, ◌≢◌, ◌⊎◌, inl, inr, refl, sym, ap, subst, ◌∙◌, ℕ, zero, suc, ◌+◌, ◌≤◌, true, List, [], ◌∷◌, ◌++◌, length, Some, arith}
 use Rattle.std.proofs.Math.Decide.{ℕ_discrete}
 use Rattle.b67_list.specs.Numbered.{numbered, set_numbered}
 use Rattle.b67_table.specs.declared.ProcessState.{ProcessState}
@@ -8,7 +8,7 @@ use Rattle.b67_table.specs.Image.{Image, is_able}
 use Rattle.b67_table.proofs.Lists.{numbered_set}
 use Rattle.b67_table.proofs.Stacks.{get_numbered_other}
 use Rattle.b67_action.specs.Able.{times, one_if, able_in, AbleAfter}
-use Rattle.b67_machine.specs.Kept.{or_none, counted}
+use Rattle.b67_machine.specs.Kept.{or_none}
 use Rattle.b67_tails.specs.Tails.{with_more, without, tail_of}
 use Rattle.b67_joining.specs.Joining.{joining}
 use Rattle.b67_joining.proofs.Times.{here, elsewhere, one_at_most, is_one, times_both}

@@ -8,7 +8,7 @@ use Rattle.b67_table.specs.Image.{Image, is_able}
 use Rattle.b67_table.specs.Limits.{most_processes}
 use Rattle.b67_table.specs.Valid.{IsValid}
 use Rattle.b67_table.proofs.Lists.{numbered_from, numbered_within}
-use Rattle.b67_action.specs.Able.{times, able_in}
+use Rattle.b67_action.specs.Able.{able_in}
 use Rattle.b67_ready.specs.Ready.{counted_on}
 use Rattle.b67_joining.proofs.Times.{one_at_most, few_of}
 use Rattle.b67_stands.specs.Running.{Running, answer_of}

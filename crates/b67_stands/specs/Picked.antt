@@ -1,5 +1,5 @@
 -- Of whom each entry of a run by one processor is, under a rule of dispatch.
-use Rattle.std.specs.Prelude.{◌≡◌, ℕ, ◌+◌, if◌then◌else◌, List, [], ◌∷◌, ◌++◌, length, slice_get, remove, Option, Some, None}
+use Rattle.std.specs.Prelude.{◌≡◌, ℕ, if◌then◌else◌, List, [], ◌∷◌, ◌++◌, length, slice_get, remove, Option, Some, None}
 use Rattle.b67_segment.specs.declared.code.Code.{Code}
 use Rattle.b67_letters.specs.Releases.{releases, starts}
 use Rattle.b67_table.specs.Ending.{may_act}
