@@ -10,7 +10,8 @@ use Rattle.b67_fitting.specs.Built.{IsBuilt}
 use Rattle.b67_faithful.specs.Faithful.{HasFormats, IsShort, Faithful}
 use Rattle.b67_fitting.proofs.Nesting.{built_programs_lie_nested}
 use Rattle.b67_pictures.proofs.Concluding.{nested_programs_are_faithful}
-use Rattle.b67_compile.proofs.Sources.{IsSource, source_accepted, source_in_order, source_named}
+use Rattle.algol_front.proofs.Ordered.{IsSource, source_in_order}
+use Rattle.b67_compile.proofs.Sources.{source_accepted, source_named}
 
 pub code_is_faithful : (tree : PProgram) (result : Result Code AllocError) → IsSource tree → IsBuilt tree → IfOk result (λ code. ProgramAt code tree) → IfOk result (HasFormats tree) → IfOk result (IsShort tree) → IfOk result IsListable →
     IfOk result (Faithful tree)

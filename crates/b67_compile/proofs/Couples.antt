@@ -15,7 +15,7 @@ use Rattle.b67_ops.specs.declared.Couple.{Couple}
 use Rattle.b67_emitter.specs.declared.names.Names.{Names}
 use Rattle.b67_emitter.specs.Values.{couple_found, couple_declared, couples, lows, lows_found, result_declared, results, AreNear}
 use Rattle.b67_fitting.specs.Fitted.{AreCouples, AreLows, AreResults, spelled}
-use Rattle.b67_compile.specs.Lows.{under}
+use Rattle.algol_lows.specs.Lows.{under}
 
 same_couple : (o : Option found.Couple) (c : cells.Couple) → couple o ≡ Some c → couple_found o ≡ Some (record { level = c.level; index = c.index })
 same_couple None c h = absurd (let clash : None ≡ Some c = h in cc)

@@ -21,14 +21,16 @@ use Rattle.algol_sorts.specs.Sorts.{parameter_by}
 use Rattle.algol_frames.specs.declared.scopes.Declared as laid
 use Rattle.algol_frames.specs.declared.scopes.Scopes.{Scopes}
 use Rattle.algol_scope.specs.Resolved.{AreOf, declaration_of}
+use Rattle.algol_told.specs.Parameters.{HasAt, PartHas, TellsDecl, TellsParameter, TellsParameters}
+use Rattle.algol_told.proofs.Declarations.{DeclsHave, StmtHas, StmtsHave, in-program}
 use Rattle.algol_told.proofs.Lists.{all-both}
+use Rattle.algol_told.proofs.Parameters.{parameters-are-told}
+use Rattle.algol_sites.proofs.Forwards.{HasBody, forward-has-body}
 use Rattle.b67_fitting.specs.Built.{HeadingBuilt, DeclBuilt, DeclsBuilt, StmtBuilt, StmtsBuilt, IsBuilt}
 use Rattle.b67_fitting.proofs.Clean.{IsClean}
 use Rattle.b67_fitting.proofs.Cleaned.{cleaned}
 use Rattle.b67_compile.specs.Built.{is_built_as, is_sort_built, is_parameter_built, is_heading_built, is_decl_built, decls_are_built, is_stmt_built, stmts_are_built}
-use Rattle.b67_compile.proofs.Declarations.{DeclsHave, HasAt, InDecl, PartHas, StmtHas, StmtsHave, in_program}
-use Rattle.b67_compile.proofs.Forwards.{HasBody, are_built_in, built_before, forward_has_body, heading_decided, is_built_in, is_class_built}
-use Rattle.b67_compile.proofs.ParametersFound.{IsTold, PassesAt, TellsParameter, all_pass, procedure_told}
+use Rattle.b67_compile.proofs.Forwards.{are_built_in, built_before, heading_decided, is_built_in, is_class_built}
 
 yes : Decides true (Unit {0})
 yes = (λ e. tt, λ p. refl)
@@ -66,14 +68,14 @@ module _ (s : Scopes) where
   parameters_tested h (n ∷ ns) t =
       ap (λ (b : Bool). b && list_all (is_parameter_built s) ns) (parameter_tested h n t.0) ∙ ap (λ (b : Bool). is_built_in h n.name && b) (parameters_tested h ns t.1)
 
-  told_decided : (h : Heading) → IsTold s h → Decides (is_heading_built s h) (HeadingBuilt h)
+  told_decided : (h : Heading) → TellsParameters s h → Decides (is_heading_built s h) (HeadingBuilt h)
   told_decided h t = Decides-at (is_heading_built s h) (are_built_in h h.params) (parameters_tested h h.params t.parameters) (heading_decided h)
 
   -- ---- declarations and statements
 
   -- what is known of a declaration before others
   abbrev Known : PDecl → PDecls → Type 0
-  Known (tree.procedure h b) later = IsTold s h
+  Known (tree.procedure h b) later = TellsParameters s h
   Known (tree.forward h) later = HasBody h later
   Known _ later = Unit {0}
 
@@ -139,10 +141,9 @@ module _ (p : PProgram) (s : Scopes) (are : AreOf p s) where
   abbrev Clean : Site → Type 0
   Clean x = IsClean (blocks_of_program p) x
 
-  decl_known : (d : PDecl) (later : PDecls) (a : Surroundings) → PassesAt p s are (record { part = site.declaration d later; around = a }) →
-      Clean (record { part = site.declaration d later; around = a }) → Known s d later
-  decl_known (tree.procedure h b) later a k c = procedure_told p s are h b later a k
-  decl_known (tree.forward h) later a k c = forward_has_body h later a c.known c.typed
+  decl_known : (d : PDecl) (later : PDecls) (a : Surroundings) → TellsDecl s d later → Clean (record { part = site.declaration d later; around = a }) → Known s d later
+  decl_known (tree.procedure h b) later a k c = k
+  decl_known (tree.forward h) later a k c = forward-has-body h later a c.known c.typed
   decl_known (tree.simple kind ns) later a k c = tt
   decl_known (tree.files ns) later a k c = tt
   decl_known (tree.events ns) later a k c = tt
@@ -150,7 +151,7 @@ module _ (p : PProgram) (s : Scopes) (are : AreOf p s) where
   decl_known (tree.labels ns) later a k c = tt
   decl_known (tree.arrays kind ns pairs) later a k c = tt
 
-  part_known : (x : Part) (a : Surroundings) → PassesAt p s are (record { part = x; around = a }) → Clean (record { part = x; around = a }) → PartHas (Known s) x
+  part_known : (x : Part) (a : Surroundings) → PartHas (TellsDecl s) x → Clean (record { part = x; around = a }) → PartHas (Known s) x
   part_known (site.declaration d later) a k c = decl_known d later a k c
   part_known x a k c = tt
 
@@ -160,11 +161,11 @@ module _ (p : PProgram) (s : Scopes) (are : AreOf p s) where
 
   all_known : Accepted p → IsInOrder p → AllByRecursion (HasAt (Known s)) (sites_of p)
   all_known accepted order =
-      all-both (PassesAt p s are) Clean (HasAt (Known s)) (λ x k c. part_known x.part x.around k c) (sites_of p) (all_pass p s are order) (all_clean accepted)
+      all-both (HasAt (TellsDecl s)) Clean (HasAt (Known s)) (λ x k c. part_known x.part x.around k c) (sites_of p) (parameters-are-told p s order are) (all_clean accepted)
 
 pub built_decided : (s : Scopes) (spot : Spot) (ds : PDecls) (ss : PStmts) → AreOf (tree.program (tree.body spot ds ss)) s → Accepted (tree.program (tree.body spot ds ss)) →
     IsInOrder (tree.program (tree.body spot ds ss)) → Decides (decls_are_built s ds && stmts_are_built s ss) (IsBuilt (tree.program (tree.body spot ds ss)))
 built_decided s spot ds ss are accepted order =
     let p = tree.program (tree.body spot ds ss) in
-    let known = in_program (Known s) (blocks_of_program p) spot ds ss (all_known p s are accepted order) in
+    let known = in-program (Known s) (blocks_of_program p) spot ds ss (all_known p s are accepted order) in
     Decides-and (decls_are_built s ds) (stmts_are_built s ss) (decls_decided s ds known.0) (stmts_decided s ss known.1)

@@ -1,9 +1,5 @@
-pub mod Declarations
-pub mod ParametersFound
 pub mod Forwards
 pub mod Decided
-pub mod Specifying
-pub mod LowerBounds
 pub mod Couples
 pub mod Matching
 pub mod Places

@@ -27,7 +27,7 @@ use Rattle.algol_scope.proofs.Bodies.{body_is}
 use Rattle.b67_ops.specs.declared.TheConstants.{MOST_LEVEL, OUTER_LEVEL}
 use Rattle.b67_templates.specs.Cells.{Simple, parameter_cells, procedures, events_in, made_of, result_of, simple_cells, variables, zero_cells}
 use Rattle.b67_templates.specs.Fitting.{DeclsFit, StmtsFit}
-use Rattle.b67_emitter.specs.declared.names.Lows.{Lows}
+use Rattle.algol_lows.specs.declared.bounds.Lows.{Lows}
 use Rattle.b67_emitter.specs.declared.names.Names.{Names}
 use Rattle.b67_emitter.specs.Values.{couples, lows, results, AreNear}
 use Rattle.b67_emit_stmt.specs.Programs.{AreDue, IsDue}
@@ -43,7 +43,7 @@ use Rattle.b67_fitting.proofs.Lists.{each_of, nil_back, nil_front, nil_map}
 use Rattle.b67_fitting.proofs.Nesting.{built_programs_lie_nested}
 use Rattle.b67_fitting.proofs.Numbering.{block_is, each_at}
 use Rattle.b67_fitting.proofs.SurroundedSites.{IsSurrounded, each_number, each_surrounded}
-use Rattle.b67_compile.specs.Lows.{under}
+use Rattle.algol_lows.specs.Lows.{under}
 use Rattle.b67_compile.proofs.Cells.{AreOfFew, HasFew, HaveFew, IsOfOne, all_of_one}
 use Rattle.b67_compile.proofs.Couples.{couples_known, lows_known, results_known, couples_near}
 use Rattle.b67_compile.proofs.Matching.{all_match, text_of}

@@ -4,18 +4,14 @@ use Rattle.std.proofs.Props.{props}
 use Rattle.std.proofs.Math.Logic.{∥∥₁_elim}
 use Rattle.std.specs.Coded.{×_prop, Π_prop, Unit-prop, le_prop}
 use Rattle.std.specs.List.{AllByRecursion-prop}
-use Rattle.algol_tree.specs.declared.token.Spot.{Spot}
 use Rattle.algol_tree.specs.declared.tree.PhraseText.{PhraseText}
 use Rattle.algol_tree.specs.declared.tree.PhraseText.TheVariants as phrase
 use Rattle.algol_tree.specs.declared.tree.Spec.{Spec}
 use Rattle.algol_tree.specs.declared.tree.Spec.TheVariants as spec
 use Rattle.algol_tree.specs.Accepted.{Accepted}
-use Rattle.algol_tree.specs.Ascending.{IsAhead, Ascends, IsInOrder, spots_of}
-use Rattle.algol_tree.specs.First.{Source}
 use Rattle.algol_tree.specs.Plain as tree
 use Rattle.algol_tree.specs.Plain.{PExpr, PExprs, PPair, PStmt, PStmts, PDecl, PDecls, PBody, PProgram}
-use Rattle.algol_lexer.proofs.LexOrder.{tokens_ascend}
-use Rattle.algol_grammar.proofs.InOrder.{in_order}
+use Rattle.algol_front.proofs.Ordered.{IsSource}
 use Rattle.b67_fitting.specs.Names.{StmtNamed, StmtsNamed, DeclNamed, DeclsNamed, HasNames}
 use Rattle.b67_fitting.specs.Texts.{PhrasePlain, StmtPlain, StmtsPlain, DeclPlain, DeclsPlain, HasPlainTexts}
 use Rattle.b67_fitting.specs.Wholes.{NumbersWhole, AllWhole, BoundsWhole, SpecWhole, StmtWhole, StmtsWhole, DeclWhole, DeclsWhole, HasWholeNumbers}
@@ -24,18 +20,6 @@ use Rattle.b67_fitting.proofs.Numbered.{sources_whole}
 use Rattle.b67_fitting.proofs.Written.{sources_plain}
 use Rattle.b67_templates.specs.Code.{AreDimensions}
 use Rattle.b67_templates.specs.Fragments.{IsWhole}
-
--- some text is this source
-abbrev pub IsSource : PProgram → Type 0
-IsSource p = ∥ ((bytes : List ℕ) × Source bytes p) ∥₁
-
-ahead_once : (spot : Spot) (spots : List Spot) → IsProp (IsAhead spot spots)
-ahead_once spot [] = Unit-prop
-ahead_once spot (next ∷ spots) = Prim.hlevel props
-
-ascends_once : (spots : List Spot) → IsProp (Ascends spots)
-ascends_once [] = Unit-prop
-ascends_once (spot ∷ spots) = ×_prop (ahead_once spot spots) (ascends_once spots)
 
 accepted_once : (p : PProgram) → IsProp (Accepted p)
 accepted_once p = Prim.hlevel props
@@ -180,9 +164,6 @@ mutual
 
 pub source_accepted : (p : PProgram) → IsSource p → Accepted p
 source_accepted p some = ∥∥₁_elim some (accepted_once p) (λ s. s.1.accepted)
-
-pub source_in_order : (p : PProgram) → IsSource p → IsInOrder p
-source_in_order p some = ∥∥₁_elim some (ascends_once (spots_of p)) (λ s. in_order s.1.tokens p (tokens_ascend s.0 s.1.tokens s.1.lexes) s.1.reads)
 
 pub source_named : (p : PProgram) → IsSource p → HasNames p
 source_named (tree.program (tree.body spot ds ss)) some =

@@ -13,8 +13,8 @@ ghost use Rattle.b67_fitting.specs.Texts.{HasPlainTexts};
 ghost use Rattle.b67_fitting.specs.Wholes.{HasWholeNumbers};
 ghost use Rattle.b67_faithful.specs.Faithful.{Faithful, HasFormats, IsShort};
 
-use crate::lows::lows_of_program;
 use algol_front::Checked;
+use algol_lows::lows_of_program;
 use algol_scope::Scopes;
 use algol_tree::Program;
 use b67_emit_expr::Exprs;

@@ -3,7 +3,6 @@
 
 mod built;
 mod compiler;
-mod lows;
 
 pub use built::is_built;
 pub use compiler::compile;

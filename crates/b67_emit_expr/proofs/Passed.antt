@@ -24,7 +24,7 @@ use Rattle.b67_templates.specs.Cells.{Wanted, Agrees, IsArray}
 use Rattle.b67_templates.specs.Code.{ArrayActualAt}
 use Rattle.b67_templates.specs.Emitting.{Emitted}
 use Rattle.b67_templates.specs.Fitting.{ArrayFits, ExprFits}
-use Rattle.b67_emitter.specs.declared.names.Lows.{Lows}
+use Rattle.algol_lows.specs.declared.bounds.Lows.{Lows}
 use Rattle.b67_emitter.specs.declared.names.Names.{Names}
 use Rattle.b67_emitter.specs.Values.{couples, results, lows, told, lows_told, AreNear, HasCode, ValueEmitted}
 use Rattle.b67_emitter.proofs.Composing.{weaker}

@@ -26,7 +26,7 @@ use Rattle.b67_templates.specs.Code.{SubscriptsAt}
 use Rattle.b67_templates.specs.Fragments.{Has, IsWhole}
 use Rattle.b67_templates.specs.Emitting.{Emitted}
 use Rattle.b67_templates.specs.Fitting.{ArrayFits, ExprFits, SubscriptsFit}
-use Rattle.b67_emitter.specs.declared.names.Lows.{Lows}
+use Rattle.algol_lows.specs.declared.bounds.Lows.{Lows}
 use Rattle.b67_emitter.specs.declared.names.Names.{Names}
 use Rattle.b67_emitter.specs.Values.{couples, results, lows, told, AreNear, HasCode, ElementFits}
 use Rattle.b67_emitter.proofs.Appends.{same_level}

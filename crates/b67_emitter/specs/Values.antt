@@ -17,6 +17,7 @@ use Rattle.algol_frames.specs.declared.scopes.Scopes as table
 use Rattle.algol_meaning.specs.Settle.{sorts_of}
 use Rattle.algol_paths.specs.Arrays as arrays
 use Rattle.algol_paths.specs.Arrays.{Shape}
+pub use Rattle.algol_lows.specs.Lows.{told, lows_told}
 use Rattle.b67_ops.specs.declared.Couple.{Couple}
 use Rattle.b67_ops.specs.declared.Operator.TheVariants as ops
 use Rattle.b67_ops.specs.declared.PlainKind.TheVariants as kinds
@@ -29,7 +30,6 @@ use Rattle.b67_templates.specs.Code.{ExprAt, SubscriptsAt, ReferenceAt, CallAt, 
 use Rattle.b67_templates.specs.Depths.{expr_syllables}
 use Rattle.b67_templates.specs.Emitting.{Emitted, EmittedWithExits}
 use Rattle.b67_templates.specs.Fitting.{couple_on_left, LeftFits, ExprFits, ProcedureFits, ActualsFit, ArrayFits, SubscriptsFit}
-use Rattle.b67_emitter.specs.declared.names.Lows.{Lows}
 use Rattle.b67_emitter.specs.declared.names.Names.{Names}
 
 -- ---- couples
@@ -57,13 +57,6 @@ results s spot = result_declared s.scopes.now (declaration_of s.scopes.now spot)
 -- the couple of the name that stands there on the left of an assignment
 abbrev pub lefts : Names → Spot → Option Couple
 lefts s spot = couple_on_left (results s spot) (couples s spot)
-
-abbrev pub told : Lows → arrays.Lows
-told l = record { list = l.list; formal = l.formal }
-
-abbrev pub lows_told : Option Lows → Option arrays.Lows
-lows_told None = None
-lows_told (Some l) = Some (told l)
 
 abbrev pub lows_found : Names → Option Declared → Option arrays.Lows
 lows_found s None = None

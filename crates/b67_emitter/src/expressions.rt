@@ -9,7 +9,8 @@ ghost use Rattle.b67_segment.specs.Building.{level_set};
 ghost use Rattle.b67_templates.specs.Depths.{expr_syllables};
 ghost use Rattle.b67_emitter.specs.Values.{couples, results, lefts, lows, told, lows_told, AreNear, HasCode, ValueEmitted, HasCall, CallEmitted, HasReference, ReferenceEmitted, place_syllables};
 
-use crate::names::{Lows, Names};
+use crate::names::Names;
+use algol_lows::Lows;
 use algol_scope::Declared;
 use algol_tree::{Call, Expr, Named, Variable};
 use b67_ops::Couple;

@@ -21,5 +21,5 @@ pub use calling::{append_array, append_begun, append_dropped};
 pub use entering::{append_control, append_controls, append_entry};
 pub use expressions::{ExprEmitter, array_of, couple_of, left_of, lows_of, result_of};
 pub use moving::append_moved;
-pub use names::{Lows, Names};
+pub use names::Names;
 pub use numbers::literal;

@@ -2,17 +2,10 @@
 
 ghost use Rattle.std.specs.Prelude.{◌≡◌};
 
+use algol_lows::Lows;
 use algol_scope::Scopes;
 use algol_tree::Spot;
-use b67_list::List;
 use std::collections::BTreeMap;
-
-/// The lower bounds of an array, and whether it is a parameter.
-#[derive(Drop)]
-pub struct Lows {
-    pub list: List<i64>,
-    pub formal: bool,
-}
 
 /// What the names of a program mean to its code: where the cells lie, and the lower bounds of each array by the place of its declaration.
 #[derive(Drop)]

@@ -11,7 +11,8 @@ use Rattle.algol_scope.proofs.Bodies.{body_is}
 use Rattle.b67_fitting.specs.Built.{IsBuilt}
 use Rattle.b67_compile.specs.Built.{decls_are_built, stmts_are_built}
 use Rattle.b67_compile.proofs.Decided.{built_decided}
-use Rattle.b67_compile.proofs.Sources.{IsSource, source_accepted, source_in_order}
+use Rattle.algol_front.proofs.Ordered.{IsSource, source_in_order}
+use Rattle.b67_compile.proofs.Sources.{source_accepted}
 use Rattle.b67_compile.proofs.built.is_built.Goals as goal
 
 decided : (s : Scopes) (b : Body) → AreOf (tree.program (body b)) s → IsSource (tree.program (body b)) →

@@ -1,6 +1,7 @@
 use Rattle.algol_tree.specs.Image.{program as plain}
 use Rattle.b67_compile.proofs.Compiled.{code_is_faithful}
-use Rattle.b67_compile.proofs.Sources.{source_accepted, source_in_order, source_named, source_plain, source_whole}
+use Rattle.algol_front.proofs.Ordered.{source_in_order}
+use Rattle.b67_compile.proofs.Sources.{source_accepted, source_named, source_plain, source_whole}
 use Rattle.b67_compile.proofs.compiler.compile.Goals as goal
 
 pub code_of-requires-clause-accepted : goal.code_of-requires-clause-accepted

@@ -1,7 +1,0 @@
-use Rattle.std.proofs.Common.{◌≡◌, ◌++◌, drop}
-use Rattle.algol_tree.specs.Image.{pairs}
-use Rattle.algol_paths.specs.Arrays.{lows_of}
-use Rattle.b67_compile.proofs.lows.own_lows.Given as goal
-
-abbrev pub invariant-pairs : goal.invariant-pairs
-invariant-pairs l = l.list.items ++ lows_of (pairs (drop l.pair-index l.pairs)) ≡ lows_of (pairs l.pairs)
