@@ -78,12 +78,7 @@ pub fn run_all<
     P: Rule + Send,
     G: Gate + Sync,
     R: Threads + Wait + Sync,
->(
-    rt: &R,
-    gate: &G,
-    plant: Plant<N, L, C, P>,
-    posts: &mut [Post<N, L>],
-) -> Plant<N, L, C, P>
+>(rt: &R, gate: &G, plant: Plant<N, L, C, P>, posts: &mut [Post<N, L>]) -> Plant<N, L, C, P>
     requires processors { (length posts.old ≡ N.processors) × (length posts.old < 9) }
     ensures stands { Stands N.code N.budget result }
     ensures posts { length posts.new ≡ length posts.old }
