@@ -7,7 +7,7 @@ use b67_num::FaultKind;
 use b67_reach::{InterruptKind, ProcessState, Stop};
 
 /// What an action came to.
-#[derive(Clone, Copy, PartialEq, Eq, Debug)]
+#[derive(Clone, Copy, PartialEq, Eq)]
 pub enum Done {
     /// The process can go on.
     Went,

@@ -27,7 +27,7 @@ use std::marker::Model;
 
 /// Why an operator can not be performed. Of an operator's interrupts `BadCode` comes first, then `StackUnderflow`,
 /// `InvalidOperand`, `BrokenChain`; faults come after interrupts (this project's profile).
-#[derive(Clone, Copy, PartialEq, Eq, Debug)]
+#[derive(Clone, Copy, PartialEq, Eq)]
 pub enum InterruptKind {
     /// A word has a tag, kind or range that the operator does not name, or what it refers to is not there.
     InvalidOperand,
@@ -40,7 +40,7 @@ pub enum InterruptKind {
 }
 
 /// The state of a process.
-#[derive(Clone, Copy, PartialEq, Eq, Debug)]
+#[derive(Clone, Copy, PartialEq, Eq)]
 pub enum ProcessState {
     /// It can go on.
     Able,
@@ -53,7 +53,7 @@ pub enum ProcessState {
 }
 
 /// The class of an operator at its place.
-#[derive(Clone, Copy, PartialEq, Eq, Debug)]
+#[derive(Clone, Copy, PartialEq, Eq)]
 pub enum Class {
     /// It only goes forward, and reads and writes the private part of its own process only.
     Private,
@@ -104,7 +104,7 @@ pub fn class_of(op: &Operator, place: u16) -> Class
 }
 
 /// A cell of a frame, wherever it is read.
-#[derive(Clone, Copy, PartialEq, Eq, Debug)]
+#[derive(Clone, Copy, PartialEq, Eq)]
 pub struct Cell {
     /// The place of the frame's MSCW.
     pub frame: Place,

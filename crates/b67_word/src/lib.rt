@@ -12,7 +12,7 @@ ghost use Rattle.b67_word.specs.Laws.{OperandsAreReadBack, OneFieldIsSet};
 use std::marker::Model;
 
 /// A place in a stack: the number of the stack, and the displacement of a word in it.
-#[derive(Clone, Copy, PartialEq, Eq, PartialOrd, Ord, Debug)]
+#[derive(Clone, Copy, PartialEq, Eq, PartialOrd, Ord)]
 pub struct Place {
     /// The number of the stack.
     pub stack: u16,
@@ -21,7 +21,7 @@ pub struct Place {
 }
 
 /// A word of the machine. Its 48 bits are numbered from 47 down to 0.
-#[derive(Clone, Copy, PartialEq, Eq, Debug)]
+#[derive(Clone, Copy, PartialEq, Eq)]
 pub struct Word {
     raw: u64,
 }

@@ -18,7 +18,7 @@ pub const MOST_STRETCH: u64 = 64;
 pub const MOST_PROCESSORS: u64 = 1;
 
 /// A command with what its words say.
-#[derive(Clone, Copy, PartialEq, Eq, Debug)]
+#[derive(Clone, Copy, PartialEq, Eq)]
 pub enum Words {
     /// `run P B`: run the source on P processors, from 1 to [`MOST_PROCESSORS`], with a budget of B operators, from 1 to
     /// [`MOST_BUDGET`].
