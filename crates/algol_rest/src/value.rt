@@ -3,7 +3,7 @@
 use algol_tree::Whole;
 
 /// A value: a whole number or a truth value.
-#[derive(Clone, Copy, PartialEq, Eq)]
+#[derive(Clone, Copy)]
 pub enum Value {
     Number(Whole),
     Truth(bool),

@@ -11,7 +11,7 @@ use algol_world::{Process, State, World};
 use b67_num::FaultKind;
 
 /// How a run ends.
-#[derive(Clone, Copy, PartialEq, Eq)]
+#[derive(Clone, Copy)]
 pub enum End {
     /// Process 1 has ended.
     Finished,

@@ -5,7 +5,7 @@ ghost use Rattle.algol_meaning.specs.Actions.{letter_of};
 ghost use Rattle.algol_world.specs.SeenAction.{action};
 
 /// What one step of a process does.
-#[derive(Clone, Copy, PartialEq, Eq)]
+#[derive(Clone, Copy)]
 pub enum Action {
     Read,
     Index,

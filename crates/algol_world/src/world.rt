@@ -6,7 +6,7 @@ use algol_tree::{Line, List};
 use b67_num::FaultKind;
 
 /// What a part is for.
-#[derive(Clone, Copy, PartialEq, Eq)]
+#[derive(Clone, Copy)]
 pub enum Purpose {
     Block,
     Procedure,
@@ -56,7 +56,7 @@ impl<'p> Drop for Process<'p> {
 }
 
 /// The fault that ended a run, and the process in which it came.
-#[derive(Clone, Copy, PartialEq, Eq)]
+#[derive(Clone, Copy)]
 pub struct WorldFault {
     pub kind: FaultKind,
     pub process: usize,

@@ -15,7 +15,7 @@ use b67_word::{Place, Word, make_word};
 use std::marker::Model;
 
 /// An indirect reference word: a couple, read in the display.
-#[derive(Clone, Copy, PartialEq, Eq)]
+#[derive(Clone, Copy)]
 pub struct Irw {
     /// The level of the block, 5 bits.
     pub level: u8,
@@ -35,7 +35,7 @@ pub struct Sirw {
 }
 
 /// A mark stack control word: the bottom of a frame.
-#[derive(Clone, Copy, PartialEq, Eq)]
+#[derive(Clone, Copy)]
 pub struct Mscw {
     /// Whether the frame was entered.
     pub entered: bool,
@@ -48,7 +48,7 @@ pub struct Mscw {
 }
 
 /// A return control word: where the caller of a frame goes on.
-#[derive(Clone, Copy, PartialEq, Eq)]
+#[derive(Clone, Copy)]
 pub struct Rcw {
     /// The caller's segment, 10 bits.
     pub segment: u16,
@@ -65,7 +65,7 @@ pub struct Rcw {
 }
 
 /// A segment descriptor: a segment of code.
-#[derive(Clone, Copy, PartialEq, Eq)]
+#[derive(Clone, Copy)]
 pub struct SegmentWord {
     /// The number of the segment, 10 bits.
     pub segment: u16,
@@ -74,11 +74,11 @@ pub struct SegmentWord {
 }
 
 /// An event word: it marks the place of an event.
-#[derive(Clone, Copy, PartialEq, Eq)]
+#[derive(Clone, Copy)]
 pub struct EventWord;
 
 /// A data descriptor: a row of an array, or one element of it.
-#[derive(Clone, Copy, PartialEq, Eq)]
+#[derive(Clone, Copy)]
 pub struct Descriptor {
     /// Whether the row is there.
     pub presence: bool,
@@ -95,7 +95,7 @@ pub struct Descriptor {
 }
 
 /// A program control word: a procedure, a name parameter's code, or an intrinsic.
-#[derive(Clone, Copy, PartialEq, Eq)]
+#[derive(Clone, Copy)]
 pub struct Pcw {
     /// Whether it is an intrinsic.
     pub intrinsic: bool,
@@ -413,7 +413,7 @@ impl Pcw {
 }
 
 /// For each level from 0 to 31 the place of the frame that runs at that level, where there is one.
-#[derive(Clone, Copy, PartialEq, Eq)]
+#[derive(Clone, Copy)]
 pub struct Display {
     places: [Option<Place>; 32],
 }
@@ -457,7 +457,7 @@ impl Display {
 }
 
 /// The registers of a process.
-#[derive(Clone, Copy, PartialEq, Eq)]
+#[derive(Clone, Copy)]
 pub struct Registers {
     /// The number of its stack.
     pub stack: u16,

@@ -13,7 +13,7 @@ pub use sizes::{Size, size_of};
 pub use subscripts::{index, load_row};
 
 /// Why an array was not made, or has no such element or row.
-#[derive(Clone, Copy, PartialEq, Eq)]
+#[derive(Clone, Copy)]
 pub enum DescriptorFault {
     /// The subscript is below 0 or not below the length.
     InvalidIndex,

@@ -16,7 +16,7 @@ use b67_store::Core;
 use b67_word::Place;
 
 /// A chain of marks or of static links does not lead where it has to.
-#[derive(Clone, Copy, PartialEq, Eq)]
+#[derive(Clone, Copy)]
 pub struct BrokenChain;
 
 /// What the mark at a place holds. None comes exactly where no mark stands there.

@@ -18,7 +18,7 @@ use std::collections::BTreeMap;
 use std::marker::Model;
 
 /// Whether a process goes on, or waits.
-#[derive(Clone, Copy, PartialEq, Eq)]
+#[derive(Clone, Copy)]
 pub enum Took {
     Went,
     Waits,

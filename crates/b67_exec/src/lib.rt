@@ -21,7 +21,7 @@ use std::alloc::{AllocError, Global};
 use turns::{end_of, turn};
 
 /// Why a run by turns stopped.
-#[derive(Clone, Copy, PartialEq, Eq)]
+#[derive(Clone, Copy)]
 pub enum Stopped {
     /// Process 1 has ended.
     Finished,

@@ -47,7 +47,7 @@ fn push_parameters<C: Core>(core: &mut C, number: u16, needs: &Needs)
 }
 
 /// There is no memory for a new process.
-#[derive(Clone, Copy, PartialEq, Eq)]
+#[derive(Clone, Copy)]
 pub struct NoMemory;
 
 // Opens a stack with the mark and the control word of a base frame of a level, which is linked to its home.

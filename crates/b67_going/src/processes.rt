@@ -27,7 +27,7 @@ use b67_store::Core;
 use b67_word::{Place, Word};
 
 /// Why no process was started.
-#[derive(Clone, Copy, PartialEq, Eq)]
+#[derive(Clone, Copy)]
 pub enum Unstarted {
     /// The operator is stopped.
     Stopped(Stop),

@@ -4,7 +4,7 @@ use b67_reach::Stop;
 use std::alloc::AllocError;
 
 /// What keeps an intrinsic that makes something from being performed.
-#[derive(Clone, Copy, PartialEq, Eq)]
+#[derive(Clone, Copy)]
 pub enum Hindrance {
     /// The operator table stops it.
     Stopped(Stop),

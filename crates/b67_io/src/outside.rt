@@ -6,7 +6,7 @@ ghost use Rattle.b67_io.specs.Faults.{HasCause};
 ghost use Rattle.b67_io.specs.Reading.{EndsExactly};
 
 /// A read or a write failed. The count of faults of its source or sink rose.
-#[derive(Clone, Copy, PartialEq, Eq)]
+#[derive(Clone, Copy)]
 pub struct Failed;
 
 /// Gives bytes, in pieces of its own choice, until none is left.

@@ -9,7 +9,7 @@ mod laws;
 pub use laws::{actions_have_letters, few_operators_release};
 
 /// The actions of a process: each entry of a schedule is one.
-#[derive(Clone, Copy, PartialEq, Eq)]
+#[derive(Clone, Copy)]
 pub enum Letter {
     /// Reads a variable.
     Read,

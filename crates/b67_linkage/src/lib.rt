@@ -22,7 +22,7 @@ pub use laws::{live_processes_are_linked, rows_close_as_the_table_has_it};
 pub use words::{cut_words, push_word};
 
 /// Why a call of the linkage was refused.
-#[derive(Clone, Copy, PartialEq, Eq)]
+#[derive(Clone, Copy)]
 pub enum LinkFault {
     /// A word or a register is not what the operator needs.
     InvalidOperand,

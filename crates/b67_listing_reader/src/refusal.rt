@@ -7,7 +7,7 @@ use std::alloc::{AllocError, AllocFailed};
 
 /// Why lines are not read as a listing: no listing has the lines through this one, counted from 1, and one has those
 /// before it; or memory ran out. Where the lines begin a listing and are none, it is the line after the last one.
-#[derive(Clone, Copy, PartialEq, Eq)]
+#[derive(Clone, Copy)]
 pub enum ReadListing {
     BadListing { line: u32 },
     NoMemory,

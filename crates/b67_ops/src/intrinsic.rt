@@ -7,7 +7,7 @@ use crate::Couple;
 
 /// The intrinsics. An intrinsic's number is its index in the stack of the system, stack 0, where its
 /// control word stands, and stands in that word too. Numbers and effects are this project's profile.
-#[derive(Clone, Copy, PartialEq, Eq)]
+#[derive(Clone, Copy)]
 pub enum Intrinsic {
     /// Goes to a place of a block that encloses this one.
     GoTo = 2,

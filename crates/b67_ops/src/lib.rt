@@ -32,14 +32,14 @@ pub const OUTER_LEVEL: u8 = b67_limits::OUTER_LEVEL;
 pub const MOST_LEVEL: u8 = b67_limits::MOST_LEVEL;
 
 /// Where a cell is found: in the block of this level that can be seen, at this index.
-#[derive(Clone, Copy, PartialEq, Eq)]
+#[derive(Clone, Copy)]
 pub struct Couple {
     pub level: u8,
     pub index: u16,
 }
 
 /// The operators that go to a place of their segment.
-#[derive(Clone, Copy, PartialEq, Eq)]
+#[derive(Clone, Copy)]
 pub enum BranchKind {
     /// Goes there where the word popped is false.
     Brfl,
@@ -50,7 +50,7 @@ pub enum BranchKind {
 }
 
 /// The operators that have no operand. Their effects are this project's profile of the B6700.
-#[derive(Clone, Copy, PartialEq, Eq)]
+#[derive(Clone, Copy)]
 pub enum PlainKind {
     /// Replaces the two whole numbers on top by their sum.
     Add,
@@ -129,7 +129,7 @@ pub enum PlainKind {
 }
 
 /// An operator with its operand.
-#[derive(Clone, Copy, PartialEq, Eq)]
+#[derive(Clone, Copy)]
 pub enum Operator {
     /// Pushes the value of the cell at a couple.
     Valc(Couple),
@@ -168,7 +168,7 @@ impl Operator {
 }
 
 /// Why no operator stands at a place.
-#[derive(Clone, Copy, PartialEq, Eq)]
+#[derive(Clone, Copy)]
 pub enum BadCode {
     /// However the code might go on, no operator is spelled so.
     Unknown,

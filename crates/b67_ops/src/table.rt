@@ -7,7 +7,7 @@ ghost use Rattle.b67_ops.specs.Codes.{code_of, codes_of, name_of, kind_with, ind
 use crate::{BranchKind, PlainKind};
 
 /// An operator without its operand, which tells what the operand is.
-#[derive(Clone, Copy, PartialEq, Eq)]
+#[derive(Clone, Copy)]
 pub enum OperatorKind {
     /// `VALC`, with a couple.
     Valc,

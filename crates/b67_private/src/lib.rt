@@ -21,7 +21,7 @@ pub use taking::is_short;
 pub const REACH: u32 = 2;
 
 /// Why an operator has no effect.
-#[derive(Clone, Copy, PartialEq, Eq)]
+#[derive(Clone, Copy)]
 pub enum Stop {
     Fault(FaultKind),
     Interrupt(InterruptKind),

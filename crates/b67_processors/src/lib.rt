@@ -11,7 +11,7 @@ use std::sync::Wait;
 use std::thread::Threads;
 
 /// What a take answers.
-#[derive(Clone, Copy, PartialEq, Eq)]
+#[derive(Clone, Copy)]
 pub enum Work {
     /// There is a parcel to be worked.
     Parcel,
@@ -33,7 +33,7 @@ pub enum Landing<L> {
 }
 
 /// What an act answers.
-#[derive(Clone, Copy, PartialEq, Eq)]
+#[derive(Clone, Copy)]
 pub enum Acted {
     /// An action was performed.
     Went,

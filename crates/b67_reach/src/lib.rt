@@ -25,7 +25,7 @@ pub use states::{set_state, wake};
 pub use writing::{dropped, replaced};
 
 /// What stops an operator. One that is stopped changes nothing.
-#[derive(Clone, Copy, PartialEq, Eq)]
+#[derive(Clone, Copy)]
 pub enum Stop {
     /// The operator can not be performed.
     Interrupt(InterruptKind),

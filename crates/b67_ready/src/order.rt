@@ -6,7 +6,7 @@ ghost use Rattle.b67_ready.specs.Orders.{spread};
 use crate::Rule;
 
 /// A rule of the command line.
-#[derive(Clone, Copy, PartialEq, Eq, Drop)]
+#[derive(Clone, Copy, Drop)]
 pub enum Order {
     /// First in, first out: who has waited longest.
     Fifo,

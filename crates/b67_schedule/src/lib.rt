@@ -18,7 +18,7 @@ use std::marker::Model;
 pub const MOST_NUMBER: u32 = 999_999_999;
 
 /// So many actions of one process, one after another. Both numbers are from 1 to 999,999,999.
-#[derive(Clone, Copy, PartialEq, Eq)]
+#[derive(Clone, Copy)]
 pub struct Run {
     pub process: u32,
     pub times: u32,

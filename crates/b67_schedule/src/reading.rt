@@ -11,7 +11,7 @@ use b67_text::{BadText, Numbers, read_number, read_word};
 use std::alloc::{AllocError, AllocFailed, Global};
 
 /// Why bytes are not read as a schedule: they are not the text of one, or memory ran out.
-#[derive(Clone, Copy, PartialEq, Eq)]
+#[derive(Clone, Copy)]
 pub enum ReadSchedule {
     Bad(BadText),
     NoMemory,

@@ -4,7 +4,7 @@ use b67_list::{Line, List};
 use std::alloc::{AllocError, Global};
 
 /// From this place of a segment on, in syllables from 0, operators stand at this level.
-#[derive(Clone, Copy, PartialEq, Eq)]
+#[derive(Clone, Copy)]
 pub struct Mark {
     pub place: u16,
     pub level: u8,
@@ -41,7 +41,7 @@ pub struct Code {
 }
 
 /// A place in the code: a segment by its number, and a syllable of it from 0.
-#[derive(Clone, Copy, PartialEq, Eq)]
+#[derive(Clone, Copy)]
 pub struct Pointer {
     pub segment: u16,
     pub place: u16,

@@ -31,11 +31,11 @@ pub const MOST_COUNTED_WORDS: u32 = b67_limits::MOST_ELEMENTS;
 pub const MOST_ROWS: usize = 4_194_304;
 
 /// There is no such stack, row or place.
-#[derive(Clone, Copy, PartialEq, Eq)]
+#[derive(Clone, Copy)]
 pub struct NoSuchPlace;
 
 /// Why a word was not pushed.
-#[derive(Clone, Copy, PartialEq, Eq)]
+#[derive(Clone, Copy)]
 pub enum PushFault {
     /// The stack is not open.
     NoSuchPlace,
@@ -44,7 +44,7 @@ pub enum PushFault {
 }
 
 /// Why a stack was not opened.
-#[derive(Clone, Copy, PartialEq, Eq)]
+#[derive(Clone, Copy)]
 pub enum OpenFault {
     /// A stack of this number is open.
     InUse,
@@ -53,7 +53,7 @@ pub enum OpenFault {
 }
 
 /// Why a row was not opened.
-#[derive(Clone, Copy, PartialEq, Eq)]
+#[derive(Clone, Copy)]
 pub enum RowFault {
     /// The counted words and the request exceed [`MOST_COUNTED_WORDS`].
     CoreFull,

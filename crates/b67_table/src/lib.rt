@@ -53,7 +53,7 @@ pub enum ProcessState {
 }
 
 /// The class of an operator at its place.
-#[derive(Clone, Copy, PartialEq, Eq)]
+#[derive(Clone, Copy)]
 pub enum Class {
     /// It only goes forward, and reads and writes the private part of its own process only.
     Private,
@@ -104,7 +104,7 @@ pub fn class_of(op: &Operator, place: u16) -> Class
 }
 
 /// A cell of a frame, wherever it is read.
-#[derive(Clone, Copy, PartialEq, Eq)]
+#[derive(Clone, Copy)]
 pub struct Cell {
     /// The place of the frame's MSCW.
     pub frame: Place,

@@ -13,7 +13,7 @@ pub use number::{Numbers, read_number};
 pub use word::read_word;
 
 /// The bytes before this place, from 0 on, are the longest that begin a text of the kind that is read.
-#[derive(Clone, Copy, PartialEq, Eq)]
+#[derive(Clone, Copy)]
 pub struct BadText {
     pub byte: usize,
 }

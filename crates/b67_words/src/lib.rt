@@ -18,7 +18,7 @@ pub const MOST_STRETCH: u64 = 64;
 pub const MOST_PROCESSORS: u64 = 1;
 
 /// A command with what its words say.
-#[derive(Clone, Copy, PartialEq, Eq)]
+#[derive(Clone, Copy)]
 pub enum Words {
     /// `run P B`: run the source on P processors, from 1 to [`MOST_PROCESSORS`], with a budget of B operators, from 1 to
     /// [`MOST_BUDGET`].
@@ -35,7 +35,7 @@ pub enum Words {
 }
 
 /// What is wrong with the first word that breaks the grammar.
-#[derive(Clone, Copy, PartialEq, Eq, Debug)]
+#[derive(Clone, Copy, Debug)]
 pub enum UsageKind {
     /// The words end before it.
     Missing,
@@ -50,7 +50,7 @@ pub enum UsageKind {
 }
 
 /// Why words are no command.
-#[derive(Clone, Copy, PartialEq, Eq, Debug, Error)]
+#[derive(Clone, Copy, Debug, Error)]
 pub enum BadWords {
     /// The first word that breaks the grammar, counted from 1, and what is wrong with it.
     #[error("word {word} breaks the grammar of the commands: {kind:?}")]
