@@ -144,7 +144,7 @@ pub fn push_end(text: &mut Vec<u8>, end: &EndWords) -> Result<(), AllocError>
 }
 
 /// The words of a fault.
-fn fault_words(kind: FaultKind) -> &'static str
+pub fn fault_words(kind: FaultKind) -> &'static str
     ensures { result.now ≡ fault_words kind }
 {
     match kind {

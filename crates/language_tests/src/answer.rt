@@ -2,7 +2,7 @@
 
 use crate::entries::entries_of;
 use crate::names::push_names;
-use crate::runs::{push_followed, push_run};
+use crate::runs::run_text;
 use crate::tokens::{tokens_of, tokens_text};
 use algol_front::{Checked, front};
 use algol_scope::Scopes;
@@ -10,15 +10,6 @@ use algol_tree::{MOST_SOURCE_BYTES, Refusal};
 use b67_list::discard;
 use case_sheet::Case;
 use std::alloc::{AllocError, Global};
-
-/// What comes of an accepted source under a schedule.
-fn run_text(alloc: Global, checked: &Checked, words: &[String]) -> Result<Vec<u8>, AllocError> {
-    let entries = entries_of(alloc, words)?;
-    let mut text = Vec::new(alloc);
-    push_run(&mut text, alloc, checked, entries.as_slice())?;
-    push_followed(&mut text, alloc, checked, entries.as_slice())?;
-    Ok(text)
-}
 
 /// What the names of a source mean.
 fn names_text(alloc: Global, scopes: &Scopes, source: &[u8]) -> Result<Vec<u8>, AllocError> {
@@ -38,7 +29,11 @@ fn accepted_text(
 ) -> Result<Vec<u8>, AllocError> {
     match sheet {
         "names" => names_text(alloc, &checked.scopes, case.input.as_slice()),
-        _ => run_text(alloc, checked, case.words.as_slice()),
+        _ => run_text(
+            alloc,
+            checked,
+            entries_of(alloc, case.words.as_slice())?.as_slice(),
+        ),
     }
 }
 

@@ -13,8 +13,8 @@ use algol_names::scopes_of;
 use algol_perform::start;
 use algol_run::{End, Stepped, end_of, follow, step};
 use algol_world::World;
-use b67_list::{discard, push_number};
-use b67_num::FaultKind;
+use b67_list::{Line, discard, push_number};
+use b67_report::{EndWords, push_end};
 use std::alloc::{AllocError, Global};
 
 /// The lower bounds of the arrays of an accepted source.
@@ -62,37 +62,29 @@ fn push_step(
     pushed
 }
 
-/// The words of a fault.
-fn fault_words(kind: FaultKind) -> &'static [u8] {
-    match kind {
-        FaultKind::RealResult => b"END FAULT REAL RESULT IN ",
-        FaultKind::DivideByZero => b"END FAULT DIVIDE BY ZERO IN ",
-        FaultKind::InvalidIndex => b"END FAULT INVALID INDEX IN ",
-        FaultKind::CriticalBlockExit => b"END FAULT CRITICAL BLOCK EXIT IN ",
-        FaultKind::BadGoTo => b"END FAULT BAD GO TO IN ",
-        FaultKind::ProcessLimit => b"END FAULT PROCESS LIMIT IN ",
-        FaultKind::CoreFull => b"END FAULT CORE FULL IN ",
-        FaultKind::ArraySize => b"END FAULT ARRAY SIZE IN ",
-        FaultKind::NotAVariable => b"END FAULT NOT A VARIABLE IN ",
-        FaultKind::CaseIndex => b"END FAULT CASE INDEX IN ",
+/// The words of an end.
+fn words_of(end: End) -> EndWords {
+    match end {
+        End::Finished => EndWords::Finished,
+        End::AllWaiting => EndWords::AllWaiting,
+        End::Fault(kind, process) => EndWords::Fault {
+            kind,
+            process: u32::try_from(process).unwrap_or(0),
+        },
     }
 }
 
 /// Appends the line of an end.
-fn push_end(text: &mut Vec<u8>, end: Option<End>) -> Result<(), AllocError> {
+fn push_last(text: &mut Vec<u8>, end: Option<End>) -> Result<(), AllocError> {
     match end {
-        Some(End::Finished) => text.extend_from_slice(b"END FINISHED\n"),
-        Some(End::AllWaiting) => text.extend_from_slice(b"END ALL WAITING\n"),
-        Some(End::Fault(kind, process)) => {
-            push_number(text, fault_words(kind), process)?;
-            text.extend_from_slice(b"\n")
-        }
-        None => text.extend_from_slice(b"GOES ON\n"),
+        Some(end) => push_end(text, &words_of(end))?,
+        None => text.extend_from_slice(b"GOES ON")?,
     }
+    text.extend_from_slice(b"\n")
 }
 
-/// Appends the letters of the entries, each a step, the lines that were written, and the end.
-fn push_steps(
+/// Appends the letters of the entries, each a step.
+fn push_letters(
     text: &mut Vec<u8>,
     world: &mut World<'_>,
     alloc: Global,
@@ -101,40 +93,74 @@ fn push_steps(
     for process in entries {
         push_step(text, world, alloc, *process)?;
     }
-    push_number(text, b"\nOUTPUT ", world.output.items().len())?;
+    Ok(())
+}
+
+/// Appends the number of lines, and the lines.
+fn push_lines(text: &mut Vec<u8>, lines: &[Line]) -> Result<(), AllocError> {
+    push_number(text, b"\nOUTPUT ", lines.len())?;
     text.extend_from_slice(b"\n")?;
-    for line in world.output.items() {
+    for line in lines {
         text.extend_from_slice(line.bytes())?;
         text.extend_from_slice(b"\n")?;
     }
-    push_end(text, end_of(world))
+    Ok(())
+}
+
+/// Appends the letters of the entries, the lines that were written, and the end.
+fn push_steps(
+    text: &mut Vec<u8>,
+    world: &mut World<'_>,
+    alloc: Global,
+    entries: &[usize],
+) -> Result<(), AllocError> {
+    push_letters(text, world, alloc, entries)?;
+    push_lines(text, world.output.items())?;
+    push_last(text, end_of(world))
 }
 
 /// Appends what comes of the entries step by step.
-pub(crate) fn push_run(
+fn push_run(
     text: &mut Vec<u8>,
     alloc: Global,
     checked: &Checked,
+    lows: &LowsByPlace,
     entries: &[usize],
-) -> Result<(), AllocError> {
-    let lows = lows_of(alloc, checked)?;
-    let mut world = first(alloc, checked, &lows)?;
+) -> Result<(), AllocError>
+    requires { (spot : token.Spot) → under lows.now spot ≡ lows_at (blocks_of_program (plain checked.now.program)) spot }
+{
+    let mut world = first(alloc, checked, lows)?;
     let pushed = push_steps(text, &mut world, alloc, entries);
     discard(world);
     pushed
 }
 
 /// Appends how many of the entries are followed.
-pub(crate) fn push_followed(
+fn push_followed(
     text: &mut Vec<u8>,
     alloc: Global,
     checked: &Checked,
+    lows: &LowsByPlace,
     entries: &[usize],
-) -> Result<(), AllocError> {
-    let lows = lows_of(alloc, checked)?;
-    let mut world = first(alloc, checked, &lows)?;
+) -> Result<(), AllocError>
+    requires { (spot : token.Spot) → under lows.now spot ≡ lows_at (blocks_of_program (plain checked.now.program)) spot }
+{
+    let mut world = first(alloc, checked, lows)?;
     let went = follow(&mut world, alloc, entries);
     discard(world);
     push_number(text, b"LEGAL ", went?)?;
     text.extend_from_slice(b"\n")
+}
+
+/// What comes of an accepted source under a schedule, step by step and as a whole.
+pub(crate) fn run_text(
+    alloc: Global,
+    checked: &Checked,
+    entries: &[usize],
+) -> Result<Vec<u8>, AllocError> {
+    let mut text = Vec::new(alloc);
+    let lows = lows_of(alloc, checked)?;
+    push_run(&mut text, alloc, checked, &lows, entries)?;
+    push_followed(&mut text, alloc, checked, &lows, entries)?;
+    Ok(text)
 }
