@@ -9,13 +9,33 @@
 //!
 //! These cases are the tests of `b67_desk` and, through it, of what it calls: the front end, the compiler, the listing, the
 //! machine from its first image to its end, the schedules and the reports.
+//!
+//! The sheets of `parts` are answered by parts of the machine. They are the tests of `load` (b67_load), `action` (b67_action), and of `load`,
+//! `perform_entry`, `end`, `count`, `is_able` and `output` (b67_machine), of `assemble` (b67_asm), `read_text` (b67_asm_text) and
+//! `source` (b67_asm_writer), of `read_listing` (b67_listing_reader), `listing` (b67_listing), `copy` (b67_segment), `read_report` and
+//! `text` (b67_report), and through them of the operators, the intrinsics, the linkage of frames, stores, events and descriptors.
+//!
+//! Worked values that no text shows are those of whole numbers (b67_num), words (b67_word), control words and the display (b67_control), and
+//! of sources and sinks that fail in mid-stream (b67_io).
 #![tactic(auto)]
 
 mod answer;
+mod codes;
+mod control_words;
+mod entries;
+mod numbers;
+mod operators;
 mod outside;
+mod parts;
+mod streams;
+mod texts;
+mod told;
+mod turns;
+mod words;
 
 use crate::answer::{Told, answered};
 use crate::outside::Outside;
+use crate::parts::{PART_SHEETS, part_text};
 use case_sheet::{Case, cases_of};
 use std::{fs, io};
 
@@ -55,13 +75,24 @@ fn tell_example(rt: &HostRuntime, words: &[String], line: &str, ending: &str) ->
     say(rt, name, is_met, &told)
 }
 
-/// Answers a case.
+/// Answers a case by the top call.
 fn tell_case(rt: &HostRuntime, sheet: &str, case: &Case) -> io::Result<()> {
     let outside = Outside::of(rt.alloc(), case.setting.as_str())?;
     let input = Vec::from_slice(rt.alloc(), case.input.as_slice())?;
     let told = answered(rt.alloc(), case.words.as_slice(), input, outside)?;
     let name = format!(in rt.alloc(); "{sheet}: {}", case.name)?;
     let is_met = case.is_met(told.status, told.bytes.as_slice());
+    say(rt, name.as_str(), is_met, &told)
+}
+
+/// Answers a case by a part of the machine.
+fn tell_part(rt: &HostRuntime, sheet: &str, case: &Case) -> io::Result<()> {
+    let told = Told {
+        status: 0,
+        bytes: part_text(rt.alloc(), sheet, case)?,
+    };
+    let name = format!(in rt.alloc(); "{sheet}: {}", case.name)?;
+    let is_met = case.is_met(0, told.bytes.as_slice());
     say(rt, name.as_str(), is_met, &told)
 }
 
@@ -90,8 +121,34 @@ fn tell_sheets(rt: &HostRuntime) -> io::Result<()> {
     Ok(())
 }
 
+/// Answers the cases of the sheets of parts.
+fn tell_parts(rt: &HostRuntime) -> io::Result<()> {
+    for name in PART_SHEETS {
+        let sheet = fs::read_to_string(rt, format!(in rt.alloc(); "{name}.sheet")?)?;
+        let cases = cases_of(rt.alloc(), sheet.as_str())?;
+        for case in &cases {
+            tell_part(rt, name, case)?;
+        }
+    }
+    Ok(())
+}
+
+/// Says whether worked values are what they should be.
+fn tell_worked(rt: &HostRuntime, name: &str, is_met: bool) -> io::Result<()> {
+    if is_met {
+        println!(rt; "{name} are as they should be")
+    } else {
+        println!(rt; "{name} ARE NOT AS THEY SHOULD BE")
+    }
+}
+
 fn main(rt: HostRuntime) -> io::Result<()> {
     tell_examples(&rt, "examples", EXAMPLE, "alg")?;
     tell_examples(&rt, "codes", CODE, "asm")?;
-    tell_sheets(&rt)
+    tell_sheets(&rt)?;
+    tell_parts(&rt)?;
+    tell_worked(&rt, "numbers", numbers::are_right())?;
+    tell_worked(&rt, "words", words::are_right())?;
+    tell_worked(&rt, "control words", control_words::are_right())?;
+    tell_worked(&rt, "streams", streams::are_right(rt.alloc())?)
 }

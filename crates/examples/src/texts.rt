@@ -3,7 +3,7 @@
 ghost use Rattle.b67_listing.specs.Listings.{IsListable};
 
 use crate::told::{bits, number, say};
-use b67_list::Line;
+use b67_list::{Line, discard};
 use b67_listing::listing;
 use b67_listing_reader::{ReadListing, read_listing};
 use b67_report::{ReadReport, read_report, text};
@@ -20,25 +20,39 @@ fn lines_in(alloc: Global, input: &[u8]) -> Result<Vec<Line>, AllocError> {
     Ok(lines)
 }
 
+/// Appends a line with the words of a segment, for each segment.
+fn push_words(told: &mut Vec<u8>, code: &Code) {
+    for segment in code.segments.items() {
+        say(told, b"WORDS");
+        for word in segment.words.items() {
+            bits(told, *word);
+        }
+        say(told, b"\n");
+    }
+}
+
+/// Appends the lines of the listing of a code.
+fn push_listing(told: &mut Vec<u8>, alloc: Global, code: &Code) -> Result<(), AllocError>
+    requires { IsListable code.now }
+{
+    let lines = listing(alloc, code)?;
+    for line in lines.items() {
+        say(told, line.bytes());
+        say(told, b"\n");
+    }
+    Ok(())
+}
+
 /// A line with the words of each segment, and then the listing of a copy of the code.
 fn words_and_listing(alloc: Global, code: &Code) -> Result<Vec<u8>, AllocError>
     requires { IsListable code.now }
 {
-    let copy = code.copy()?;
-    let again = listing(alloc, &copy)?;
     let mut told = Vec::new(alloc);
-    for segment in code.segments.items() {
-        say(&mut told, b"WORDS");
-        for word in segment.words.items() {
-            bits(&mut told, *word);
-        }
-        say(&mut told, b"\n");
-    }
-    for line in again.items() {
-        say(&mut told, line.bytes());
-        say(&mut told, b"\n");
-    }
-    Ok(told)
+    push_words(&mut told, code);
+    let copy = code.copy()?;
+    let pushed = push_listing(&mut told, alloc, &copy);
+    discard(copy);
+    pushed.and(Ok(told))
 }
 
 /// Words, a number and LF.

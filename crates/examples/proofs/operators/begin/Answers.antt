@@ -9,7 +9,7 @@ use Rattle.b67_table.specs.Valid.{IsValid, FirstIsValid}
 use Rattle.b67_table.specs.Beginning.{first_image}
 use Rattle.b67_reach.specs.declared.Parts.{Parts}
 use Rattle.b67_reach.specs.Images.{image_of}
-use Rattle.action_tests.proofs.operators.begin.Goals as goal
+use Rattle.examples.proofs.operators.begin.Goals as goal
 
 made_is_valid : {E : Type 0} (code : Code) (stacks : Stacks) (rows : Rows) (made : Result (Events × Parts) E)
     → FirstIsValid → All (λ (s : Segment). length s.words ≤ segment_limit) code.segments

@@ -40,9 +40,7 @@ fn is_display() -> bool {
     display.get(2) == frame && display.get(3).is_none()
 }
 
-#[test]
-fn worked_words(rt: HostRuntime) {
-    assert!(rt; is_cell());
-    assert!(rt; are_words());
-    assert!(rt; is_display());
+/// Tests a reference, a procedure word, an event's word and the display.
+pub(crate) fn are_right() -> bool {
+    is_cell() && are_words() && is_display()
 }

@@ -3,8 +3,8 @@
 use b67_action::Done;
 use b67_list::{Line, push_number};
 use b67_machine::End;
-use b67_num::FaultKind;
 use b67_reach::InterruptKind;
+use b67_report::{EndWords, fault_words, push_end};
 
 /// Appends words.
 pub(crate) fn say(text: &mut Vec<u8>, words: &[u8]) {
@@ -39,22 +39,6 @@ pub(crate) fn lines(text: &mut Vec<u8>, written: &[Line]) {
     }
 }
 
-/// The words of a fault.
-fn fault_words(kind: FaultKind) -> &'static [u8] {
-    match kind {
-        FaultKind::RealResult => b"REAL RESULT",
-        FaultKind::DivideByZero => b"DIVIDE BY ZERO",
-        FaultKind::InvalidIndex => b"INVALID INDEX",
-        FaultKind::CriticalBlockExit => b"CRITICAL BLOCK EXIT",
-        FaultKind::BadGoTo => b"BAD GO TO",
-        FaultKind::ProcessLimit => b"PROCESS LIMIT",
-        FaultKind::CoreFull => b"CORE FULL",
-        FaultKind::ArraySize => b"ARRAY SIZE",
-        FaultKind::NotAVariable => b"NOT A VARIABLE",
-        FaultKind::CaseIndex => b"CASE INDEX",
-    }
-}
-
 /// The words of an interrupt.
 fn interrupt_words(kind: InterruptKind) -> &'static [u8] {
     match kind {
@@ -71,29 +55,30 @@ pub(crate) fn done_words(done: Done) -> &'static [u8] {
         Done::Went => b"WENT",
         Done::Waits => b"WAITS",
         Done::Ended => b"ENDED",
-        Done::Fault(kind) => fault_words(kind),
+        Done::Fault(kind) => fault_words(kind).as_bytes(),
         Done::Interrupt(kind) => interrupt_words(kind),
         Done::StackLimit => b"STACK LIMIT",
         Done::NoMemory => b"NO MEMORY",
     }
 }
 
+/// The words of an end.
+fn words_of(end: End) -> EndWords {
+    match end {
+        End::Finished => EndWords::Finished,
+        End::AllWaiting => EndWords::AllWaiting,
+        End::Fault { kind, process } => EndWords::Fault { kind, process },
+        End::StackLimit { process, words } => EndWords::StackLimit { process, words },
+    }
+}
+
 /// Appends the line of an end.
 pub(crate) fn end(text: &mut Vec<u8>, end: Option<End>) {
-    say(text, b"END ");
     match end {
-        Some(End::Finished) => say(text, b"FINISHED"),
-        Some(End::AllWaiting) => say(text, b"ALL WAITING"),
-        Some(End::Fault { kind, process }) => {
-            say(text, b"FAULT ");
-            say(text, fault_words(kind));
-            number(text, b" IN ", u64::from(process));
+        Some(end) => {
+            let _ = push_end(text, &words_of(end));
         }
-        Some(End::StackLimit { process, words }) => {
-            number(text, b"STACK LIMIT IN ", u64::from(process));
-            number(text, b" WORDS ", u64::from(words));
-        }
-        None => say(text, b"NONE"),
+        None => say(text, b"END NONE"),
     }
     say(text, b"\n");
 }

@@ -1,7 +1,7 @@
 use Rattle.b67_table.specs.Valid.{IsValid}
 use Rattle.b67_reach.specs.Images.{image_of}
 use Rattle.b67_action.specs.Done.{HasRoom}
-use Rattle.action_tests.proofs.operators.push_turns.Given as goal
+use Rattle.examples.proofs.operators.push_turns.Given as goal
 
 abbrev pub invariant-turns : goal.invariant-turns
 invariant-turns g l = record {

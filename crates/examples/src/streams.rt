@@ -7,7 +7,6 @@ use b67_io::{
 use std::alloc::{AllocError, Global};
 use std::io;
 use std::io::{ErrorKind, Read};
-use std::test::Fail;
 
 /// A source of these bytes, which gives at most so many of them in a call, and fails at these calls.
 fn source_of(
@@ -93,13 +92,10 @@ fn are_written() -> bool {
     takes(&mut sink, b"abcd", 3) && sink.fault_count() == 1
 }
 
-#[test]
-fn sources_and_sinks(rt: HostRuntime) -> Result<(), Fail> {
-    let alloc = rt.alloc();
-    assert!(rt; are_limited(alloc)?);
-    assert!(rt; go_on(alloc)?);
-    assert!(rt; have_room(alloc)?);
-    assert!(rt; are_read(alloc));
-    assert!(rt; are_written());
-    Ok(())
+/// Tests sources and sinks, in memory and over std.
+pub(crate) fn are_right(alloc: Global) -> Result<bool, AllocError> {
+    let are_limited = are_limited(alloc)?;
+    let go_on = go_on(alloc)?;
+    let have_room = have_room(alloc)?;
+    Ok(are_limited && go_on && have_room && are_read(alloc) && are_written())
 }

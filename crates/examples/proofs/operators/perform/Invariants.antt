@@ -2,7 +2,7 @@ use Rattle.std.proofs.Common.{◌-◌}
 use Rattle.b67_table.specs.Valid.{IsValid}
 use Rattle.b67_reach.specs.Images.{image_of}
 use Rattle.b67_action.specs.Done.{HasRoom}
-use Rattle.action_tests.proofs.operators.perform.Given as goal
+use Rattle.examples.proofs.operators.perform.Given as goal
 
 abbrev pub invariant-operators : goal.invariant-operators
 invariant-operators g l = record {
