@@ -1,12 +1,14 @@
 -- The commands by their words, and how their words can begin.
-use Rattle.std.proofs.Common.{◌≡◌, ◌≢◌, ◌⊎◌, inl, inr, ℕ, ◌≤◌, List, [], ◌∷◌, get_or, refl, sym, ap, subst, ◌∙◌, arith}
+use Rattle.std.proofs.Common.{◌≡◌, ◌≢◌, ◌⊎◌, inl, inr, ℕ, ◌≤◌, ◌<◌, ◌^◌, List, [], ◌∷◌, ◌++◌, length, drop, get_or, refl, sym, ap, subst, ◌∙◌, arith}
 use Rattle.std.specs.Prelude.{codes}
-use Rattle.std.proofs.lemmas.Fmt.{decimal_digit}
+use Rattle.std.proofs.lemmas.Fmt.{decimal_digit, decimal_injective}
 use Rattle.b67_words.specs.declared.TheConstants.{MOST_BUDGET, MOST_PROCESSORS}
+use Rattle.b67_words.specs.declared.Rule.{Rule}
+use Rattle.b67_words.specs.declared.Rule.TheVariants.{Fifo, Lifo, Seed}
 use Rattle.b67_words.specs.declared.Words.{Words}
 use Rattle.b67_words.specs.declared.Words.TheVariants as commands
 use Rattle.b67_words.specs.declared.Words.TheVariants.{Run, Check, Replay, Exec}
-use Rattle.b67_words.specs.Grammar.{IsNumber, IsCommand, run, check, list, replay, exec, BeginCommand, IsWhole}
+use Rattle.b67_words.specs.Grammar.{IsNumber, IsSeed, IsRule, fifo, lifo, seed, NameRule, IsCommand, run, check, list, replay, exec, BeginCommand, IsWhole}
 
 -- the word is a command by itself, which means this
 pub data IsAlone (name : List ℕ) (meaning : Words) : Type 0 where
@@ -20,13 +22,13 @@ pub data IsBudgeted (name : List ℕ) (b : ℕ) (meaning : Words) : Type 0 where
 
 -- the words of a command, and what they mean
 pub data Form (words : List (List ℕ)) (meaning : Words) : Type 0 where
-  a_run : (processors budget : List ℕ) (p b : ℕ) → words ≡ codes "run" ∷ processors ∷ budget ∷ [] → IsNumber MOST_PROCESSORS processors p →
-      IsNumber MOST_BUDGET budget b → meaning ≡ Run p b → Form words meaning
+  a_run : (processors budget : List ℕ) (last : List (List ℕ)) (p b : ℕ) (rule : Rule) → words ≡ codes "run" ∷ processors ∷ budget ∷ last →
+      IsNumber MOST_PROCESSORS processors p → IsNumber MOST_BUDGET budget b → NameRule last rule → meaning ≡ Run p b rule → Form words meaning
   a_budget : (name budget : List ℕ) (b : ℕ) → words ≡ name ∷ budget ∷ [] → IsNumber MOST_BUDGET budget b → IsBudgeted name b meaning → Form words meaning
   a_word : (name : List ℕ) → words ≡ name ∷ [] → IsAlone name meaning → Form words meaning
 
 pub form_of : (words : List (List ℕ)) (meaning : Words) → IsCommand words meaning → Form words meaning
-form_of _ _ (run processors budget p b f s) = a_run processors budget p b refl f s refl
+form_of _ _ (run processors budget last p b rule f s n) = a_run processors budget last p b rule refl f s n refl
 form_of _ _ check = a_word (codes "check") refl (is_check refl refl)
 form_of _ _ list = a_word (codes "list") refl (is_list refl refl)
 form_of _ _ (replay budget b s) = a_budget (codes "replay") budget b refl s (is_replay refl refl)
@@ -102,15 +104,18 @@ check_not_list e = differ (get_or (codes "check") 0 0) (get_or (codes "list") 0 
 pub record AfterRun (rest : List (List ℕ)) : Type 0 where
   pub processors : List ℕ
   pub budget : List ℕ
+  pub last : List (List ℕ)
   pub p : ℕ
   pub b : ℕ
-  pub are : rest ≡ processors ∷ budget ∷ []
+  pub rule : Rule
+  pub are : rest ≡ processors ∷ budget ∷ last
   pub first : IsNumber MOST_PROCESSORS processors p
   pub second : IsNumber MOST_BUDGET budget b
+  pub named : NameRule last rule
 
 run_form : (rest : List (List ℕ)) (meaning : Words) → Form (codes "run" ∷ rest) meaning → AfterRun rest
-run_form rest meaning (a_run processors budget p b e f s m) =
-    record { processors = processors; budget = budget; p = p; b = b; are = cc; first = f; second = s }
+run_form rest meaning (a_run processors budget last p b rule e f s n m) =
+    record { processors = processors; budget = budget; last = last; p = p; b = b; rule = rule; are = cc; first = f; second = s; named = n }
 run_form rest meaning (a_budget name budget b e s is) = budget_not_run name b meaning is (let same : name ≡ codes "run" = cc in same)
 run_form rest meaning (a_word name e is) = run_not_alone name meaning is (let same : name ≡ codes "run" = cc in same)
 
@@ -125,7 +130,7 @@ pub record AfterName (rest : List (List ℕ)) : Type 0 where
   pub first : IsNumber MOST_BUDGET budget b
 
 budget_form : (name : List ℕ) (k : ℕ) (one : Words) → IsBudgeted name k one → (rest : List (List ℕ)) (meaning : Words) → Form (name ∷ rest) meaning → AfterName rest
-budget_form name k one is rest meaning (a_run processors budget p b e f s m) = budget_not_run name k one is (let same : name ≡ codes "run" = cc in same)
+budget_form name k one is rest meaning (a_run processors budget last p b rule e f s n m) = budget_not_run name k one is (let same : name ≡ codes "run" = cc in same)
 budget_form name k one is rest meaning (a_budget other budget b e s also) = record { budget = budget; b = b; are = cc; first = s }
 budget_form name k one is rest meaning (a_word other e also) =
     let same : other ≡ name = cc in budget_not_alone name k one meaning is (subst (λ w. IsAlone w meaning) same also)
@@ -135,7 +140,7 @@ after_name name k one is rest meaning also = budget_form name k one is rest mean
 
 -- no word follows a command that is one word
 alone_form : (name word : List ℕ) (rest : List (List ℕ)) (one meaning : Words) → IsAlone name one → Form (name ∷ word ∷ rest) meaning → ⊥
-alone_form name word rest one meaning is (a_run processors budget p b e f s m) = run_not_alone name one is cc
+alone_form name word rest one meaning is (a_run processors budget last p b rule e f s n m) = run_not_alone name one is cc
 alone_form name word rest one meaning is (a_budget other budget b e s also) =
     let same : other ≡ name = cc in budget_not_alone name b meaning one (subst (λ w. IsBudgeted w b meaning) same also) is
 alone_form name word rest one meaning is (a_word other e also) = cc
@@ -153,7 +158,7 @@ pub begin_check : BeginCommand (codes "check" ∷ [])
 begin_check = ([], Check, check)
 
 pub begin_run : (processors : List ℕ) (p : ℕ) → IsNumber MOST_PROCESSORS processors p → BeginCommand (codes "run" ∷ processors ∷ [])
-begin_run processors p is = (codes "1" ∷ [], Run p 1, run processors (codes "1") p 1 is (one MOST_BUDGET (omega arith)))
+begin_run processors p is = (codes "1" ∷ [], Run p 1 Fifo, run processors (codes "1") [] p 1 Fifo is (one MOST_BUDGET (omega arith)) refl)
 
 -- ---- whole commands
 
@@ -167,11 +172,96 @@ whole_check = whole_alone (codes "check") Check check (is_check refl refl)
 pub whole_list : IsWhole (codes "list" ∷ []) commands.List
 whole_list = whole_alone (codes "list") commands.List list (is_list refl refl)
 
-pub whole_run : (processors budget : List ℕ) (p b : ℕ) → IsNumber MOST_PROCESSORS processors p → IsNumber MOST_BUDGET budget b →
-    IsWhole (codes "run" ∷ processors ∷ budget ∷ []) (Run p b)
-whole_run processors budget p b f s =
-    record { is = run processors budget p b f s; last = λ word (more, m, also). let e = (after_run (processors ∷ budget ∷ word ∷ more) m also).are in cc }
+pub whole_run : (processors budget word : List ℕ) (p b : ℕ) (rule : Rule) → IsNumber MOST_PROCESSORS processors p → IsNumber MOST_BUDGET budget b → IsRule word rule →
+    IsWhole (codes "run" ∷ processors ∷ budget ∷ word ∷ []) (Run p b rule)
+whole_run processors budget word p b rule f s n = record {
+  is = run processors budget (word ∷ []) p b rule f s n;
+  last = λ next (more, m, also).
+      let after = after_run (processors ∷ budget ∷ word ∷ next ∷ more) m also in
+      let e = after.are in
+      let same : after.last ≡ word ∷ next ∷ more = cc in
+      subst (λ (ws : List (List ℕ)). NameRule ws after.rule) same after.named;
+}
 
 pub whole_budget : (name budget : List ℕ) (b : ℕ) (meaning : Words) → IsBudgeted name b meaning → IsCommand (name ∷ budget ∷ []) meaning → IsWhole (name ∷ budget ∷ []) meaning
 whole_budget name budget b meaning budgeted is =
     record { is = is; last = λ word (more, m, also). let e = (after_name name b meaning budgeted (budget ∷ word ∷ more) m also).are in cc }
+
+-- ---- the rules of dispatch are told apart by a letter
+
+-- the word of a rule, and which it is
+data RuleForm (word : List ℕ) (rule : Rule) : Type 0 where
+  a_fifo : word ≡ codes "--rule=fifo" → rule ≡ Fifo → RuleForm word rule
+  a_lifo : word ≡ codes "--rule=lifo" → rule ≡ Lifo → RuleForm word rule
+  a_seed : (numeral : List ℕ) (n : ℕ) → word ≡ codes "--rule=seed:" ++ numeral → IsSeed numeral n → rule ≡ Seed n → RuleForm word rule
+
+rule_form : (word : List ℕ) (rule : Rule) → IsRule word rule → RuleForm word rule
+rule_form _ _ fifo = a_fifo refl refl
+rule_form _ _ lifo = a_lifo refl refl
+rule_form _ _ (seed numeral n is) = a_seed numeral n refl is refl
+
+first_by : (word : List ℕ) (rule : Rule) → RuleForm word rule → get_or word 0 0 ≡ 45
+first_by word rule (a_fifo e m) = letter word (codes "--rule=fifo") 0 45 e refl
+first_by word rule (a_lifo e m) = letter word (codes "--rule=lifo") 0 45 e refl
+first_by word rule (a_seed numeral n e is m) = letter word (codes "--rule=seed:" ++ numeral) 0 45 e refl
+
+-- the word of a rule begins with a hyphen
+pub rule_first : (word : List ℕ) (rule : Rule) → IsRule word rule → get_or word 0 0 ≡ 45
+rule_first word rule is = first_by word rule (rule_form word rule is)
+
+letters_apart : {B : Type 0} (n a b : ℕ) → n ≡ a → n ≡ b → a ≢ b → B
+letters_apart n a b e f h = absurd (h (sym e ∙ f))
+
+same_form_of : (word : List ℕ) (a b : Rule) → RuleForm word a → RuleForm word b → a ≡ b
+same_form_of word a b (a_fifo e m) (a_fifo f n) = m ∙ sym n
+same_form_of word a b (a_fifo e m) (a_lifo f n) =
+    letters_apart (get_or word 7 0) 102 108 (letter word (codes "--rule=fifo") 7 102 e refl) (letter word (codes "--rule=lifo") 7 108 f refl) (λ p. omega arith)
+same_form_of word a b (a_fifo e m) (a_seed numeral k f is n) =
+    letters_apart (get_or word 7 0) 102 115 (letter word (codes "--rule=fifo") 7 102 e refl) (letter word (codes "--rule=seed:" ++ numeral) 7 115 f refl) (λ p. omega arith)
+same_form_of word a b (a_lifo e m) (a_fifo f n) =
+    letters_apart (get_or word 7 0) 108 102 (letter word (codes "--rule=lifo") 7 108 e refl) (letter word (codes "--rule=fifo") 7 102 f refl) (λ p. omega arith)
+same_form_of word a b (a_lifo e m) (a_lifo f n) = m ∙ sym n
+same_form_of word a b (a_lifo e m) (a_seed numeral k f is n) =
+    letters_apart (get_or word 7 0) 108 115 (letter word (codes "--rule=lifo") 7 108 e refl) (letter word (codes "--rule=seed:" ++ numeral) 7 115 f refl) (λ p. omega arith)
+same_form_of word a b (a_seed numeral k e is m) (a_fifo f n) =
+    letters_apart (get_or word 7 0) 115 102 (letter word (codes "--rule=seed:" ++ numeral) 7 115 e refl) (letter word (codes "--rule=fifo") 7 102 f refl) (λ p. omega arith)
+same_form_of word a b (a_seed numeral k e is m) (a_lifo f n) =
+    letters_apart (get_or word 7 0) 115 108 (letter word (codes "--rule=seed:" ++ numeral) 7 115 e refl) (letter word (codes "--rule=lifo") 7 108 f refl) (λ p. omega arith)
+same_form_of word a b (a_seed numeral k e is m) (a_seed other j f also n) =
+    let same : numeral ≡ other = ap (drop 12) (sym e ∙ f) in
+    let one : k ≡ j = decimal_injective k j (omega (arith, is.greatest)) (omega (arith, also.greatest)) (sym is.written ∙ same ∙ also.written) in
+    m ∙ ap (λ (x : ℕ). Seed x) one ∙ sym n
+
+-- a word names one rule
+pub same_rule : (word : List ℕ) (a b : Rule) → IsRule word a → IsRule word b → a ≡ b
+same_rule word a b is also = same_form_of word a b (rule_form word a is) (rule_form word b also)
+
+pub same_name : (last : List (List ℕ)) (a b : Rule) → NameRule last a → NameRule last b → a ≡ b
+same_name [] a b is also = is ∙ sym also
+same_name (word ∷ []) a b is also = same_rule word a b is also
+same_name (word ∷ other ∷ rest) a b is also = absurd is
+
+-- what is no other rule is that of a number
+seed_by : (word : List ℕ) (rule : Rule) → word ≢ codes "--rule=fifo" → word ≢ codes "--rule=lifo" → RuleForm word rule
+    → (numeral : List ℕ) × (n : ℕ) × (word ≡ codes "--rule=seed:" ++ numeral) × IsSeed numeral n
+seed_by word rule f l (a_fifo e m) = absurd (f e)
+seed_by word rule f l (a_lifo e m) = absurd (l e)
+seed_by word rule f l (a_seed numeral n e is m) = (numeral, n, e, is)
+
+-- a text that begins as the rule of a number does names one where its rest is one, and else names none
+pub seed_read : (text numeral : List ℕ) (k : ℕ) → k ≡ length (codes "--rule=seed:") → text ≡ codes "--rule=seed:" ++ drop k text → numeral ≡ drop k text → (n : ℕ)
+    → IsSeed numeral n → IsRule text (Seed n)
+seed_read text numeral k e split rest n is =
+    subst (λ (w : List ℕ). IsRule w (Seed n)) (sym (split ∙ ap (λ (w : List ℕ). codes "--rule=seed:" ++ w) (sym rest))) (seed numeral n is)
+
+pub no_seed_read : (text numeral : List ℕ) (k : ℕ) → k ≡ length (codes "--rule=seed:") → text ≡ codes "--rule=seed:" ++ drop k text → numeral ≡ drop k text
+    → text ≢ codes "--rule=fifo" → text ≢ codes "--rule=lifo" → ((n : ℕ) → IsSeed numeral n → ⊥) → (rule : Rule) → IsRule text rule → ⊥
+no_seed_read text numeral k e split rest f l none rule is =
+    let s = seed_by text rule f l (rule_form text rule is) in
+    let whole : text ≡ codes "--rule=seed:" ++ numeral = split ∙ ap (λ (w : List ℕ). codes "--rule=seed:" ++ w) (sym rest) in
+    let same : s.0 ≡ numeral = ap (drop 12) (sym s.2 ∙ whole) in
+    none s.1 (subst (λ (w : List ℕ). IsSeed w s.1) same s.3)
+
+pub no_rule_read : (text : List ℕ) → ((rest : List ℕ) → drop 0 text ≢ codes "--rule=seed:" ++ rest) → text ≢ codes "--rule=fifo" → text ≢ codes "--rule=lifo"
+    → (rule : Rule) → IsRule text rule → ⊥
+no_rule_read text lacks f l rule is = let s = seed_by text rule f l (rule_form text rule is) in lacks s.0 s.2

@@ -1,12 +1,14 @@
 -- Numbers as they are written and as they are parsed.
 use Rattle.std.proofs.Common.{◌≡◌, ℕ, ◌^◌, ◌<◌, ◌≤◌, ◌≢◌, zero, suc, List, length, get_or, Result, Ok, Option, Bool, true, false, leb, refl, sym, ap, arith, ◌∙◌}
+use Rattle.std.specs.Prelude.{codes}
 use Rattle.std.specs.Fmt.{decimal}
 use Rattle.std.specs.Str.Parse.{ParsesUnsigned, AllDigits, digits_value}
 use Rattle.std.proofs.lemmas.Fmt.{first_decimal, decimal_digit, decimal_is_IsNumeral, decimal-digits_value, parse-decimal}
 use Rattle.std.proofs.lemmas.Str.Parse.{IsNumeralModel, numerals_by_value, tells_digits, parse_plain, digit_at}
 use Rattle.std.specs.Bool.{then_some}
 use Rattle.std.proofs.lemmas.Bool.{leb-true, leb-false}
-use Rattle.b67_words.specs.Grammar.{IsNumber, IsNumberOrNone}
+use Rattle.b67_words.specs.declared.TheConstants.{MOST_SEED}
+use Rattle.b67_words.specs.Grammar.{IsNumber, IsNumberOrNone, IsSeed}
 
 own : IsNumeralModel (AllDigits 10) (digits_value 10)
 own = numerals_by_value (AllDigits 10) tells_digits
@@ -47,3 +49,12 @@ kept most text n r true o fits h e low t s = rw s (parsed most text n r h e low 
 kept most text n r false o fits h e low t s =
     let great : most < n = leb-false n most (sym t) in
     rw s (λ m is. let f : r ≡ Ok m = reads most text m r fits h is in let same : m ≡ n = cc in let bound = is.greatest in absurd (omega arith))
+
+-- ---- the number of a rule, which may be 0
+
+pub zero_seed : (text : List ℕ) → text ≡ codes "0" → IsSeed text 0
+zero_seed text e = record { written = e ∙ sym (decimal_digit 0 (omega arith)); greatest = omega arith }
+
+pub no_seed : (text : List ℕ) → text ≢ codes "0" → ((n : ℕ) → IsNumber MOST_SEED text n → ⊥) → (n : ℕ) → IsSeed text n → ⊥
+no_seed text other none zero is = other (is.written ∙ decimal_digit 0 (omega arith))
+no_seed text other none (suc n) is = none (suc n) (record { written = is.written; least = omega arith; greatest = is.greatest })

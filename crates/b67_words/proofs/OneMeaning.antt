@@ -4,14 +4,15 @@ use Rattle.std.specs.Prelude.{codes}
 use Rattle.std.proofs.lemmas.List.{append_assoc, append-nil}
 use Rattle.std.proofs.lemmas.Fmt.{decimal_injective}
 use Rattle.b67_words.specs.declared.TheConstants.{MOST_BUDGET, MOST_PROCESSORS}
+use Rattle.b67_words.specs.declared.Rule.{Rule}
 use Rattle.b67_words.specs.declared.Words.{Words}
 use Rattle.b67_words.specs.declared.Words.TheVariants.{Run}
 use Rattle.b67_words.specs.declared.UsageKind.{UsageKind}
-use Rattle.b67_words.specs.declared.UsageKind.TheVariants.{Missing, Unknown, BadNumber, Extra}
+use Rattle.b67_words.specs.declared.UsageKind.TheVariants.{Missing, Unknown, BadNumber, BadRule, Extra}
 use Rattle.b67_words.specs.declared.BadWords.{BadWords}
 use Rattle.b67_words.specs.declared.BadWords.TheVariants.{Usage}
-use Rattle.b67_words.specs.Grammar.{IsNumber, IsCommand, BeginCommand, Wants, command, numeral, nothing, Breaks, missing, wrong, WordsMean, meant, broken}
-use Rattle.b67_words.proofs.Commands.{IsAlone, is_check, is_list, IsBudgeted, Form, a_run, a_budget, a_word, form_of, alone_letter, budget_letter, run_not_alone, budget_not_alone, budget_not_run, same_budgeted, check_not_list, begin_check}
+use Rattle.b67_words.specs.Grammar.{IsNumber, IsRule, NameRule, IsCommand, BeginCommand, Wants, command, numeral, named as rule_named, nothing, Breaks, missing, wrong, WordsMean, meant, broken}
+use Rattle.b67_words.proofs.Commands.{IsAlone, is_check, is_list, IsBudgeted, Form, a_run, a_budget, a_word, form_of, alone_letter, budget_letter, run_not_alone, budget_not_alone, budget_not_run, same_budgeted, check_not_list, begin_check, rule_first, same_name}
 use Rattle.b67_words.proofs.Reading.{begins}
 use Rattle.b67_words.proofs.Numbers.{first_digit}
 
@@ -27,18 +28,20 @@ same_alone name other a b same (is_list e m) (is_check f n) = check_not_list (sy
 same_alone name other a b same (is_list e m) (is_list f n) = m ∙ sym n
 
 same_form : (words : List (List ℕ)) (a b : Words) → Form words a → Form words b → a ≡ b
-same_form words a b (a_run processors budget p n e f s m) (a_run others other q k also g t l) =
+same_form words a b (a_run processors budget last p n rule e f s u m) (a_run others other more q k by also g t v l) =
     let same = sym e ∙ also in
     let first : others ≡ processors = cc in
     let second : other ≡ budget = cc in
+    let third : more ≡ last = cc in
     let one : p ≡ q = same_number MOST_PROCESSORS processors p q (omega arith) f (subst (λ w. IsNumber MOST_PROCESSORS w q) first g) in
     let two : n ≡ k = same_number MOST_BUDGET budget n k (omega arith) s (subst (λ w. IsNumber MOST_BUDGET w k) second t) in
-    m ∙ ap (λ x. Run x n) one ∙ ap (λ x. Run q x) two ∙ sym l
-same_form words a b (a_run processors budget p n e f s m) (a_budget name other k also t is) =
+    let named : rule ≡ by = same_name last rule by u (subst (λ (ws : List (List ℕ)). NameRule ws by) third v) in
+    m ∙ ap (λ x. Run x n rule) one ∙ ap (λ x. Run q x rule) two ∙ ap (λ (x : Rule). Run q k x) named ∙ sym l
+same_form words a b (a_run processors budget last p n rule e f s u m) (a_budget name other k also t is) =
     let same = sym e ∙ also in budget_not_run name k b is (let word : name ≡ codes "run" = cc in word)
-same_form words a b (a_run processors budget p n e f s m) (a_word name also is) =
+same_form words a b (a_run processors budget last p n rule e f s u m) (a_word name also is) =
     let same = sym e ∙ also in run_not_alone name b is (let word : name ≡ codes "run" = cc in word)
-same_form words a b (a_budget name budget n e s is) (a_run others other q k also g t l) =
+same_form words a b (a_budget name budget n e s is) (a_run others other more q k by also g t v l) =
     let same = sym e ∙ also in budget_not_run name n a is (let word : name ≡ codes "run" = cc in word)
 same_form words a b (a_budget name budget n e s is) (a_budget word other k also t too) =
     let same = sym e ∙ also in
@@ -50,7 +53,7 @@ same_form words a b (a_budget name budget n e s is) (a_word other also too) =
     let same = sym e ∙ also in
     let named : other ≡ name = cc in
     budget_not_alone name n a b is (subst (λ w. IsAlone w b) named too)
-same_form words a b (a_word name e is) (a_run others other q k also g t l) =
+same_form words a b (a_word name e is) (a_run others other more q k by also g t v l) =
     let same = sym e ∙ also in run_not_alone name a is (let word : name ≡ codes "run" = cc in word)
 same_form words a b (a_word name e is) (a_budget other budget k also t too) =
     let same = sym e ∙ also in
@@ -64,7 +67,7 @@ same_command words a b is also = same_form words a b (form_of words a is) (form_
 
 -- a number is no name of a command
 number_form : {B : Type 0} (word : List ℕ) (rest : List (List ℕ)) (meaning : Words) → get_or word 0 0 ≤ 57 → Form (word ∷ rest) meaning → B
-number_form word rest meaning low (a_run processors budget p b e f s m) =
+number_form word rest meaning low (a_run processors budget last p b rule e f s n m) =
     let same : word ≡ codes "run" = cc in
     let high : get_or word 0 0 ≡ 114 = rw same refl in
     absurd (omega arith)
@@ -81,6 +84,61 @@ number_form word rest meaning low (a_word name e is) =
 
 no_number_first : {B : Type 0} (word : List ℕ) (n : ℕ) → IsNumber MOST_BUDGET word n → BeginCommand (word ∷ []) → B
 no_number_first word n is (rest, m, begins) = number_form word rest m (first_digit MOST_BUDGET word n (omega arith) is).1 (form_of (word ∷ rest) m begins)
+
+-- ---- a rule stands after three words, and a number never does
+
+-- a number is no rule
+no_rule : {B : Type 0} (most : ℕ) (word : List ℕ) (n : ℕ) (rule : Rule) → most < 2 ^ 64 → IsNumber most word n → IsRule word rule → B
+no_rule most word n rule small is also = absurd (omega (arith, rule_first word rule also, (first_digit most word n small is).0))
+
+none_after : (word : List ℕ) (more : List (List ℕ)) (next : List ℕ) (rest : List (List ℕ)) (rule : Rule) → NameRule (word ∷ (more ++ next ∷ rest)) rule → ⊥
+none_after word [] next rest rule is = is
+none_after word (other ∷ more) next rest rule is = is
+
+rule_place : (words : List (List ℕ)) (word : List ℕ) (rest : List (List ℕ)) (meaning : Words) (rule : Rule) → IsRule word rule → Form (words ++ word ∷ rest) meaning
+    → length words ≡ 3
+rule_place [] word rest meaning rule is form = number_form word rest meaning (omega (arith, rule_first word rule is)) form
+rule_place (a ∷ []) word rest meaning rule is (a_run processors budget last p b by e f s n m) =
+    let same : processors ≡ word = cc in no_rule MOST_PROCESSORS word p rule (omega arith) (subst (λ w. IsNumber MOST_PROCESSORS w p) same f) is
+rule_place (a ∷ []) word rest meaning rule is (a_budget name budget b e s also) =
+    let same : budget ≡ word = cc in no_rule MOST_BUDGET word b rule (omega arith) (subst (λ w. IsNumber MOST_BUDGET w b) same s) is
+rule_place (a ∷ []) word rest meaning rule is (a_word name e also) = cc
+rule_place (a ∷ c ∷ []) word rest meaning rule is (a_run processors budget last p b by e f s n m) =
+    let same : budget ≡ word = cc in no_rule MOST_BUDGET word b rule (omega arith) (subst (λ w. IsNumber MOST_BUDGET w b) same s) is
+rule_place (a ∷ c ∷ []) word rest meaning rule is (a_budget name budget b e s also) = cc
+rule_place (a ∷ c ∷ []) word rest meaning rule is (a_word name e also) = cc
+rule_place (a ∷ c ∷ d ∷ []) word rest meaning rule is form = refl
+rule_place (a ∷ c ∷ d ∷ x ∷ more) word rest meaning rule is (a_run processors budget last p b by e f s n m) =
+    let same : last ≡ x ∷ (more ++ word ∷ rest) = cc in absurd (none_after x more word rest by (subst (λ (ws : List (List ℕ)). NameRule ws by) same n))
+rule_place (a ∷ c ∷ d ∷ x ∷ more) word rest meaning rule is (a_budget name budget b e s also) = cc
+rule_place (a ∷ c ∷ d ∷ x ∷ more) word rest meaning rule is (a_word name e also) = cc
+
+named_fourth : {B : Type 0} (word : List ℕ) (rest : List (List ℕ)) (n : ℕ) (by : Rule) → IsNumber MOST_BUDGET word n → NameRule (word ∷ rest) by → B
+named_fourth word [] n by is also = no_rule MOST_BUDGET word n by (omega arith) is also
+named_fourth word (other ∷ rest) n by is also = absurd also
+
+number_not_fourth : {B : Type 0} (words : List (List ℕ)) (word : List ℕ) (rest : List (List ℕ)) (meaning : Words) (n : ℕ) → IsNumber MOST_BUDGET word n → length words ≡ 3
+    → Form (words ++ word ∷ rest) meaning → B
+number_not_fourth [] word rest meaning n is three form = absurd (omega (arith, three))
+number_not_fourth (a ∷ []) word rest meaning n is three form = absurd (omega (arith, three))
+number_not_fourth (a ∷ c ∷ []) word rest meaning n is three form = absurd (omega (arith, three))
+number_not_fourth (a ∷ c ∷ d ∷ []) word rest meaning n is three (a_run processors budget last p b by e f s u m) =
+    let same : last ≡ word ∷ rest = cc in named_fourth word rest n by is (subst (λ (ws : List (List ℕ)). NameRule ws by) same u)
+number_not_fourth (a ∷ c ∷ d ∷ []) word rest meaning n is three (a_budget name budget b e s also) = cc
+number_not_fourth (a ∷ c ∷ d ∷ []) word rest meaning n is three (a_word name e also) = cc
+number_not_fourth (a ∷ c ∷ d ∷ x ∷ more) word rest meaning n is three form = absurd (omega (arith, three))
+
+-- the form of a command that begins with words and one more
+form_from : (words : List (List ℕ)) (word : List ℕ) (rest : List (List ℕ)) (meaning : Words) → IsCommand ((words ++ word ∷ []) ++ rest) meaning → Form (words ++ word ∷ rest) meaning
+form_from words word rest meaning is = form_of (words ++ word ∷ rest) meaning (subst (λ ws. IsCommand ws meaning) (append_assoc words (word ∷ []) rest) is)
+
+rule_fourth : (words : List (List ℕ)) (word : List ℕ) (rule : Rule) → IsRule word rule → BeginCommand (words ++ word ∷ []) → length words ≡ 3
+rule_fourth words word rule is (rest, m, begins) = rule_place words word rest m rule is (form_from words word rest m begins)
+
+number_or_rule : {B : Type 0} (words : List (List ℕ)) (word : List ℕ) (n : ℕ) (other : List ℕ) (rule : Rule) → IsNumber MOST_BUDGET word n → BeginCommand (words ++ word ∷ [])
+    → IsRule other rule → BeginCommand (words ++ other ∷ []) → B
+number_or_rule words word n other rule is (rest, m, begins) also then =
+    number_not_fourth words word rest m n is (rule_fourth words other rule also then) (form_from words word rest m begins)
 
 -- ---- two ways to cut a list at a word
 
@@ -109,12 +167,17 @@ cuts (x ∷ before) word after (y ∷ others) other rest e =
 data Wanted (words : List (List ℕ)) : UsageKind → Type 0 where
   a_command : words ≡ [] → Wanted words Unknown
   a_number : (word : List ℕ) (n : ℕ) → IsNumber MOST_BUDGET word n → BeginCommand (words ++ word ∷ []) → Wanted words BadNumber
+  a_rule : (word : List ℕ) (rule : Rule) → IsRule word rule → BeginCommand (words ++ word ∷ []) → Wanted words BadRule
   no_word : ((word : List ℕ) → BeginCommand (words ++ word ∷ []) → ⊥) → Wanted words Extra
 
 wanted : (words : List (List ℕ)) (kind : UsageKind) → Wants words kind → Wanted words kind
 wanted _ _ command = a_command refl
 wanted _ _ (numeral words word n is starts) = a_number word n is starts
+wanted _ _ (rule_named words word rule is starts) = a_rule word rule is starts
 wanted _ _ (nothing words starts none) = no_word none
+
+rule_or_command : {B : Type 0} (words : List (List ℕ)) (word : List ℕ) (rule : Rule) → words ≡ [] → IsRule word rule → BeginCommand (words ++ word ∷ []) → B
+rule_or_command words word rule e is starts = absurd (omega (arith, rule_fourth words word rule is starts, ap length e))
 
 number_or_command : {B : Type 0} (words : List (List ℕ)) (word : List ℕ) (n : ℕ) → words ≡ [] → IsNumber MOST_BUDGET word n → BeginCommand (words ++ word ∷ []) → B
 number_or_command words word n e is starts = no_number_first word n is (subst (λ ws. BeginCommand (ws ++ word ∷ [])) e starts)
@@ -129,6 +192,13 @@ same_want words _ _ (a_command e) (no_word none) = command_or_none words e none
 same_want words _ _ (a_number word n is starts) (a_command e) = number_or_command words word n e is starts
 same_want words _ _ (a_number word n is starts) (a_number other k also then) = refl
 same_want words _ _ (a_number word n is starts) (no_word none) = absurd (none word starts)
+same_want words _ _ (a_command e) (a_rule word rule is starts) = rule_or_command words word rule e is starts
+same_want words _ _ (a_number word n is starts) (a_rule other rule also then) = number_or_rule words word n other rule is starts also then
+same_want words _ _ (a_rule word rule is starts) (a_command e) = rule_or_command words word rule e is starts
+same_want words _ _ (a_rule word rule is starts) (a_number other n also then) = number_or_rule words other n word rule also then is starts
+same_want words _ _ (a_rule word rule is starts) (a_rule other by also then) = refl
+same_want words _ _ (a_rule word rule is starts) (no_word none) = absurd (none word starts)
+same_want words _ _ (no_word none) (a_rule word rule is starts) = absurd (none word starts)
 same_want words _ _ (no_word none) (a_command e) = command_or_none words e none
 same_want words _ _ (no_word none) (a_number word n is starts) = absurd (none word starts)
 same_want words _ _ (no_word none) (no_word also) = refl

@@ -1,17 +1,19 @@
 -- Words that are read one by one, and the first that breaks the grammar.
-use Rattle.std.proofs.Common.{◌≡◌, ◌≢◌, ℕ, ◌+◌, ◌≤◌, ◌<◌, List, [], ◌∷◌, ◌++◌, length, take, drop, map, Some, None, Ok, Err, refl, sym, ap, ◌∙◌, subst, arith}
+use Rattle.std.proofs.Common.{◌≡◌, ◌≢◌, ◌⊎◌, inl, inr, ℕ, ◌+◌, ◌≤◌, ◌<◌, List, [], ◌∷◌, ◌++◌, length, take, drop, map, Some, None, Ok, Err, refl, sym, ap, ◌∙◌, subst, arith}
 use Rattle.std.specs.Prelude.{slice_get, codes}
 use Rattle.std.proofs.lemmas.List.{append_assoc, append-nil, length-append, take-append-drop, length-take-le}
 use Rattle.std.proofs.lemmas.Option.{get_or_from_slice_get, slice_get_within}
 use Rattle.std.proofs.Math.Seq.{get_or-append_seam, take-append_seam, take-length}
 use Rattle.b67_words.specs.declared.TheConstants.{MOST_BUDGET, MOST_PROCESSORS}
+use Rattle.b67_words.specs.declared.Rule.{Rule}
+use Rattle.b67_words.specs.declared.Rule.TheVariants.{Fifo}
 use Rattle.b67_words.specs.declared.Words.{Words}
 use Rattle.b67_words.specs.declared.Words.TheVariants as commands
 use Rattle.b67_words.specs.declared.Words.TheVariants.{Run, Check, Replay, Exec}
 use Rattle.b67_words.specs.declared.BadWords.{BadWords}
 use Rattle.b67_words.specs.declared.BadWords.TheVariants.{Usage}
 use Rattle.b67_words.specs.declared.UsageKind.TheVariants.{Missing, Unknown, BadNumber, BadRule, Extra}
-use Rattle.b67_words.specs.Grammar.{IsNumber, IsCommand, replay, exec, BeginCommand, IsWhole, BeginWhole, command, numeral, nothing, missing, wrong, WordsMean, meant, broken, IsNumberOrNone, NumberStandsAt}
+use Rattle.b67_words.specs.Grammar.{IsNumber, IsRule, fifo, NameRule, IsCommand, run, replay, exec, BeginCommand, IsWhole, BeginWhole, command, numeral, named as rule_named, nothing, missing, wrong, WordsMean, meant, broken, IsNumberOrNone, NumberStandsAt, IsRuleOrNone, RuleStandsAt}
 use Rattle.b67_words.proofs.Commands.{Form, a_run, a_budget, a_word, IsAlone, is_check, is_list, IsBudgeted, is_replay, is_exec, form_of, begin_nothing, begin_run, one, after_run, after_name, whole_run, whole_budget, whole_check, whole_list}
 
 -- the words begin with these
@@ -91,7 +93,7 @@ awaits_processors = record {
 awaits_budget : (processors : List ℕ) (p : ℕ) → IsNumber MOST_PROCESSORS processors p → Awaits (codes "run" ∷ processors ∷ []) MOST_BUDGET
 awaits_budget processors p f = record {
   unfinished = λ m is. let e = (after_run (processors ∷ []) m is).are in cc;
-  begun = ([], Run p 1, (whole_run processors (codes "1") p 1 f (one MOST_BUDGET (omega arith))).is);
+  begun = ([], Run p 1 Fifo, run processors (codes "1") [] p 1 Fifo f (one MOST_BUDGET (omega arith)) refl);
   only = λ word (more, m, is). let words = after_run (processors ∷ word ∷ more) m is in let e = words.are in let same : words.budget ≡ word = cc in
       (words.b, subst (λ w. IsNumber MOST_BUDGET w words.b) same words.second);
 }
@@ -116,13 +118,6 @@ begin_whole front words meaning (rest, e) is =
     let sum = length-append front rest in
     subst (λ ws. BeginWhole ws (length front) meaning) (sym e)
     record { given = omega arith; whole = subst (λ ws. IsWhole ws meaning) (sym (take-append_seam front rest)) is }
-
-pub begin_run_whole : (words : List (List ℕ)) (p b : ℕ) → slice_get words 0 ≡ Some (codes "run") → NumberStandsAt words 1 MOST_PROCESSORS (Ok p) →
-    NumberStandsAt words 2 MOST_BUDGET (Ok b) → BeginWhole words 3 (Run p b)
-begin_run_whole words p b h f s =
-    let first = number_read (codes "run" ∷ []) words MOST_PROCESSORS p (starts (codes "run") words h) f in
-    let second = number_read (codes "run" ∷ first.word ∷ []) words MOST_BUDGET b first.on s in
-    begin_whole (codes "run" ∷ first.word ∷ second.word ∷ []) words (Run p b) second.on (whole_run first.word second.word p b first.is second.is)
 
 -- a command of a name and a budget
 module _ (name : List ℕ) (meaning : ℕ → Words) (named : (b : ℕ) → IsBudgeted name b (meaning b))
@@ -188,6 +183,94 @@ pub exact : (words : List (List ℕ)) (count : ℕ) (meaning : Words) → IsWhol
 exact words count meaning is e =
     let whole : take count words ≡ words = rw e (take-length words) in meant words meaning (subst (λ ws. IsCommand ws meaning) whole is.is)
 
+-- ---- the rule that may follow the budget of a run
+
+module _ (processors budget : List ℕ) (p b : ℕ) (f : IsNumber MOST_PROCESSORS processors p) (s : IsNumber MOST_BUDGET budget b) where
+  -- the words of a run that go on so
+  abbrev run_with : List (List ℕ) → List (List ℕ)
+  run_with rest = codes "run" ∷ processors ∷ budget ∷ rest
+
+  meant_by : (rest : List (List ℕ)) (rule : Rule) → RuleStandsAt (run_with rest) (Ok rule) → length (run_with rest) ≤ 4 → WordsMean (run_with rest) (Ok (Run p b rule))
+  meant_by [] rule (inl k) short = meant (run_with []) (Run p b rule) (run processors budget [] p b rule f s k.1)
+  meant_by [] rule (inr k) short = let no : None ≡ Some k.0 = k.1 in cc
+  meant_by (word ∷ []) rule (inl k) short = absurd (omega (arith, k.0))
+  meant_by (word ∷ []) rule (inr k) short =
+      let e : Some word ≡ Some k.0 = k.1 in
+      let same : k.0 ≡ word = cc in
+      meant (run_with (word ∷ [])) (Run p b rule) (run processors budget (word ∷ []) p b rule f s (subst (λ (w : List ℕ). IsRule w rule) same k.2))
+  meant_by (word ∷ other ∷ rest) rule k short = absurd (omega (arith, short))
+
+  extra_by : (rest : List (List ℕ)) (rule : Rule) → RuleStandsAt (run_with rest) (Ok rule) → 4 < length (run_with rest) → WordsMean (run_with rest) (Err (Usage 5 Extra))
+  extra_by [] rule k long = absurd (omega (arith, long))
+  extra_by (word ∷ []) rule k long = absurd (omega (arith, long))
+  extra_by (word ∷ other ∷ rest) rule (inl k) long = absurd (omega (arith, k.0))
+  extra_by (word ∷ other ∷ rest) rule (inr k) long =
+      let e : Some word ≡ Some k.0 = k.1 in
+      let same : k.0 ≡ word = cc in
+      extra (run_with (word ∷ other ∷ rest)) 4 (Run p b rule) (whole_run processors budget word p b rule f s (subst (λ (w : List ℕ). IsRule w rule) same k.2)) long
+
+  begun : BeginCommand (run_with [])
+  begun = ([], Run p b Fifo, run processors budget [] p b Fifo f s refl)
+
+  -- a word that may follow names a rule
+  only_rule : (word : List ℕ) (more : List (List ℕ)) (rule : Rule) → NameRule (word ∷ more) rule → IsRule word rule
+  only_rule word [] rule is = is
+  only_rule word (other ∷ more) rule is = absurd is
+
+  none_by : (word : List ℕ) → IsRuleOrNone word None → BeginCommand (run_with (word ∷ [])) → ⊥
+  none_by word none (more, m, is) =
+      let after = after_run (processors ∷ budget ∷ word ∷ more) m is in
+      let e = after.are in
+      let same : after.last ≡ word ∷ more = cc in
+      none after.rule (only_rule word more after.rule (subst (λ (ws : List (List ℕ)). NameRule ws after.rule) same after.named))
+
+  rule_bad : (word : List ℕ) (after : List (List ℕ)) → IsRuleOrNone word None → WordsMean (run_with (word ∷ after)) (Err (Usage 4 BadRule))
+  rule_bad word after none =
+      broken (run_with (word ∷ after)) 4 BadRule
+      (wrong (run_with []) word after BadRule begun (none_by word none)
+      (rule_named (run_with []) (codes "--rule=fifo") Fifo fifo ([], Run p b Fifo, run processors budget (codes "--rule=fifo" ∷ []) p b Fifo f s fifo)))
+
+  broken_by : (rest : List (List ℕ)) (bad : BadWords) → RuleStandsAt (run_with rest) (Err bad) → WordsMean (run_with rest) (Err bad)
+  broken_by [] (Usage k BadRule) n = let no : None ≡ Some n.1 = n.2 in cc
+  broken_by (word ∷ after) (Usage k BadRule) n =
+      let e : Some word ≡ Some n.1 = n.2 in
+      let same : n.1 ≡ word = cc in
+      subst (λ (i : ℕ). WordsMean (run_with (word ∷ after)) (Err (Usage i BadRule))) (sym n.0)
+      (rule_bad word after (subst (λ (w : List ℕ). IsRuleOrNone w None) same n.3))
+  broken_by rest (Usage k Missing) n = absurd n
+  broken_by rest (Usage k Unknown) n = absurd n
+  broken_by rest (Usage k BadNumber) n = absurd n
+  broken_by rest (Usage k Extra) n = absurd n
+
+-- what is read of a run, word by word
+module _ (words : List (List ℕ)) (p b : ℕ) (h : slice_get words 0 ≡ Some (codes "run")) (f : NumberStandsAt words 1 MOST_PROCESSORS (Ok p))
+    (s : NumberStandsAt words 2 MOST_BUDGET (Ok b)) where
+  first : ReadNumber (codes "run" ∷ []) words MOST_PROCESSORS p
+  first = number_read (codes "run" ∷ []) words MOST_PROCESSORS p (starts (codes "run") words h) f
+
+  second : ReadNumber (codes "run" ∷ first.word ∷ []) words MOST_BUDGET b
+  second = number_read (codes "run" ∷ first.word ∷ []) words MOST_BUDGET b first.on s
+
+  are : words ≡ codes "run" ∷ first.word ∷ second.word ∷ second.on.0
+  are = second.on.1
+
+  pub run_meant : (rule : Rule) → RuleStandsAt words (Ok rule) → length words ≤ 4 → WordsMean words (Ok (Run p b rule))
+  run_meant rule k short =
+      subst (λ (ws : List (List ℕ)). WordsMean ws (Ok (Run p b rule))) (sym are)
+      (meant_by first.word second.word p b first.is second.is second.on.0 rule (subst (λ (ws : List (List ℕ)). RuleStandsAt ws (Ok rule)) are k)
+      (subst (λ (ws : List (List ℕ)). length ws ≤ 4) are short))
+
+  pub run_extra : (rule : Rule) → RuleStandsAt words (Ok rule) → 4 < length words → WordsMean words (Err (Usage 5 Extra))
+  run_extra rule k long =
+      subst (λ (ws : List (List ℕ)). WordsMean ws (Err (Usage 5 Extra))) (sym are)
+      (extra_by first.word second.word p b first.is second.is second.on.0 rule (subst (λ (ws : List (List ℕ)). RuleStandsAt ws (Ok rule)) are k)
+      (subst (λ (ws : List (List ℕ)). 4 < length ws) are long))
+
+  pub run_rule_broken : (bad : BadWords) → RuleStandsAt words (Err bad) → WordsMean words (Err bad)
+  run_rule_broken bad k =
+      subst (λ (ws : List (List ℕ)). WordsMean ws (Err bad)) (sym are)
+      (broken_by first.word second.word p b first.is second.is second.on.0 bad (subst (λ (ws : List (List ℕ)). RuleStandsAt ws (Err bad)) are k))
+
 -- ---- the first word
 
 -- the word is no name of a command
@@ -207,7 +290,7 @@ not_budgeted word b meaning none (is_replay e m) = none.not_replay e
 not_budgeted word b meaning none (is_exec e m) = none.not_exec e
 
 no_command : (word : List ℕ) (rest : List (List ℕ)) (meaning : Words) → NamesNone word → Form (word ∷ rest) meaning → ⊥
-no_command word rest meaning none (a_run processors budget p b e f s m) = none.not_run cc
+no_command word rest meaning none (a_run processors budget last p b rule e f s n m) = none.not_run cc
 no_command word rest meaning none (a_budget name budget b e s is) = let same : name ≡ word = cc in not_budgeted word b meaning none (subst (λ w. IsBudgeted w b meaning) same is)
 no_command word rest meaning none (a_word name e is) = let same : name ≡ word = cc in not_alone word meaning none (subst (λ w. IsAlone w meaning) same is)
 
@@ -216,7 +299,7 @@ unknown_given word rest none =
     broken (word ∷ rest) 1 Unknown (wrong [] word rest Unknown begin_nothing (λ (more, m, is). no_command word more m none (form_of (word ∷ more) m is)) command)
 
 no_words : (meaning : Words) → Form [] meaning → ⊥
-no_words meaning (a_run processors budget p b e f s m) = cc
+no_words meaning (a_run processors budget last p b rule e f s n m) = cc
 no_words meaning (a_budget name budget b e s is) = cc
 no_words meaning (a_word name e is) = cc
 

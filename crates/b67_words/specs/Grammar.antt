@@ -1,12 +1,14 @@
 -- The grammar of the command words, and which word of a list is the first that breaks it. A word is the list of its bytes.
-use Rattle.std.specs.Prelude.{◌≡◌, ℕ, ◌+◌, ◌≤◌, List, [], ◌∷◌, ◌++◌, length, take, codes, slice_get, Option, Some, None, Result, Ok, Err}
+use Rattle.std.specs.Prelude.{◌≡◌, ◌⊎◌, ℕ, ◌+◌, ◌≤◌, List, [], ◌∷◌, ◌++◌, length, take, codes, slice_get, Option, Some, None, Result, Ok, Err}
 use Rattle.std.specs.Fmt.{decimal}
-use Rattle.b67_words.specs.declared.TheConstants.{MOST_BUDGET, MOST_PROCESSORS}
+use Rattle.b67_words.specs.declared.TheConstants.{MOST_BUDGET, MOST_PROCESSORS, MOST_SEED}
+use Rattle.b67_words.specs.declared.Rule.{Rule}
+use Rattle.b67_words.specs.declared.Rule.TheVariants.{Fifo, Lifo, Seed}
 use Rattle.b67_words.specs.declared.Words.{Words}
 use Rattle.b67_words.specs.declared.Words.TheVariants as commands
 use Rattle.b67_words.specs.declared.Words.TheVariants.{Run, Check, Replay, Exec}
 use Rattle.b67_words.specs.declared.UsageKind.{UsageKind}
-use Rattle.b67_words.specs.declared.UsageKind.TheVariants.{Missing, Unknown, BadNumber, Extra}
+use Rattle.b67_words.specs.declared.UsageKind.TheVariants.{Missing, Unknown, BadNumber, BadRule, Extra}
 use Rattle.b67_words.specs.declared.BadWords.{BadWords}
 use Rattle.b67_words.specs.declared.BadWords.TheVariants.{Usage}
 
@@ -16,10 +18,27 @@ pub record IsNumber (most : ℕ) (word : List ℕ) (number : ℕ) : Type 0 where
   pub least : 1 ≤ number
   pub greatest : number ≤ most
 
+-- the word is that number of a rule, from 0 to the greatest one: decimal, without sign and leading zeros
+pub record IsSeed (word : List ℕ) (number : ℕ) : Type 0 where
+  pub written : word ≡ decimal number
+  pub greatest : number ≤ MOST_SEED
+
+-- the words of the rules of dispatch
+pub data IsRule : List ℕ → Rule → Type 0 where
+  fifo : IsRule (codes "--rule=fifo") Fifo
+  lifo : IsRule (codes "--rule=lifo") Lifo
+  seed : (numeral : List ℕ) (n : ℕ) → IsSeed numeral n → IsRule (codes "--rule=seed:" ++ numeral) (Seed n)
+
+-- the words after the budget of a run, and the rule that they name: where there is none, it is first in, first out
+abbrev pub NameRule : List (List ℕ) → Rule → Type 0
+NameRule [] rule = rule ≡ Fifo
+NameRule (word ∷ []) rule = IsRule word rule
+NameRule (word ∷ other ∷ rest) rule = ⊥
+
 -- The commands: the words of each, and what they mean.
 pub data IsCommand : List (List ℕ) → Words → Type 0 where
-  run : (processors budget : List ℕ) (p b : ℕ) → IsNumber MOST_PROCESSORS processors p → IsNumber MOST_BUDGET budget b →
-      IsCommand (codes "run" ∷ processors ∷ budget ∷ []) (Run p b)
+  run : (processors budget : List ℕ) (last : List (List ℕ)) (p b : ℕ) (rule : Rule) → IsNumber MOST_PROCESSORS processors p → IsNumber MOST_BUDGET budget b →
+      NameRule last rule → IsCommand (codes "run" ∷ processors ∷ budget ∷ last) (Run p b rule)
   check : IsCommand (codes "check" ∷ []) Check
   list : IsCommand (codes "list" ∷ []) commands.List
   replay : (budget : List ℕ) (b : ℕ) → IsNumber MOST_BUDGET budget b → IsCommand (codes "replay" ∷ budget ∷ []) (Replay b)
@@ -44,6 +63,7 @@ pub data Wants : List (List ℕ) → UsageKind → Type 0 where
   command : Wants [] Unknown
   numeral : (words : List (List ℕ)) (word : List ℕ) (n : ℕ) → IsNumber MOST_BUDGET word n → BeginCommand (words ++ word ∷ []) →
       Wants words BadNumber
+  named : (words : List (List ℕ)) (word : List ℕ) (rule : Rule) → IsRule word rule → BeginCommand (words ++ word ∷ []) → Wants words BadRule
   nothing : (words : List (List ℕ)) → BeginCommand words → ((word : List ℕ) → BeginCommand (words ++ word ∷ []) → ⊥) → Wants words Extra
 
 -- the first word that breaks the grammar is the one with this number, counted from 1, and this is wrong with it
@@ -72,3 +92,21 @@ NumberStandsAt words before most (Err (Usage k Missing)) = (k ≡ before + 1) ×
 NumberStandsAt words before most (Err (Usage k BadNumber)) =
     (k ≡ before + 1) × (word : List ℕ) × (slice_get words before ≡ Some word) × IsNumberOrNone most word None
 NumberStandsAt words before most _ = ⊥
+
+-- the text is that number of a rule, or none
+abbrev pub IsSeedOrNone : List ℕ → Option ℕ → Type 0
+IsSeedOrNone text (Some n) = IsSeed text n
+IsSeedOrNone text None = (n : ℕ) → IsSeed text n → ⊥
+
+-- the text names that rule, or none
+abbrev pub IsRuleOrNone : List ℕ → Option Rule → Type 0
+IsRuleOrNone text (Some rule) = IsRule text rule
+IsRuleOrNone text None = (rule : Rule) → IsRule text rule → ⊥
+
+-- reading a rule as the word after three others
+abbrev pub RuleStandsAt : List (List ℕ) → Result Rule BadWords → Type 0
+RuleStandsAt words (Ok rule) =
+    ((length words ≤ 3) × (rule ≡ Fifo)) ⊎ ((word : List ℕ) × (slice_get words 3 ≡ Some word) × IsRule word rule)
+RuleStandsAt words (Err (Usage k BadRule)) =
+    (k ≡ 4) × (word : List ℕ) × (slice_get words 3 ≡ Some word) × IsRuleOrNone word None
+RuleStandsAt words _ = ⊥

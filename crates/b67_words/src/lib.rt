@@ -1,9 +1,9 @@
 //! The words of a command line: the grammar of the commands, and which word of a list is the first that breaks it.
 #![tactic(auto)]
 
-ghost use Rattle.std.specs.Prelude.{◌≡◌, ◌<◌, ◌≤◌, ℕ, List, Result, map, length, codes, slice_get, slice_index, Some, IsTrue, ◌↔◌};
+ghost use Rattle.std.specs.Prelude.{◌≡◌, ◌≢◌, ◌<◌, ◌≤◌, ℕ, List, Result, map, length, codes, slice_get, slice_index, Some, IsTrue, ◌↔◌};
 ghost use Rattle.std.specs.String.{string_bytes};
-ghost use Rattle.b67_words.specs.Grammar.{WordsMean, BeginWhole, IsNumberOrNone, NumberStandsAt};
+ghost use Rattle.b67_words.specs.Grammar.{WordsMean, BeginWhole, IsNumberOrNone, NumberStandsAt, IsSeedOrNone, IsRuleOrNone, RuleStandsAt};
 
 use thiserror::Error;
 
@@ -15,23 +15,45 @@ pub const MOST_BUDGET: u64 = 4_194_304;
 pub const MOST_STRETCH: u64 = 64;
 
 /// The greatest number of processors of a run.
-pub const MOST_PROCESSORS: u64 = 1;
+pub const MOST_PROCESSORS: u64 = 8;
+
+/// The greatest number of a rule that spreads the takes.
+pub const MOST_SEED: u64 = 4_294_967_295;
+
+/// A rule of dispatch: which of those who wait for a processor is taken.
+#[derive(Clone, Copy, PartialEq, Eq, Debug)]
+pub enum Rule {
+    /// `--rule=fifo`: who has waited longest.
+    Fifo,
+    /// `--rule=lifo`: who has waited shortest.
+    Lifo,
+    /// `--rule=seed:N`: anyone, as the number N spreads the takes, from 0 to [`MOST_SEED`].
+    Seed(u32),
+}
 
 /// A command with what its words say.
 #[derive(Clone, Copy)]
 pub enum Words {
-    /// `run P B`: run the source on P processors, from 1 to [`MOST_PROCESSORS`], with a budget of B operators, from 1 to
-    /// [`MOST_BUDGET`].
-    Run { processors: u32, budget: u64 },
+    /// `run P B` or `run P B --rule=R`: run the source on P processors, from 1 to [`MOST_PROCESSORS`], with a budget of B operators,
+    /// from 1 to [`MOST_BUDGET`], under a rule of dispatch, which is `fifo` where none is named.
+    Run {
+        processors: u32,
+        budget: u64,
+        rule: Rule,
+    },
     /// `check`: say whether the source is accepted.
     Check,
     /// `list`: print the listing of the source's code.
     List,
     /// `replay B`: run the source under the schedule of the input, with a budget of B operators, from 1 to
     /// [`MOST_BUDGET`].
-    Replay { budget: u64 },
+    Replay {
+        budget: u64,
+    },
     /// `exec B`: run the code that the input assembles to by turns, with a budget of B operators, from 1 to [`MOST_BUDGET`].
-    Exec { budget: u64 },
+    Exec {
+        budget: u64,
+    },
 }
 
 /// What is wrong with the first word that breaks the grammar.
@@ -85,18 +107,25 @@ pub fn read_words(words: &[String]) -> Result<Words, BadWords>
     }
 }
 
-/// `run P B`, where the first word is `run`.
+/// `run P B` or `run P B --rule=R`, where the first word is `run`.
 fn read_run(words: &[String]) -> Result<Words, BadWords>
     requires { slice_get (map string_bytes words.now) 0 ≡ Some (codes "run") }
     ensures { WordsMean (map string_bytes words.now) result }
 {
     let processors = number_at(words, 1, MOST_PROCESSORS)?;
     let budget = number_at(words, 2, MOST_BUDGET)?;
-    let command = Words::Run {
+    let rule = rule_at(words)?;
+    if words.len() > 4 {
+        return Err(BadWords::Usage {
+            word: 5,
+            kind: UsageKind::Extra,
+        });
+    }
+    Ok(Words::Run {
         processors: processors as u32,
         budget,
-    };
-    whole(words, 3, command)
+        rule,
+    })
 }
 
 /// `replay B`, where the first word is `replay`.
@@ -167,4 +196,56 @@ fn begins_with_digit(text: &str) -> bool
     ensures { IsTrue result ↔ (49 ≤ slice_index text.now 0) × (slice_index text.now 0 ≤ 57) }
 {
     matches!(text.as_bytes(), [b'1'..=b'9', ..])
+}
+
+/// The rule that the word after a budget names, first in, first out where there is none.
+fn rule_at(words: &[String]) -> Result<Rule, BadWords>
+    ensures { RuleStandsAt (map string_bytes words.now) result }
+{
+    let Some(word) = words.get(3) else {
+        return Ok(Rule::Fifo);
+    };
+    rule_of(word.as_str()).ok_or(BadWords::Usage {
+        word: 4,
+        kind: UsageKind::BadRule,
+    })
+}
+
+/// The rule that the text names.
+fn rule_of(text: &str) -> Option<Rule>
+    ensures { IsRuleOrNone text.now result }
+{
+    match text {
+        "--rule=fifo" => Some(Rule::Fifo),
+        "--rule=lifo" => Some(Rule::Lifo),
+        _ => seed_rule(text),
+    }
+}
+
+/// The rule of a number that the text names, where it is none of the others.
+fn seed_rule(text: &str) -> Option<Rule>
+    requires fifo { text.now ≢ codes "--rule=fifo" }
+    requires lifo { text.now ≢ codes "--rule=lifo" }
+    ensures { IsRuleOrNone text.now result }
+{
+    let Some(numeral) = text.strip_prefix("--rule=seed:") else {
+        return None;
+    };
+    match seed_of(numeral) {
+        Some(seed) => Some(Rule::Seed(seed)),
+        None => None,
+    }
+}
+
+/// The number from 0 to the greatest of a rule that the text is, decimal and without sign and leading zeros.
+fn seed_of(text: &str) -> Option<u32>
+    ensures { IsSeedOrNone text.now result }
+{
+    match text {
+        "0" => Some(0),
+        _ => match number_of(text, MOST_SEED) {
+            Some(number) => Some(number as u32),
+            None => None,
+        },
+    }
 }
