@@ -1,12 +1,11 @@
 -- What is given of an act, and its numbers.
-use Rattle.std.specs.Prelude.{sum, slice_set}
-use Rattle.std.proofs.Common.{◌≡◌, ◌≢◌, refl, sym, ap, subst, ◌∙◌, ℕ, zero, suc, ◌+◌, ◌-◌, ◌≤◌, ◌<◌, Bool, true, false, List, [], ◌∷◌, ◌++◌, length, length-append, Option, Some, None, arith}
+use Rattle.std.specs.Prelude.{slice_set}
+use Rattle.std.proofs.Common.{◌≡◌, refl, sym, ap, subst, ◌∙◌, ℕ, ◌+◌, ◌-◌, ◌≤◌, Bool, true, List, [], ◌∷◌, ◌++◌, length, length-append, None, arith}
 use Rattle.std.proofs.lemmas.List.{length-reverse}
-use Rattle.b67_list.specs.Numbered.{numbered, set_numbered}
+use Rattle.b67_list.specs.Numbered.{set_numbered}
 use Rattle.b67_schedule.specs.Schedules.{entries, Kept as Schedule}
 use Rattle.b67_segment.specs.declared.code.Code.{Code}
 use Rattle.b67_words.specs.declared.TheConstants.{MOST_BUDGET}
-use Rattle.b67_table.specs.Image.{Image, is_able}
 use Rattle.b67_table.specs.Limits.{most_processes}
 use Rattle.b67_table.specs.Sound.{Sound}
 use Rattle.b67_table.specs.Valid.{IsValid}
@@ -17,7 +16,7 @@ use Rattle.b67_stands.specs.Running.{Running, answer_of}
 use Rattle.b67_action.specs.Able.{one_if}
 use Rattle.b67_joining.specs.Joining.{joining}
 use Rattle.b67_joining.proofs.Joining.{released_few}
-use Rattle.b67_stands.specs.Placing.{holder_of, IsOut}
+use Rattle.b67_stands.specs.Placing.{holder_of}
 use Rattle.b67_stands.specs.Stands.{Stands}
 use Rattle.b67_stands.specs.Calls.{is_action, Records, ActsOnce}
 use Rattle.b67_stands.proofs.Tails.{tail_most}

@@ -1,4 +1,5 @@
 pub mod Handing
+pub mod Turning
+pub mod Noting
 pub mod Entered
 pub mod Lacking
-pub mod Refused

@@ -7,6 +7,7 @@
 mod joins;
 mod making;
 mod placing;
+mod running;
 mod shared;
 mod taking;
 
@@ -18,6 +19,7 @@ use b67_ready::{Dispatcher, Rule};
 use b67_schedule::Schedule;
 use b67_store::Core;
 pub use joins::{gather, run_all};
+pub use running::{Ran, run_by_caller, run_by_processors};
 pub use shared::{Pass, SharedPlant};
 use std::marker::{Brand, Model};
 use std::sync::ledger::{Book, Ledger, Share};
@@ -57,6 +59,15 @@ pub struct Seat<N: Named, L: Ledger> {
     ghost one_leaf: { leaves.parts ≡ 1 },
 }
 
+impl<N: Named, L: Ledger> Seat<N, L> {
+    /// How many acts the processor made.
+    pub fn count(&self) -> u64
+        ensures { result ≡ self.now.count }
+    {
+        self.count
+    }
+}
+
 /// What a processor works on.
 #[derive(Drop)]
 pub struct Parcel {
@@ -75,8 +86,8 @@ impl Parcel {
 /// What a processor brings along.
 #[derive(Drop)]
 pub struct Post<N: Named, L: Ledger> {
-    parcel: Parcel,
-    seat: Seat<N, L>,
+    pub parcel: Parcel,
+    pub seat: Seat<N, L>,
 }
 
 /// The run under the lock.

@@ -1,6 +1,7 @@
 // A plant before its first take.
-ghost use Rattle.std.specs.Prelude.{◌≡◌, ℕ, ◌+◌, ◌<◌, ◌≤◌, All, IfOk, length};
+ghost use Rattle.std.specs.Prelude.{◌≡◌, ℕ, ◌+◌, ◌≤◌, [], ◌∷◌, All, IfOk, length, replicate, vec_capacity};
 ghost use Rattle.b67_segment.specs.declared.TheConstants.{MOST_SEGMENT_WORDS};
+ghost use Rattle.b67_table.specs.Limits.{most_processes};
 ghost use Rattle.b67_table.specs.Sound.{Sound};
 ghost use Rattle.b67_words.specs.declared.TheConstants.{MOST_BUDGET};
 ghost use Rattle.b67_machine.specs.Beginning.{IsFresh};
@@ -33,30 +34,54 @@ fn post<N: Named, L: Ledger>(acts: Share<N>, leaves: Share<L>) -> Post<N, L>
     }
 }
 
-// One place for each of so many processors.
-fn posts_of<N: Named, L: Ledger>(
-    alloc: Global,
+// One place for each of so many processors. Takes no memory.
+fn fill_posts<N: Named, L: Ledger>(
+    posts: &mut Vec<Post<N, L>>,
     processors: u32,
     acts: Share<N>,
     leaves: Share<L>,
-) -> Result<Vec<Post<N, L>>, AllocError>
-    requires some { 1 ≤ processors }
+)
+    requires none { posts.old.items ≡ [] }
+    requires room { processors ≤ vec_capacity posts.old }
     requires acts { (acts.parts ≡ processors) × (acts.amount ≡ 0) }
     requires leaves { (leaves.parts ≡ processors) × (leaves.amount ≡ 0) }
-    ensures { IfOk result (λ posts. length posts.items ≡ processors) }
+    ensures { length posts.new.items ≡ processors }
 {
     let mut acts = acts;
     let mut leaves = leaves;
-    let mut posts = Vec::new(alloc);
-    'posts: while posts.len() + 1 < processors as usize {
-        posts.push(post(acts.split_off(1, 0), leaves.split_off(1, 0)))?;
+    'posts: while posts.len() < processors as usize {
+        posts
+            .push(post(acts.split_off(1, 0), leaves.split_off(1, 0)))
+            .unwrap();
     }
-    posts.push(post(acts, leaves))?;
-    Ok(posts)
+}
+
+// What a run takes before its first operator.
+struct Rooms<P: Rule> {
+    ready: Dispatcher<P>,
+    out: Vec<u32>,
+    schedule: Schedule,
+}
+
+// The queue, in which process 1 waits; nobody is out; and there is room for as many entries as the budget has operators.
+fn rooms_of<P: Rule>(alloc: Global, rule: P, budget: u32) -> Result<Rooms<P>, AllocError>
+    ensures rule { IfOk result (λ rooms. rooms.ready.rule ≡ rule) }
+    ensures queue { IfOk result (λ rooms. (rooms.ready.waiting ≡ 1 ∷ []) × (rooms.ready.takes ≡ 0)) }
+    ensures room { IfOk result (λ rooms. most_processes + 2 ≤ rooms.ready.room) }
+    ensures out { IfOk result (λ rooms. rooms.out.items ≡ replicate most_processes 0) }
+    ensures schedule { IfOk result (λ rooms. (rooms.schedule.runs ≡ []) × (budget ≤ rooms.schedule.room)) }
+{
+    let mut ready = Dispatcher::new(alloc, rule, ROOM)?;
+    ready.put(1);
+    Ok(Rooms {
+        ready,
+        out: vec![in alloc; 0; MOST_PROCESSES as usize]?,
+        schedule: Schedule::with_room(alloc, budget as usize)?,
+    })
 }
 
 impl<N: Named, L: Ledger, C: Core, P: Rule> Plant<N, L, C, P> {
-    /// A plant of a machine that has performed nothing, with a place for each of its processors.
+    /// A plant of a machine that has performed nothing. There is a place for each of its processors among the posts, which have the room.
     pub fn new(
         alloc: Global,
         machine: Machine<C>,
@@ -65,7 +90,8 @@ impl<N: Named, L: Ledger, C: Core, P: Rule> Plant<N, L, C, P> {
         processors: u32,
         acts: Blank,
         leaves: Blank,
-    ) -> Result<(Plant<N, L, C, P>, Vec<Post<N, L>>), AllocError>
+        posts: &mut Vec<Post<N, L>>,
+    ) -> Result<Plant<N, L, C, P>, AllocError>
         requires fresh { IsFresh machine }
         requires code { machine.code ≡ N.code }
         requires sound { Sound machine.code }
@@ -75,20 +101,26 @@ impl<N: Named, L: Ledger, C: Core, P: Rule> Plant<N, L, C, P> {
         requires acts { (acts.name ≡ N.name) × (acts.parts ≡ N.parts) × (acts.parts ≡ processors) }
         requires leaves { (leaves.name ≡ L.name) × (leaves.parts ≡ L.parts) × (leaves.parts ≡ processors) }
         requires rule { (n takes : ℕ) → P.pick rule n takes ≡ N.pick n takes }
-        ensures posts { IfOk result (λ made. length made.1.items ≡ processors) }
-        ensures first { IfOk result (λ made. IsFirst N.code made.0) }
+        requires none { posts.old.items ≡ [] }
+        requires room { processors ≤ vec_capacity posts.old }
+        ensures posts { IfOk result (λ plant. length posts.new.items ≡ processors) }
+        ensures first { IfOk result (IsFirst N.code) }
     {
         first_image_is_valid();
+        let rooms = rooms_of(alloc, rule, budget)?;
         let (acts, all) = acts.open::<N>();
         let (leaves, all_left) = leaves.open::<L>();
-        let posts = posts_of(alloc, processors, all, all_left)?;
-        let mut ready = Dispatcher::new(alloc, rule, ROOM)?;
-        ready.put(1);
+        fill_posts(posts, processors, all, all_left);
+        let Rooms {
+            ready,
+            out,
+            schedule,
+        } = rooms;
         let plant = Plant {
             machine,
             ready,
-            out: vec![in alloc; 0; MOST_PROCESSES as usize]?,
-            schedule: Schedule::with_room(alloc, budget as usize)?,
+            out,
+            schedule,
             budget,
             spent: 0,
             lacked: false,
@@ -96,7 +128,7 @@ impl<N: Named, L: Ledger, C: Core, P: Rule> Plant<N, L, C, P> {
             leaves,
             left: 0,
         };
-        Ok((plant, posts))
+        Ok(plant)
     }
 
     /// The machine and the schedule come out.

@@ -20,7 +20,7 @@ use b67_store::Core;
 use std::sync::ledger::Ledger;
 
 /// What a take answers.
-#[derive(Clone, Copy, PartialEq, Eq, Debug)]
+#[derive(Clone, Copy)]
 pub enum Taken {
     /// A process is out with the processor.
     Work,
@@ -33,7 +33,7 @@ pub enum Taken {
 }
 
 /// What a landing answers.
-#[derive(Clone, Copy, PartialEq, Eq, Debug)]
+#[derive(Clone, Copy)]
 pub enum PlantLanding {
     /// The parcel's end is in place.
     Landed,

@@ -1,11 +1,10 @@
 use Rattle.std.specs.Prelude.{slice_set}
-use Rattle.std.proofs.Common.{◌≡◌, ◌≢◌, refl, sym, ap, subst, ◌∙◌, ℕ, ◌+◌, ◌-◌, ◌≤◌, Bool, true, false, List, [], ◌∷◌, ◌++◌, length, length-append, None, arith}
+use Rattle.std.proofs.Common.{◌≡◌, refl, sym, ap, subst, ◌∙◌, ℕ, ◌+◌, ◌-◌, ◌≤◌, true, false, [], ◌∷◌, length, length-append, None, arith}
 use Rattle.b67_schedule.specs.Schedules.{entries}
 use Rattle.b67_stands.specs.Running.{Running, answer_of}
 use Rattle.b67_stands.specs.Placing.{holder_of}
 use Rattle.b67_stands.specs.Stands.{Stands}
 use Rattle.b67_stands.specs.Calls.{is_action, ActsOnce}
-use Rattle.b67_machine.specs.declared.entry.Performed.{Performed}
 use Rattle.b67_stands.proofs.Ends.{goes_on}
 use Rattle.b67_stands.proofs.Acting.{Given, stands_after}
 use Rattle.b67_plant.proofs.Lacking.{lacked_after}

@@ -1,4 +1,4 @@
-use Rattle.std.proofs.Common.{◌≡◌, ◌≢◌, sym, subst, None, arith}
+use Rattle.std.proofs.Common.{◌≢◌, sym, subst, None, arith}
 use Rattle.b67_stands.specs.Running.{Running, answer_of}
 use Rattle.b67_stands.proofs.Taking.{stands_left}
 use Rattle.b67_plant.proofs.Plant.leave.Goals as goal

@@ -1,0 +1,64 @@
+use Rattle.std.specs.Prelude.{◌≢◌, None, length}
+use Rattle.std.specs.List.{sum_by}
+use Rattle.std.proofs.Common.{All, sym, ap, subst, ◌∙◌, ◌<◌, arith}
+use Rattle.std.proofs.lemmas.List.{with_items_is}
+use Rattle.b67_schedule.specs.Schedules.{entries, Kept as Schedule}
+use Rattle.b67_stands.specs.Running.{Running, answer_of}
+use Rattle.b67_plant.proofs.running.run_named.Goals as goal
+
+pub run_all-plant-requires-clause-processors : goal.run_all-plant-requires-clause-processors
+run_all-plant-requires-clause-processors g c =
+    let all = ap length c.as_mut_slice.ensures.value ∙ c.in_ok-plant.ensures.posts in
+    λ a b. (all ∙ c.requires.processors.0, omega (arith, all, c.requires.processors.2))
+
+pub note_acts-requires : goal.note_acts-requires
+note_acts-requires g c =
+    let posts = c.new.new.posts in
+    let after = c.run_all-plant.new.posts in
+    let same = c.run_all-plant.ensures.posts ∙ c.as_mut_slice.ensures.len in
+    let all = ap length c.as_mut_slice.ensures.value ∙ c.in_ok-plant.ensures.posts in
+    record {
+      none = c.requires.none;
+      room = omega (arith, ap length (c.as_slice.ensures.value ∙ with_items_is posts after same), c.run_all-plant.ensures.posts, all, c.requires.room);
+    }
+
+pub gather-requires : goal.gather-requires
+gather-requires g c =
+    let posts = c.new.new.posts in
+    let after = c.run_all-plant.new.posts in
+    let same = c.run_all-plant.ensures.posts ∙ c.as_mut_slice.ensures.len in
+    let is = with_items_is posts after same in
+    let all = ap length is ∙ c.run_all-plant.ensures.posts ∙ ap length c.as_mut_slice.ensures.value ∙ c.in_ok-plant.ensures.posts in
+    record {
+      parts = all ∙ sym c.requires.acts.2 ∙ c.requires.acts.1;
+      leaf_parts = all ∙ sym c.requires.leaves.2 ∙ c.requires.leaves.1;
+      some = omega (arith, all, c.requires.processors.1);
+      each = subst (All (λ post. 0 < post.seat.left)) (sym is) c.run_all-plant.ensures.left;
+    }
+
+pub left_by-requires : goal.left_by-requires
+left_by-requires g c = subst (λ (s : Running). answer_of g.N.Named.budget s ≢ None) (sym c.gather.ensures.same) c.gather.ensures.ended
+
+pub returns-clause-ran : goal.returns-clause-ran
+returns-clause-ran g c = record {
+  plant = c.gather.new.plant;
+  stands = c.left_by.ensures.stands;
+  machine_is = sym c.left_by.ensures.parts.0;
+  schedule_is = sym c.left_by.ensures.parts.1;
+  answered = c.left_by.ensures.answered;
+}
+
+pub returns-clause-each : goal.returns-clause-each
+returns-clause-each g c =
+    let same = c.run_all-plant.ensures.posts ∙ c.as_mut_slice.ensures.len in
+    c.note_acts.ensures.each ∙ ap length (c.as_slice.ensures.value ∙ with_items_is c.new.new.posts c.run_all-plant.new.posts same)
+    ∙ c.run_all-plant.ensures.posts ∙ ap length c.as_mut_slice.ensures.value ∙ c.in_ok-plant.ensures.posts
+
+pub returns-clause-all : goal.returns-clause-all
+returns-clause-all g c =
+    c.note_acts.ensures.all ∙ ap (sum_by (λ post. post.seat.count)) c.as_slice.ensures.value ∙ c.gather.ensures.acts
+    ∙ ap (λ (s : Running). s.acts) (sym c.gather.ensures.same) ∙ c.left_by.ensures.stands.acts
+    ∙ ap (λ (s : Schedule). length (entries s.runs)) (sym c.left_by.ensures.parts.1)
+
+pub returns-clause-numbers : goal.returns-clause-numbers
+returns-clause-numbers g c = c.note_acts.ensures.numbers
