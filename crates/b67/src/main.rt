@@ -2,8 +2,9 @@
 //! output, and the exit status is that of the answer.
 #![tactic(auto)]
 
-use b67_desk::{Status, desk_alone};
+use b67_desk::{Status, desk};
 use b67_io::{StdinSource, StdoutSink};
+use b67_processors::Open;
 use std::alloc::AllocError;
 use std::env::{Env, FillError};
 use std::process::ExitCode;
@@ -46,6 +47,13 @@ fn main(rt: HostRuntime) -> ExitCode {
     };
     let mut source = StdinSource::new(rt.stdin());
     let mut sink = StdoutSink::new(rt.stdout());
-    let status = desk_alone(rt.alloc(), words.as_slice(), &mut source, &mut sink);
+    let status = desk(
+        &rt,
+        rt.alloc(),
+        words.as_slice(),
+        &mut source,
+        &mut sink,
+        &Open,
+    );
     ExitCode::from(status.exit_status())
 }

@@ -15,6 +15,8 @@ use Rattle.b67_io.specs.Writing.{WroteFront}
 use Rattle.b67_io.specs.declared.writing.WriteAll.{WriteAll}
 use Rattle.b67_io.specs.declared.writing.WriteAll.TheVariants as writes
 use Rattle.b67_words.specs.Grammar.{WordsMean, run as run_command, check as check_command, list as list_command, replay as replay_command, exec as exec_command, meant}
+use Rattle.b67_words.specs.declared.TheConstants.{MOST_BUDGET, MOST_PROCESSORS}
+use Rattle.b67_words.specs.declared.Rule.{Rule}
 use Rattle.b67_words.specs.declared.Words.{Words}
 use Rattle.b67_words.specs.declared.Words.TheVariants as commands
 use Rattle.b67_words.specs.declared.BadWords.{BadWords}
@@ -29,29 +31,47 @@ use Rattle.b67_explain.specs.Explaining.{ExplainsRun, ExplainsReplay}
 use Rattle.b67_desk.specs.declared.status.Code.TheVariants.{OfSource}
 use Rattle.b67_desk.specs.declared.status.Status.{Status}
 use Rattle.b67_desk.specs.declared.status.Status.TheVariants as status
-use Rattle.b67_desk.specs.declared.desk.Answer.{Answer}
-use Rattle.b67_desk.specs.declared.desk.Unanswered.{Unanswered}
-use Rattle.b67_desk.specs.declared.desk.Unanswered.TheVariants as why
-use Rattle.b67_desk.specs.Answers.{usage_text, refused_text, bad_schedule_text, listing_text, at_start, Runs, ran, Lists, listed, IsBadSchedule, AreGiven, Replays, bad_schedule, replayed, SaysAccepted, IsBuiltFor, BuiltOr, unbuilt, built, AnswersBuilt, AnswersTree, IsRefusedAt, RefusedOr, refused, accepted, IsDivided, AnswersBytes, IsOfSource, AnswersInput, long_part, divided, most_bytes, AnswersSource, too_long, too_long_text, read, Reading, Untouched, Answers, usage, answered, Writing, HasAnswer, write_fault}
-use Rattle.b67_desk.specs.Calls.{InRange, SourceAnswered, CallAnswered, IsUsage, IsRefusal, IsReportAnswer, IsBadAt, IsTooLong}
+use Rattle.b67_desk.specs.declared.asking.Answer.{Answer}
+use Rattle.b67_desk.specs.declared.asking.Unanswered.{Unanswered}
+use Rattle.b67_desk.specs.declared.asking.Unanswered.TheVariants as why
+use Rattle.b67_desk.specs.declared.asking.Job.{Job}
+use Rattle.b67_desk.specs.declared.asking.Asked.{Asked}
+use Rattle.b67_desk.specs.declared.asking.Asked.TheVariants as asked
+use Rattle.b67_desk.specs.Answers.{usage_text, refused_text, bad_schedule_text, listing_text, status_of, at_start, Workers, by_one, by_all, Runs, ran, Lists, listed, IsBadSchedule, AreGiven, Replays, bad_schedule, replayed, SaysAccepted, IsBuiltFor, BuiltOr, unbuilt, built, AnswersBuilt, AnswersTree, IsRefusedAt, RefusedOr, refused, accepted, IsDivided, AnswersBytes, IsOfSource, AnswersInput, long_part, divided, most_bytes, AnswersSource, too_long, too_long_text, read, Reading, Untouched, Answers, usage, answered, Writing, HasAnswer, write_fault}
+use Rattle.b67_desk.specs.Calls.{IsReported, Asks, settled, InRange, SourceAsked, CallAsked, CallAnswered, IsUsage, IsRefusal, IsReportAnswer, IsRunAnswer, IsBadAt, IsTooLong}
 
--- a report is the answer to a run, and to a replay
-ran_is : (processors budget : ℕ) (tree : PProgram) (report : Report) (a : Answer) → ExplainsRun tree processors budget report → IsReportAnswer report a →
-    Runs processors budget tree a.text.items a.status
-ran_is processors budget tree report a explains is =
-    subst (λ (t : List ℕ). Runs processors budget tree t a.status) (sym is.text)
-    (subst (λ (s : Status). Runs processors budget tree (ReportText report) s) (sym is.status) (ran report explains))
+-- ---- what is asked for
+
+-- an answer that is there, whoever works
+pub settled_asks : (Its : Workers → List ℕ → Status → Type 0) (answer : Result Answer AllocError) (result : Result Asked AllocError) → result ≡ settled answer →
+    ((by : Workers) → IfOk answer (λ a. Its by a.text.items a.status)) → IfOk result (Asks Its)
+settled_asks Its (Ok a) result is its = subst (λ (r : Result Asked AllocError). IfOk r (Asks Its)) (sym is) its
+settled_asks Its (Err e) result is its = subst (λ (r : Result Asked AllocError). IfOk r (Asks Its)) (sym is) (its by_one)
+
+-- what is asked for, seen from further out
+module _ (Its Others : Workers → List ℕ → Status → Type 0) (out : (by : Workers) (text : List ℕ) (s : Status) → Its by text s → Others by text s) where
+  pub asks_so : (a : Asked) → Asks Its a → Asks Others a
+  asks_so (asked.Settled a) asks = λ by. out by a.text.items a.status (asks by)
+  asks_so (asked.Run job) asks = (asks.0, λ by report is. out by (ReportText report) (status_of report.end) (asks.1 by report is))
+
+  pub asks_out : (result : Result Asked AllocError) → IfOk result (Asks Its) → IfOk result (Asks Others)
+  asks_out (Ok a) asks = asks_so a asks
+  asks_out (Err e) asks = asks
+
+-- a run of a source
+pub run_asks : (processors budget : ℕ) (rule : Rule) (tree : PProgram) (code : Code) → Faithful tree code → (1 ≤ processors) × (processors ≤ MOST_PROCESSORS) →
+    (1 ≤ budget) × (budget ≤ MOST_BUDGET) →
+    Asks (λ by. Runs by processors budget rule tree) (asked.Run (record { processors = processors; budget = budget; rule = rule; code = code }))
+run_asks processors budget rule tree code faithful some budget_is =
+    (record { faithful = (tree, faithful); processors = some; budget = budget_is }, λ by report is. ran report (is tree faithful))
+
+-- ---- reports
 
 replayed_is : (budget : ℕ) (schedule : Option (List ℕ)) (input : ℕ) (tree : PProgram) (given : List ℕ) (report : Report) (a : Answer) → AreGiven schedule given →
     ExplainsReplay tree given budget report → IsReportAnswer report a → Replays budget schedule input tree a.text.items a.status
 replayed_is budget schedule input tree given report a are explains is =
     subst (λ (t : List ℕ). Replays budget schedule input tree t a.status) (sym is.text)
     (subst (λ (s : Status). Replays budget schedule input tree (ReportText report) s) (sym is.status) (replayed given report are explains))
-
-pub ran_answered : (processors budget : ℕ) (tree : PProgram) (report : Report) (result : Result Answer AllocError) → ExplainsRun tree processors budget report →
-    IfOk result (IsReportAnswer report) → IfOk result (λ a. Runs processors budget tree a.text.items a.status)
-ran_answered processors budget tree report (Ok a) explains is = ran_is processors budget tree report a explains is
-ran_answered processors budget tree report (Err e) explains is = is
 
 pub replayed_answered : (budget : ℕ) (schedule : Option (List ℕ)) (text : List ℕ) (input : ℕ) (tree : PProgram) (runs : List Run) (report : Report)
     (result : Result Answer AllocError) → schedule ≡ Some text → IsSchedule runs × (text ≡ ScheduleText runs) → ExplainsReplay tree (entries runs) budget report →
@@ -97,41 +117,44 @@ module _ (command : Words) (tree : PProgram) (Its : List ℕ → Status → Type
 
 -- for every command but `check` those that are built
 for_one : (command : Words) (tree : PProgram) → command ≢ commands.Check → IsBuiltFor command tree → IsBuilt tree
-for_one (commands.Run processors budget) tree other is = is
+for_one (commands.Run processors budget rule) tree other is = is
 for_one commands.Check tree other is = absurd (other refl)
 for_one commands.List tree other is = is
 for_one (commands.Replay budget) tree other is = is
 for_one (commands.Exec budget) tree other is = absurd is
 
-module _ (command : Words) (schedule : Option (List ℕ)) (input : ℕ) (tree : PProgram) (result : Result Answer AllocError) where
+module _ (by : Workers) (command : Words) (schedule : Option (List ℕ)) (input : ℕ) (tree : PProgram) (result : Result Answer AllocError) where
   Told : Words → Type 0
-  Told w = IfOk result (λ a. AnswersTree w schedule input tree a.text.items a.status)
+  Told w = IfOk result (λ a. AnswersTree by w schedule input tree a.text.items a.status)
 
   pub unbuilt_tree : command ≢ commands.Check → (IsBuilt tree → ⊥) → IfOk result (IsRefusal at_start (OfSource Unbuilt)) →
-      IfOk result (λ a. AnswersTree command schedule input tree a.text.items a.status)
+      IfOk result (λ a. AnswersTree by command schedule input tree a.text.items a.status)
   unbuilt_tree other none is =
-      unbuilt_answered command tree (AnswersBuilt command schedule input tree) result (λ fits. none (for_one command tree other fits)) is
+      unbuilt_answered command tree (AnswersBuilt by command schedule input tree) result (λ fits. none (for_one command tree other fits)) is
 
-  built_tree : (w : Words) → command ≡ w → IsBuiltFor w tree → IfOk result (λ a. AnswersBuilt w schedule input tree a.text.items a.status) →
-      IfOk result (λ a. AnswersTree command schedule input tree a.text.items a.status)
+  built_tree : (w : Words) → command ≡ w → IsBuiltFor w tree → IfOk result (λ a. AnswersBuilt by w schedule input tree a.text.items a.status) →
+      IfOk result (λ a. AnswersTree by command schedule input tree a.text.items a.status)
   unfolding Told
-  built_tree w is is_built told = subst Told (sym is) (built_answered w tree (AnswersBuilt w schedule input tree) result is_built told)
+  built_tree w is is_built told = subst Told (sym is) (built_answered w tree (AnswersBuilt by w schedule input tree) result is_built told)
 
   pub check_tree : command ≡ commands.Check → IfOk result (λ a. SaysAccepted a.text.items a.status) →
-      IfOk result (λ a. AnswersTree command schedule input tree a.text.items a.status)
+      IfOk result (λ a. AnswersTree by command schedule input tree a.text.items a.status)
   check_tree is told = built_tree commands.Check is tt told
 
-  pub run_tree : (processors budget : ℕ) → command ≡ commands.Run processors budget → IsBuilt tree →
-      IfOk result (λ a. Runs processors budget tree a.text.items a.status) → IfOk result (λ a. AnswersTree command schedule input tree a.text.items a.status)
-  run_tree processors budget is is_built told = built_tree (commands.Run processors budget) is is_built told
-
   pub list_tree : command ≡ commands.List → IsBuilt tree → IfOk result (λ a. Lists tree a.text.items a.status) →
-      IfOk result (λ a. AnswersTree command schedule input tree a.text.items a.status)
+      IfOk result (λ a. AnswersTree by command schedule input tree a.text.items a.status)
   list_tree is is_built told = built_tree commands.List is is_built told
 
   pub replay_tree : (budget : ℕ) → command ≡ commands.Replay budget → IsBuilt tree →
-      IfOk result (λ a. Replays budget schedule input tree a.text.items a.status) → IfOk result (λ a. AnswersTree command schedule input tree a.text.items a.status)
+      IfOk result (λ a. Replays budget schedule input tree a.text.items a.status) → IfOk result (λ a. AnswersTree by command schedule input tree a.text.items a.status)
   replay_tree budget is is_built told = built_tree (commands.Replay budget) is is_built told
+
+-- what answers a run of a built source answers the source
+pub run_out : (command : Words) (schedule : Option (List ℕ)) (input : ℕ) (tree : PProgram) (processors budget : ℕ) (rule : Rule) →
+    command ≡ commands.Run processors budget rule → IsBuilt tree → (by : Workers) (text : List ℕ) (s : Status) → Runs by processors budget rule tree text s →
+    AnswersTree by command schedule input tree text s
+run_out command schedule input tree processors budget rule is is_built by text s runs =
+    subst (λ (w : Words). AnswersTree by w schedule input tree text s) (sym is) (built text s is_built runs)
 
 -- a text that is refused, and one that is accepted
 module _ (bytes : List ℕ) (Its : PProgram → List ℕ → Status → Type 0) where
@@ -145,74 +168,116 @@ module _ (bytes : List ℕ) (Its : PProgram → List ℕ → Status → Type 0) 
   refused_answered place code (Ok a) first none is = refused_is place code a (record { first = first; none = none }) is
   refused_answered place code (Err e) first none is = is
 
-  pub accepted_answered : (tree : PProgram) (result : Result Answer AllocError) → Source bytes tree → ((t : PProgram) → Source bytes t → t ≡ tree) → IfOk result (λ a. Its tree a.text.items a.status) →
-      IfOk result (λ a. RefusedOr bytes Its a.text.items a.status)
-  accepted_answered tree (Ok a) source only is = accepted tree a.text.items a.status (record { source = source; only = only }) is
-  accepted_answered tree (Err e) source only is = is
+-- what answers the tree of a source answers the bytes that it is in
+pub tree_out : (command : Words) (bytes source : List ℕ) (schedule : Option (List ℕ)) (tree : PProgram) → IsDivided command bytes source schedule →
+    length source ≤ MOST_SOURCE_BYTES → Source source tree → ((t : PProgram) → Source source t → t ≡ tree) → (by : Workers) (text : List ℕ) (s : Status) →
+    AnswersTree by command schedule (length bytes) tree text s → AnswersBytes by command bytes text s
+tree_out command bytes source schedule tree parts small is only by text s answers =
+    divided source schedule text s parts small (accepted tree text s (record { source = is; only = only }) answers)
 
 pub in_range : (words : List (List ℕ)) (command : Words) → WordsMean words (Ok command) → InRange command
-in_range words command (meant ws meaning (run_command first second p b f s)) = (f.least, s.least, s.greatest)
+in_range words command (meant ws meaning (run_command first second last p b rule f s n)) = (f.least, f.greatest, s.least, s.greatest)
 in_range words command (meant ws meaning check_command) = tt
 in_range words command (meant ws meaning list_command) = tt
 in_range words command (meant ws meaning (replay_command first b f)) = (f.least, f.greatest)
 in_range words command (meant ws meaning (exec_command first b f)) = (f.least, f.greatest)
 
-pub command_answered : (words : List (List ℕ)) (r : Reading) (command : Words) (result : Result Answer Unanswered) → WordsMean words (Ok command) →
-    SourceAnswered command r result → CallAnswered words r result
-command_answered words r command (Ok a) m s = answered command a.text.items a.status m s
-command_answered words r command (Err why.ReadFault) m s = record { command = command; means = m; rose = s }
-command_answered words r command (Err why.NoMemory) m s = s
+pub command_asks : (words : List (List ℕ)) (r : Reading) (command : Words) (result : Result Asked Unanswered) → WordsMean words (Ok command) →
+    SourceAsked command r result → CallAsked words r result
+command_asks words r command (Ok a) m asks =
+    asks_so (λ by. AnswersSource by command r.left r.left_after) (λ by. Answers by words r) (λ by text s. answered command text s m) a asks
+command_asks words r command (Err why.ReadFault) m rose = record { command = command; means = m; rose = rose }
+command_asks words r command (Err why.NoMemory) m s = s
 
-pub usage_answered : (words : List (List ℕ)) (r : Reading) (broken : BadWords) (result : Result Answer Unanswered) → Untouched r → WordsMean words (Err broken) → IsUsage broken result → CallAnswered words r result
-usage_answered words r broken (Ok a) still m u =
-    subst (λ (t : List ℕ). Answers words r t a.status) (sym u.3)
-    (subst (λ (s : Status). Answers words r (usage_text u.0 u.1) s) (sym u.4) (usage u.0 u.1 (subst (λ b. WordsMean words (Err b)) u.2 m) still))
-usage_answered words r broken (Err why.ReadFault) still m u = absurd u
-usage_answered words r broken (Err why.NoMemory) still m u = u
+pub usage_asks : (words : List (List ℕ)) (r : Reading) (broken : BadWords) (result : Result Asked Unanswered) → Untouched r → WordsMean words (Err broken) →
+    IsUsage broken result → CallAsked words r result
+usage_asks words r broken (Ok (asked.Settled a)) still m u = λ by.
+    subst (λ (t : List ℕ). Answers by words r t a.status) (sym u.3)
+    (subst (λ (s : Status). Answers by words r (usage_text u.0 u.1) s) (sym u.4) (usage u.0 u.1 (subst (λ b. WordsMean words (Err b)) u.2 m) still))
+usage_asks words r broken (Ok (asked.Run job)) still m u = absurd u
+usage_asks words r broken (Err why.ReadFault) still m u = absurd u
+usage_asks words r broken (Err why.NoMemory) still m u = u
 
-pub not_written : (words : List (List ℕ)) (r : Reading) (w : Writing) (text : List ℕ) (s : Status) (e : WriteAll) → Answers words r text s → WroteFront w.written w.written_after text e → Rose w.faults w.faults_after →
-    HasAnswer words r w status.WriteFault
-not_written words r w text s (writes.Failed count) a front rose = write_fault text s count a front.0 front.1 rose
+-- ---- a run that is made
 
-pub read_is : (command : Words) (left left_after : Option (List ℕ)) (items bytes text : List ℕ) (s : Status) → bytes ≡ items → length items ≤ most_bytes command → IfSome left (λ all. items ≡ all) → IsAtEnd left_after → AnswersInput command bytes text s →
-    AnswersSource command left left_after text s
-read_is command left left_after items bytes text s is small all end a = read items text s small all end (subst (λ (b : List ℕ). AnswersInput command b text s) is a)
+-- the answer that tells a report
+pub report_answers : (by : Workers) (job : Job) (report : Report) (result : Result Answer AllocError) → IsReported by job report →
+    IfOk result (IsReportAnswer report) → IfOk result (IsRunAnswer by job)
+report_answers by job report (Ok a) reported told = record { report = report; reported = reported; told = told }
+report_answers by job report (Err e) reported told = told
 
-pub too_long_is : (command : Words) (most : ℕ) (left left_after : Option (List ℕ)) (a : Answer) → most ≡ most_bytes command → IfSome left (λ bytes. most < length bytes) → IsTooLong a →
-    AnswersSource command left left_after a.text.items a.status
-too_long_is command most left left_after a most_is more is =
-    subst (λ (t : List ℕ). AnswersSource command left left_after t a.status) (sym is.text)
-    (subst (λ (s : Status). AnswersSource command left left_after too_long_text s) (sym is.status)
+-- a run by one serves, by whomever the work of runs is done
+pub one_serves : (by : Workers) (job : Job) (result : Result Answer AllocError) → IfOk result (IsRunAnswer by_one job) → IfOk result (IsRunAnswer by job)
+one_serves by job (Ok a) is = record {
+  report = is.report;
+  reported = λ tree faithful.
+      let x = is.reported tree faithful in
+      record { explains = x.explains; alone = λ one. x.alone refl };
+  told = is.told;
+}
+one_serves by job (Err e) is = is
+
+-- a run by several says nothing of turns
+pub several_report : (job : Job) (report : Report) → job.processors ≢ 1 →
+    ((tree : PProgram) → Faithful tree job.code → ExplainsRun tree job.processors job.budget report) → IsReported by_all job report
+several_report job report several explains = λ tree faithful. record { explains = explains tree faithful; alone = λ one. absurd (several one) }
+
+pub run_answered : (by : Workers) (words : List (List ℕ)) (r : Reading) (job : Job) (a : Answer) → Asks (λ by. Answers by words r) (asked.Run job) →
+    IsRunAnswer by job a → Answers by words r a.text.items a.status
+run_answered by words r job a asks is =
+    subst (λ (t : List ℕ). Answers by words r t a.status) (sym is.told.text)
+    (subst (λ (s : Status). Answers by words r (ReportText is.report) s) (sym is.told.status) (asks.1 by is.report is.reported))
+
+pub none_answered : (by : Workers) (words : List (List ℕ)) (r : Reading) (e : Unanswered) → CallAsked words r (Err e) → CallAnswered by words r (Err e)
+none_answered by words r why.ReadFault is = is
+none_answered by words r why.NoMemory is = is
+
+pub not_written : (by : Workers) (words : List (List ℕ)) (r : Reading) (w : Writing) (text : List ℕ) (s : Status) (e : WriteAll) → Answers by words r text s → WroteFront w.written w.written_after text e → Rose w.faults w.faults_after →
+    HasAnswer by words r w status.WriteFault
+not_written by words r w text s (writes.Failed count) a front rose = write_fault text s count a front.0 front.1 rose
+
+-- what answers the bytes that were read answers the source
+pub input_out : (command : Words) (left left_after : Option (List ℕ)) (items bytes : List ℕ) → bytes ≡ items → length items ≤ most_bytes command →
+    IfSome left (λ all. items ≡ all) → IsAtEnd left_after → (by : Workers) (text : List ℕ) (s : Status) → AnswersInput by command bytes text s →
+    AnswersSource by command left left_after text s
+input_out command left left_after items bytes is small all end by text s a =
+    read items text s small all end (subst (λ (b : List ℕ). AnswersInput by command b text s) is a)
+
+pub too_long_is : (by : Workers) (command : Words) (most : ℕ) (left left_after : Option (List ℕ)) (a : Answer) → most ≡ most_bytes command → IfSome left (λ bytes. most < length bytes) → IsTooLong a →
+    AnswersSource by command left left_after a.text.items a.status
+too_long_is by command most left left_after a most_is more is =
+    subst (λ (t : List ℕ). AnswersSource by command left left_after t a.status) (sym is.text)
+    (subst (λ (s : Status). AnswersSource by command left left_after too_long_text s) (sym is.status)
     (too_long (subst (λ (n : ℕ). IfSome left (λ bytes. n < length bytes)) most_is more)))
 
 -- the bytes that were read, by their parts
-pub long_part_is : (command : Words) (bytes source : List ℕ) (schedule : Option (List ℕ)) (result : Result Answer AllocError) → IsDivided command bytes source schedule →
-    MOST_SOURCE_BYTES < length source → IfOk result IsTooLong → IfOk result (λ a. AnswersBytes command bytes a.text.items a.status)
-long_part_is command bytes source schedule (Ok a) parts more is =
-    subst (λ (t : List ℕ). AnswersBytes command bytes t a.status) (sym is.text)
-    (subst (λ (s : Status). AnswersBytes command bytes too_long_text s) (sym is.status) (long_part source schedule parts more))
-long_part_is command bytes source schedule (Err e) parts more is = is
+pub long_part_is : (by : Workers) (command : Words) (bytes source : List ℕ) (schedule : Option (List ℕ)) (result : Result Answer AllocError) → IsDivided command bytes source schedule →
+    MOST_SOURCE_BYTES < length source → IfOk result IsTooLong → IfOk result (λ a. AnswersBytes by command bytes a.text.items a.status)
+long_part_is by command bytes source schedule (Ok a) parts more is =
+    subst (λ (t : List ℕ). AnswersBytes by command bytes t a.status) (sym is.text)
+    (subst (λ (s : Status). AnswersBytes by command bytes too_long_text s) (sym is.status) (long_part source schedule parts more))
+long_part_is by command bytes source schedule (Err e) parts more is = is
 
-pub divided_is : (command : Words) (bytes source : List ℕ) (schedule : Option (List ℕ)) (result : Result Answer AllocError) → IsDivided command bytes source schedule →
-    length source ≤ MOST_SOURCE_BYTES → IfOk result (λ a. RefusedOr source (AnswersTree command schedule (length bytes)) a.text.items a.status) →
-    IfOk result (λ a. AnswersBytes command bytes a.text.items a.status)
-divided_is command bytes source schedule (Ok a) parts small is = divided source schedule a.text.items a.status parts small is
-divided_is command bytes source schedule (Err e) parts small is = is
+pub divided_is : (by : Workers) (command : Words) (bytes source : List ℕ) (schedule : Option (List ℕ)) (result : Result Answer AllocError) → IsDivided command bytes source schedule →
+    length source ≤ MOST_SOURCE_BYTES → IfOk result (λ a. RefusedOr source (AnswersTree by command schedule (length bytes)) a.text.items a.status) →
+    IfOk result (λ a. AnswersBytes by command bytes a.text.items a.status)
+divided_is by command bytes source schedule (Ok a) parts small is = divided source schedule a.text.items a.status parts small is
+divided_is by command bytes source schedule (Err e) parts small is = is
 
 -- the commands whose input is a source
 pub of_source : (command : Words) →
-    ((p : ℕ) × (b : ℕ) × (command ≡ commands.Run p b)) ⊎ ((command ≡ commands.Check) ⊎ ((command ≡ commands.List) ⊎ ((b : ℕ) × (command ≡ commands.Replay b)))) →
+    ((p : ℕ) × (b : ℕ) × (r : Rule) × (command ≡ commands.Run p b r)) ⊎ ((command ≡ commands.Check) ⊎ ((command ≡ commands.List) ⊎ ((b : ℕ) × (command ≡ commands.Replay b)))) →
     IsOfSource command
-of_source command (inl (p, b, is)) = subst IsOfSource (sym is) tt
+of_source command (inl (p, b, r, is)) = subst IsOfSource (sym is) tt
 of_source command (inr (inl is)) = subst IsOfSource (sym is) tt
 of_source command (inr (inr (inl is))) = subst IsOfSource (sym is) tt
 of_source command (inr (inr (inr (b, is)))) = subst IsOfSource (sym is) tt
 
--- the bytes of a source
-pub source_is : (command : Words) (bytes : List ℕ) (result : Result Answer AllocError) → IsOfSource command → IfOk result (λ a. AnswersBytes command bytes a.text.items a.status) →
-    IfOk result (λ a. AnswersInput command bytes a.text.items a.status)
-source_is (commands.Run processors budget) bytes result of is = is
-source_is commands.Check bytes result of is = is
-source_is commands.List bytes result of is = is
-source_is (commands.Replay budget) bytes result of is = is
-source_is (commands.Exec budget) bytes result of is = absurd of
+-- what answers the bytes of a source answers what was read
+pub bytes_out : (command : Words) (bytes : List ℕ) → IsOfSource command → (by : Workers) (text : List ℕ) (s : Status) → AnswersBytes by command bytes text s →
+    AnswersInput by command bytes text s
+bytes_out (commands.Run processors budget rule) bytes of by text s is = is
+bytes_out commands.Check bytes of by text s is = is
+bytes_out commands.List bytes of by text s is = is
+bytes_out (commands.Replay budget) bytes of by text s is = is
+bytes_out (commands.Exec budget) bytes of by text s is = absurd of

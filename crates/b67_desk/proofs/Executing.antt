@@ -12,7 +12,7 @@ use Rattle.b67_exec_report.specs.Texts.{exec_text}
 use Rattle.b67_desk.specs.declared.status.Code.TheVariants.{OfText}
 use Rattle.b67_desk.specs.declared.status.Status.{Status}
 use Rattle.b67_desk.specs.declared.status.Status.TheVariants as status
-use Rattle.b67_desk.specs.declared.desk.Answer.{Answer}
+use Rattle.b67_desk.specs.declared.asking.Answer.{Answer}
 use Rattle.b67_desk.specs.Answers.{refused_text, status_by, line_start, Execs, unassembled, executed}
 use Rattle.b67_desk.specs.Calls.{IsRefusal}
 

@@ -1,6 +1,6 @@
 -- From a run of a machine to what its report explains.
-use Rattle.std.proofs.Common.{ℕ, ◌≤◌, List, ◌++◌, length, Option, Some, None, Result, Ok, Err, subst, sym}
-use Rattle.std.specs.Prelude.{IfOk}
+use Rattle.std.proofs.Common.{◌≡◌, ℕ, ◌≤◌, List, length, Result, Ok, Err, sym, subst}
+use Rattle.std.specs.Prelude.{◌≢◌, IfOk}
 use Rattle.std.specs.List.{All}
 use Rattle.std.specs.declared.alloc.AllocError.{AllocError}
 use Rattle.algol_tree.specs.Plain.{PProgram}
@@ -9,62 +9,76 @@ use Rattle.b67_segment.specs.declared.TheConstants.{MOST_SEGMENT_WORDS}
 use Rattle.b67_segment.specs.declared.code.Code.{Code}
 use Rattle.b67_segment.specs.declared.code.Segment.{Segment}
 use Rattle.b67_schedule.specs.Schedules.{entries, IsSchedule, Kept as Schedule}
-use Rattle.b67_report.specs.declared.EndWords.{EndWords}
 use Rattle.b67_report.specs.declared.Report.{Report}
-use Rattle.b67_machine.specs.declared.reads.End.{End}
-use Rattle.b67_machine.specs.declared.reads.End.TheVariants as ends
 use Rattle.b67_machine.specs.declared.replay.Replayed.{Replayed}
-use Rattle.b67_machine.specs.declared.replay.Replayed.TheVariants.{Ended, Ran, Illegal, BudgetSpent, NoMemory}
+use Rattle.b67_machine.specs.declared.replay.Replayed.TheVariants.{NoMemory}
+use Rattle.b67_table.specs.Sound.{Sound}
 use Rattle.b67_machine.specs.Kept.{Kept}
 use Rattle.b67_machine.specs.Reads.{machine_end}
 use Rattle.b67_machine.specs.Replaying.{Replays}
-use Rattle.b67_alone.specs.Alone.{IsRunEnd, RunsAlone}
 use Rattle.b67_faithful.specs.Faithful.{Faithful}
-use Rattle.b67_explain.specs.Explaining.{IsOwnEnd, ExplainsRun, ExplainsReplay}
-use Rattle.b67_explain.specs.Telling.{words_of_end, Tells, IsReportOf}
-use Rattle.b67_explain.proofs.Explained.{run_explained, replay_explained}
+use Rattle.b67_ready.specs.Orders.{place_of}
+use Rattle.b67_stands.specs.Picked.{Pick}
+use Rattle.b67_stands.specs.Ran.{HasRun, HasRunAlone}
+use Rattle.b67_explain.specs.Alone.{ExplainsAlone}
+use Rattle.b67_explain.specs.Explaining.{ExplainsRun, ExplainsReplay}
+use Rattle.b67_explain.specs.Telling.{CanBeTold, IsReportOf}
+use Rattle.b67_explain.proofs.Explained.{replay_explained}
+use Rattle.b67_explain.proofs.Ran.{left_can_be_told, left_explained, left_alone_explained}
+use Rattle.b67_desk.specs.declared.asking.Job.{Job}
+use Rattle.b67_desk.specs.Answers.{by_one, order_of}
+use Rattle.b67_desk.specs.Calls.{IsLeft, IsReported}
 use Rattle.b67_desk.proofs.Laws.{runs_grow}
 
 pub segments_short : (code : Code) → IsListable code → All (λ (segment : Segment). length segment.words ≤ MOST_SEGMENT_WORDS) code.segments
 segments_short code listable = λ k first inside. (listable.segments k first inside).1.few
 
-own_words : (end : End) → IsOwnEnd (words_of_end end)
-own_words ends.Finished = tt
-own_words (ends.Fault kind process) = tt
-own_words ends.AllWaiting = tt
-own_words (ends.StackLimit process words) = tt
+-- the machine's code is sound, and its segments are short
+pub kept_short : (code kept : Code) (tree : PProgram) → Faithful tree code → kept ≡ code →
+    Sound kept × All (λ (segment : Segment). length segment.words ≤ MOST_SEGMENT_WORDS) kept.segments
+kept_short code kept tree faithful same =
+    subst (λ (k : Code). Sound k × All (λ (segment : Segment). length segment.words ≤ MOST_SEGMENT_WORDS) k.segments) (sym same)
+    (faithful.follows.sound, segments_short code faithful.listable)
 
-own_end : (answer : Replayed) (end : Option End) (told : EndWords) → IsRunEnd answer → Tells answer end told → IsOwnEnd told
-own_end Ended (Some end) told run tells = subst IsOwnEnd (sym tells) (own_words end)
-own_end Ended None told run tells = absurd tells
-own_end Ran end told run tells = absurd run
-own_end (Illegal number) end told run tells = absurd run
-own_end BudgetSpent end told run tells = subst IsOwnEnd (sym tells) tt
-own_end NoMemory end told run tells = absurd tells
+-- how a run ended can be told
+pub ran_can_be_told : (code kept : Code) (tree : PProgram) → Faithful tree code → (budget : ℕ) (m : Kept) (schedule : Schedule) (answer : Replayed) → answer ≢ NoMemory →
+    kept ≡ code → HasRun kept budget m schedule answer → CanBeTold answer (machine_end m)
+ran_can_be_told code kept tree faithful budget m schedule answer some same run =
+    left_can_be_told runs_grow tree code faithful budget m schedule answer some (subst (λ (k : Code). HasRun k budget m schedule answer) same run)
 
-pub run_told : (tree : PProgram) (code : Code) → Faithful tree code → (processors budget : ℕ) (m : Kept) (answer : Replayed) (schedule : Schedule) →
-    RunsAlone code budget (entries schedule.runs) m answer → (lines : List (List ℕ)) (report : Report) → IsReportOf m answer lines processors schedule report →
-    IsSchedule schedule.runs → ListingText code lines → ExplainsRun tree processors budget report
-run_told tree code faithful processors budget m answer schedule alone lines report is valid listed =
-    run_explained runs_grow tree code faithful (entries schedule.runs ++ alone.next) budget m answer schedule alone.replays processors lines report is valid listed
-    (own_end answer (machine_end m) report.end alone.ends is.end)
+pub alone_can_be_told : (code kept : Code) (tree : PProgram) → Faithful tree code → (budget : ℕ) (pick : Pick) (m : Kept) (schedule : Schedule) (answer : Replayed) →
+    answer ≢ NoMemory → kept ≡ code → HasRunAlone kept budget pick m schedule answer → CanBeTold answer (machine_end m)
+alone_can_be_told code kept tree faithful budget pick m schedule answer some same run =
+    ran_can_be_told code kept tree faithful budget m schedule answer some same run.has_run
 
-pub replay_told : (tree : PProgram) (code : Code) → Faithful tree code → (given : List ℕ) (budget : ℕ) (m : Kept) (answer : Replayed) (schedule : Schedule) →
-    Replays code given budget (entries schedule.runs) m answer → (lines : List (List ℕ)) (report : Report) → IsReportOf m answer lines 1 schedule report →
-    IsSchedule schedule.runs → ListingText code lines → ExplainsReplay tree given budget report
-replay_told = replay_explained runs_grow
+-- what is left of a run is told by its report
+pub left_is : (m : Kept) (answer : Replayed) (lines : List (List ℕ)) (processors : ℕ) (schedule : Schedule) (result : Result Report AllocError) → answer ≢ NoMemory →
+    IsSchedule schedule.runs → IfOk result (IsReportOf m answer lines processors schedule) → IfOk result (IsLeft m answer lines processors schedule)
+left_is m answer lines processors schedule (Ok report) some valid is = record { some = some; valid = valid; is = is }
+left_is m answer lines processors schedule (Err e) some valid is = is
 
--- the same of what was answered
-pub run_answered : (code : Code) (processors budget : ℕ) (m : Kept) (answer : Replayed) (schedule : Schedule) → RunsAlone code budget (entries schedule.runs) m answer →
-    (lines : List (List ℕ)) (result : Result Report AllocError) → IfOk result (IsReportOf m answer lines processors schedule) → IsSchedule schedule.runs → ListingText code lines →
-    IfOk result (λ report. (tree : PProgram) → Faithful tree code → ExplainsRun tree processors budget report)
-run_answered code processors budget m answer schedule alone lines (Ok report) is valid listed =
-    λ tree faithful. run_told tree code faithful processors budget m answer schedule alone lines report is valid listed
-run_answered code processors budget m answer schedule alone lines (Err e) is valid listed = is
+-- what a report of a run in the caller explains, where there is one
+pub run_reported : (job : Job) (m : Kept) (answer : Replayed) (schedule : Schedule) → HasRunAlone job.code job.budget (place_of (order_of job.rule)) m schedule answer →
+    (lines : List (List ℕ)) (result : Result Report AllocError) → IfOk result (IsLeft m answer lines job.processors schedule) → ListingText job.code lines →
+    IfOk result (IsReported by_one job)
+run_reported job m answer schedule alone lines (Ok report) left listed = λ tree faithful.
+    let x : ExplainsAlone tree (place_of (order_of job.rule)) job.processors job.budget report =
+    left_alone_explained runs_grow tree job.code faithful job.budget m schedule answer left.some job.processors lines report left.is left.valid listed (place_of (order_of job.rule)) alone in
+    record { explains = x.explains; alone = λ one. x }
+run_reported job m answer schedule alone lines (Err e) left listed = left
 
+-- and of one that processors shared
+pub share_reported : (job : Job) (m : Kept) (answer : Replayed) (schedule : Schedule) → HasRun job.code job.budget m schedule answer →
+    (lines : List (List ℕ)) (result : Result Report AllocError) → IfOk result (IsLeft m answer lines job.processors schedule) → ListingText job.code lines →
+    IfOk result (λ report. (tree : PProgram) → Faithful tree job.code → ExplainsRun tree job.processors job.budget report)
+share_reported job m answer schedule run lines (Ok report) left listed = λ tree faithful.
+    left_explained runs_grow tree job.code faithful job.budget m schedule answer left.some job.processors lines report left.is left.valid listed run
+share_reported job m answer schedule run lines (Err e) left listed = left
+
+-- and of a replay
 pub replay_answered : (code : Code) (given : List ℕ) (budget : ℕ) (m : Kept) (answer : Replayed) (schedule : Schedule) → Replays code given budget (entries schedule.runs) m answer →
-    (lines : List (List ℕ)) (result : Result Report AllocError) → IfOk result (IsReportOf m answer lines 1 schedule) → IsSchedule schedule.runs → ListingText code lines →
+    (lines : List (List ℕ)) (result : Result Report AllocError) → IfOk result (IsLeft m answer lines 1 schedule) → ListingText code lines →
     IfOk result (λ report. (tree : PProgram) → Faithful tree code → ExplainsReplay tree given budget report)
-replay_answered code given budget m answer schedule replays lines (Ok report) is valid listed =
-    λ tree faithful. replay_told tree code faithful given budget m answer schedule replays lines report is valid listed
-replay_answered code given budget m answer schedule replays lines (Err e) is valid listed = is
+replay_answered code given budget m answer schedule replays lines (Ok report) left listed =
+    λ tree faithful. replay_explained runs_grow tree code faithful given budget m answer schedule replays lines report left.is left.valid listed
+replay_answered code given budget m answer schedule replays lines (Err e) left listed = left

@@ -10,6 +10,8 @@ use Rattle.algol_tree.specs.Codes.{rule_letter, rule_number}
 use Rattle.algol_tree.specs.Plain.{PProgram}
 use Rattle.algol_tree.specs.First.{Source, First}
 use Rattle.b67_io.specs.Faults.{Rose}
+use Rattle.b67_words.specs.declared.Rule.{Rule}
+use Rattle.b67_words.specs.declared.Rule.TheVariants as rules
 use Rattle.b67_words.specs.declared.Words.{Words}
 use Rattle.b67_words.specs.declared.Words.TheVariants.{Run, Check, Replay, Exec}
 use Rattle.b67_words.specs.declared.Words.TheVariants.{List as ListCode}
@@ -18,6 +20,9 @@ use Rattle.b67_words.specs.declared.UsageKind.{UsageKind}
 use Rattle.b67_words.specs.declared.UsageKind.TheVariants as kinds
 use Rattle.b67_words.specs.Grammar.{WordsMean}
 use Rattle.b67_text.specs.Texts.{IsRefused}
+use Rattle.b67_ready.specs.declared.order.Order.{Order}
+use Rattle.b67_ready.specs.declared.order.Order.TheVariants as orders
+use Rattle.b67_ready.specs.Orders.{place_of}
 use Rattle.b67_schedule.specs.Schedules.{entries}
 use Rattle.b67_schedule.specs.Reading.{IsScheduleText}
 use Rattle.b67_report.specs.declared.Report.{Report}
@@ -31,6 +36,7 @@ use Rattle.b67_fitting.specs.Built.{IsBuilt}
 use Rattle.b67_parts.specs.declared.TheConstants.{MOST_INPUT_BYTES}
 use Rattle.b67_parts.specs.Parts.{Parts}
 use Rattle.b67_explain.specs.Explaining.{ExplainsRun, ExplainsReplay}
+use Rattle.b67_explain.specs.Alone.{ExplainsAlone}
 use Rattle.b67_asm.specs.declared.refusal.Refusal.{Refusal}
 use Rattle.b67_asm.specs.Codes.{number_of}
 use Rattle.b67_asm.specs.Assembling.{Assembles, IsRefusedText}
@@ -90,9 +96,34 @@ status_of (ends.Illegal entry) = status.Illegal entry
 abbrev pub SaysAccepted : List ℕ → Status → Type 0
 SaysAccepted text s = (text ≡ accepted_text) × (s ≡ status.Finished)
 
--- `run`: a report that explains a run on so many processors under that budget
-pub data Runs (processors budget : ℕ) (tree : PProgram) : List ℕ → Status → Type 0 where
-  ran : (report : Report) → ExplainsRun tree processors budget report → Runs processors budget tree (ReportText report) (status_of report.end)
+-- the rule of a queue that is named
+abbrev pub order_of : Rule → Order
+order_of rules.Fifo = orders.Fifo
+order_of rules.Lifo = orders.Lifo
+order_of (rules.Seed n) = orders.Seed n
+
+-- By how many processors the work of a run on so many is done.
+abbrev pub Workers : Type 0
+Workers = ℕ → ℕ
+
+-- by all of them, which share it
+abbrev pub by_all : Workers
+by_all processors = processors
+
+-- by the first of them, which is the caller
+abbrev pub by_one : Workers
+by_one processors = 1
+
+-- The report explains a run of this source. Where one processor did all the work, it explains too whose each action is: that of the turns
+-- of the source under the rule.
+pub record ExplainsBy (workers processors budget : ℕ) (rule : Rule) (tree : PProgram) (report : Report) : Type 0 where
+  pub explains : ExplainsRun tree processors budget report
+  pub alone : workers ≡ 1 → ExplainsAlone tree (place_of (order_of rule)) processors budget report
+
+-- `run`: a report that explains it
+pub data Runs (by : Workers) (processors budget : ℕ) (rule : Rule) (tree : PProgram) : List ℕ → Status → Type 0 where
+  ran : (report : Report) → ExplainsBy (by processors) processors budget rule tree report →
+      Runs by processors budget rule tree (ReportText report) (status_of report.end)
 
 -- `list`: the listing of a code that does what the source does for every list of choices
 pub data Lists (tree : PProgram) : List ℕ → Status → Type 0 where
@@ -121,7 +152,7 @@ at_start = record { line = 1; column = 1 }
 -- The trees that are built for a command. For one that wants the code of a source those are built that declare only simple variables, files,
 -- arrays and procedures whose parameters are simple and by value, or arrays, and start no process.
 abbrev pub IsBuiltFor : Words → PProgram → Type 0
-IsBuiltFor (Run processors budget) tree = IsBuilt tree
+IsBuiltFor (Run processors budget rule) tree = IsBuilt tree
 IsBuiltFor Check tree = Unit {0}
 IsBuiltFor ListCode tree = IsBuilt tree
 IsBuiltFor (Replay budget) tree = IsBuilt tree
@@ -135,16 +166,16 @@ pub data BuiltOr (command : Words) (tree : PProgram) (AnswersIt : List ℕ → S
   built : (text : List ℕ) (s : Status) → IsBuiltFor command tree → AnswersIt text s → BuiltOr command tree AnswersIt text s
 
 -- what a source whose tree is built for that command is answered by, with the schedule text beside it and the bytes of both
-abbrev pub AnswersBuilt : Words → Option (List ℕ) → ℕ → PProgram → List ℕ → Status → Type 0
-AnswersBuilt (Run processors budget) schedule input tree = Runs processors budget tree
-AnswersBuilt Check schedule input tree = SaysAccepted
-AnswersBuilt ListCode schedule input tree = Lists tree
-AnswersBuilt (Replay budget) schedule input tree = Replays budget schedule input tree
-AnswersBuilt (Exec budget) schedule input tree = λ text s. ⊥
+abbrev pub AnswersBuilt : Workers → Words → Option (List ℕ) → ℕ → PProgram → List ℕ → Status → Type 0
+AnswersBuilt by (Run processors budget rule) schedule input tree = Runs by processors budget rule tree
+AnswersBuilt by Check schedule input tree = SaysAccepted
+AnswersBuilt by ListCode schedule input tree = Lists tree
+AnswersBuilt by (Replay budget) schedule input tree = Replays budget schedule input tree
+AnswersBuilt by (Exec budget) schedule input tree = λ text s. ⊥
 
 -- what a source with this tree is answered by under that command
-abbrev pub AnswersTree : Words → Option (List ℕ) → ℕ → PProgram → List ℕ → Status → Type 0
-AnswersTree command schedule input tree = BuiltOr command tree (AnswersBuilt command schedule input tree)
+abbrev pub AnswersTree : Workers → Words → Option (List ℕ) → ℕ → PProgram → List ℕ → Status → Type 0
+AnswersTree by command schedule input tree = BuiltOr command tree (AnswersBuilt by command schedule input tree)
 
 -- The bytes are a source with this tree, and with no other.
 pub record IsSourceOf (bytes : List ℕ) (tree : PProgram) : Type 0 where
@@ -168,11 +199,11 @@ IsDivided (Replay budget) bytes source schedule = Parts (codes "%%SCHEDULE") byt
 IsDivided command bytes source schedule = (source ≡ bytes) × (schedule ≡ None)
 
 -- what these bytes are answered by under that command: too long exactly where the source in them has more than 262,144 bytes
-pub data AnswersBytes (command : Words) (bytes : List ℕ) : List ℕ → Status → Type 0 where
+pub data AnswersBytes (by : Workers) (command : Words) (bytes : List ℕ) : List ℕ → Status → Type 0 where
   long_part : (source : List ℕ) (schedule : Option (List ℕ)) → IsDivided command bytes source schedule → MOST_SOURCE_BYTES < length source →
-      AnswersBytes command bytes too_long_text status.TooLong
+      AnswersBytes by command bytes too_long_text status.TooLong
   divided : (source : List ℕ) (schedule : Option (List ℕ)) (text : List ℕ) (s : Status) → IsDivided command bytes source schedule →
-      length source ≤ MOST_SOURCE_BYTES → RefusedOr source (AnswersTree command schedule (length bytes)) text s → AnswersBytes command bytes text s
+      length source ≤ MOST_SOURCE_BYTES → RefusedOr source (AnswersTree by command schedule (length bytes)) text s → AnswersBytes by command bytes text s
 
 -- ---- a text of code
 
@@ -202,9 +233,9 @@ IsOfSource (Exec budget) = ⊥
 IsOfSource command = Unit {0}
 
 -- what the bytes that are read under a command are answered by
-abbrev pub AnswersInput : Words → List ℕ → List ℕ → Status → Type 0
-AnswersInput (Exec budget) bytes = Execs budget bytes
-AnswersInput command bytes = AnswersBytes command bytes
+abbrev pub AnswersInput : Workers → Words → List ℕ → List ℕ → Status → Type 0
+AnswersInput by (Exec budget) bytes = Execs budget bytes
+AnswersInput by command bytes = AnswersBytes by command bytes
 
 -- how many bytes are read under that command
 abbrev pub most_bytes : Words → ℕ
@@ -213,10 +244,10 @@ most_bytes _ = MOST_SOURCE_BYTES
 
 -- What a source is answered by under that command, from the bytes that it has left, before and after, where it tells them: too long
 -- exactly where more than 262,144 are left, or 16,777,216 under `replay`; else it is read to its end, and its bytes are all that it had left.
-pub data AnswersSource (command : Words) (left left_after : Option (List ℕ)) : List ℕ → Status → Type 0 where
-  too_long : IfSome left (λ bytes. most_bytes command < length bytes) → AnswersSource command left left_after too_long_text status.TooLong
+pub data AnswersSource (by : Workers) (command : Words) (left left_after : Option (List ℕ)) : List ℕ → Status → Type 0 where
+  too_long : IfSome left (λ bytes. most_bytes command < length bytes) → AnswersSource by command left left_after too_long_text status.TooLong
   read : (bytes text : List ℕ) (s : Status) → length bytes ≤ most_bytes command → IfSome left (λ all. bytes ≡ all) → IsAtEnd left_after →
-      AnswersInput command bytes text s → AnswersSource command left left_after text s
+      AnswersInput by command bytes text s → AnswersSource by command left left_after text s
 
 -- ---- a call
 
@@ -234,10 +265,10 @@ pub record Untouched (r : Reading) : Type 0 where
 
 -- The text and the status that answer the words and the source, where nothing hinders it: a usage refusal exactly where the words
 -- break the grammar, and then nothing is read.
-pub data Answers (words : List (List ℕ)) (r : Reading) : List ℕ → Status → Type 0 where
-  usage : (word : ℕ) (kind : UsageKind) → WordsMean words (Err (bad.Usage word kind)) → Untouched r → Answers words r (usage_text word kind) (status.Usage word kind)
-  answered : (command : Words) (text : List ℕ) (s : Status) → WordsMean words (Ok command) → AnswersSource command r.left r.left_after text s →
-      Answers words r text s
+pub data Answers (by : Workers) (words : List (List ℕ)) (r : Reading) : List ℕ → Status → Type 0 where
+  usage : (word : ℕ) (kind : UsageKind) → WordsMean words (Err (bad.Usage word kind)) → Untouched r → Answers by words r (usage_text word kind) (status.Usage word kind)
+  answered : (command : Words) (text : List ℕ) (s : Status) → WordsMean words (Ok command) → AnswersSource by command r.left r.left_after text s →
+      Answers by words r text s
 
 -- the source failed: its count rose
 pub record Unreadable (words : List (List ℕ)) (r : Reading) : Type 0 where
@@ -259,9 +290,9 @@ pub record Unwritten (w : Writing) : Type 0 where
 
 -- How a call ended. Want of memory is free, and then the sink was not called; a fault of reading or writing comes only where that
 -- count rose; what was written when the sink failed is a front of a text that answers the call.
-pub data HasAnswer (words : List (List ℕ)) (r : Reading) (w : Writing) : Status → Type 0 where
-  told : (text : List ℕ) (s : Status) → Answers words r text s → Appends w.written w.written_after text → HasAnswer words r w s
-  write_fault : (text : List ℕ) (instead_of : Status) (count : ℕ) → Answers words r text instead_of → count < length text →
-      Appends w.written w.written_after (take count text) → Rose w.faults w.faults_after → HasAnswer words r w status.WriteFault
-  read_fault : Unreadable words r → Unwritten w → HasAnswer words r w status.ReadFault
-  no_memory : Unwritten w → HasAnswer words r w status.NoMemory
+pub data HasAnswer (by : Workers) (words : List (List ℕ)) (r : Reading) (w : Writing) : Status → Type 0 where
+  told : (text : List ℕ) (s : Status) → Answers by words r text s → Appends w.written w.written_after text → HasAnswer by words r w s
+  write_fault : (text : List ℕ) (instead_of : Status) (count : ℕ) → Answers by words r text instead_of → count < length text →
+      Appends w.written w.written_after (take count text) → Rose w.faults w.faults_after → HasAnswer by words r w status.WriteFault
+  read_fault : Unreadable words r → Unwritten w → HasAnswer by words r w status.ReadFault
+  no_memory : Unwritten w → HasAnswer by words r w status.NoMemory

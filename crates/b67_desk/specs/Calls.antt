@@ -1,38 +1,91 @@
 -- What the parts of the top call promise one another.
-use Rattle.std.specs.Prelude.{◌≡◌, ℕ, ◌≤◌, List, Result, Ok, Err}
+use Rattle.std.specs.Prelude.{◌≡◌, ◌≢◌, ℕ, ◌≤◌, List, Result, Ok, Err}
+use Rattle.std.specs.declared.alloc.AllocError.{AllocError}
+use Rattle.algol_tree.specs.Plain.{PProgram}
+use Rattle.algol_tree.specs.declared.token.Spot.{Spot}
 use Rattle.b67_io.specs.Faults.{Rose}
-use Rattle.b67_desk.specs.declared.desk.Answer.{Answer}
-use Rattle.b67_desk.specs.declared.desk.Unanswered.{Unanswered}
-use Rattle.b67_desk.specs.declared.desk.Unanswered.TheVariants as why
-use Rattle.b67_words.specs.declared.TheConstants.{MOST_BUDGET}
+use Rattle.b67_words.specs.declared.TheConstants.{MOST_BUDGET, MOST_PROCESSORS}
 use Rattle.b67_words.specs.declared.Words.{Words}
 use Rattle.b67_words.specs.declared.Words.TheVariants.{Run, Check, Replay, Exec}
 use Rattle.b67_words.specs.declared.Words.TheVariants.{List as ListCode}
 use Rattle.b67_words.specs.declared.BadWords.{BadWords}
 use Rattle.b67_words.specs.declared.BadWords.TheVariants as broken
 use Rattle.b67_words.specs.declared.UsageKind.{UsageKind}
-use Rattle.b67_desk.specs.declared.status.Code.{Code as RefusalCode}
-use Rattle.b67_desk.specs.declared.status.Status.TheVariants as statuses
 use Rattle.b67_report.specs.declared.Report.{Report}
 use Rattle.b67_report.specs.Texts.{ReportText}
-use Rattle.algol_tree.specs.declared.token.Spot.{Spot}
-use Rattle.b67_desk.specs.Answers.{usage_text, refused_text, too_long_text, bad_schedule_text, status_of, AnswersSource, Answers, Reading, Unreadable}
+use Rattle.b67_schedule.specs.Schedules.{IsSchedule, Kept as Schedule}
+use Rattle.b67_machine.specs.Kept.{Kept}
+use Rattle.b67_machine.specs.declared.replay.Replayed.{Replayed}
+use Rattle.b67_machine.specs.declared.replay.Replayed.TheVariants.{NoMemory}
+use Rattle.b67_faithful.specs.Faithful.{Faithful}
+use Rattle.b67_explain.specs.Telling.{IsReportOf}
+use Rattle.b67_desk.specs.declared.asking.Answer.{Answer}
+use Rattle.b67_desk.specs.declared.asking.Unanswered.{Unanswered}
+use Rattle.b67_desk.specs.declared.asking.Unanswered.TheVariants as why
+use Rattle.b67_desk.specs.declared.asking.Job.{Job}
+use Rattle.b67_desk.specs.declared.asking.Asked.{Asked}
+use Rattle.b67_desk.specs.declared.asking.Asked.TheVariants as asked
+use Rattle.b67_desk.specs.declared.status.Code.{Code as RefusalCode}
+use Rattle.b67_desk.specs.declared.status.Status.{Status}
+use Rattle.b67_desk.specs.declared.status.Status.TheVariants as statuses
+use Rattle.b67_desk.specs.Answers.{usage_text, refused_text, too_long_text, bad_schedule_text, status_of, Workers, ExplainsBy, AnswersSource, Answers, Reading, Unreadable}
 
--- the source is answered, or it failed, or memory ran out
-abbrev pub SourceAnswered : Words → Reading → Result Answer Unanswered → Type 0
-SourceAnswered command r (Ok a) = AnswersSource command r.left r.left_after a.text.items a.status
-SourceAnswered command r (Err why.ReadFault) = Rose r.faults r.faults_after
-SourceAnswered command r (Err why.NoMemory) = Unit {0}
+-- ---- what is asked for
+
+-- a run that can be made: of a code that is that of a source, on as many processors and within such a budget as there may be
+pub record CanBeMade (job : Job) : Type 0 where
+  pub faithful : (tree : PProgram) × Faithful tree job.code
+  pub processors : (1 ≤ job.processors) × (job.processors ≤ MOST_PROCESSORS)
+  pub budget : (1 ≤ job.budget) × (job.budget ≤ MOST_BUDGET)
+
+-- the report of it explains a run of every source that the code is of
+abbrev pub IsReported : Workers → Job → Report → Type 0
+IsReported by job report = (tree : PProgram) → Faithful tree job.code → ExplainsBy (by job.processors) job.processors job.budget job.rule tree report
+
+-- What is asked for is an answer, by whomever work is done. Or it is a run that can be made, and then each report of it is an answer, where
+-- the work is done so.
+abbrev pub Asks : (Workers → List ℕ → Status → Type 0) → Asked → Type 0
+Asks Its (asked.Settled a) = (by : Workers) → Its by a.text.items a.status
+Asks Its (asked.Run job) = CanBeMade job × ((by : Workers) (report : Report) → IsReported by job report → Its by (ReportText report) (status_of report.end))
+
+-- an answer that is there is what is asked for
+abbrev pub settled : Result Answer AllocError → Result Asked AllocError
+settled (Ok a) = Ok (asked.Settled a)
+settled (Err e) = Err e
+
+-- what the source asks for, or it failed, or memory ran out
+abbrev pub SourceAsked : Words → Reading → Result Asked Unanswered → Type 0
+SourceAsked command r (Ok a) = Asks (λ by. AnswersSource by command r.left r.left_after) a
+SourceAsked command r (Err why.ReadFault) = Rose r.faults r.faults_after
+SourceAsked command r (Err why.NoMemory) = Unit {0}
+
+-- what the call asks for, or its source failed, or memory ran out
+abbrev pub CallAsked : List (List ℕ) → Reading → Result Asked Unanswered → Type 0
+CallAsked words r (Ok a) = Asks (λ by. Answers by words r) a
+CallAsked words r (Err why.ReadFault) = Unreadable words r
+CallAsked words r (Err why.NoMemory) = Unit {0}
 
 -- the call is answered, or its source failed, or memory ran out
-abbrev pub CallAnswered : List (List ℕ) → Reading → Result Answer Unanswered → Type 0
-CallAnswered words r (Ok a) = Answers words r a.text.items a.status
-CallAnswered words r (Err why.ReadFault) = Unreadable words r
-CallAnswered words r (Err why.NoMemory) = Unit {0}
+abbrev pub CallAnswered : Workers → List (List ℕ) → Reading → Result Answer Unanswered → Type 0
+CallAnswered by words r (Ok a) = Answers by words r a.text.items a.status
+CallAnswered by words r (Err why.ReadFault) = Unreadable words r
+CallAnswered by words r (Err why.NoMemory) = Unit {0}
+
+-- ---- reports
+
+-- the report of what a run has left, where memory did not lack
+pub record IsLeft (machine : Kept) (answer : Replayed) (lines : List (List ℕ)) (processors : ℕ) (schedule : Schedule) (report : Report) : Type 0 where
+  pub some : answer ≢ NoMemory
+  pub valid : IsSchedule schedule.runs
+  pub is : IsReportOf machine answer lines processors schedule report
+
+-- ---- answers
 
 -- the refusal of words that are no command, or memory ran out
-abbrev pub IsUsage : BadWords → Result Answer Unanswered → Type 0
-IsUsage bad (Ok a) = (word : ℕ) × (kind : UsageKind) × (bad ≡ broken.Usage word kind) × (a.text.items ≡ usage_text word kind) × (a.status ≡ statuses.Usage word kind)
+abbrev pub IsUsage : BadWords → Result Asked Unanswered → Type 0
+IsUsage bad (Ok (asked.Settled a)) =
+    (word : ℕ) × (kind : UsageKind) × (bad ≡ broken.Usage word kind) × (a.text.items ≡ usage_text word kind) × (a.status ≡ statuses.Usage word kind)
+IsUsage bad (Ok (asked.Run job)) = ⊥
 IsUsage bad (Err why.ReadFault) = ⊥
 IsUsage bad (Err why.NoMemory) = Unit {0}
 
@@ -43,7 +96,7 @@ pub record IsRefusal (place : Spot) (code : RefusalCode) (a : Answer) : Type 0 w
 
 -- what the numbers of the command are: some processors, and a budget from 1 to the greatest
 abbrev pub InRange : Words → Type 0
-InRange (Run processors budget) = (1 ≤ processors) × (1 ≤ budget) × (budget ≤ MOST_BUDGET)
+InRange (Run processors budget rule) = (1 ≤ processors) × (processors ≤ MOST_PROCESSORS) × (1 ≤ budget) × (budget ≤ MOST_BUDGET)
 InRange Check = Unit {0}
 InRange ListCode = Unit {0}
 InRange (Replay budget) = (1 ≤ budget) × (budget ≤ MOST_BUDGET)
@@ -63,3 +116,9 @@ pub record IsBadAt (byte : ℕ) (a : Answer) : Type 0 where
 pub record IsReportAnswer (report : Report) (a : Answer) : Type 0 where
   pub text : a.text.items ≡ ReportText report
   pub status : a.status ≡ status_of report.end
+
+-- the answer that is the report of a run, where the work is done so
+pub record IsRunAnswer (by : Workers) (job : Job) (a : Answer) : Type 0 where
+  pub report : Report
+  pub reported : IsReported by job report
+  pub told : IsReportAnswer report a

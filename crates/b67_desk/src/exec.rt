@@ -5,7 +5,7 @@ ghost use Rattle.algol_tree.specs.declared.TheConstants.{MOST_SOURCE_BYTES};
 ghost use Rattle.b67_words.specs.declared.TheConstants.{MOST_BUDGET};
 ghost use Rattle.b67_desk.specs.Answers.{Execs, status_by};
 
-use crate::desk::Answer;
+use crate::asking::Answer;
 use crate::status::{Code, Status};
 use crate::tree::refuse;
 use algol_tree::Spot;

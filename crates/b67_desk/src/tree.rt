@@ -2,13 +2,13 @@
 
 ghost use Rattle.std.specs.Prelude.{◌≡◌, ◌≤◌, IfOk, option_copied};
 ghost use Rattle.algol_tree.specs.Image.{program as plain};
-ghost use Rattle.b67_words.specs.declared.TheConstants.{MOST_BUDGET};
+ghost use Rattle.b67_words.specs.declared.TheConstants.{MOST_BUDGET, MOST_PROCESSORS};
 ghost use Rattle.b67_fitting.specs.Built.{IsBuilt};
 ghost use Rattle.b67_desk.specs.Answers.{AnswersTree, IsOfSource, SaysAccepted, Runs, Lists, Replays, status_of};
-ghost use Rattle.b67_desk.specs.Calls.{InRange, IsRefusal, IsBadAt, IsReportAnswer};
+ghost use Rattle.b67_desk.specs.Calls.{Asks, InRange, IsRefusal, IsBadAt, IsReportAnswer};
 
-use crate::desk::Answer;
-use crate::running::{replay_report, run_report};
+use crate::asking::{Answer, Asked, Job, settled};
+use crate::running::replay_report;
 use crate::status::{Code, Status};
 use crate::texts::{accepted_line, bad_schedule_line, listing_lines, refused_line};
 use algol_front::Checked;
@@ -17,7 +17,7 @@ use b67_compile::{compile, is_built};
 use b67_listing::listing;
 use b67_report::{EndWords, Report, text as report_text};
 use b67_schedule::{ReadSchedule, read as read_schedule};
-use b67_words::Words;
+use b67_words::{Rule, Words};
 use std::alloc::{AllocError, Global};
 
 /// The status under which a run is reported.
@@ -46,7 +46,7 @@ pub fn refuse(alloc: Global, place: Spot, code: Code) -> Result<Answer, AllocErr
 }
 
 /// The answer that is a report.
-fn tell(alloc: Global, report: &Report) -> Result<Answer, AllocError>
+pub fn tell(alloc: Global, report: &Report) -> Result<Answer, AllocError>
     ensures { IfOk result (IsReportAnswer report.now) }
 {
     Ok(Answer {
@@ -65,20 +65,26 @@ fn accept_source(alloc: Global) -> Result<Answer, AllocError>
     })
 }
 
-/// The answer to a built source that is run, on so many processors under a budget.
-fn answer_run(
+/// What a built source asks for that is to be run, on so many processors under a budget and a rule.
+fn ask_run(
     alloc: Global,
     processors: u32,
     budget: u64,
+    rule: Rule,
     checked: &Checked,
-) -> Result<Answer, AllocError>
-    requires some { 1 ≤ processors }
-    requires most { budget ≤ MOST_BUDGET }
+) -> Result<Asked, AllocError>
+    requires some { (1 ≤ processors) × (processors ≤ MOST_PROCESSORS) }
+    requires budget { (1 ≤ budget) × (budget ≤ MOST_BUDGET) }
     requires built { IsBuilt (plain checked.now.program) }
-    ensures { IfOk result (λ answer. Runs processors budget (plain checked.now.program) answer.text.items answer.status) }
+    ensures { IfOk result (Asks (λ by. Runs by processors budget rule (plain checked.now.program))) }
 {
     let code = compile(alloc, checked)?;
-    tell(alloc, &run_report(alloc, processors, budget, code)?)
+    Ok(Asked::Run(Job {
+        processors,
+        budget,
+        rule,
+        code,
+    }))
 }
 
 /// The answer to a built source whose code is listed.
@@ -129,30 +135,36 @@ fn answer_replay(
     }
 }
 
-/// The answer to an accepted source under a command, with the schedule text beside it, in an input of so many bytes.
-pub fn answer_tree(
+/// What an accepted source asks for under a command, with the schedule text beside it, in an input of so many bytes.
+pub fn ask_tree(
     alloc: Global,
     command: Words,
     schedule: Option<&[u8]>,
     input: usize,
     checked: &Checked,
-) -> Result<Answer, AllocError>
+) -> Result<Asked, AllocError>
     requires range { InRange command }
     requires source { IsOfSource command }
-    ensures { IfOk result (λ answer. AnswersTree command (option_copied schedule.entry) input (plain checked.now.program) answer.text.items answer.status) }
+    ensures { IfOk result (Asks (λ by. AnswersTree by command (option_copied schedule.entry) input (plain checked.now.program))) }
 {
     if let Words::Check = command {
-        return accept_source(alloc);
+        return settled(accept_source(alloc));
     }
     if !is_built(checked) {
         let start = Spot { line: 1, column: 1 };
-        return refuse(alloc, start, Code::OfSource(SourceCode::Unbuilt));
+        return settled(refuse(alloc, start, Code::OfSource(SourceCode::Unbuilt)));
     }
     match command {
-        Words::Run { processors, budget } => answer_run(alloc, processors, budget, checked),
-        Words::Check => accept_source(alloc),
-        Words::List => answer_list(alloc, checked),
-        Words::Replay { budget } => answer_replay(alloc, budget, schedule, input, checked),
+        Words::Run {
+            processors,
+            budget,
+            rule,
+        } => ask_run(alloc, processors, budget, rule, checked),
+        Words::Check => settled(accept_source(alloc)),
+        Words::List => settled(answer_list(alloc, checked)),
+        Words::Replay { budget } => {
+            settled(answer_replay(alloc, budget, schedule, input, checked))
+        }
         Words::Exec { .. } => unreachable!(),
     }
 }

@@ -4,4 +4,4 @@
 mod ends;
 mod report;
 
-pub use report::report_of;
+pub use report::{acts_of, report_of};

@@ -1,6 +1,7 @@
 //! The report of a machine after a run.
 
-ghost use Rattle.std.specs.Prelude.{◌≡◌, ◌<◌, ◌≤◌, ◌^◌, IfOk, length};
+ghost use Rattle.std.specs.Prelude.{◌≡◌, ◌<◌, ◌≤◌, ◌^◌, IfOk, length, sum};
+ghost use Rattle.b67_schedule.specs.Schedules.{entries};
 ghost use Rattle.b67_report.specs.Reading.{AreCounts as AreNumbers};
 ghost use Rattle.b67_machine.specs.Reads.{machine_end};
 ghost use Rattle.b67_explain.specs.Telling.{CanBeTold, AreCounts, AreActs, IsReportOf};
@@ -38,7 +39,7 @@ fn operators_of<C: Core>(alloc: Global, machine: &Machine<C>) -> Result<List<u64
 }
 
 /// The acts of so many processors, where the first one made so many and the others none.
-fn acts_of(alloc: Global, processors: u32, count: u64) -> Result<List<u64>, AllocError>
+pub fn acts_of(alloc: Global, processors: u32, count: u64) -> Result<List<u64>, AllocError>
     requires { 1 ≤ processors }
     ensures acts { IfOk result (AreActs processors count) }
     ensures numbers { IfOk result AreNumbers }
@@ -51,19 +52,20 @@ fn acts_of(alloc: Global, processors: u32, count: u64) -> Result<List<u64>, Allo
     Ok(List::of(acts))
 }
 
-/// The report of a machine after a run in the caller, as the first of so many processors, whose code has these lines. The schedule is
-/// what was performed.
+/// The report of a machine after a run in which each processor made so many acts, and whose code has these lines. The schedule is what
+/// was performed.
 pub fn report_of<C: Core>(
     alloc: Global,
-    processors: u32,
+    acts: List<u64>,
     machine: &Machine<C>,
     answer: Replayed,
     lines: List<Line>,
     schedule: Schedule,
 ) -> Result<Report, AllocError>
-    requires some { 1 ≤ processors }
+    requires all { sum acts ≡ length (entries schedule.runs) }
+    requires numbers { AreNumbers acts }
     requires told { CanBeTold answer (machine_end machine.now) }
-    ensures { IfOk result (IsReportOf machine.now answer lines processors schedule) }
+    ensures { IfOk result (IsReportOf machine.now answer lines (length acts) schedule) }
 {
     // The number of the lines is read once, so that it is known to have 64 bits.
     let _count = lines.items().len();
@@ -71,7 +73,7 @@ pub fn report_of<C: Core>(
         output: copied(alloc, machine.output())?,
         end: words_of(answer, machine.end()),
         operators: operators_of(alloc, machine)?,
-        acts: acts_of(alloc, processors, schedule.len())?,
+        acts,
         listing: lines,
         schedule,
     })

@@ -1,7 +1,10 @@
-use Rattle.std.proofs.Common.{ap, subst, arith}
-use Rattle.b67_schedule.specs.Schedules.{entries, IsSchedule}
+use Rattle.std.specs.Prelude.{IfOk}
+use Rattle.std.proofs.Common.{ℕ, subst, ◌∙◌, arith}
+use Rattle.b67_schedule.specs.Schedules.{entries}
 use Rattle.b67_segment.specs.declared.code.Code.{Code}
 use Rattle.b67_machine.specs.Replaying.{Replays}
+use Rattle.b67_desk.specs.Calls.{IsLeft}
+use Rattle.b67_explain.proofs.Explained.{can_be_told}
 use Rattle.b67_desk.proofs.Told.{segments_short, replay_answered}
 use Rattle.b67_desk.proofs.running.replay_report.Goals as goal
 
@@ -14,8 +17,18 @@ returns c =
     let m = c.replay-answer.new.self in
     replay_answered c.args.code (entries c.args.given.now.runs) c.args.budget m c.replay-answer.result done
     (subst (λ (k : Code). Replays k (entries c.args.given.now.runs) c.args.budget (entries done.runs) m c.replay-answer.result) c.in_ok-machine.ensures.code c.replay-answer.ensures.replays)
-    c.in_ok-lines.lines c.report_of.result c.report_of.ensures
-    (subst IsSchedule (ap (λ s. s.runs) c.done.view_is) c.done.invariant.0) c.in_ok-lines.ensures
+    c.in_ok-lines.lines c.left_report.result
+    (subst (λ (n : ℕ). IfOk c.left_report.result (IsLeft m c.replay-answer.result c.in_ok-lines.lines n done)) c.in_ok-acts.ensures.acts.each c.left_report.ensures)
+    c.in_ok-lines.ensures
 
 pub replay-answer-requires-clause-room : goal.replay-answer-requires-clause-room
 replay-answer-requires-clause-room c = grind (arith, c.min.ensures, c.in_ok-done.ensures.room, c.len.ensures)
+
+pub left_report-requires : goal.left_report-requires
+left_report-requires c = record {
+  all = c.in_ok-acts.ensures.acts.sum_is ∙ c.len-2.ensures;
+  numbers = c.in_ok-acts.ensures.numbers;
+  told = λ some.
+      can_be_told c.in_ok-machine.machine.code (entries c.args.given.now.runs) c.args.budget (entries c.replay-answer.new.done.runs) c.replay-answer.new.self c.replay-answer.result
+      c.replay-answer.ensures.replays some;
+}

@@ -1,28 +1,42 @@
-use Rattle.std.proofs.Common.{ap, subst}
-use Rattle.b67_schedule.specs.Schedules.{entries, IsSchedule}
+use Rattle.std.specs.Prelude.{IfOk}
+use Rattle.std.proofs.Common.{ℕ, subst, ◌∙◌}
 use Rattle.b67_segment.specs.declared.code.Code.{Code}
-use Rattle.b67_alone.specs.Alone.{RunsAlone}
-use Rattle.b67_explain.proofs.Explained.{can_be_told}
-use Rattle.b67_desk.proofs.Told.{segments_short, run_answered}
+use Rattle.b67_ready.specs.declared.order.Order.{Order}
+use Rattle.b67_ready.specs.Orders.{place_of}
+use Rattle.b67_stands.specs.Ran.{HasRunAlone}
+use Rattle.b67_desk.specs.Calls.{IsLeft}
+use Rattle.b67_desk.proofs.Told.{segments_short, kept_short, alone_can_be_told, run_reported}
 use Rattle.b67_desk.proofs.running.run_report.Goals as goal
 
 pub load-requires-clause-segments : goal.load-requires-clause-segments
-load-requires-clause-segments c = segments_short c.args.code c.requires.faithful.1.listable
+load-requires-clause-segments c = segments_short c.args.job.code c.requires.faithful.1.listable
 
-pub report_of-requires : goal.report_of-requires
-report_of-requires c =
+pub run_by_caller-requires : goal.run_by_caller-requires
+run_by_caller-requires c = record {
+  fresh = c.in_ok-machine.ensures.fresh;
+  sound = (kept_short c.args.job.code c.in_ok-machine.machine.code c.requires.faithful.0 c.requires.faithful.1 c.in_ok-machine.ensures.code).0;
+  segments = (kept_short c.args.job.code c.in_ok-machine.machine.code c.requires.faithful.0 c.requires.faithful.1 c.in_ok-machine.ensures.code).1;
+  budget = c.requires.budget;
+}
+
+pub left_report-requires : goal.left_report-requires
+left_report-requires c =
+    let ran = c.in_ok-ran.ran in
     record {
-      some = c.requires.some;
-      told =
-          can_be_told c.in_ok-machine.machine.code _ c.args.budget _ c.run_alone-answer.new.machine c.run_alone-answer.result c.run_alone-answer.ensures.runs.replays
-          c.in_default.not-NoMemory;
+      all = c.in_ok-acts.ensures.acts.sum_is ∙ c.len.ensures;
+      numbers = c.in_ok-acts.ensures.numbers;
+      told = λ some.
+          alone_can_be_told c.args.job.code c.in_ok-machine.machine.code c.requires.faithful.0 c.requires.faithful.1 c.args.job.budget (place_of c.order_of.result)
+          ran.machine ran.schedule ran.answer some c.in_ok-machine.ensures.code c.in_ok-ran.ensures;
     }
 
 pub returns : goal.returns
 returns c =
-    let done = c.run_alone-answer.new.done in
-    let m = c.run_alone-answer.new.machine in
-    run_answered c.args.code c.args.processors c.args.budget m c.run_alone-answer.result done
-    (subst (λ (k : Code). RunsAlone k c.args.budget (entries done.runs) m c.run_alone-answer.result) c.in_ok-machine.ensures.code c.run_alone-answer.ensures.runs)
-    c.in_ok-lines.lines c.report_of.result c.report_of.ensures
-    (subst IsSchedule (ap (λ s. s.runs) c.done.view_is) c.done.invariant.0) c.in_ok-lines.ensures
+    let ran = c.in_ok-ran.ran in
+    let job = c.args.job in
+    run_reported job ran.machine ran.answer ran.schedule
+    (subst (λ (o : Order). HasRunAlone job.code job.budget (place_of o) ran.machine ran.schedule ran.answer) c.order_of.ensures
+    (subst (λ (k : Code). HasRunAlone k job.budget (place_of c.order_of.result) ran.machine ran.schedule ran.answer) c.in_ok-machine.ensures.code c.in_ok-ran.ensures))
+    c.in_ok-lines.lines c.left_report.result
+    (subst (λ (n : ℕ). IfOk c.left_report.result (IsLeft ran.machine ran.answer c.in_ok-lines.lines n ran.schedule)) c.in_ok-acts.ensures.acts.each c.left_report.ensures)
+    c.in_ok-lines.ensures

@@ -1,0 +1,44 @@
+use Rattle.std.specs.Prelude.{IfOk, sum}
+use Rattle.std.proofs.Common.{◌≤◌, ℕ, length, sym, ap, subst, ◌∙◌, arith}
+use Rattle.b67_segment.specs.declared.code.Code.{Code}
+use Rattle.b67_report.specs.Reading.{AreCounts as AreNumbers}
+use Rattle.b67_stands.specs.Ran.{HasRun}
+use Rattle.b67_desk.specs.Calls.{IsLeft}
+use Rattle.b67_desk.proofs.Told.{segments_short, kept_short, ran_can_be_told, share_reported}
+use Rattle.b67_desk.proofs.running.share_report.Goals as goal
+
+pub load-requires-clause-segments : goal.load-requires-clause-segments
+load-requires-clause-segments g c = segments_short c.args.job.code c.requires.faithful.1.listable
+
+pub run_by_processors-requires-clause-sound : goal.run_by_processors-requires-clause-sound
+run_by_processors-requires-clause-sound g c = λ a b.
+    (kept_short c.args.job.code c.in_ok-machine.machine.code c.requires.faithful.0 c.requires.faithful.1 c.in_ok-machine.ensures.code).0
+
+pub run_by_processors-requires-clause-segments : goal.run_by_processors-requires-clause-segments
+run_by_processors-requires-clause-segments g c = λ a b.
+    (kept_short c.args.job.code c.in_ok-machine.machine.code c.requires.faithful.0 c.requires.faithful.1 c.in_ok-machine.ensures.code).1
+
+pub left_report-requires : goal.left_report-requires
+left_report-requires g c =
+    let ran = c.in_ok-ran.ran in
+    let most : c.args.job.processors ≤ 8 = c.requires.processors.1 in
+    record {
+      all = ap sum c.of.ensures ∙ c.in_ok-ran.ensures.all;
+      numbers =
+          subst AreNumbers (sym c.of.ensures)
+          (record { each = c.in_ok-ran.ensures.numbers; few = omega (arith, c.in_ok-ran.ensures.each, most) });
+      told = λ some.
+          ran_can_be_told c.args.job.code c.in_ok-machine.machine.code c.requires.faithful.0 c.requires.faithful.1 c.args.job.budget
+          ran.machine ran.schedule ran.answer some c.in_ok-machine.ensures.code c.in_ok-ran.ensures.ran;
+    }
+
+pub returns : goal.returns
+returns g c =
+    let ran = c.in_ok-ran.ran in
+    let job = c.args.job in
+    share_reported job ran.machine ran.answer ran.schedule
+    (subst (λ (k : Code). HasRun k job.budget ran.machine ran.schedule ran.answer) c.in_ok-machine.ensures.code c.in_ok-ran.ensures.ran)
+    c.in_ok-lines.lines c.left_report.result
+    (subst (λ (n : ℕ). IfOk c.left_report.result (IsLeft ran.machine ran.answer c.in_ok-lines.lines n ran.schedule)) (ap length c.of.ensures ∙ c.in_ok-ran.ensures.each)
+    c.left_report.ensures)
+    c.in_ok-lines.ensures

@@ -1,0 +1,304 @@
+//! The top call.
+
+ghost use Rattle.std.specs.Prelude.{◌≡◌, ◌≤◌, ℕ, List, IfOk, length, map, string_bytes, option_copied};
+ghost use Rattle.b67_desk.specs.Answers.{Answers, AnswersBytes, AnswersInput, HasAnswer, IsDivided, IsOfSource, Reading, Workers, by_all, by_one, most_bytes};
+ghost use Rattle.b67_desk.specs.Calls.{Asks, CallAnswered, CallAsked, CanBeMade, InRange, IsRunAnswer, IsTooLong, IsUsage, SourceAsked};
+
+use crate::asking::{Answer, Asked, Job, Unanswered, settled};
+use crate::exec::answer_exec;
+use crate::running::{run_report, share_report};
+use crate::status::{Code, Status};
+use crate::texts::{too_long_line, usage_line};
+use crate::tree::{ask_tree, refuse, tell};
+use algol_front::front;
+use algol_tree::{MOST_SOURCE_BYTES, Refusal};
+use b67_io::{ReadAll, Sink, Source, WriteAll, read_all, write_all};
+use b67_parts::{MOST_INPUT_BYTES, parts};
+use b67_processors::Gate;
+use b67_words::{BadWords, UsageKind, Words, read_words};
+use std::alloc::{AllocError, Global};
+use std::sync::Wait;
+use std::thread::Threads;
+
+// ---- what is asked for
+
+/// The source in bytes that were read under a command, and the schedule text after it.
+fn divided(command: Words, bytes: &[u8]) -> (&[u8], Option<&[u8]>)
+    ensures { IsDivided command bytes.now result.0.now (option_copied result.1) }
+{
+    match command {
+        Words::Replay { .. } => parts(bytes),
+        Words::Run { .. } | Words::Check | Words::List | Words::Exec { .. } => (bytes, None),
+    }
+}
+
+/// The answer to a text that is too long.
+fn refuse_length(alloc: Global) -> Result<Answer, AllocError>
+    ensures { IfOk result IsTooLong }
+{
+    Ok(Answer {
+        text: too_long_line(alloc)?,
+        status: Status::TooLong,
+    })
+}
+
+/// What the bytes of a source that were read under a command ask for.
+fn ask_bytes(alloc: Global, command: Words, bytes: &[u8]) -> Result<Asked, AllocError>
+    requires range { InRange command }
+    requires source { IsOfSource command }
+    ensures { IfOk result (Asks (λ by. AnswersBytes by command bytes.now)) }
+{
+    let (source, schedule) = divided(command, bytes);
+    if source.len() > MOST_SOURCE_BYTES {
+        return settled(refuse_length(alloc));
+    }
+    match front(alloc, source) {
+        Ok(checked) => ask_tree(alloc, command, schedule, bytes.len(), &checked),
+        Err(Refusal::At { spot, code }) => settled(refuse(alloc, spot, Code::OfSource(code))),
+        Err(Refusal::NoMemory) => Err(AllocError),
+    }
+}
+
+/// What the bytes that were read under a command ask for.
+fn ask_input(alloc: Global, command: Words, bytes: &[u8]) -> Result<Asked, AllocError>
+    requires range { InRange command }
+    requires few { length bytes.now ≤ most_bytes command }
+    ensures { IfOk result (Asks (λ by. AnswersInput by command bytes.now)) }
+{
+    match command {
+        Words::Exec { budget } => settled(answer_exec(alloc, budget, bytes)),
+        Words::Run { .. } | Words::Check | Words::List | Words::Replay { .. } => {
+            ask_bytes(alloc, command, bytes)
+        }
+    }
+}
+
+/// How many bytes are read under a command.
+fn most_bytes(command: Words) -> usize
+    ensures { result ≡ most_bytes command }
+{
+    match command {
+        Words::Replay { .. } => MOST_INPUT_BYTES,
+        Words::Run { .. } | Words::Check | Words::List | Words::Exec { .. } => MOST_SOURCE_BYTES,
+    }
+}
+
+/// Reads the source to its end, and finds what it asks for.
+fn ask_source<S: Source>(alloc: Global, command: Words, source: &mut S) -> Result<Asked, Unanswered>
+    requires { InRange command }
+    ensures { SourceAsked command (record {
+      left = S.left source.old;
+      left_after = S.left source.new;
+      faults = S.faults source.old;
+      faults_after = S.faults source.new;
+    }) result }
+{
+    match read_all(alloc, source, most_bytes(command)) {
+        Ok(bytes) => match ask_input(alloc, command, bytes.as_slice()) {
+            Ok(asked) => Ok(asked),
+            Err(_) => Err(Unanswered::NoMemory),
+        },
+        Err(ReadAll::TooLong) => match refuse_length(alloc) {
+            Ok(answer) => Ok(Asked::Settled(answer)),
+            Err(_) => Err(Unanswered::NoMemory),
+        },
+        Err(ReadAll::Failed) => Err(Unanswered::ReadFault),
+        Err(ReadAll::NoMemory) => Err(Unanswered::NoMemory),
+    }
+}
+
+/// The word that breaks the grammar, and what is wrong with it.
+fn usage_in(bad: BadWords) -> (u32, UsageKind)
+    ensures { bad ≡ BadWords.Usage result.0 result.1 }
+{
+    match bad {
+        BadWords::Usage { word, kind } => (word, kind),
+    }
+}
+
+/// The refusal of words that are no command.
+fn refuse_words(alloc: Global, bad: BadWords) -> Result<Asked, Unanswered>
+    ensures { IsUsage bad result }
+{
+    let (word, kind) = usage_in(bad);
+    match usage_line(alloc, word, kind) {
+        Ok(text) => Ok(Asked::Settled(Answer {
+            text,
+            status: Status::Usage { word, kind },
+        })),
+        Err(_) => Err(Unanswered::NoMemory),
+    }
+}
+
+/// What the words ask for, and where they are a command the source.
+fn ask_call<S: Source>(alloc: Global, words: &[String], source: &mut S) -> Result<Asked, Unanswered>
+    ensures { CallAsked (map string_bytes words.now) (record {
+      left = S.left source.old;
+      left_after = S.left source.new;
+      faults = S.faults source.old;
+      faults_after = S.faults source.new;
+    }) result }
+{
+    match read_words(words) {
+        Ok(command) => ask_source(alloc, command, source),
+        Err(bad) => refuse_words(alloc, bad),
+    }
+}
+
+// ---- who does the work
+
+/// The report of a run that is made in the caller.
+fn do_alone(alloc: Global, job: Job) -> Result<Answer, AllocError>
+    requires { CanBeMade job }
+    ensures { IfOk result (IsRunAnswer by_one job) }
+{
+    tell(alloc, &run_report(alloc, job)?)
+}
+
+/// The report of a run that is made by its processors, each in a thread of its own. A single one has nobody to share with: the caller is it.
+fn do_shared<R: Threads + Wait + Sync, G: Gate + Sync>(
+    rt: &R,
+    gate: &G,
+    alloc: Global,
+    job: Job,
+) -> Result<Answer, AllocError>
+    requires { CanBeMade job }
+    ensures { IfOk result (IsRunAnswer by_all job) }
+{
+    if job.processors == 1 {
+        return do_alone(alloc, job);
+    }
+    tell(alloc, &share_report(rt, gate, alloc, job)?)
+}
+
+/// Answers the words, and where they are a command the source, in the caller.
+fn answer_alone<S: Source>(
+    alloc: Global,
+    words: &[String],
+    source: &mut S,
+) -> Result<Answer, Unanswered>
+    ensures { CallAnswered by_one (map string_bytes words.now) (record {
+      left = S.left source.old;
+      left_after = S.left source.new;
+      faults = S.faults source.old;
+      faults_after = S.faults source.new;
+    }) result }
+{
+    match ask_call(alloc, words, source) {
+        Ok(Asked::Settled(answer)) => Ok(answer),
+        Ok(Asked::Run(job)) => match do_alone(alloc, job) {
+            Ok(answer) => Ok(answer),
+            Err(_) => Err(Unanswered::NoMemory),
+        },
+        Err(why) => Err(why),
+    }
+}
+
+/// Answers the words, and where they are a command the source. Processors share a run.
+fn answer_shared<S: Source, R: Threads + Wait + Sync, G: Gate + Sync>(
+    rt: &R,
+    gate: &G,
+    alloc: Global,
+    words: &[String],
+    source: &mut S,
+) -> Result<Answer, Unanswered>
+    ensures { CallAnswered by_all (map string_bytes words.now) (record {
+      left = S.left source.old;
+      left_after = S.left source.new;
+      faults = S.faults source.old;
+      faults_after = S.faults source.new;
+    }) result }
+{
+    match ask_call(alloc, words, source) {
+        Ok(Asked::Settled(answer)) => Ok(answer),
+        Ok(Asked::Run(job)) => match do_shared(rt, gate, alloc, job) {
+            Ok(answer) => Ok(answer),
+            Err(_) => Err(Unanswered::NoMemory),
+        },
+        Err(why) => Err(why),
+    }
+}
+
+/// Writes an answer, where there is one, and says how the call ended.
+fn write_answer<K: Sink>(sink: &mut K, answer: Result<Answer, Unanswered>) -> Status
+    ensures { (by : Workers) (words : List (List ℕ)) (r : Reading) → CallAnswered by words r answer → HasAnswer by words r
+        (record { written = K.written sink.old; written_after = K.written sink.new; faults = K.faults sink.old; faults_after = K.faults sink.new })
+        result }
+{
+    match answer {
+        Ok(answer) => match write_all(sink, answer.text.as_slice()) {
+            Ok(()) => answer.status,
+            Err(WriteAll::Failed { .. }) => Status::WriteFault,
+        },
+        Err(why) => match why {
+            Unanswered::ReadFault => Status::ReadFault,
+            Unanswered::NoMemory => Status::NoMemory,
+        },
+    }
+}
+
+// ---- the call
+
+/// The top call: reads the words of a command and a source, does what they ask for in the caller as processor 1, and
+/// writes the answer.
+///
+/// `words` are the words after the program's name; the commands are `run P B`, `run P B --rule=R`, `replay B` and `exec B`
+/// with P of 1 to [`MOST_PROCESSORS`](b67_words::MOST_PROCESSORS) processors, a budget B of 1 to [`MOST_BUDGET`](b67_words::MOST_BUDGET)
+/// operators and a rule of dispatch R, `check`, and `list`. `source` gives the bytes of an ALGOL source, at most
+/// [`MOST_SOURCE_BYTES`] of them, and is read to its end. Under `replay` it gives at most [`MOST_INPUT_BYTES`]: after the source a
+/// record that is exactly `%%SCHEDULE`, and after that the text of the schedule to be followed. Under `exec` it gives a text of code
+/// in place of a source. `sink` gets the answer whole: the report of the run, the listing of the code, the word ACCEPTED, what a
+/// run by turns says, or one line of refusal. It returns on every input.
+///
+/// The first of these that holds is the answer. `Usage` comes exactly where the words break the grammar, names the first word
+/// that does, and nothing is read. `ReadFault` comes only where the source's count of faults rose, and nothing is written.
+/// `TooLong` comes exactly where there are too many bytes, or too many of the source part. `Refused` comes exactly where the
+/// source is not accepted, with the first place that breaks a rule and the rule's code, and on `run`, `list` and `replay` also
+/// exactly where it is one that is not built, at 1:1 with `Unbuilt`: all are built that declare only simple variables, files,
+/// arrays and procedures whose parameters are simple and by value, or arrays, in whatever block, and start no process.
+/// `BadSchedule` comes on `replay` exactly where there is no such record, at the length of the input, or where the schedule text
+/// is none, at the length of its longest front that begins one. Else `check` and `list` end with `Finished`, and `run` and
+/// `replay` are reported: `Finished`, `Fault` or `AllWaiting` where the run has that end, and on `replay` no entry is left;
+/// `BudgetSpent` where the operators came to the budget first, and `StackLimit` where a stack would have too many words; and on
+/// `replay` `Illegal` where the next entry can not be performed, and `ScheduleEnded` where none is left and the run goes on.
+/// On `exec` `Refused` comes exactly where the text has no code, at the start of the first line that breaks a rule, with the code of the
+/// lowest rule that it breaks. Else the run of its code by turns is told: `Finished`, `Fault` or `AllWaiting` where it comes to that end,
+/// `Interrupt` and `StackLimit` exactly where the next operator of the process whose turn it is comes to that, and `BudgetSpent` where as
+/// many operators were performed as the budget has, and nothing else stopped it.
+/// `WriteFault` comes only where the sink's count of faults rose, and what was written is a front of the answer. `NoMemory` may
+/// come instead of any of them, and then nothing is written.
+///
+/// Command, statuses and report are this project's profile.
+pub fn desk_alone<S: Source, K: Sink>(
+    alloc: Global,
+    words: &[String],
+    source: &mut S,
+    sink: &mut K,
+) -> Status
+    ensures { HasAnswer by_one (map string_bytes words.now)
+        (record { left = S.left source.old; left_after = S.left source.new; faults = S.faults source.old; faults_after = S.faults source.new })
+        (record { written = K.written sink.old; written_after = K.written sink.new; faults = K.faults sink.old; faults_after = K.faults sink.new })
+        result }
+{
+    let answer = answer_alone(alloc, words, source);
+    write_answer(sink, answer)
+}
+
+/// The top call, where processors share the work of `run`, each in a thread of its own: they pass the gate before each landing. On one
+/// processor, and on every other command, it does what [`desk_alone`] does. It may wait on `run`, and is not promised to return there.
+pub fn desk<S: Source, K: Sink, G: Gate + Sync, R: Threads + Wait + Sync>(
+    rt: &R,
+    alloc: Global,
+    words: &[String],
+    source: &mut S,
+    sink: &mut K,
+    gate: &G,
+) -> Status
+    ensures { HasAnswer by_all (map string_bytes words.now)
+        (record { left = S.left source.old; left_after = S.left source.new; faults = S.faults source.old; faults_after = S.faults source.new })
+        (record { written = K.written sink.old; written_after = K.written sink.new; faults = K.faults sink.old; faults_after = K.faults sink.new })
+        result }
+{
+    let answer = answer_shared(rt, gate, alloc, words, source);
+    write_answer(sink, answer)
+}
