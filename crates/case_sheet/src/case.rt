@@ -15,10 +15,12 @@ pub struct Case {
     pub input: Vec<u8>,
     /// The exit status that is wanted.
     status: Option<u8>,
-    /// The bytes of the whole answer, or of its end.
+    /// The bytes of the whole answer, or of its start where it is open.
     answer: Vec<u8>,
-    /// Whether only the end of the answer is known.
-    is_end: bool,
+    /// Whether only the start and the end of the answer are known.
+    is_open: bool,
+    /// The bytes of its end where it is open.
+    end: Vec<u8>,
     /// The lines that are to be repeated.
     repeated: Repeated,
 }
@@ -33,7 +35,8 @@ impl Drop for Case {
             input: _input,
             status: _,
             answer: _answer,
-            is_end: _,
+            is_open: _,
+            end: _end,
             repeated: _repeated,
         } = self;
     }
@@ -108,7 +111,8 @@ impl Case {
             input: Vec::new(alloc),
             status: None,
             answer: Vec::new(alloc),
-            is_end: false,
+            is_open: false,
+            end: Vec::new(alloc),
             repeated: Repeated::new(alloc),
         })
     }
@@ -128,7 +132,7 @@ impl Case {
     fn take_status(&mut self, line: &str) {
         let (status, end) = parted(line, ' ');
         self.status = status.parse().ok();
-        self.is_end = end == "end";
+        self.is_open = end == "end";
     }
 
     /// Takes a line of the input or of the answer.
@@ -145,19 +149,31 @@ impl Case {
             return Ok(());
         }
         if self.status.is_some() {
-            push_line(&mut self.answer, line, 0)
+            self.take_answer_line(line)
         } else {
             push_line(&mut self.input, line, 0)
         }
     }
 
+    /// Takes a line of the answer.
+    fn take_answer_line(&mut self, line: &str) -> Result<(), AllocError> {
+        if line == "~~~~" {
+            self.is_open = true;
+            return Ok(());
+        }
+        if self.is_open {
+            push_line(&mut self.end, line, 0)
+        } else {
+            push_line(&mut self.answer, line, 0)
+        }
+    }
+
     /// Tests that a status and the bytes of an answer are what is wanted.
     pub fn is_met(&self, status: u8, answer: &[u8]) -> bool {
-        let wanted = self.answer.as_slice();
-        let is_told = if self.is_end {
-            answer.ends_with(wanted)
-        } else {
-            answer == wanted
+        let is_told = match answer.strip_prefix(self.answer.as_slice()) {
+            Some(rest) if self.is_open => rest.ends_with(self.end.as_slice()),
+            Some(rest) => rest.is_empty(),
+            None => false,
         };
         is_told && self.status == Some(status)
     }

@@ -5,7 +5,7 @@
 //! for each text of code: beside `NAME.asm` stands in `NAME.report` what `exec 1000` prints of it. The file `sheets` has a line for
 //! each sheet of cases, of which `case_sheet` tells the form. The setting of a case may say `read N fails` or `write N fails`, where
 //! the calls are counted from 0, or `room N`, the number of bytes for which the sink has room. Each source is read at most 7 bytes at
-//! a time.
+//! a time. The cases of `shared.sheet` are answered by processors that share the work, each in a thread of its own.
 //!
 //! These cases are the tests of `b67_desk` and, through it, of what it calls: the front end, the compiler, the listing, the
 //! machine from its first image to its end, the schedules and the reports.
@@ -27,6 +27,7 @@ mod numbers;
 mod operators;
 mod outside;
 mod parts;
+mod shared;
 mod streams;
 mod texts;
 mod told;
@@ -36,6 +37,7 @@ mod words;
 use crate::answer::{Told, answered};
 use crate::outside::Outside;
 use crate::parts::{PART_SHEETS, part_text};
+use crate::shared::shared_text;
 use case_sheet::{Case, cases_of};
 use std::{fs, io};
 
@@ -133,6 +135,12 @@ fn tell_parts(rt: &HostRuntime) -> io::Result<()> {
     Ok(())
 }
 
+/// Prints a text.
+fn tell_text(rt: &HostRuntime, text: &[u8]) -> io::Result<()> {
+    let text = String::from_utf8_lossy(rt.alloc(), text)?;
+    print!(rt; "{text}")
+}
+
 /// Says whether worked values are what they should be.
 fn tell_worked(rt: &HostRuntime, name: &str, is_met: bool) -> io::Result<()> {
     if is_met {
@@ -146,6 +154,9 @@ fn main(rt: HostRuntime) -> io::Result<()> {
     tell_examples(&rt, "examples", EXAMPLE, "alg")?;
     tell_examples(&rt, "codes", CODE, "asm")?;
     tell_sheets(&rt)?;
+    let sheet = fs::read_to_string(&rt, "shared.sheet")?;
+    let text = shared_text(&rt, rt.alloc(), sheet.as_str())?;
+    tell_text(&rt, text.as_slice())?;
     tell_parts(&rt)?;
     tell_worked(&rt, "numbers", numbers::are_right())?;
     tell_worked(&rt, "words", words::are_right())?;
