@@ -1,4 +1,4 @@
-use Rattle.std.proofs.Common.{[], ◌∷◌, sym, ap, ◌∙◌, refl, arith}
+use Rattle.std.proofs.Common.{[], ◌∷◌, sym, subst, ap, ◌∙◌, refl, arith, IfOk, IfErr}
 use Rattle.algol_tree.specs.Plain as plains
 use Rattle.algol_tree.specs.Image.{expr as plain, exprs as plain_list}
 use Rattle.algol_expr.proofs.Lists.{list_begins, list_goes_on, list_fails_item, list_fails_closing, list_done}
@@ -6,10 +6,11 @@ use Rattle.algol_tree.specs.Due.{one, part, word, make}
 use Rattle.algol_expr.proofs.Chain.{left_as, turning, no_memory, failing, via, past, making, done, finds_as, fails_as, fails_on, extends_to, extends_on, completes_to, listing, failing_list, completes_done, behind_token, first_shorter, rest_of, rest_cons, rest_first, from_tokens, fails_from}
 use Rattle.algol_expr.proofs.Starts.{if_starts, if_too_deep, expr_is, not_starts, not_too_deep, not_is, rel_starts, relation_on, relation_over, level_starts, sign_starts, more_on, more_over, literal_is, not_end_literal, name_starts, primary_fails, group_starts, group_too_deep, square_starts, round_starts, square_too_deep, round_too_deep, name_alone}
 use Rattle.algol_expr.proofs.Arms.{failing_on, through, started, lists_as}
-use Rattle.algol_tree.specs.Operators.{expr, level}
+use Rattle.algol_tree.specs.Operators.{expr, level, operand, primary}
 use Rattle.algol_tree.specs.declared.level.Level.TheVariants as levels
 use Rattle.algol_tree.specs.declared.token.Reserved.TheVariants as reserved
 use Rattle.algol_tree.specs.DueExpr.{chosen}
+use Rattle.algol_tree.specs.Found.{Finds, Fails}
 use Rattle.algol_expr.proofs.reader.+expressions.Goals as goal
 
 pub read_choice-returns-in_err-inner-clause-refused : goal.read_choice-returns-in_err-inner-clause-refused
@@ -179,3 +180,59 @@ read_primary-returns-in-Some-name_in-clause-found t c = completes_to c.read_behi
 
 pub read_primary-returns-in-Some-name_in-clause-refused : goal.read_primary-returns-in-Some-name_in-clause-refused
 read_primary-returns-in-Some-name_in-clause-refused t c = fails_as c.read_behind_name.result (name_starts _ _ _ _ _ _ c.first_of.ensures c.in-Some-name_in.ensures.some c.in_ok-name.ensures.built) c.read_behind_name.ensures.refused
+
+-- a call whose answer is this one
+
+pub read_operand-returns-in-Eqv-clause-found : goal.read_operand-returns-in-Eqv-clause-found
+read_operand-returns-in-Eqv-clause-found t c = subst (λ l. IfOk c.read_level.result (λ r. Finds (part (operand l) c.args.depth) c.args.tokens.now (one (plain r.0)) r.1.now)) (sym c.in-Eqv.is) c.read_level.ensures.found
+
+pub read_operand-returns-in-Eqv-clause-refused : goal.read_operand-returns-in-Eqv-clause-refused
+read_operand-returns-in-Eqv-clause-refused t c = subst (λ l. IfErr c.read_level.result (λ e. Fails (part (operand l) c.args.depth ∷ []) [] c.args.tokens.now e.left e.refusal)) (sym c.in-Eqv.is) c.read_level.ensures.refused
+
+pub read_operand-returns-in-Imp-clause-found : goal.read_operand-returns-in-Imp-clause-found
+read_operand-returns-in-Imp-clause-found t c = subst (λ l. IfOk c.read_level-in-Imp.result (λ r. Finds (part (operand l) c.args.depth) c.args.tokens.now (one (plain r.0)) r.1.now)) (sym c.in-Imp.is) c.read_level-in-Imp.ensures.found
+
+pub read_operand-returns-in-Imp-clause-refused : goal.read_operand-returns-in-Imp-clause-refused
+read_operand-returns-in-Imp-clause-refused t c = subst (λ l. IfErr c.read_level-in-Imp.result (λ e. Fails (part (operand l) c.args.depth ∷ []) [] c.args.tokens.now e.left e.refusal)) (sym c.in-Imp.is) c.read_level-in-Imp.ensures.refused
+
+pub read_operand-returns-in-Or-clause-found : goal.read_operand-returns-in-Or-clause-found
+read_operand-returns-in-Or-clause-found t c = subst (λ l. IfOk c.read_level-in-Or.result (λ r. Finds (part (operand l) c.args.depth) c.args.tokens.now (one (plain r.0)) r.1.now)) (sym c.in-Or.is) c.read_level-in-Or.ensures.found
+
+pub read_operand-returns-in-Or-clause-refused : goal.read_operand-returns-in-Or-clause-refused
+read_operand-returns-in-Or-clause-refused t c = subst (λ l. IfErr c.read_level-in-Or.result (λ e. Fails (part (operand l) c.args.depth ∷ []) [] c.args.tokens.now e.left e.refusal)) (sym c.in-Or.is) c.read_level-in-Or.ensures.refused
+
+pub read_operand-returns-in-And-clause-found : goal.read_operand-returns-in-And-clause-found
+read_operand-returns-in-And-clause-found t c = subst (λ l. IfOk c.read_not.result (λ r. Finds (part (operand l) c.args.depth) c.args.tokens.now (one (plain r.0)) r.1.now)) (sym c.in-And.is) c.read_not.ensures.found
+
+pub read_operand-returns-in-And-clause-refused : goal.read_operand-returns-in-And-clause-refused
+read_operand-returns-in-And-clause-refused t c = subst (λ l. IfErr c.read_not.result (λ e. Fails (part (operand l) c.args.depth ∷ []) [] c.args.tokens.now e.left e.refusal)) (sym c.in-And.is) c.read_not.ensures.refused
+
+pub read_operand-returns-in-Sum-clause-found : goal.read_operand-returns-in-Sum-clause-found
+read_operand-returns-in-Sum-clause-found t c = subst (λ l. IfOk c.read_level-in-Sum.result (λ r. Finds (part (operand l) c.args.depth) c.args.tokens.now (one (plain r.0)) r.1.now)) (sym c.in-Sum.is) c.read_level-in-Sum.ensures.found
+
+pub read_operand-returns-in-Sum-clause-refused : goal.read_operand-returns-in-Sum-clause-refused
+read_operand-returns-in-Sum-clause-refused t c = subst (λ l. IfErr c.read_level-in-Sum.result (λ e. Fails (part (operand l) c.args.depth ∷ []) [] c.args.tokens.now e.left e.refusal)) (sym c.in-Sum.is) c.read_level-in-Sum.ensures.refused
+
+pub read_operand-returns-in-Term-clause-found : goal.read_operand-returns-in-Term-clause-found
+read_operand-returns-in-Term-clause-found t c = subst (λ l. IfOk c.read_primary.result (λ r. Finds (part (operand l) c.args.depth) c.args.tokens.now (one (plain r.0)) r.1.now)) (sym c.in-Term.is) c.read_primary.ensures.found
+
+pub read_operand-returns-in-Term-clause-refused : goal.read_operand-returns-in-Term-clause-refused
+read_operand-returns-in-Term-clause-refused t c = subst (λ l. IfErr c.read_primary.result (λ e. Fails (part (operand l) c.args.depth ∷ []) [] c.args.tokens.now e.left e.refusal)) (sym c.in-Term.is) c.read_primary.ensures.refused
+
+pub read_expression-returns-then-is_word-clause-found : goal.read_expression-returns-then-is_word-clause-found
+read_expression-returns-then-is_word-clause-found t c = subst (λ ts. IfOk c.read_choice.result (λ r. Finds (part expr c.args.depth) ts (one (plain r.0)) r.1.now)) (sym c.first_of.ensures) c.read_choice.ensures.found
+
+pub read_expression-returns-then-is_word-clause-refused : goal.read_expression-returns-then-is_word-clause-refused
+read_expression-returns-then-is_word-clause-refused t c = subst (λ ts. IfErr c.read_choice.result (λ e. Fails (part expr c.args.depth ∷ []) [] ts e.left e.refusal)) (sym c.first_of.ensures) c.read_choice.ensures.refused
+
+pub read_primary-returns-then-is_word-clause-found : goal.read_primary-returns-then-is_word-clause-found
+read_primary-returns-then-is_word-clause-found t c = subst (λ ts. IfOk c.read_happened.result (λ r. Finds (part primary c.args.depth) ts (one (plain r.0)) r.1.now)) (sym c.first_of.ensures) c.read_happened.ensures.found
+
+pub read_primary-returns-then-is_word-clause-refused : goal.read_primary-returns-then-is_word-clause-refused
+read_primary-returns-then-is_word-clause-refused t c = subst (λ ts. IfErr c.read_happened.result (λ e. Fails (part primary c.args.depth ∷ []) [] ts e.left e.refusal)) (sym c.first_of.ensures) c.read_happened.ensures.refused
+
+pub read_primary-returns-then-is_symbol-clause-found : goal.read_primary-returns-then-is_symbol-clause-found
+read_primary-returns-then-is_symbol-clause-found t c = subst (λ ts. IfOk c.read_group.result (λ r. Finds (part primary c.args.depth) ts (one (plain r.0)) r.1.now)) (sym c.first_of.ensures) c.read_group.ensures.found
+
+pub read_primary-returns-then-is_symbol-clause-refused : goal.read_primary-returns-then-is_symbol-clause-refused
+read_primary-returns-then-is_symbol-clause-refused t c = subst (λ ts. IfErr c.read_group.result (λ e. Fails (part primary c.args.depth ∷ []) [] ts e.left e.refusal)) (sym c.first_of.ensures) c.read_group.ensures.refused
