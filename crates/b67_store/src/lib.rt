@@ -14,6 +14,7 @@ mod free_numbers;
 mod list_core;
 mod row;
 mod row_table;
+mod slots;
 mod stack;
 mod stack_table;
 

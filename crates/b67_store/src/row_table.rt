@@ -1,9 +1,11 @@
 // The rows by their numbers.
-ghost use Rattle.std.specs.Prelude.{◌≡◌, ℕ, ◌+◌, ◌-◌, ◌<◌, ◌≤◌, Bool, true, false, List, [], ◌∷◌, ◌++◌, length, Option, Some, None, slice_get, is_some, IfSome, is_ok, IfOk, IfErr, OnOk, OnErr, if◌then◌else◌};
+ghost use Rattle.std.specs.Prelude.{◌≡◌, ℕ, ◌+◌, ◌-◌, ◌<◌, ◌≤◌, Bool, true, false, List, [], ◌∷◌, ◌++◌, length, Option, Some, None, slice_get, slice_set, is_some, IfSome, is_ok, IfOk, IfErr, OnOk, OnErr, if◌then◌else◌};
+ghost use Rattle.std.specs.Vec.{vec_len};
 ghost use Rattle.b67_store.specs.Store.{row_at, row_words, with_row_word, opened_at, closed_at, least_free, zero_row, counted_words, count_limit, row_limit, live_words, exceeds, RowFails};
 
 use crate::free_numbers::FreeNumbers;
 use crate::row::{HeldRow, write_row_word};
+use crate::slots::open_at;
 use crate::{MOST_COUNTED_WORDS, MOST_ROWS, NoSuchPlace, RowFault};
 use b67_word::Word;
 use std::alloc::{AllocError, Global};
@@ -42,19 +44,13 @@ impl RowTable {
     pub fn read(&self, row: u32, at: u32) -> Option<Word>
         ensures { result ≡ slice_get (row_words self.now row) at }
     {
-        match self.rows.get(row as usize) {
-            Some(Some(row)) => row.get(at),
-            _ => None,
-        }
+        open_at(&self.rows, row as usize)?.get(at)
     }
 
     pub fn has(&self, row: u32) -> bool
         ensures { result ≡ is_some (row_at self.now row) }
     {
-        match self.rows.get(row as usize) {
-            Some(Some(_)) => true,
-            _ => false,
-        }
+        open_at(&self.rows, row as usize).is_some()
     }
 
     pub fn counted(&self) -> u32
@@ -128,7 +124,7 @@ impl RowTable {
     {
         let more = row.live();
         if let Some(number) = self.free.take_least() {
-            self.rows[number as usize] = Some(row);
+            fill(&mut self.rows, number, row);
             self.counted += more;
             return Ok(number);
         }
@@ -137,9 +133,26 @@ impl RowTable {
             return Err(AllocError);
         }
         self.free.reserve(number + 1)?;
-        self.rows.reserve(1)?;
-        self.rows.push_reserved(Some(row));
+        append(&mut self.rows, row)?;
         self.counted += more;
         Ok(number as u32)
     }
+}
+
+// Puts a row at a number that the table reaches.
+fn fill(rows: &mut Vec<Option<HeldRow>>, number: u32, row: HeldRow)
+    requires { number < vec_len rows.old }
+    ensures { rows.new.items ≡ slice_set rows.old.items number (Some row) }
+{
+    rows[number as usize] = Some(row);
+}
+
+// Appends a row. Nothing is changed where there is no memory.
+fn append(rows: &mut Vec<Option<HeldRow>>, row: HeldRow) -> Result<(), AllocError>
+    ensures appended { OnOk result (rows.new.items ≡ rows.old.items ++ Some row ∷ []) }
+    ensures unchanged { OnErr result (rows.new.items ≡ rows.old.items) }
+{
+    rows.reserve(1)?;
+    rows.push_reserved(Some(row));
+    Ok(())
 }

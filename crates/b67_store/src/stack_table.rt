@@ -3,6 +3,7 @@ ghost use Rattle.std.specs.Prelude.{◌^◌, ◌≡◌, ℕ, ◌+◌, ◌-◌, �
 ghost use Rattle.std.specs.Vec.{vec_len, vec_capacity};
 ghost use Rattle.b67_store.specs.Store.{stack_at, words_of, word_at, with_stack, with_word, with_push, with_cut, opened_at, closed_at, stack_limit, PushFails, OpenFails};
 
+use crate::slots::open_at;
 use crate::stack::{Stack, cut_words, pop_word, push_word, write_word};
 use crate::{NoSuchPlace, OpenFault, PushFault};
 use b67_word::{Place, Word};
@@ -34,20 +35,14 @@ impl StackTable {
     pub fn read(&self, at: Place) -> Option<Word>
         ensures { result ≡ word_at self.now at }
     {
-        match self.stacks.get(usize::from(at.stack)) {
-            Some(Some(stack)) => stack.get(at.at),
-            _ => None,
-        }
+        open_at(&self.stacks, usize::from(at.stack))?.get(at.at)
     }
 
     pub fn length(&self, stack: u16) -> Option<u32>
         ensures value { result ≡ option_map length (stack_at self.now stack) }
         ensures bound { IfSome result (λ n. n ≤ stack_limit) }
     {
-        match self.stacks.get(usize::from(stack)) {
-            Some(Some(stack)) => Some(stack.len()),
-            _ => None,
-        }
+        Some(open_at(&self.stacks, usize::from(stack))?.len())
     }
 
     #[tactic(auto, using(crate::proofs::Lists::slots))]
