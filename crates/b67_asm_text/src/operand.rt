@@ -54,8 +54,8 @@ fn operator_in(kind: OperatorKind, text: &[u8]) -> Option<Option<Operator>>
         OperatorKind::Namc => namc_in(text),
         OperatorKind::Lt8 => lt8_in(text),
         OperatorKind::Lt16 => lt16_in(text),
-        OperatorKind::Lt48 => Some(Some(Operator::Lt48(word_in(text)?))),
-        OperatorKind::Mpcw => Some(Some(Operator::Mpcw(word_in(text)?))),
+        OperatorKind::Lt48 => lt48_in(text),
+        OperatorKind::Mpcw => mpcw_in(text),
         OperatorKind::Branch(branch) => branch_in(branch, text),
         OperatorKind::Plain(_) => None,
     }
@@ -99,6 +99,20 @@ fn lt16_in(text: &[u8]) -> Option<Option<Operator>>
         Some(number) => Some(Some(Operator::Lt16(number as u16))),
         None => Some(None),
     }
+}
+
+/// LT48 with its word.
+fn lt48_in(text: &[u8]) -> Option<Option<Operator>>
+    ensures { result ≡ operator_in kinds.Lt48 text.now }
+{
+    Some(Some(Operator::Lt48(word_in(text)?)))
+}
+
+/// MPCW with its word.
+fn mpcw_in(text: &[u8]) -> Option<Option<Operator>>
+    ensures { result ≡ operator_in kinds.Mpcw text.now }
+{
+    Some(Some(Operator::Mpcw(word_in(text)?)))
 }
 
 /// A branch with its place.

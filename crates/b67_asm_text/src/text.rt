@@ -1,9 +1,11 @@
 //! A text, record by record.
 
-ghost use Rattle.std.specs.Prelude.{◌≡◌, ◌≤◌, ◌++◌, ◌∷◌, [], length, IfOk, OnOk};
+ghost use Rattle.std.specs.Prelude.{◌≡◌, ◌≤◌, ◌++◌, ◌∷◌, [], length, Some, IfOk, OnOk};
 ghost use Rattle.std.specs.List.{position_or_len};
-ghost use Rattle.b67_asm_text.specs.Items.{format_of, formats, reading, readings};
+ghost use Rattle.b67_asm_text.specs.declared.item.Reading.TheVariants as kinds;
+ghost use Rattle.b67_asm_text.specs.Items.{format_from, format_of, formats, reading, readings};
 ghost use Rattle.b67_asm_text.specs.Mnemonics.{operators};
+ghost use Rattle.b67_asm_text.specs.Phrases.{are_in_range};
 ghost use Rattle.b67_asm_text.specs.Records.{is_line_feed};
 
 use crate::item::{Reading, item_in};
@@ -12,7 +14,7 @@ use crate::phrase::{are_in_range, phrases_in};
 use crate::words::{code_part, unblanked};
 use b67_list::List;
 use b67_ops::OperatorKind;
-use b67_segment::Format;
+use b67_segment::{Format, Phrase};
 use std::alloc::{AllocError, Global};
 
 /// What the records of a text are, in their order, and its formats.
@@ -38,6 +40,17 @@ fn push<T: Drop>(items: &mut Vec<T>, item: T) -> Result<(), AllocError>
     Ok(())
 }
 
+/// Appends a format, and what its record is.
+fn push_format(text: &mut Text, phrases: Vec<Phrase>) -> Result<(), AllocError>
+    ensures lines { OnOk result (text.new.lines.items ≡ text.old.lines.items ++ kinds.Format (are_in_range phrases.items) ∷ []) }
+    ensures formats { OnOk result (text.new.formats.items ≡ text.old.formats.items ++ format_from (Some phrases.items)) }
+{
+    let fits = are_in_range(phrases.as_slice());
+    let phrases = List::of(phrases);
+    push(&mut text.formats, Format { phrases })?;
+    push(&mut text.lines, Reading::Format { fits })
+}
+
 /// Appends what a record is, and the format where it is one.
 #[tactic(auto, unfolding(crate::specs::Items::reading, crate::specs::Items::format_of))]
 fn read_record(
@@ -55,12 +68,7 @@ fn read_record(
         return push(&mut text.lines, Reading::Blank);
     }
     match phrases_in(alloc, code)? {
-        Some(phrases) => {
-            let fits = are_in_range(phrases.as_slice());
-            let phrases = List::of(phrases);
-            push(&mut text.formats, Format { phrases })?;
-            push(&mut text.lines, Reading::Format { fits })
-        }
+        Some(phrases) => push_format(text, phrases),
         None => push(&mut text.lines, item_in(alloc, kinds, code)?),
     }
 }
