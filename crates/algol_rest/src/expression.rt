@@ -8,8 +8,7 @@ ghost use Rattle.algol_meaning.specs.SeenTree.{expr, exprs, maybe_named};
 ghost use Rattle.algol_meaning.specs.SeenTree as seen;
 ghost use Rattle.algol_tree.specs.Scopes as scoping;
 ghost use Rattle.algol_tree.specs.Plain as tree;
-ghost use Rattle.algol_tree.specs.Sorts.{procedure_in, is_variable};
-ghost use Rattle.algol_rest.specs.SeenScope as sorting;
+ghost use Rattle.algol_tree.specs.Sorts.{procedure_in};
 ghost use Rattle.algol_meaning.specs.Operators as operators;
 ghost use Rattle.algol_rest.specs.SeenValue.{value};
 ghost use Rattle.algol_rest.specs.SeenScope.{scoped};
@@ -19,7 +18,7 @@ ghost use Rattle.algol_rest.specs.SeenExpression.{cell, place, done, all_done, s
 use crate::cell::Cell;
 use crate::operator::{inverted, negated, result_of, truth_of};
 use crate::part::{Answer, Control, Frame, Given, Head, Outcome, Place, Supplied, Supply};
-use crate::scope::{Scopes, Sort};
+use crate::scope::Scopes;
 use crate::stack::Stack;
 use crate::standing::{add_given, no_givens, no_subscripts, surround};
 use crate::value::Value;
@@ -31,7 +30,7 @@ use std::alloc::{AllocError, Global};
 pub fn alone<'p>(alloc: Global, scopes: &Scopes<'p>, n: &'p Named) -> Head<'p>
     ensures { settling.named_of (procedure_in (settling.sort_at (scoped scopes.now) n.now)) n.now ≡ rest.busy (hole (scoped scopes.now) result) }
 {
-    match scopes.sort_at(n).procedure() {
+    match scopes.procedure(n) {
         Some(_) => Head::Enter(n, no_givens(alloc)),
         None => Head::Read(n),
     }
@@ -135,11 +134,10 @@ fn supply_alone<'p>(
     requires { settling.name_alone (expr e.now) ≡ Some n.now }
     ensures { IfOk result (λ s. IsSupplied (scoped scopes.now) callee.now rest.now (settling.other_of (scoped scopes.now) (Some n.now) (expr e.now) (all_done gs.entry) (sorts_after (scoped scopes.now) callee.now gs.entry) (exprs rest.now) (settling.settle_actuals (scoped scopes.now) (exprs rest.now) (sorts_after (scoped scopes.now) callee.now gs.entry))) (exprs_size (exprs rest.now)) s) }
 {
-    let sort = scopes.sort_at(n);
-    match sort.procedure() {
+    match scopes.procedure(n) {
         Some(_) => further(scopes, callee, gs, Given::Names(e), rest),
         None => {
-            if sort.is_formal() {
+            if scopes.is_formal(n) {
                 Ok(Supply::Stopped(Supplied::Pass(gs, n, rest)))
             } else {
                 further(scopes, callee, gs, Given::Refers(n), rest)
@@ -164,18 +162,18 @@ fn supply_other<'p>(
     }
 }
 
-/// An actual that has a parameter.
-fn supply_sort<'p>(
+/// An actual that has a parameter, by value or not.
+fn supply_one<'p>(
     scopes: &Scopes<'p>,
     callee: &'p Named,
     gs: List<Given<'p>>,
-    sort: Sort<'p>,
+    by_value: bool,
     e: &'p Expr,
     rest: &'p [Expr],
 ) -> Result<Supply<'p>, AllocError>
-    ensures { IfOk result (λ s. IsSupplied (scoped scopes.now) callee.now rest.now (settling.actual_of (scoped scopes.now) (is_variable (sorting.sort sort.entry)) (expr e.now) (settling.settle (scoped scopes.now) (expr e.now)) (all_done gs.entry) (sorts_after (scoped scopes.now) callee.now gs.entry) (exprs rest.now) (settling.settle_actuals (scoped scopes.now) (exprs rest.now) (sorts_after (scoped scopes.now) callee.now gs.entry))) (1 + expr_size (expr e.now) + exprs_size (exprs rest.now)) s) }
+    ensures { IfOk result (λ s. IsSupplied (scoped scopes.now) callee.now rest.now (settling.actual_of (scoped scopes.now) by_value (expr e.now) (settling.settle (scoped scopes.now) (expr e.now)) (all_done gs.entry) (sorts_after (scoped scopes.now) callee.now gs.entry) (exprs rest.now) (settling.settle_actuals (scoped scopes.now) (exprs rest.now) (sorts_after (scoped scopes.now) callee.now gs.entry))) (1 + expr_size (expr e.now) + exprs_size (exprs rest.now)) s) }
 {
-    if sort.is_variable() {
+    if by_value {
         Ok(Supply::Stopped(Supplied::Value(gs, e, rest)))
     } else {
         supply_other(scopes, callee, gs, e, rest)
@@ -192,9 +190,9 @@ fn supply<'p>(
 ) -> Result<Supply<'p>, AllocError>
     ensures { IfOk result (λ s. IsSupplied (scoped scopes.now) callee.now rest.now (settling.settle_actuals (scoped scopes.now) (tree.more (expr e.now) (exprs rest.now)) (sorts_from (scoped scopes.now) callee.now (length gs.entry)) (all_done gs.entry)) (1 + expr_size (expr e.now) + exprs_size (exprs rest.now)) s) }
 {
-    match scopes.parameter(callee, gs.items().len()) {
+    match scopes.is_by_value(callee, gs.items().len()) {
         None => Ok(Supply::Stopped(Supplied::Given(gs))),
-        Some(sort) => supply_sort(scopes, callee, gs, sort, e, rest),
+        Some(by_value) => supply_one(scopes, callee, gs, by_value, e, rest),
     }
 }
 

@@ -281,7 +281,7 @@ impl<'p> Work<'p> {
         requires { self.old.frames ≡ [] }
         ensures { IfOk result (λ _. Finds (scoped scopes.now) (sought_at (scoped scopes.now) sought.entry (settling.settle_place (scoped scopes.now) (tree.subscripted n.now tree.none)) (ahead self.old)) self.new) }
     {
-        if scopes.sort_at(n).is_by_name() {
+        if scopes.is_by_name(n) {
             stand(&mut self.point, Point::Seek(sought, Target::Resolve(n)));
             Ok(())
         } else {

@@ -1,12 +1,17 @@
-//! The blocks of a tree and the uses of its names, each found by its place without a search.
+//! The blocks of a tree, the uses of its names and the lower bounds of parameters for arrays, each found by its place without a search.
 
-ghost use Rattle.std.specs.Prelude.{◌≡◌, IfOk, map};
+ghost use Rattle.std.specs.Prelude.{◌≡◌, ℕ, ℤ, List, IfOk, map};
+ghost use Rattle.algol_tree.specs.declared.token.Spot as token;
 ghost use Rattle.algol_rest.specs.Placed.{places_of_blocks, places_of_uses};
 
 use crate::scope::{Block, Use};
 use algol_places::Places;
 use algol_tree::Spot;
 use std::alloc::{AllocError, Global};
+use std::collections::BTreeMap;
+
+/// The lower bounds of parameters that stand for arrays, by the places where these are declared.
+pub type LowerBounds<'p> = BTreeMap<Spot, &'p [i64]>;
 
 /// The blocks of a tree, numbered from 0 in the order of the text.
 #[derive(Drop)]
@@ -61,14 +66,14 @@ impl<'p> Blocks<'p> {
 
 /// The uses of names.
 #[derive(Drop)]
-pub struct Uses<'p> {
-    list: Vec<Use<'p>>,
+pub struct Uses {
+    list: Vec<Use>,
     places: Places,
     ghost placed: { places ≡ places_of_uses list.items },
 }
 
 /// Where these uses stand.
-fn use_places(alloc: Global, uses: &[Use<'_>]) -> Result<Vec<Spot>, AllocError>
+fn use_places(alloc: Global, uses: &[Use]) -> Result<Vec<Spot>, AllocError>
     ensures { IfOk result (λ spots. spots.items ≡ places_of_uses uses.now) }
 {
     let mut spots = Vec::new(alloc);
@@ -78,13 +83,13 @@ fn use_places(alloc: Global, uses: &[Use<'_>]) -> Result<Vec<Spot>, AllocError>
     Ok(spots)
 }
 
-impl<'p> Uses<'p> {
+impl Uses {
     ghost use Rattle.algol_tree.specs.Scopes.{declared_in};
     ghost use Rattle.algol_rest.specs.SeenScope.{used, used_or_none};
 
     /// The uses of this list. `AllocError` where the memory does not suffice.
-    pub fn of(alloc: Global, list: Vec<Use<'p>>) -> Result<Uses<'p>, AllocError>
-        ensures { IfOk result (λ uses. uses.list.items ≡ list.entry.items) }
+    pub fn of(alloc: Global, list: Vec<Use>) -> Result<Uses, AllocError>
+        ensures { IfOk result (λ uses. uses.list.items ≡ list.items) }
     {
         let spots = use_places(alloc, list.as_slice())?;
         let places = Places::of(alloc, spots)?;
@@ -93,8 +98,8 @@ impl<'p> Uses<'p> {
 
     /// The first use that stands there, none where there is none.
     #[tactic(auto, using(crate::proofs::Tables::use_laws))]
-    pub fn first_at(&self, spot: Spot) -> Option<Use<'p>>
-        ensures { used_or_none result ≡ declared_in (map used self.now.list.items) spot }
+    pub fn first_at(&self, spot: Spot) -> Option<Use>
+        ensures { (lows : token.Spot → List ℤ) (number : token.Spot → ℕ) → used_or_none lows number result ≡ declared_in (map (used lows number) self.now.list.items) spot }
     {
         let number = self.places.number_of(spot)?;
         match self.list.get(number) {
