@@ -125,9 +125,14 @@ block_or_none (Some b) = block b.now
 abbrev pub used_in : Scopes → Use → scoping.Use
 used_in sc u = used (lows_under sc.lows) (blocks.number_at (map block sc.blocks.list.items)) u
 
+-- What uses of names mean, by a table of lower bounds and by the blocks. It opens only where it is asked to, so that equal scopes are seen
+-- to have equal uses.
+unfoldable pub uses_by : BTreeMap Spot (Bor (List ℤ)) → List blocks.Block → List Use → List scoping.Use
+uses_by lows bs us = map (used (lows_under lows) (blocks.number_at bs)) us
+
 abbrev pub scoped : Scopes → scoping.Scopes
 scoped sc =
     record {
       blocks = map block sc.blocks.list.items;
-      uses = map (used (lows_under sc.lows) (blocks.number_at (map block sc.blocks.list.items))) sc.uses.list.items;
+      uses = uses_by sc.lows (map block sc.blocks.list.items) sc.uses.list.items;
     }

@@ -91,6 +91,7 @@ fn is_by_value(sort: Sort) -> bool
 
 impl<'p> Scopes<'p> {
     /// What the use of a name means, a variable of the same block where it is no use of the tree.
+    #[tactic(auto, unfolding(crate::specs::SeenScope::uses_by))]
     pub fn use_of(&self, n: &Named) -> Use
         ensures { used_in self.now result ≡ scoping.use_of (scoped self.now) n.now }
     {
