@@ -59,7 +59,7 @@ fn given_cells<'p>(
 fn block_of<'p>(world: &World<'p>, n: &Named) -> usize
     ensures { result ≡ settling.block_of ((scoping.use_of (scoped world.now.scopes) n.now).sort) }
 {
-    world.scopes.use_of(n).sort.procedure().unwrap_or(0)
+    world.scopes.procedure(n).unwrap_or(0)
 }
 
 /// The entry of a procedure.

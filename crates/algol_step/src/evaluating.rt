@@ -65,8 +65,7 @@ pub fn decide_read_element<'p>(
     ensures { IfOk result (λ e. asked_choice world.now process part.now (asks.reads_element n.now before.now (value last)) ≡ effect_choice world.now process part.now e) }
 {
     let cell = cell_at(&world.instances, followed(world, here(world, part, n)));
-    let sort = world.scopes.use_of(n).sort;
-    match subscript_place(sort, cell, before, whole_of(last).number()) {
+    match subscript_place(&world.scopes, n, cell, before, whole_of(last).number()) {
         None => Ok(Effect::Fails(FaultKind::InvalidIndex)),
         Some(k) => {
             let all = with_last(alloc, before, k)?;
@@ -89,9 +88,8 @@ pub fn decide_index<'p>(
     ensures { IfOk result (λ e. asked_choice world.now process part.now (asks.indexes n.now before.now (value last)) ≡ effect_choice world.now process part.now e) }
 {
     let r = followed(world, here(world, part, n));
-    let sort = world.scopes.use_of(n).sort;
     let cell = cell_at(&world.instances, r);
-    match subscript_place(sort, cell, before, whole_of(last).number()) {
+    match subscript_place(&world.scopes, n, cell, before, whole_of(last).number()) {
         None => Ok(Effect::Fails(FaultKind::InvalidIndex)),
         Some(k) => {
             let all = with_last(alloc, before, k)?;

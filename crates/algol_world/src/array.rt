@@ -4,7 +4,8 @@
 ghost use Rattle.std.specs.Prelude.{◌≡◌, map, Some};
 ghost use Rattle.algol_meaning.specs.Value as plain;
 ghost use Rattle.algol_meaning.specs.World as world;
-ghost use Rattle.algol_rest.specs.SeenScope as scoping;
+ghost use Rattle.algol_meaning.specs.Settle.{sort_at};
+ghost use Rattle.algol_rest.specs.SeenScope.{scoped};
 ghost use Rattle.algol_rest.specs.SeenValue.{value};
 ghost use Rattle.algol_meaning.specs.Arrays as arrays;
 ghost use Rattle.algol_rest.specs.SeenExpression as seen;
@@ -13,8 +14,8 @@ ghost use Rattle.algol_world.specs.SeenArray.{capped, base_of};
 
 use crate::lists::{item, no_items};
 use crate::size::size_of;
-use algol_rest::{ArrayCell, Bounds, Cell, Sort, Value};
-use algol_tree::Whole;
+use algol_rest::{ArrayCell, Bounds, Cell, Scopes, Value};
+use algol_tree::{Named, Whole};
 use std::alloc::Global;
 
 /// The number of an element, row by row, before which so many rows lie.
@@ -46,49 +47,63 @@ fn placed(b: &Bounds, low: i64, subscript: i64) -> Option<usize>
 }
 
 /// The lower bound from which a formal array's subscripts count, none for another array.
-fn base(sort: Sort<'_>, dimension: usize) -> Option<i64>
-    ensures { result ≡ base_of (scoping.sort sort.entry) dimension }
+fn base(scopes: &Scopes<'_>, n: &Named, dimension: usize) -> Option<i64>
+    ensures { result ≡ base_of (sort_at (scoped scopes.now) n.now) dimension }
 {
-    match sort {
-        Sort::FormalArray(lows) => match lows.get(dimension) {
+    match scopes.lows(n) {
+        None => None,
+        Some(lows) => match lows.get(dimension) {
             None => None,
             Some(low) => Some(*low),
         },
-        _ => None,
     }
 }
 
-/// The place of a subscript, from 0. A subscript of a formal array is moved by the difference of the lower bounds.
-fn moved_place(sort: Sort<'_>, b: &Bounds, dimension: usize, subscript: i64) -> Option<usize>
-    ensures { result ≡ arrays.placed (seen.bounds b.now) (arrays.moved (scoping.sort sort.entry) (Some (seen.bounds b.now)) dimension subscript) }
+/// The place of a subscript of what a name means, from 0. A subscript of a formal array is moved by the difference of the lower
+/// bounds.
+fn moved_place(
+    scopes: &Scopes<'_>,
+    n: &Named,
+    b: &Bounds,
+    dimension: usize,
+    subscript: i64,
+) -> Option<usize>
+    ensures { result ≡ arrays.placed (seen.bounds b.now) (arrays.moved (sort_at (scoped scopes.now) n.now) (Some (seen.bounds b.now)) dimension subscript) }
 {
-    match base(sort, dimension) {
+    match base(scopes, n, dimension) {
         None => placed(b, b.low, subscript),
         Some(low) => placed(b, low, subscript),
     }
 }
 
 /// The place of the subscript of an array that comes after those before it, from 0.
-fn place_in(sort: Sort<'_>, array: &ArrayCell, before: &[usize], subscript: i64) -> Option<usize>
-    ensures { result ≡ arrays.subscript_place (scoping.sort sort.entry) (seen.array array.now) before.now subscript }
+fn place_in(
+    scopes: &Scopes<'_>,
+    n: &Named,
+    array: &ArrayCell,
+    before: &[usize],
+    subscript: i64,
+) -> Option<usize>
+    ensures { result ≡ arrays.subscript_place (sort_at (scoped scopes.now) n.now) (seen.array array.now) before.now subscript }
 {
     match item(&array.bounds, before.len()) {
         None => None,
-        Some(b) => moved_place(sort, b, before.len(), subscript),
+        Some(b) => moved_place(scopes, n, b, before.len(), subscript),
     }
 }
 
 /// The place of the subscript of a cell that comes after those before it, from 0; none where the cell is no array.
 pub fn subscript_place(
-    sort: Sort<'_>,
+    scopes: &Scopes<'_>,
+    n: &Named,
     cell: Option<&Cell<'_>>,
     before: &[usize],
     subscript: i64,
 ) -> Option<usize>
-    ensures { result ≡ arrays.subscript_place (scoping.sort sort.entry) (world.array_in (cell_or_none cell.entry)) before.now subscript }
+    ensures { result ≡ arrays.subscript_place (sort_at (scoped scopes.now) n.now) (world.array_in (cell_or_none cell.entry)) before.now subscript }
 {
     match cell {
-        Some(Cell::Array(array)) => place_in(sort, array, before, subscript),
+        Some(Cell::Array(array)) => place_in(scopes, n, array, before, subscript),
         _ => None,
     }
 }

@@ -2,7 +2,8 @@ use Rattle.std.proofs.Common.{rules, ap, ◌∙◌, w64}
 use Rattle.std.specs.Int.RustNames.{FitsSigned}
 use Rattle.std.proofs.lemmas.Int.{to_z-of_z}
 use Rattle.algol_meaning.specs.Arrays.{placed}
-use Rattle.algol_rest.specs.SeenScope.{sort}
+use Rattle.algol_meaning.specs.Settle.{sort_at}
+use Rattle.algol_rest.specs.SeenScope.{scoped}
 use Rattle.algol_rest.specs.SeenExpression.{bounds}
 use Rattle.algol_world.proofs.Placing.{moved_not, moved_so}
 use Rattle.algol_world.proofs.array.moved_place.Goals as goal
@@ -13,7 +14,7 @@ returns-in-None c =
     let fits = c.ranges.subscript in
     let low : FitsSigned w64 c.args.b.now.low = search rules in
     let e = simp to_z-of_z at c.placed.ensures in
-    e ∙ ap (placed b) (moved_not (sort c.args.sort) b c.args.dimension c.args.subscript c.in-None.ensures)
+    e ∙ ap (placed b) (moved_not (sort_at (scoped c.args.scopes.now) c.args.n.now) b c.args.dimension c.args.subscript c.in-None.ensures)
 
 pub returns-in-Some : goal.returns-in-Some
 returns-in-Some c =
@@ -21,4 +22,4 @@ returns-in-Some c =
     let fits = c.ranges.subscript in
     let low : FitsSigned w64 c.in-Some.low = search rules in
     let e = simp to_z-of_z at c.placed-in-Some.ensures in
-    e ∙ ap (placed b) (moved_so (sort c.args.sort) b c.args.dimension c.args.subscript c.in-Some.low c.in-Some.ensures)
+    e ∙ ap (placed b) (moved_so (sort_at (scoped c.args.scopes.now) c.args.n.now) b c.args.dimension c.args.subscript c.in-Some.low c.in-Some.ensures)

@@ -1,4 +1,4 @@
-use Rattle.std.proofs.Common.{◌≡◌, get_or, Some, ap, sym, ◌∙◌}
+use Rattle.std.proofs.Common.{ap, sym, ◌∙◌}
 use Rattle.algol_meaning.specs.World as world
 use Rattle.algol_meaning.specs.World.{cells_with}
 use Rattle.algol_rest.specs.SeenExpression as seen
