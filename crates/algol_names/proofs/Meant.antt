@@ -1,5 +1,5 @@
 -- The names that are found in an accepted tree mean by its scopes what its uses say.
-use Rattle.std.proofs.Common.{arith, ◌≡◌, ℕ, suc, ◌+◌, ◌-◌, Bool, true, false, List, [], ◌∷◌, ◌++◌, Option, Some, None, refl, sym, ap, ◌∙◌, append-nil}
+use Rattle.std.proofs.Common.{arith, ◌≡◌, ℕ, ℤ, suc, ◌+◌, ◌-◌, Bool, true, false, List, [], ◌∷◌, ◌++◌, Option, Some, None, refl, sym, ap, ◌∙◌, append-nil}
 use Rattle.std.proofs.lemmas.Grind.{flat_map-append}
 use Rattle.std.specs.List.{AllByRecursion}
 use Rattle.algol_tree.specs.declared.token.Spot.{Spot}
@@ -26,8 +26,9 @@ use Rattle.algol_paths.specs.Arrays.{Lows, lows_at}
 use Rattle.algol_lows.proofs.Formals.{FormalsFound, formals_found}
 use Rattle.algol_names.specs.declared.found.Found.{Found}
 use Rattle.algol_names.specs.Found.{at, at_left, in_body, in_decl, in_decls, in_expr, in_exprs, in_pairs, in_stmt, in_stmts, in_task}
+use Rattle.algol_rest.specs.SeenScope.{sort_as}
+use Rattle.algol_names.specs.Kept.{listed}
 use Rattle.algol_names.specs.Meant as meant
-use Rattle.algol_names.specs.Meant.{sort_as}
 use Rattle.algol_names.proofs.Clear.{AllClear, IsClear, all_clear, inside_clear, knowing_clear}
 use Rattle.algol_names.proofs.Parts.{assign_uses, body_uses, call_uses, called_uses, case_uses, counting_uses, decl_uses, declared_uses, decls_uses, else_uses, event_uses, expr_uses, go_to_uses, if_uses, label_uses, list_uses, more_uses, pairs_uses, process_uses, stmt_uses, stmts_uses, task_uses, then_uses, thru_uses, two_uses, until_uses, variable_uses, while_uses, whole_uses, write_uses}
 
@@ -40,14 +41,17 @@ depth_all blocks tree.no_decls a = refl
 depth_all blocks (tree.decls d ds) a = depth_all blocks ds (knowing blocks d ds a)
 
 module _ (s : Scopes) (lows : Spot → Option Lows) (blocks : List Block) where
+  abbrev list_at : Spot → List ℤ
+  list_at spot = listed (lows spot)
+
   abbrev use_by : Found → Option laid.Declared → List scoping.Use
-  use_by f o = meant.use_by (declaration_of s) lows blocks f o
+  use_by f o = meant.use_by (declaration_of s) list_at blocks f o
 
   abbrev told : Found → List scoping.Use
-  told f = meant.use_told (declaration_of s) lows blocks f
+  told f = meant.use_told (declaration_of s) list_at blocks f
 
   abbrev all_told : List Found → List scoping.Use
-  all_told fs = meant.uses_told (declaration_of s) lows blocks fs
+  all_told fs = meant.uses_told (declaration_of s) list_at blocks fs
 
   abbrev Clear : Surroundings → Type 0
   Clear a = AllClear lows blocks a
@@ -66,12 +70,12 @@ module _ (s : Scopes) (lows : Spot → Option Lows) (blocks : List Block) where
       let x = t.told in
       let level : x.level ≡ d.depth + 2 = t.level in
       let up : suc a.depth - (x.level - 1) ≡ a.depth - d.depth = omega (arith, level) in
-      let clear : sort_as (sort_of d) (lows d.spot) (number_at blocks d.spot) ≡ d.sort = all-found (IsClear lows blocks) a.known n.name d c t.found in
+      let clear : sort_as (sort_of d) (list_at d.spot) (number_at blocks d.spot) ≡ d.sort = all-found (IsClear lows blocks) a.known n.name d c t.found in
       ap (use_by (at n (suc a.depth))) t.answers
-      ∙ ap (λ (z : ℕ). made n.spot z (suc a.depth - (x.level - 1)) (sort_as x.sort (lows x.spot) (number_at blocks x.spot))) t.block
-      ∙ ap (λ (z : ℕ). made n.spot d.block z (sort_as x.sort (lows x.spot) (number_at blocks x.spot))) up
-      ∙ ap (λ (z : Spot). made n.spot d.block (a.depth - d.depth) (sort_as x.sort (lows z) (number_at blocks z))) t.spot
-      ∙ ap (λ z. made n.spot d.block (a.depth - d.depth) (sort_as z (lows d.spot) (number_at blocks d.spot))) t.sort
+      ∙ ap (λ (z : ℕ). made n.spot z (suc a.depth - (x.level - 1)) (sort_as x.sort (list_at x.spot) (number_at blocks x.spot))) t.block
+      ∙ ap (λ (z : ℕ). made n.spot d.block z (sort_as x.sort (list_at x.spot) (number_at blocks x.spot))) up
+      ∙ ap (λ (z : Spot). made n.spot d.block (a.depth - d.depth) (sort_as x.sort (list_at z) (number_at blocks z))) t.spot
+      ∙ ap (λ z. made n.spot d.block (a.depth - d.depth) (sort_as z (list_at d.spot) (number_at blocks d.spot))) t.sort
       ∙ ap (λ (z : plain.Sort). made n.spot d.block (a.depth - d.depth) z) clear
       ∙ sym (ap (scoping.use_by a n) t.found)
 
@@ -340,24 +344,24 @@ module _ (s : Scopes) (lows : Spot → Option Lows) (blocks : List Block) where
 -- ---- a program
 
 -- where the same lower bounds are kept, a name means the same
-same_by : (s : Scopes) (lows kept : Spot → Option Lows) (blocks : List Block) → ((spot : Spot) → kept spot ≡ lows spot) → (f : Found) (o : Option laid.Declared) →
-    use_by s kept blocks f o ≡ use_by s lows blocks f o
+same_by : (s : Scopes) (lows kept : Spot → List ℤ) (blocks : List Block) → ((spot : Spot) → kept spot ≡ lows spot) → (f : Found) (o : Option laid.Declared) →
+    meant.use_by (declaration_of s) kept blocks f o ≡ meant.use_by (declaration_of s) lows blocks f o
 same_by s lows kept blocks same f None = refl
 same_by s lows kept blocks same f (Some d) =
-    ap (λ (z : Option Lows). meant.left_or f.is_left (record { spot = f.spot; block = d.block; up = f.around - (d.level - 1); sort = sort_as d.sort z (number_at blocks d.spot) }) ∷ [])
+    ap (λ (z : List ℤ). meant.left_or f.is_left (record { spot = f.spot; block = d.block; up = f.around - (d.level - 1); sort = sort_as d.sort z (number_at blocks d.spot) }) ∷ [])
     (same d.spot)
 
-same_told : (s : Scopes) (lows kept : Spot → Option Lows) (blocks : List Block) → ((spot : Spot) → kept spot ≡ lows spot) → (fs : List Found) →
-    all_told s kept blocks fs ≡ all_told s lows blocks fs
+same_told : (s : Scopes) (lows kept : Spot → List ℤ) (blocks : List Block) → ((spot : Spot) → kept spot ≡ lows spot) → (fs : List Found) →
+    meant.uses_told (declaration_of s) kept blocks fs ≡ meant.uses_told (declaration_of s) lows blocks fs
 same_told s lows kept blocks same [] = refl
 same_told s lows kept blocks same (f ∷ fs) =
-    ap (λ (z : List scoping.Use). z ++ all_told s kept blocks fs) (same_by s lows kept blocks same f (declaration_of s f.spot))
-    ∙ ap (λ (z : List scoping.Use). told s lows blocks f ++ z) (same_told s lows kept blocks same fs)
+    ap (λ (z : List scoping.Use). z ++ meant.uses_told (declaration_of s) kept blocks fs) (same_by s lows kept blocks same f (declaration_of s f.spot))
+    ∙ ap (λ (z : List scoping.Use). meant.use_told (declaration_of s) lows blocks f ++ z) (same_told s lows kept blocks same fs)
 
-pub program_meant : (s : Scopes) (b : PBody) (kept : Spot → Option Lows) → ((spot : Spot) → kept spot ≡ lows_at (blocks_of_program (tree.program b)) spot) → AreOf (tree.program b) s → IsInOrder (tree.program b) →
+pub program_meant : (s : Scopes) (b : PBody) (kept : Spot → List ℤ) → ((spot : Spot) → kept spot ≡ listed (lows_at (blocks_of_program (tree.program b)) spot)) → AreOf (tree.program b) s → IsInOrder (tree.program b) →
     (let blocks = blocks_of_program (tree.program b) in meant.uses_told (declaration_of s) kept blocks (in_body b 1) ≡ body_uses blocks b outermost)
 program_meant s (tree.body spot ds xs) kept same are order =
     let p = tree.program (tree.body spot ds xs) in
     let blocks = blocks_of_program p in
-    same_told s (lows_at blocks) kept blocks same (in_body (tree.body spot ds xs) 1)
+    same_told s (λ at. listed (lows_at blocks at)) kept blocks same (in_body (tree.body spot ds xs) 1)
     ∙ body_meant s (lows_at blocks) blocks spot ds xs outermost tt (formals_found s spot ds xs are order) (each-part-is-told p s order are)

@@ -16,6 +16,7 @@ use Rattle.algol_lows.specs.declared.bounds.Lows.{Lows}
 use Rattle.algol_lows.specs.Lows.{under}
 use Rattle.algol_names.specs.declared.found.Found.{Found}
 use Rattle.algol_names.specs.Found.{in_body}
+use Rattle.algol_names.specs.Kept.{kept, listed}
 use Rattle.algol_names.specs.Meant.{uses_told}
 use Rattle.algol_names.proofs.Meant.{program_meant}
 use Rattle.algol_names.proofs.Parts.{body_uses}
@@ -30,8 +31,8 @@ together blocks uses p b u =
 
 pub told_together : (p : Program) (s : resolved.Scopes) (lows : BTreeMap Spot Lows) (blocks : List Block) (names : List Found) (uses : List scoping.Use) → AreOf (program p) s →
     IsInOrder (program p) → ((spot : Spot) → under lows spot ≡ lows_at (blocks_of_program (program p)) spot) → blocks ≡ blocks_of_program (program p) →
-    names ≡ in_body (body p.body) 1 → uses ≡ uses_told (declaration_of s) (under lows) blocks names → record { blocks = blocks; uses = uses } ≡ scopes_of (program p)
+    names ≡ in_body (body p.body) 1 → uses ≡ uses_told (declaration_of s) (kept lows) blocks names → record { blocks = blocks; uses = uses } ≡ scopes_of (program p)
 told_together p s lows blocks names uses are order bounds b n u =
     together blocks uses p b
-    (u ∙ ap (λ z. uses_told (declaration_of s) (under lows) z names) b ∙ ap (uses_told (declaration_of s) (under lows) (blocks_of_program (program p))) n
-    ∙ program_meant s (body p.body) (under lows) bounds are order)
+    (u ∙ ap (λ z. uses_told (declaration_of s) (kept lows) z names) b ∙ ap (uses_told (declaration_of s) (kept lows) (blocks_of_program (program p))) n
+    ∙ program_meant s (body p.body) (kept lows) (λ spot. ap listed (bounds spot)) are order)

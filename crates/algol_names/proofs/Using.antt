@@ -14,7 +14,7 @@ uses_step told fs i f old new h e n =
     ∙ ap (λ (gs : List Found). old ++ flat_map told gs) (sym split)
 
 -- what stands there does not depend on what stands in for what does not
-pub found_same : (fs : List Found) (i : ℕ) (f g : Found) → i < length fs → get_or fs i f ≡ get_or fs i g
+pub found_same : {A : Type 0} (xs : List A) (i : ℕ) (f g : A) → i < length xs → get_or xs i f ≡ get_or xs i g
 found_same [] i f g h = absurd (omega arith)
-found_same (x ∷ fs) zero f g h = refl
-found_same (x ∷ fs) (suc i) f g h = found_same fs i f g (omega arith)
+found_same (x ∷ xs) zero f g h = refl
+found_same (x ∷ xs) (suc i) f g h = found_same xs i f g (omega arith)

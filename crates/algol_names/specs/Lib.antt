@@ -1,5 +1,4 @@
 pub mod Blocks
-pub mod Tables
-pub mod Specified
 pub mod Found
+pub mod Kept
 pub mod Meant

@@ -3,12 +3,13 @@
 ghost use Rattle.std.specs.Prelude.{◌≡◌, [], ◌∷◌, ◌++◌, map, IfOk, OnOk};
 ghost use Rattle.algol_tree.specs.Blocks as plain;
 ghost use Rattle.algol_meaning.specs.SeenTree.{stmt, stmts, body, decl, decls, program};
-ghost use Rattle.algol_rest.specs.SeenScope.{block, in_block};
+ghost use Rattle.algol_tree.specs.Sorts.{parameters_of};
+ghost use Rattle.algol_rest.specs.SeenScope.{block, in_block, parameter};
 ghost use Rattle.algol_names.specs.Blocks as seen;
 
-use crate::parameters::parameters_of;
-use algol_rest::{Block, BlockStatements, Owner};
+use algol_rest::{Block, BlockStatements, Owner, Parameter};
 use algol_rules::{boxed_stmt, decls_in, is_compound, stmts_in};
+use algol_sorts::Specified;
 use algol_tree::{Body, Decl, Heading, List, Program, Spot, Stmt};
 use std::alloc::{AllocError, Global};
 
@@ -34,6 +35,22 @@ fn copied(alloc: Global, spots: &[Spot]) -> Result<List<Spot>, AllocError>
 {
     let mut all = Vec::new(alloc);
     all.extend_from_slice(spots)?;
+    Ok(List::of(all))
+}
+
+/// The parameters of a heading, in their order.
+fn parameters_of<'p>(alloc: Global, h: &'p Heading) -> Result<List<Parameter<'p>>, AllocError>
+    ensures { IfOk result (λ all. map parameter all ≡ parameters_of h.now) }
+{
+    let said = Specified::of(alloc, h)?;
+    let mut all = Vec::new(alloc);
+    'parameters: for n in h.params.items() {
+        all.push(Parameter {
+            name: &n.name,
+            sort: said.sort(n.name.bytes()),
+            heading: h,
+        })?;
+    }
     Ok(List::of(all))
 }
 

@@ -5,9 +5,9 @@
 #![tactic(auto)]
 
 mod blocks;
+mod bounds;
 mod expressions;
 mod found;
-mod parameters;
 mod scopes;
 mod simple;
 mod statements;

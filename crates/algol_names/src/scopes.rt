@@ -12,6 +12,7 @@ ghost use Rattle.algol_lows.specs.Lows.{under};
 ghost use Rattle.algol_rest.specs.SeenScope.{scoped};
 
 use crate::blocks::blocks_of;
+use crate::bounds::lower_bounds;
 use crate::statements::names_of;
 use crate::uses::uses_of;
 use algol_lows::LowsByPlace;
@@ -40,7 +41,12 @@ pub fn scopes_of<'p>(
     let list = blocks_of(alloc, p)?;
     let blocks = Blocks::of(alloc, list)?;
     let names = names_of(alloc, &p.body)?;
-    let found = uses_of(alloc, names.as_slice(), resolved, lows, &blocks)?;
+    let found = uses_of(alloc, names.as_slice(), resolved, &blocks)?;
+    let bounds = lower_bounds(alloc, found.as_slice(), lows)?;
     let uses = Uses::of(alloc, found)?;
-    Ok(Scopes { blocks, uses })
+    Ok(Scopes {
+        blocks,
+        uses,
+        lows: bounds,
+    })
 }

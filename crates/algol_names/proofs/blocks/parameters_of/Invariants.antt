@@ -1,7 +1,7 @@
 use Rattle.std.proofs.Common.{◌≡◌, ◌++◌, map, drop}
 use Rattle.algol_rest.specs.SeenScope.{parameter}
-use Rattle.algol_names.proofs.Specified.{parameter_in}
-use Rattle.algol_names.proofs.parameters.parameters_of.Given as goal
+use Rattle.algol_names.proofs.Said.{parameter_in}
+use Rattle.algol_names.proofs.blocks.parameters_of.Given as goal
 
 abbrev pub invariant-parameters : goal.invariant-parameters
 invariant-parameters l =
