@@ -1,4 +1,4 @@
--- Each block of a program has a number of its own, and its cells are those of its heading and of its own declarations.
+-- Each block of a program has a number of its own, and its cells are those of its heading and of its own text.
 use Rattle.std.proofs.Common.{arith, ◌≡◌, ◌⊎◌, inl, inr, ℕ, ◌+◌, ◌<◌, ◌==◌, Bool, true, false, List, [], ◌∷◌, ◌++◌, map, length, slice_get, Option, Some, None, refl, sym, ap, ◌∙◌, subst, add-one, append-nil, if◌then◌else◌}
 use Rattle.std.proofs.lemmas.Bool.{eqb-true}
 use Rattle.std.proofs.lemmas.Bool.Decides.{nat_tests}
@@ -15,9 +15,9 @@ use Rattle.algol_tree.specs.Scopes.{names_in}
 use Rattle.algol_tree.specs.Sites.{Site}
 use Rattle.b67_fitting.proofs.Among.{in_among}
 use Rattle.b67_fitting.proofs.Apart.{IsIn, each_in, in_map, in_front, in_back, in_either, IsApart, Apart, same_self, apart_sym, apart_front, apart_back, apart_across}
-use Rattle.b67_fitting.proofs.Frames.{IsOwn, only, only_own, only_other, front_own, control_cell, result_cell, named_of, front_cells, decl_cells, cells_of_block}
-use Rattle.b67_fitting.proofs.Listed.{Listed, over, passed, site, left, declared, both, block, procedure, AllThere}
-use Rattle.b67_fitting.proofs.Lists.{each_back}
+use Rattle.b67_fitting.proofs.Frames.{IsOwn, only, only_own, only_other, front_own, control_cell, result_cell, named_of, front_cells}
+use Rattle.b67_fitting.proofs.Listed.{IsBlock, Listed, over, passed, site, given, left, declared, both, block, procedure, AllThere}
+use Rattle.b67_fitting.proofs.Lists.{each_front, each_back}
 use Rattle.b67_fitting.proofs.Looked.{all_blocks}
 
 abbrev pub block_spots : List Block → List Spot
@@ -60,7 +60,8 @@ number_none (c ∷ bs) spot h =
 eqb_sym : (m n : ℕ) → (m == n) ≡ false → (n == m) ≡ false
 eqb_sym m n h = grind (arith, nat_tests)
 
-module _ (blocks : List Block) (apart : Apart (block_spots blocks)) where
+-- `Q`: what holds of each part
+module _ (blocks : List Block) (apart : Apart (block_spots blocks)) (Q : Site → Type 0) where
   abbrev pub number_of : Block → ℕ
   number_of b = number_at blocks b.spot
 
@@ -80,16 +81,24 @@ module _ (blocks : List Block) (apart : Apart (block_spots blocks)) where
   abbrev pub IsElsewhere : ℕ → List Block → Type 0
   IsElsewhere m bs = (b : Block) → IsIn b bs → (number_of b == m) ≡ false
 
-  abbrev pub own_cells_of : Block → List Cell
-  own_cells_of b = cells_of_block (number_of b) (named_of blocks b) b
-
-  abbrev front_of : Block → List Cell
+  abbrev pub front_of : Block → List Cell
   front_of b = front_cells (number_of b) (named_of blocks b) b
+
+  -- these are the cells of the block: those of its heading and those of its text
+  pub record HasCells (b : Block) (cs : List Cell) : Type 0 where
+    pub own : List Cell
+    pub parts : List Site
+    pub text : IsBlock blocks b own parts
+    pub told : AllByRecursion Q parts
+    pub are : cs ≡ front_of b ++ own
+
+  same_cells : (b : Block) (cs ds : List Cell) → ds ≡ cs → HasCells b cs → HasCells b ds
+  same_cells b cs ds e h = record { own = h.own; parts = h.parts; text = h.text; told = h.told; are = e ∙ h.are }
 
   -- The block with this number has these cells, those in it have their own, and no other block has one.
   pub record AreOf (k : ℕ) (own : List Cell) (bs : List Block) (cs : List Cell) : Type 0 where
     pub mine : only k cs ≡ own
-    pub here : (b : Block) → IsIn b bs → only (number_of b) cs ≡ own_cells_of b
+    pub here : (b : Block) → IsIn b bs → HasCells b (only (number_of b) cs)
     pub away : (m : ℕ) → (k == m) ≡ false → IsElsewhere m bs → only m cs ≡ []
 
   abbrev pub cells_in : List Site → List Cell
@@ -117,15 +126,19 @@ module _ (blocks : List Block) (apart : Apart (block_spots blocks)) where
       far : (b c : Block) → IsIn b bs → IsIn c cs → IsApart b.spot c.spot
       far b c m n = each_in (IsApart b.spot) c.spot q (apart_of b p q h (f b m)) (g c n)
 
-      by : (b : Block) → IsIn b bs ⊎ IsIn b cs → only (number_of b) (cells_in xs ++ cells_in ys) ≡ own_cells_of b
+      by : (b : Block) → IsIn b bs ⊎ IsIn b cs → HasCells b (only (number_of b) (cells_in xs ++ cells_in ys))
       by b (inl m) =
-          parted (number_of b) (cells_in xs) (cells_in ys) (own_cells_of b) [] (i.here b m)
+          same_cells b (only (number_of b) (cells_in xs)) (only (number_of b) (cells_in xs ++ cells_in ys))
+          (parted (number_of b) (cells_in xs) (cells_in ys) (only (number_of b) (cells_in xs)) [] refl
           (j.away (number_of b) (eqb_sym (number_of b) k (o b (in_front b bs cs m))) (λ c n. other_number b c (t b (in_front b bs cs m)) (t c (in_back c bs cs n)) (far b c m n)))
-          ∙ append-nil (own_cells_of b)
+          ∙ append-nil (only (number_of b) (cells_in xs)))
+          (i.here b m)
       by b (inr m) =
-          parted (number_of b) (cells_in xs) (cells_in ys) [] (own_cells_of b)
+          same_cells b (only (number_of b) (cells_in ys)) (only (number_of b) (cells_in xs ++ cells_in ys))
+          (parted (number_of b) (cells_in xs) (cells_in ys) [] (only (number_of b) (cells_in ys))
           (i.away (number_of b) (eqb_sym (number_of b) k (o b (in_back b bs cs m)))
           (λ c n. other_number b c (t b (in_back b bs cs m)) (t c (in_front c bs cs n)) (apart_sym c.spot b.spot (far c b n m))))
+          refl)
           (j.here b m)
 
   -- cells of the block itself in front
@@ -134,14 +147,16 @@ module _ (blocks : List Block) (apart : Apart (block_spots blocks)) where
       record {
         mine = parted k new cs new own (only_own k new w) i.mine;
         here =
-            λ b m. parted (number_of b) new cs [] (own_cells_of b) (only_other (number_of b) k new (eqb_sym (number_of b) k (o b m)) w) (i.here b m);
+            λ b m.
+            same_cells b (only (number_of b) cs) (only (number_of b) (new ++ cs))
+            (parted (number_of b) new cs [] (only (number_of b) cs) (only_other (number_of b) k new (eqb_sym (number_of b) k (o b m)) w) refl) (i.here b m);
         away = λ m e l. parted m new cs [] [] (only_other m k new e w) (i.away m e l);
       }
 
   -- a block with the cells of its heading in front
-  block_of : (k : ℕ) (b : Block) (own : List Cell) (bs : List Block) (cs : List Cell) → IsElsewhere k (b ∷ bs) → IsElsewhere (number_of b) bs → own ≡ decl_cells (number_of b) b.decls →
+  block_of : (k : ℕ) (b : Block) (own : List Cell) (parts : List Site) (bs : List Block) (cs : List Cell) → IsElsewhere k (b ∷ bs) → IsElsewhere (number_of b) bs → IsBlock blocks b own parts → AllByRecursion Q parts →
       AreOf (number_of b) own bs cs → AreOf k [] (b ∷ bs) (front_of b ++ cs)
-  block_of k b own bs cs o inner e i =
+  block_of k b own parts bs cs o inner text told i =
       record { mine = none k (o b (inl refl)) (λ c m. o c (inr m)); here = λ c m. by c m; away = λ m g l. none m (l b (inl refl)) (λ c n. l c (inr n)) }
     where
       result : List Cell
@@ -153,12 +168,13 @@ module _ (blocks : List Block) (apart : Apart (block_spots blocks)) where
       none : (m : ℕ) → (number_of b == m) ≡ false → IsElsewhere m bs → only m (result ++ cs) ≡ []
       none m g l = parted m result cs [] [] (only_other m (number_of b) result g owns) (i.away m g l)
 
-      by : (c : Block) → IsIn c (b ∷ bs) → only (number_of c) (result ++ cs) ≡ own_cells_of c
+      by : (c : Block) → IsIn c (b ∷ bs) → HasCells c (only (number_of c) (result ++ cs))
       by c (inl same) =
-          subst (λ (z : Block). only (number_of z) (result ++ cs) ≡ own_cells_of z) (sym same)
-          (parted (number_of b) result cs result (decl_cells (number_of b) b.decls) (only_own (number_of b) result owns) (i.mine ∙ e))
+          subst (λ (z : Block). HasCells z (only (number_of z) (result ++ cs))) (sym same)
+          (record { own = own; parts = parts; text = text; told = told; are = parted (number_of b) result cs result own (only_own (number_of b) result owns) i.mine })
       by c (inr m) =
-          parted (number_of c) result cs [] (own_cells_of c) (only_other (number_of c) (number_of b) result (eqb_sym (number_of c) (number_of b) (inner c m)) owns) (i.here c m)
+          same_cells c (only (number_of c) cs) (only (number_of c) (result ++ cs))
+          (parted (number_of c) result cs [] (only (number_of c) cs) (only_other (number_of c) (number_of b) result (eqb_sym (number_of c) (number_of b) (inner c m)) owns) refl) (i.here c m)
 
   no_front : (b : Block) → b.result ≡ None → named_of blocks b ≡ [] → front_of b ≡ []
   no_front b e n =
@@ -172,25 +188,28 @@ module _ (blocks : List Block) (apart : Apart (block_spots blocks)) where
   in_spots : {k : ℕ} {spots : List Spot} {own : List Cell} {bs : List Block} {xs : List Site} → Listed blocks k spots own bs xs → (b : Block) → IsIn b bs → IsIn b.spot spots
   in_spots {bs = bs} l b i = in_among b.spot (all_blocks blocks l) (in_map (λ (z : Block). z.spot) b bs i)
 
-  pub cells_are : {k : ℕ} {spots : List Spot} {own : List Cell} {bs : List Block} {xs : List Site} → Listed blocks k spots own bs xs → Apart spots → AllThere blocks bs → IsElsewhere k bs →
+  pub cells_are : {k : ℕ} {spots : List Spot} {own : List Cell} {bs : List Block} {xs : List Site} → Listed blocks k spots own bs xs → AllByRecursion Q xs → Apart spots → AllThere blocks bs → IsElsewhere k bs →
       AreOf k own bs (cells_in xs)
-  cells_are (over k) p t o = record { mine = refl; here = λ b i. absurd i; away = λ m e l. refl }
-  cells_are (passed k spot l) p t o = cells_are l p.1 t o
-  cells_are (site k x {spots = spots} {own = own} {bs = bs} {xs = xs} f l) p t o =
-      subst (λ (z : List Cell). AreOf k own bs (z ++ cells_in xs)) (sym f.cells) (cells_are l (apart_back (spots_of_names (names_in x.part)) spots p) t o)
-  cells_are (left k a n e listed b g l) p t o = cells_are l p.1 t o
-  cells_are (declared k x names new {spots = spots} {own = own} {bs = bs} {xs = xs} f l) p t o =
-      subst (λ (z : List Cell). AreOf k (new ++ own) bs (z ++ cells_in xs)) (sym f.cells) (own_of k new own bs (cells_in xs) f.owns o (cells_are l (apart_back names spots p) t o))
-  cells_are (both k {p = q} {q = r} {os = os} {ns = ns} {bs = bs} {cs = cs} {xs = xs} {ys = ys} i j) p t o =
-      both_of k q r os ns bs cs xs ys p t o (in_spots i) (in_spots j) (cells_are i (apart_front q r p) (λ b m. t b (in_front b bs cs m)) (λ b m. o b (in_front b bs cs m)))
-      (cells_are j (apart_back q r p) (λ b m. t b (in_back b bs cs m)) (λ b m. o b (in_back b bs cs m)))
-  cells_are (block k b {spots = spots} {own = own} {bs = bs} {xs = xs} e i l) p t o =
+  cells_are (over k) h p t o = record { mine = refl; here = λ b i. absurd i; away = λ m e l. refl }
+  cells_are (passed k spot l) h p t o = cells_are l h p.1 t o
+  cells_are (site k x {spots = spots} {own = own} {bs = bs} {xs = xs} f l) h p t o =
+      subst (λ (z : List Cell). AreOf k own bs (z ++ cells_in xs)) (sym f.cells) (cells_are l h.1 (apart_back (spots_of_names (names_in x.part)) spots p) t o)
+  cells_are (given k x c {own = own} {xs = xs} g m l) h p t o =
+      subst (λ (z : List Cell). AreOf k (c ∷ own) [] (z ++ cells_in xs)) (sym g.cells) (own_of k (c ∷ []) own [] (cells_in xs) (g.owns, tt) o (cells_are l h.1 p t o))
+  cells_are (left k a n e listed b g l) h p t o = cells_are l h.1 p.1 t o
+  cells_are (declared k x names new {spots = spots} {own = own} {bs = bs} {xs = xs} f l) h p t o =
+      subst (λ (z : List Cell). AreOf k (new ++ own) bs (z ++ cells_in xs)) (sym f.cells) (own_of k new own bs (cells_in xs) f.owns o (cells_are l h.1 (apart_back names spots p) t o))
+  cells_are (both k {p = q} {q = r} {os = os} {ns = ns} {bs = bs} {cs = cs} {xs = xs} {ys = ys} i j) h p t o =
+      both_of k q r os ns bs cs xs ys p t o (in_spots i) (in_spots j)
+      (cells_are i (each_front Q xs ys h) (apart_front q r p) (λ b m. t b (in_front b bs cs m)) (λ b m. o b (in_front b bs cs m)))
+      (cells_are j (each_back Q xs ys h) (apart_back q r p) (λ b m. t b (in_back b bs cs m)) (λ b m. o b (in_back b bs cs m)))
+  cells_are (block k b {spots = spots} {own = own} {bs = bs} {xs = xs} e i l) h p t o =
       let inner = inner_elsewhere b spots bs t p.0 (in_spots l) in
       subst (λ (z : List Cell). AreOf k [] (b ∷ bs) (z ++ cells_in xs)) (no_front b e.0 e.1)
-      (block_of k b own bs (cells_in xs) o inner i.own_is (cells_are l p.1 (λ c m. t c (inr m)) inner))
-  cells_are (procedure k x b more {spots = spots} {own = own} {bs = bs} {xs = xs} f i l) p t o =
+      (block_of k b own xs bs (cells_in xs) o inner i h (cells_are l h p.1 (λ c m. t c (inr m)) inner))
+  cells_are (procedure k x b more {spots = spots} {own = own} {bs = bs} {xs = xs} f i l) h p t o =
       let behind : Apart (b.spot ∷ (more ++ spots)) = p in
       let inner = inner_elsewhere b spots bs t (each_back (IsApart b.spot) more spots behind.0) (in_spots l) in
-      let all = block_of k b own bs (cells_in xs) o inner i.own_is (cells_are l (apart_back more spots behind.1) (λ c m. t c (inr m)) inner) in
+      let all = block_of k b own xs bs (cells_in xs) o inner i h.1 (cells_are l h.1 (apart_back more spots behind.1) (λ c m. t c (inr m)) inner) in
       subst (λ (z : List Cell). AreOf k (control_cell k b.spot ∷ []) (b ∷ bs) (z ++ cells_in xs)) (sym f.cells)
       (own_of k (control_cell k b.spot ∷ []) [] (b ∷ bs) (front_of b ++ cells_in xs) (refl, tt) o all)

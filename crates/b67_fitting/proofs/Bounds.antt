@@ -18,7 +18,7 @@ use Rattle.algol_paths.specs.Texts.{InPairs}
 use Rattle.b67_fitting.specs.Built.{HeadingBuilt, DeclsBuilt, StmtBuilt}
 use Rattle.b67_fitting.proofs.Lists.{each_front, each_back, each_both, each_of, nil_front}
 use Rattle.b67_fitting.proofs.Numbering.{IsThere}
-use Rattle.b67_fitting.proofs.Specified.{IsSpecified, as_value, as_array, AreSpecified, specified}
+use Rattle.b67_fitting.proofs.Specified.{IsSpecified, as_value, as_name, as_array, AreSpecified, specified}
 use Rattle.b67_fitting.proofs.Surrounded.{IsKnown, IsAround, found_known, use_is, IsGood, AreGood, the_use, KnownAs, all_seen, expr_known}
 
 -- ---- what is known at the begin of a block
@@ -26,7 +26,7 @@ use Rattle.b67_fitting.proofs.Surrounded.{IsKnown, IsAround, found_known, use_is
 abbrev pub IsParameter : Sort → Type 0
 IsParameter s = (is_variable s ≡ true) ⊎ (is_formal s ≡ true)
 
--- a block around declares it, or it is a parameter, which is a variable or stands for an array
+-- a block around declares it, or it is a parameter, which is a variable or stands for something else
 abbrev pub IsEarly : ℕ → Declared → Type 0
 IsEarly depth d = (d.depth < depth) ⊎ IsParameter d.sort
 
@@ -40,6 +40,7 @@ module _ (sc : Scopes) (j : ℕ) (outer : List Spot) (a : Surroundings) (r : IsA
 
   is_parameter : (h : Heading) (n : Named) → IsSpecified h n → IsParameter (sort_in h.specs (is_named_in h.values n.name) n.name)
   is_parameter h n (as_value kind c v s) = inl (ap is_variable s)
+  is_parameter h n (as_name kind c v s) = inr (ap is_formal s)
   is_parameter h n (as_array shape c a s) = inr (ap is_formal s)
 
   early_parameters : (k : ℕ) (h : Heading) (ns : List Named) → AreSpecified h ns →

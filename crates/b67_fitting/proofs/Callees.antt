@@ -11,7 +11,7 @@ use Rattle.algol_tree.specs.Names.{if_so, unknown_in_heading, unknown_names}
 use Rattle.algol_tree.specs.Plain as tree
 use Rattle.algol_tree.specs.Plain.{PStmt, PDecls}
 use Rattle.algol_tree.specs.Sites.{Site, sites_in_pairs, here_stmt, inside_stmt, sites_in_decls}
-use Rattle.algol_tree.specs.Sorts.{same_name, Declared}
+use Rattle.algol_tree.specs.Sorts.{same_name, Declared, parameters_of}
 use Rattle.algol_tree.specs.Surroundings.{Surroundings, body_of, heading_or, announced, knowing, inside_procedure}
 use Rattle.b67_fitting.specs.Built.{HeadingBuilt, DeclBuilt, DeclsBuilt}
 use Rattle.b67_fitting.proofs.Lists.{each_back, nil_front}
@@ -25,11 +25,12 @@ abbrev pub AreNamed : List Site → Type 0
 AreNamed xs = AllByRecursion IsNamed xs
 
 module _ (blocks : List Block) where
-  -- The block of the procedure with this heading stands in the block j, and has its name. Its parameters are by value or arrays.
+  -- The block of the procedure with this heading stands in the block j, and has its name. Its parameters are simple ones or arrays.
   pub record IsCallee (j : ℕ) (h : Heading) : Type 0 where
     pub some : number_at blocks h.name.spot < length blocks
     pub around_is : around blocks (number_at blocks h.name.spot) ≡ j ∷ around blocks j
     pub named : (block_numbered blocks (number_at blocks h.name.spot)).name ≡ h.name.name
+    pub parameters_are : (block_numbered blocks (number_at blocks h.name.spot)).parameters ≡ parameters_of h
     pub built : HeadingBuilt h
 
   -- so do those of all procedures that these declarations declare or announce
@@ -49,6 +50,7 @@ module _ (blocks : List Block) where
         some = slice_get_within blocks k its n;
         around_is = ap (λ (z : Block). map (number_at blocks) z.outer) it_is ∙ e;
         named = ap (λ (z : Block). z.name) it_is;
+        parameters_are = ap (λ (z : Block). z.parameters) it_is;
         built = b.0;
       }
 

@@ -1,4 +1,5 @@
--- The cells of a block among those of the parts of a tree: its variables, its procedures, its arrays and its result are no more than these.
+-- The cells of a block among those of the parts of a tree: its variables, its procedures, its actuals, its arrays and its result are no more
+-- than these.
 use Rattle.std.proofs.Common.{arith, ◌≡◌, ℕ, ◌+◌, ◌==◌, ◌≤◌, Bool, true, false, List, [], ◌∷◌, ◌++◌, filter, length, is_some, Option, Some, None, refl, ap, ◌∙◌, if◌then◌else◌, suc}
 use Rattle.std.proofs.lemmas.Bool.Decides.{nat_tests}
 use Rattle.std.proofs.lemmas.List.{length-append, length-map}
@@ -9,7 +10,7 @@ use Rattle.algol_tree.specs.declared.token.Spot.{Spot}
 use Rattle.algol_tree.specs.declared.tree.Heading.{Heading}
 use Rattle.algol_tree.specs.declared.tree.Kind.{Kind}
 use Rattle.algol_tree.specs.declared.tree.Named.{Named}
-use Rattle.algol_tree.specs.Blocks.{Block, of_procedure, decls_of, number_at}
+use Rattle.algol_tree.specs.Blocks.{Block, of_procedure, decls_of, stmts_of, number_at}
 use Rattle.algol_tree.specs.Cells as cells
 use Rattle.algol_tree.specs.Cells.{Cell, Content, cells_for, result_cells, cells_at, cells_of}
 use Rattle.algol_tree.specs.Plain as tree
@@ -20,7 +21,7 @@ use Rattle.algol_tree.specs.Sites.{Site, sites_in_pairs, here_stmt, inside_stmt,
 use Rattle.algol_tree.specs.Sorts.{Declared}
 use Rattle.algol_tree.specs.Surroundings.{Surroundings, knowing, knowing_all, inside_procedure}
 use Rattle.algol_paths.specs.Arrays.{DeclaredArray, arrays_in, arrays_of}
-use Rattle.b67_templates.specs.Cells.{Simple, value, parameter_cells, simple_cells, of_kind, result_of, variables, procedures}
+use Rattle.b67_templates.specs.Cells.{Simple, value, parameter_cells, simple_cells, of_kind, result_of, variables, procedures, actuals_in_pairs, actuals_in_decls, actuals_in_stmts}
 use Rattle.b67_fitting.specs.Built.{DeclsBuilt, StmtBuilt}
 use Rattle.b67_fitting.specs.Nested.{AreParameters}
 use Rattle.b67_fitting.proofs.ParametersTold.{told_many}
@@ -59,10 +60,22 @@ module _ (blocks : List Block) where
   abbrev pub body_sites : PStmt → Surroundings → List Site
   body_sites t a = here_stmt t false a ∷ inside_stmt blocks t of_procedure false a
 
-  pub as_many : (ds : PDecls) (a : Surroundings) (first : List Declared) → DeclsBuilt ds →
-      length (variables ds) + length (procedures ds) + length (arrays_of ds) ≤ length (cells_of blocks (sites_in_decls blocks ds a first) a.block)
-  as_many tree.no_decls a first s = omega arith
-  as_many (tree.decls (tree.simple kind ns) ds) a first s =
+module _ (sc : Scopes) where
+  abbrev blocks : List Block
+  blocks = sc.blocks
+
+  -- the actuals in bounds are no more than the cells of actuals in them
+  abbrev pub FewBounds : Surroundings → List Declared → PDecls → Type 0
+  FewBounds a first tree.no_decls = Unit {0}
+  FewBounds a first (tree.decls (tree.arrays kind ns pairs) ds) =
+      (length (actuals_in_pairs sc pairs) ≤ length (cells_of sc.blocks (sites_in_pairs pairs (record a { known = first })) a.block))
+      × FewBounds (knowing sc.blocks (tree.arrays kind ns pairs) ds a) first ds
+  FewBounds a first (tree.decls d ds) = FewBounds (knowing sc.blocks d ds a) first ds
+
+  pub as_many : (ds : PDecls) (a : Surroundings) (first : List Declared) → DeclsBuilt ds → FewBounds a first ds →
+      length (variables ds) + length (procedures ds) + length (arrays_of ds) + length (actuals_in_decls sc ds) ≤ length (cells_of blocks (sites_in_decls blocks ds a first) a.block)
+  as_many tree.no_decls a first s f = omega arith
+  as_many (tree.decls (tree.simple kind ns) ds) a first s f =
       let k = a.block in
       let own : Cell → Bool = λ c. c.block == k in
       let its : List Cell = cells_for k cells.variable ns in
@@ -75,10 +88,10 @@ module _ (blocks : List Block) where
         ap length (filter-append own its more),
         length-append (filter own its) (filter own more),
         own_cells k cells.variable ns,
-        as_many ds after first s.1,
+        as_many ds after first s.1 f,
       )
-  as_many (tree.decls (tree.files ns) ds) a first s = as_many ds (knowing blocks (tree.files ns) ds a) first s.1
-  as_many (tree.decls (tree.arrays kind ns pairs) ds) a first s =
+  as_many (tree.decls (tree.files ns) ds) a first s f = as_many ds (knowing blocks (tree.files ns) ds a) first s.1 f
+  as_many (tree.decls (tree.arrays kind ns pairs) ds) a first s f =
       let k = a.block in
       let own : Cell → Bool = λ c. c.block == k in
       let its : List Cell = cells_for k cells.made ns in
@@ -94,29 +107,38 @@ module _ (blocks : List Block) where
         length-append (filter own its) (filter own more),
         own_cells k cells.made ns,
         cells_both blocks bounds later k,
-        as_many ds after first s.1,
+        length-append (actuals_in_pairs sc pairs) (actuals_in_decls sc ds),
+        f.0,
+        as_many ds after first s.1 f.1,
       )
-  as_many (tree.decls (tree.forward h) ds) a first s = as_many ds (knowing blocks (tree.forward h) ds a) first s.1
-  as_many (tree.decls (tree.procedure h t) ds) a first s =
+  as_many (tree.decls (tree.forward h) ds) a first s f = as_many ds (knowing blocks (tree.forward h) ds a) first s.1 f
+  as_many (tree.decls (tree.procedure h t) ds) a first s f =
       let k = a.block in
       let after : Surroundings = knowing blocks (tree.procedure h t) ds a in
       let c : Surroundings = inside_procedure blocks h after in
       let own = number_at blocks h.name.spot in
-      let its : List Site = declaring h t ds a ∷ body_sites t c in
-      let more : List Cell = (result_cells blocks h ++ cells_for own cells.parameter h.params) ++ flat_map (cells_at blocks) (body_sites t c) in
+      let its : List Site = declaring blocks h t ds a ∷ body_sites blocks t c in
+      let more : List Cell = (result_cells blocks h ++ cells_for own cells.parameter h.params) ++ flat_map (cells_at blocks) (body_sites blocks t c) in
       let first_one : length (cells_of blocks its k) ≡ suc (length (filter (λ (z : Cell). z.block == k) more)) = one_there k h.name.spot cells.procedure more in
-      omega (arith, cells_both blocks its (sites_in_decls blocks ds after first) k, first_one, as_many ds after first s.1)
-  as_many (tree.decls d ds) a first s = absurd s.0
+      omega (arith, cells_both blocks its (sites_in_decls blocks ds after first) k, first_one, as_many ds after first s.1 f)
+  as_many (tree.decls d ds) a first s f = absurd s.0
 
   -- ---- a procedure
 
   -- those of its own declarations
-  body_many : (t : PStmt) (a : Surroundings) → StmtBuilt t →
-      length (variables (decls_of t)) + length (procedures (decls_of t)) + length (arrays_of (decls_of t)) ≤ length (cells_of blocks (body_sites t a) a.block)
-  body_many (tree.block (tree.body spot ds ss)) a b =
+  -- and its statements have so few actuals
+  abbrev pub FewInBody : PStmt → Surroundings → Type 0
+  FewInBody (tree.block (tree.body spot ds ss)) a =
+      FewBounds a a.known ds × (length (actuals_in_stmts sc ss) ≤ length (cells_of sc.blocks (sites_in_stmts sc.blocks ss (has_decls ds) (knowing_all sc.blocks ds a)) a.block))
+  FewInBody t a = length (actuals_in_stmts sc (stmts_of t)) ≤ length (cells_of sc.blocks (body_sites sc.blocks t a) a.block)
+
+  body_many : (t : PStmt) (a : Surroundings) → StmtBuilt t → FewInBody t a →
+      length (variables (decls_of t)) + length (procedures (decls_of t)) + length (arrays_of (decls_of t)) + length (actuals_in_decls sc (decls_of t)) + length (actuals_in_stmts sc (stmts_of t))
+      ≤ length (cells_of blocks (body_sites blocks t a) a.block)
+  body_many (tree.block (tree.body spot ds ss)) a b f =
       let declared = sites_in_decls blocks ds a a.known in
-      omega (arith, as_many ds a a.known b.0, cells_both blocks declared (sites_in_stmts blocks ss (has_decls ds) (knowing_all blocks ds a)) a.block)
-  body_many t a b = omega arith
+      omega (arith, as_many ds a a.known b.0 f.0, f.1, cells_both blocks declared (sites_in_stmts blocks ss (has_decls ds) (knowing_all blocks ds a)) a.block)
+  body_many t a b f = omega (arith, f)
 
   result_many : (o : Option Kind) (k : ℕ) (n : Named) →
       length (result_of o n.name) ≤ length (filter (λ (c : Cell). c.block == k) (if is_some o then cells_for k cells.result (n ∷ []) else []))
@@ -124,10 +146,10 @@ module _ (blocks : List Block) where
   result_many (Some kind) k n = omega (arith, own_cells k cells.result (n ∷ []))
 
   -- its parameters and its result, whose cells stand in the block around
-  pub procedure_many : (h : Heading) (t : PStmt) (ds : PDecls) (a : Surroundings) (c : Surroundings) → c.block ≡ number_at blocks h.name.spot → StmtBuilt t →
-      length h.params + (length (result_of h.kind h.name.name) + (length (variables (decls_of t)) + length (procedures (decls_of t)) + length (arrays_of (decls_of t))))
-      ≤ length (cells_of blocks (declaring h t ds a ∷ body_sites t c) (number_at blocks h.name.spot))
-  procedure_many h t ds a c e b =
+  pub procedure_many : (h : Heading) (t : PStmt) (ds : PDecls) (a : Surroundings) (c : Surroundings) → c.block ≡ number_at blocks h.name.spot → StmtBuilt t → FewInBody t c →
+      length h.params + (length (result_of h.kind h.name.name) + (length (variables (decls_of t)) + length (procedures (decls_of t)) + length (arrays_of (decls_of t)))) + length (actuals_in_decls sc (decls_of t)) + length (actuals_in_stmts sc (stmts_of t))
+      ≤ length (cells_of blocks (declaring blocks h t ds a ∷ body_sites blocks t c) (number_at blocks h.name.spot))
+  procedure_many h t ds a c e b f =
       let k = number_at blocks h.name.spot in
       let own : Cell → Bool = λ z. z.block == k in
       let named : Cell = record { block = a.block; spot = h.name.spot; content = cells.procedure } in
@@ -135,7 +157,7 @@ module _ (blocks : List Block) where
       let params : List Cell = cells_for k cells.parameter h.params in
       omega (
         arith,
-        cells_both blocks (declaring h t ds a ∷ []) (body_sites t c) k,
+        cells_both blocks (declaring blocks h t ds a ∷ []) (body_sites blocks t c) k,
         ap length (filter-append own (named ∷ (result ++ params)) []),
         length-append (filter own (named ∷ (result ++ params))) [],
         ap length (filter-append own (named ∷ []) (result ++ params)),
@@ -144,8 +166,8 @@ module _ (blocks : List Block) where
         length-append (filter own result) (filter own params),
         result_many h.kind k h.name,
         own_cells k cells.parameter h.params,
-        body_many t c b,
-        ap (λ (i : ℕ). length (cells_of blocks (body_sites t c) i)) e,
+        body_many t c b f,
+        ap (λ (i : ℕ). length (cells_of blocks (body_sites blocks t c) i)) e,
       )
 
 -- ---- a block

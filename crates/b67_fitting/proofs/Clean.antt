@@ -1,5 +1,5 @@
 -- Parts of a tree at which no rule is broken, where the names that are known are simple variables, arrays, files and procedures whose
--- parameters are simple ones, by value, or arrays.
+-- parameters are simple ones or arrays.
 use Rattle.std.proofs.Common.{arith, ◌≡◌, ◌⊎◌, inl, inr, ℕ, ◌==◌, ◌&&◌, not, Bool, true, false, List, [], ◌∷◌, ◌++◌, length, is_some, Option, Some, None, refl, sym, ap, ◌∙◌, subst, if◌then◌else◌}
 use Rattle.std.proofs.lemmas.Bool.{eqb-true}
 use Rattle.std.specs.List.{AllByRecursion}

@@ -1,5 +1,5 @@
 -- The parts of typed statements and declarations are listed.
-use Rattle.std.proofs.Common.{◌≡◌, ◌⊎◌, inl, inr, ℕ, ◌-◌, ℤ, Bool, true, List, [], ◌∷◌, ◌++◌, map, is_some, if◌then◌else◌, None, Some, Option, refl, sym, ap, ◌∙◌, subst, append-nil}
+use Rattle.std.proofs.Common.{◌≡◌, ◌⊎◌, inl, inr, ℕ, ◌-◌, ℤ, Bool, true, false, List, [], ◌∷◌, ◌++◌, map, is_some, if◌then◌else◌, None, Some, Option, refl, sym, ap, ◌∙◌, subst, append-nil}
 use Rattle.std.proofs.lemmas.List.{map-append}
 use Rattle.std.specs.List.{flat_map, AllByRecursion}
 use Rattle.algol_tree.specs.declared.token.Spot.{Spot}
@@ -10,7 +10,7 @@ use Rattle.algol_tree.specs.declared.tree.Named.{Named}
 use Rattle.algol_tree.specs.Ascending.{spots_of_names, spots_of_expr, spots_of_exprs, spots_of_heading, spots_of_pairs, spots_of_stmt, spots_of_decl, spots_of_decls}
 use Rattle.algol_tree.specs.Blocks.{Block, procedure_block, block_numbered, number_at, blocks_in_decl, blocks_in_decls}
 use Rattle.algol_tree.specs.Cells as cells
-use Rattle.algol_tree.specs.Cells.{Cell, Content, cells_for}
+use Rattle.algol_tree.specs.Cells.{Cell, Content, cells_for, cells_at, has_cell}
 use Rattle.algol_tree.specs.Classes as class
 use Rattle.algol_tree.specs.Classes.{Class, Formal}
 use Rattle.algol_tree.specs.Counted.{exprs_count}
@@ -26,6 +26,8 @@ use Rattle.algol_tree.specs.Sorts.{Sort, Declared, formals_of}
 use Rattle.algol_tree.specs.Surroundings.{Surroundings, class_of, class_of_declared, formals_of_class, formals_at, declared_as, knowing, knowing_all, inside_procedure}
 use Rattle.algol_tree.specs.Types.{taken_by}
 use Rattle.algol_paths.specs.Arrays.{Lows, or_lows, lows_among, lows_declared}
+use Rattle.b67_fitting.proofs.ActualCells.{actual_cell, cell_given, cells_in, cells_among as cells_in_list, cells_given, cells_in_pairs}
+use Rattle.b67_fitting.proofs.ActualPlaces.{others_of, begins, no_part, both_places, places_inside}
 use Rattle.b67_fitting.proofs.Actuals.{IsArrayActual, name_alone}
 use Rattle.b67_fitting.proofs.Among.{Among, nothing, skip, keep, none_among, join}
 use Rattle.b67_fitting.proofs.Apart.{IsIn, in_each, in_map, in_front, in_back, Apart, apart_back}
@@ -36,7 +38,8 @@ use Rattle.b67_fitting.proofs.Given.{AreLastNamed, last_named, found_named, name
 use Rattle.b67_fitting.proofs.Lists.{nil_back}
 use Rattle.b67_fitting.proofs.Parameters.{AreLast, last_step, found_last, around_is}
 use Rattle.b67_fitting.proofs.Known.{Stands}
-use Rattle.b67_fitting.proofs.Listed.{AllThere, own_places, reads_in, lefts_in, IsFair, IsDeclaring, IsProcedure, Listed, over, passed, site, both}
+use Rattle.b67_fitting.proofs.Listed.{AllThere, own_places, reads_in, lefts_in, IsFair, IsGiving, IsDeclaring, IsProcedure, Listed, over, passed, site, given, both}
+use Rattle.b67_fitting.proofs.Made.{places_in, all_places}
 use Rattle.b67_fitting.proofs.Meant.{IsArrayAs, of_block, of_parameter, arrayed_of}
 use Rattle.b67_fitting.proofs.Passing.{leading}
 use Rattle.b67_fitting.proofs.Started.{IsCalleeOf, HasCallees, IsStarted, step}
@@ -49,46 +52,87 @@ begun spot outer ds ss = record { spot = spot; outer = outer; name = []; paramet
 
 -- ---- at one place
 
-module _ (blocks : List Block) (k : ℕ) (b : Block) (a : Surroundings) (stands : Stands blocks b a) where
+module _ (blocks : List Block) (k : ℕ) (b : Block) (a : Surroundings) (stands : Stands blocks b a) (here_is : a.block ≡ k) where
   fair_expr : (e : PExpr) → IsFair blocks (here e a)
   fair_expr e = record { uses = refl; knows = refl; cells = refl; reads = refl; lefts = refl; in_block = b; stands = stands }
 
-  pub listed_call : (n : Named) (es : PExprs) (h : Heading) → class_of a n ≡ class.procedure h → Listed blocks k (spots_of_exprs es) [] [] (inside_actuals es (formals_of h) a) →
-      Listed blocks k (spots_of_exprs es) [] [] (inside_actuals es (formals_at a n) a)
-  listed_call n es h e l = subst (λ (c : Class). Listed blocks k (spots_of_exprs es) [] [] (inside_actuals es (formals_of_class c) a)) (sym e) l
+  pub listed_call : (n : Named) (es : PExprs) (h : Heading) → class_of a n ≡ class.procedure h →
+      Listed blocks k (spots_of_exprs es) (cells_given a es (formals_of h)) [] (inside_actuals es (formals_of h) a) →
+      Listed blocks k (spots_of_exprs es) (cells_given a es (formals_at a n)) [] (inside_actuals es (formals_at a n) a)
+  listed_call n es h e l =
+      subst (λ (c : Class). Listed blocks k (spots_of_exprs es) (cells_given a es (formals_of_class c)) [] (inside_actuals es (formals_of_class c) a)) (sym e) l
 
-  -- an actual by value has no cell of its own
-  fair_actual : (e : PExpr) (f : Formal) (m : Kind) → f.class ≡ class.simple m → f.by_value ≡ true → IsFair blocks (record { part = parts.actual e (Some f); around = a })
-  fair_actual e f m c v = record { uses = refl; knows = refl; cells = rw (c, v) refl; reads = refl; lefts = refl; in_block = b; stands = stands }
+  abbrev cells_if : Bool → PExpr → List Cell
+  cells_if t e = if t then actual_cell a.block e ∷ [] else []
 
-  -- nor has an array
-  fair_array : (e : PExpr) (f : Formal) (m : Kind) (rank : ℕ) → f.class ≡ class.array m rank → IsFair blocks (record { part = parts.actual e (Some f); around = a })
-  fair_array e f m rank c = record { uses = refl; knows = refl; cells = rw c refl; reads = refl; lefts = refl; in_block = b; stands = stands }
+  -- an actual that has no cell
+  fair_actual : (e : PExpr) (f : Formal) → has_cell e (Some f) a ≡ false → IsFair blocks (record { part = parts.actual e (Some f); around = a })
+  fair_actual e f none = record { uses = refl; knows = refl; cells = ap (λ (t : Bool). cells_if t e) none; reads = refl; lefts = refl; in_block = b; stands = stands }
+
+  -- one that has
+  giving_actual : (e : PExpr) (f : Formal) → has_cell e (Some f) a ≡ true → IsGiving blocks k (record { part = parts.actual e (Some f); around = a }) (actual_cell a.block e)
+  giving_actual e f some = record { uses = refl; knows = refl; cells = ap (λ (t : Bool). cells_if t e) some; owns = here_is; content_is = refl; reads = refl; lefts = refl }
+
+  -- an array has none
+  none_for_array : (e : PExpr) (f : Formal) (m : Kind) (rank : ℕ) → f.class ≡ class.array m rank → has_cell e (Some f) a ≡ false
+  none_for_array e f m rank c = ap (λ (z : Class). has_cell e (Some (record { class = z; by_value = f.by_value })) a) c
 
   fair_name : (n : Named) → IsFair blocks (record { part = parts.name n; around = a })
   fair_name n = record { uses = refl; knows = refl; cells = refl; reads = refl; lefts = refl; in_block = b; stands = stands }
 
-  listed_array : (f : Formal) (e : PExpr) → IsArrayActual a f e → {spots : List Spot} {xs : List Site} → Listed blocks k spots [] [] xs →
-      Listed blocks k (spots_of_expr e ++ spots) [] [] (record { part = parts.actual e (Some f); around = a } ∷ record { part = actual_part e (Some f); around = a } ∷ (inside_expr e a ++ xs))
-  listed_array f (tree.variable (tree.subscripted n tree.none)) t {spots} {xs} l =
-      site k (record { part = parts.actual (tree.variable (tree.subscripted n tree.none)) (Some f); around = a }) (fair_array (tree.variable (tree.subscripted n tree.none)) f t.0 t.1 t.2)
-      (subst (λ (p : Part). Listed blocks k (n.spot ∷ spots) [] [] (record { part = p; around = a } ∷ xs)) (sym (name_alone n f t.0 t.1 t.2))
-      (site k (record { part = parts.name n; around = a }) (fair_name n) l))
+  listed_array : (f : Formal) (e : PExpr) → IsArrayActual a f e → {spots : List Spot} {own : List Cell} {xs : List Site} → Listed blocks k spots own [] xs →
+      Listed blocks k (spots_of_expr e ++ spots) (cell_given a e (Some f) ++ cells_in a e ++ own) []
+      (record { part = parts.actual e (Some f); around = a } ∷ record { part = actual_part e (Some f); around = a } ∷ (inside_expr e a ++ xs))
+  listed_array f (tree.variable (tree.subscripted n tree.none)) t {spots} {own} {xs} l =
+      let e = tree.variable (tree.subscripted n tree.none) in
+      let none = none_for_array e f t.0 t.1 t.2 in
+      subst (λ (z : Bool). Listed blocks k (n.spot ∷ spots) (cells_if z e ++ [] ++ own) [] (record { part = parts.actual e (Some f); around = a } ∷ record { part = actual_part e (Some f); around = a } ∷ xs))
+      (sym none)
+      (site k (record { part = parts.actual e (Some f); around = a }) (fair_actual e f none)
+      (subst (λ (p : Part). Listed blocks k (n.spot ∷ spots) own [] (record { part = p; around = a } ∷ xs)) (sym (name_alone n f t.0 t.1 t.2))
+      (site k (record { part = parts.name n; around = a }) (fair_name n) l)))
   listed_array f e t l = absurd t
 
-  -- an actual in front of the others, by value or an array
-  listed_actual : (f : Formal) (e : PExpr) → TypedActual a f e → ((m : Kind) → TypedExpr a m e → Listed blocks k (spots_of_expr e) [] [] (sites e a)) →
-      {spots : List Spot} {xs : List Site} → Listed blocks k spots [] [] xs →
-      Listed blocks k (spots_of_expr e ++ spots) [] [] (record { part = parts.actual e (Some f); around = a } ∷ record { part = actual_part e (Some f); around = a } ∷ (inside_expr e a ++ xs))
+  -- an actual of a simple parameter, with a cell or without
+  listed_simple : (f : Formal) (e : PExpr) (spots : List Spot) (own : List Cell) (xs : List Site) →
+      Listed blocks k (spots_of_expr e ++ spots) (cells_in a e ++ own) [] (record { part = actual_part e (Some f); around = a } ∷ (inside_expr e a ++ xs)) → Among (places_in blocks xs) spots →
+      Listed blocks k (spots_of_expr e ++ spots) (cell_given a e (Some f) ++ cells_in a e ++ own) []
+      (record { part = parts.actual e (Some f); around = a } ∷ record { part = actual_part e (Some f); around = a } ∷ (inside_expr e a ++ xs))
+  listed_simple f e spots own xs l m = by (has_cell e (Some f) a) refl
+    where
+      x : Site
+      x = record { part = parts.actual e (Some f); around = a }
+
+      p : Site
+      p = record { part = actual_part e (Some f); around = a }
+
+      later : Among (places_in blocks (p ∷ (inside_expr e a ++ xs))) (others_of e ++ spots)
+      later =
+          subst (λ (cs : List Cell). Among (own_places (cs ++ flat_map (cells_at blocks) (inside_expr e a ++ xs))) (others_of e ++ spots)) (sym (no_part blocks e (Some f) a))
+          (both_places blocks (inside_expr e a) xs (places_inside blocks a e) m)
+
+      by : (t : Bool) → has_cell e (Some f) a ≡ t → Listed blocks k (spots_of_expr e ++ spots) (cells_if t e ++ cells_in a e ++ own) [] (x ∷ p ∷ (inside_expr e a ++ xs))
+      by false none = site k x (fair_actual e f none) l
+      by true some =
+          subst (λ (z : List Spot). Listed blocks k (z ++ spots) (actual_cell a.block e ∷ (cells_in a e ++ own)) [] (x ∷ p ∷ (inside_expr e a ++ xs))) (sym (begins e))
+          (given k x (actual_cell a.block e) (giving_actual e f some) later
+          (subst (λ (z : List Spot). Listed blocks k (z ++ spots) (cells_in a e ++ own) [] (p ∷ (inside_expr e a ++ xs))) (begins e) l))
+
+  -- an actual in front of the others, of a simple parameter or an array
+  listed_actual : (f : Formal) (e : PExpr) → TypedActual a f e → ((m : Kind) → TypedExpr a m e → Listed blocks k (spots_of_expr e) (cells_in a e) [] (sites e a)) →
+      {spots : List Spot} {own : List Cell} {xs : List Site} → Listed blocks k spots own [] xs →
+      Listed blocks k (spots_of_expr e ++ spots) (cell_given a e (Some f) ++ cells_in a e ++ own) []
+      (record { part = parts.actual e (Some f); around = a } ∷ record { part = actual_part e (Some f); around = a } ∷ (inside_expr e a ++ xs))
   listed_actual f e (inr t) valued l = listed_array f e t l
-  listed_actual f e (inl t) valued {spots} {xs} l =
-      let those : Listed blocks k (spots_of_expr e ++ spots) [] [] (here e a ∷ (inside_expr e a ++ xs)) = both k (valued t.0 t.3) l in
-      site k (record { part = parts.actual e (Some f); around = a }) (fair_actual e f t.0 t.1 t.2)
-      (subst (λ (p : Part). Listed blocks k (spots_of_expr e ++ spots) [] [] (record { part = p; around = a } ∷ (inside_expr e a ++ xs)))
+  listed_actual f e (inl t) valued {spots} {own} {xs} l =
+      let those : Listed blocks k (spots_of_expr e ++ spots) (cells_in a e ++ own) [] (here e a ∷ (inside_expr e a ++ xs)) = both k (valued t.0 t.2) l in
+      listed_simple f e spots own xs
+      (subst (λ (p : Part). Listed blocks k (spots_of_expr e ++ spots) (cells_in a e ++ own) [] (record { part = p; around = a } ∷ (inside_expr e a ++ xs)))
       (sym (actual_part_is e (Some f) (ap is_of_value t.1))) those)
+      (all_places blocks l)
 
   mutual
-    pub listed_expr : (m : Kind) (e : PExpr) → TypedExpr a m e → Listed blocks k (spots_of_expr e) [] [] (sites e a)
+    pub listed_expr : (m : Kind) (e : PExpr) → TypedExpr a m e → Listed blocks k (spots_of_expr e) (cells_in a e) [] (sites e a)
     listed_expr m (tree.number z spot) t = site k (here (tree.number z spot) a) (fair_expr (tree.number z spot)) (passed k spot (over k))
     listed_expr m (tree.truth b spot) t = site k (here (tree.truth b spot) a) (fair_expr (tree.truth b spot)) (passed k spot (over k))
     listed_expr m (tree.variable (tree.subscripted n tree.none)) t =
@@ -107,17 +151,17 @@ module _ (blocks : List Block) (k : ℕ) (b : Block) (a : Surroundings) (stands 
     listed_expr m (tree.if c x y spot) t =
         site k (here (tree.if c x y spot) a) (fair_expr (tree.if c x y spot)) (passed k spot (both k (both k (listed_expr types.Truth c t.0) (listed_expr m x t.1)) (listed_expr m y t.2)))
 
-    pub listed_actuals : (fs : List Formal) (es : PExprs) → TypedActuals a fs es → Listed blocks k (spots_of_exprs es) [] [] (inside_actuals es fs a)
+    pub listed_actuals : (fs : List Formal) (es : PExprs) → TypedActuals a fs es → Listed blocks k (spots_of_exprs es) (cells_given a es fs) [] (inside_actuals es fs a)
     listed_actuals [] tree.none t = over k
     listed_actuals (f ∷ fs) (tree.more e es) t = listed_actual f e t.0 (λ m h. listed_expr m e h) (listed_actuals fs es t.1)
     listed_actuals [] (tree.more e es) t = absurd t
     listed_actuals (f ∷ fs) tree.none t = absurd t
 
-    pub listed_line : (es : PExprs) → TypedLine a es → Listed blocks k (spots_of_exprs es) [] [] (inside_list es a)
+    pub listed_line : (es : PExprs) → TypedLine a es → Listed blocks k (spots_of_exprs es) (cells_in_list a es) [] (inside_list es a)
     listed_line tree.none t = over k
     listed_line (tree.more e es) t = both k (listed_expr types.Number e t.0) (listed_line es t.1)
 
-  pub listed_pairs : (ps : List PPair) → TypedPairs a ps → Listed blocks k (spots_of_pairs ps) [] [] (sites_in_pairs ps a)
+  pub listed_pairs : (ps : List PPair) → TypedPairs a ps → Listed blocks k (spots_of_pairs ps) (cells_in_pairs a ps) [] (sites_in_pairs ps a)
   listed_pairs [] t = over k
   listed_pairs (p ∷ ps) t =
       site k (record { part = parts.bound p.high; around = a }) (record { uses = refl; knows = refl; cells = refl; reads = refl; lefts = refl; in_block = b; stands = stands })

@@ -1,35 +1,38 @@
 -- An accepted program that is built fits.
-use Rattle.std.proofs.Common.{arith, ◌≡◌, inl, inr, ℕ, ◌+◌, ◌<◌, ◌≤◌, ◌==◌, Bool, false, List, [], ◌∷◌, ◌++◌, length, Option, Some, zero, suc, refl, sym, ap, ◌∙◌, subst, append-nil, if◌then◌else◌}
+use Rattle.std.proofs.Common.{arith, ◌≡◌, inl, inr, ℕ, ◌+◌, ◌<◌, ◌≤◌, ◌==◌, Bool, false, List, [], ◌∷◌, ◌++◌, length, slice_get, Some, zero, suc, refl, sym, ap, ◌∙◌, subst, if◌then◌else◌}
 use Rattle.std.proofs.lemmas.Bool.Decides.{nat_tests}
-use Rattle.std.specs.List.{AllByRecursion}
+use Rattle.std.specs.List.{flat_map, AllByRecursion}
 use Rattle.algol_tree.specs.declared.token.Spot.{Spot}
 use Rattle.algol_tree.specs.Accepted.{scope_faults, scope_faults_in, check_faults}
 use Rattle.algol_tree.specs.Ascending.{spots_of_decls, spots_of_stmts}
 use Rattle.algol_tree.specs.Blocks.{Block, block_numbered, blocks_of_program, blocks_in_decls, blocks_in_stmts, number_at}
-use Rattle.algol_tree.specs.Cells as cells
-use Rattle.algol_tree.specs.Cells.{level_of, couple_in}
-use Rattle.algol_tree.specs.Couples.{Located, declaration_at, result_at, declaration_in}
+use Rattle.algol_tree.specs.Cells.{cells_at, cells_of, level_of}
+use Rattle.algol_tree.specs.Couples.{declaration_at, result_at, actual_at}
 use Rattle.algol_tree.specs.Names.{declared_twice}
 use Rattle.algol_tree.specs.Plain as tree
 use Rattle.algol_tree.specs.Plain.{PDecls, PStmts, PProgram}
-use Rattle.algol_tree.specs.Scopes.{scopes_of, scopes_by}
+use Rattle.algol_tree.specs.Scopes.{Scopes, scopes_of, scopes_by}
 use Rattle.algol_tree.specs.Sites.{Site, sites_by, sites_in_decls, sites_in_stmts, has_decls}
 use Rattle.algol_tree.specs.Surroundings.{Surroundings, outermost, knowing_all}
-use Rattle.algol_paths.specs.Arrays.{Lows, lows_at}
-use Rattle.b67_ops.specs.declared.Couple.{Couple}
 use Rattle.b67_ops.specs.declared.TheConstants.{MOST_LEVEL}
-use Rattle.b67_fitting.specs.Fitted.{spelled, AcceptedProgramsFit}
+use Rattle.b67_templates.specs.Fitting.{Told, DeclsFit, StmtsFit}
+use Rattle.b67_fitting.specs.Fitted.{declared_at, AcceptedProgramsFit}
+use Rattle.b67_fitting.proofs.ActualCells.{cells_in_decls, text_plain, text_held}
+use Rattle.b67_fitting.proofs.ActualsCelled.{have_acts, all_celled}
+use Rattle.b67_fitting.proofs.ActualsFound.{SiteTells}
 use Rattle.b67_fitting.proofs.Lists.{each_front, each_back, each_of}
 use Rattle.b67_fitting.proofs.Among.{apart_among}
-use Rattle.b67_fitting.proofs.Apart.{IsIn, each_in, in_front, in_back, IsApart, Apart, same_self, ascending_apart, apart_front, apart_back}
-use Rattle.b67_fitting.proofs.Blocked.{block_spots, number_within, cells_are}
+use Rattle.b67_fitting.proofs.Apart.{IsIn, each_in, in_each, in_front, in_back, IsApart, Apart, same_self, ascending_apart, apart_front, apart_back}
+use Rattle.b67_fitting.proofs.Blocked.{block_spots, number_within, AreOf, HasCells, cells_are}
 use Rattle.b67_fitting.proofs.Clean.{IsClean}
 use Rattle.b67_fitting.proofs.Cleaned.{cleaned}
-use Rattle.b67_fitting.proofs.Coupled.{IsProgram}
+use Rattle.b67_fitting.proofs.Coupled.{IsProgram, AreTold, plain_is}
+use Rattle.b67_fitting.proofs.CoupledArrays.{HaveActs}
 use Rattle.b67_fitting.proofs.Declares.{begun, callees, behind_decls}
 use Rattle.b67_fitting.proofs.Frames.{decl_cells}
 use Rattle.b67_fitting.proofs.Given.{AreWhole}
-use Rattle.b67_fitting.proofs.Nesting.{whole}
+use Rattle.b67_fitting.proofs.Nesting.{whole, blocks_apart as numbers_apart}
+use Rattle.b67_fitting.proofs.Numbering.{number_is}
 use Rattle.b67_fitting.proofs.Homed.{IsHome, all_homes, all_far}
 use Rattle.b67_fitting.proofs.Known.{Stands, around_outermost, knows_plain}
 use Rattle.b67_fitting.proofs.Limits.{few_cells, not_deep}
@@ -38,7 +41,7 @@ use Rattle.b67_fitting.proofs.Listing.{listed_stmts, listed_decls}
 use Rattle.b67_fitting.proofs.Looked.{all_uses, all_known, all_blocks}
 use Rattle.b67_fitting.proofs.Made.{all_places}
 use Rattle.b67_fitting.proofs.Placed.{Keep, BlockFits, all_fit}
-use Rattle.b67_fitting.proofs.Reached.{all_placed}
+use Rattle.b67_fitting.proofs.Reached.{all_tell, all_placed}
 use Rattle.b67_fitting.proofs.Started.{HasCallees, IsStarted, start}
 use Rattle.b67_fitting.proofs.Stated.{TypedStmts, TypedDecls, all_stated, all_declared}
 
@@ -120,7 +123,7 @@ module _ (spot : Spot) (ds : PDecls) (ss : PStmts) (blocks : List Block) where
             (record {
               there = there first (inl refl);
               apart = (each_front (IsApart spot) (spots_of_decls ds) (spots_of_stmts ss) apart.0, decls_apart);
-              own_is = append-nil (decl_cells (number_at blocks spot) ds);
+              own_is = text_plain blocks outermost [] ds around ss ∙ ap (λ (n : ℕ). decl_cells n ds) (sym first_number);
               begin = outermost;
               begins = stands;
               declares = decls_typed;
@@ -129,24 +132,31 @@ module _ (spot : Spot) (ds : PDecls) (ss : PStmts) (blocks : List Block) where
               stands = behind;
               typed = typed;
               inner = in_stmts;
+              actuals_are = text_held blocks outermost [] ds around ss;
               front = [];
               listed = has_decls ds;
               sites_are = refl;
             })
             (both (number_at blocks spot)
-            (subst (λ (n : ℕ). Listed blocks n (spots_of_decls ds) (decl_cells n ds) decl_blocks decl_sites) (sym first_number)
+            (subst (λ (n : ℕ). Listed blocks n (spots_of_decls ds) (cells_in_decls blocks outermost [] ds) decl_blocks decl_sites) (sym first_number)
             (listed_decls blocks whole first outermost [] stands ds started decls_typed decls_apart in_decls))
-            (listed_stmts blocks whole (number_at blocks spot) first around behind ss (has_decls ds) typed (apart_back (spots_of_decls ds) (spots_of_stmts ss) apart.1) in_stmts))
+            (listed_stmts blocks whole (number_at blocks spot) first around behind behind.block_is ss (has_decls ds) typed (apart_back (spots_of_decls ds) (spots_of_stmts ss) apart.1) in_stmts))
 
         abbrev all : List Site
         all = decl_sites ++ stmt_sites
 
+        all_apart : Apart (block_spots blocks)
+        all_apart = subst (λ (z : List Block). Apart (block_spots z)) same (apart_among (all_blocks blocks listed) apart)
+
+        -- the cells of all blocks, whatever holds of each part
+        all_cells : (Q : Site → Type 0) → AllByRecursion Q all → AreOf blocks all_apart Q (length blocks) [] in_text (flat_map (cells_at blocks) all)
+        all_cells Q h = cells_are blocks all_apart Q listed h apart there (λ b i. less_is_other (number_at blocks b.spot) (length blocks) (number_within blocks b (there b i)))
+
         is_program : IsProgram blocks all
         is_program =
-            let blocks_apart : Apart (block_spots blocks) = subst (λ (z : List Block). Apart (block_spots z)) same (apart_among (all_blocks blocks listed) apart) in
-            let cells = cells_are blocks blocks_apart listed apart there (λ b i. less_is_other (number_at blocks b.spot) (length blocks) (number_within blocks b (there b i))) in
+            let cells = all_cells (λ x. Unit {0}) (in_each (λ x. Unit {0}) all (λ x i. tt)) in
             record {
-              blocks_apart = blocks_apart;
+              blocks_apart = all_apart;
               uses_apart = apart_among (all_uses blocks listed) apart;
               known_apart = apart_among (all_known blocks listed) apart;
               own = λ b i. cells.here b (back b i);
@@ -157,25 +167,40 @@ module _ (spot : Spot) (ds : PDecls) (ss : PStmts) (blocks : List Block) where
               homes = λ b i. each_in (IsHome blocks) b in_text (all_homes blocks listed) (back b i);
             }
 
-        keeps : scope_faults_in program blocks all ≡ [] → Keep blocks
+        abbrev sc : Scopes
+        sc = scopes_by program blocks
+
+        told_cells : (b : Block) → IsIn b blocks → HasCells blocks all_apart (SiteTells blocks sc) b (cells_of blocks all (number_at blocks b.spot))
+        told_cells b i = (all_cells (SiteTells blocks sc) (all_tell blocks all is_program listed (λ x j. j))).here b (back b i)
+
+        many : HaveActs blocks all is_program
+        unfolding is_program
+        many = have_acts blocks all is_program told_cells
+
+        keeps : scope_faults_in program blocks all ≡ [] → Keep sc blocks
+        unfolding is_program
         keeps faults b i =
             let low : level_of b ≤ MOST_LEVEL = omega (arith, not_deep program blocks all faults b i) in
-            (low, few_cells program blocks all faults b i (is_program.own b i))
+            (low, omega (arith, few_cells program blocks all faults b i (plain_is blocks all is_program b i), many b i))
 
-        fit_by : (known results : Spot → Option Couple) (lows : Spot → Option Lows) →
-            ((at : Spot) (d : Located) (c : cells.Couple) → declaration_in blocks all at ≡ Some d → d.couple ≡ Some c → known at ≡ Some (record { level = c.level; index = c.index })) →
-            ((at : Spot) (d : Located) → declaration_in blocks all at ≡ Some d → results at ≡ spelled (couple_in blocks all (number_at blocks d.spot) d.spot)) →
-            ((at : Spot) (d : Located) → declaration_in blocks all at ≡ Some d → lows at ≡ lows_at blocks d.spot) →
-            (faults : scope_faults_in program blocks all ≡ []) → (j : ℕ) → j < length blocks → BlockFits blocks (scopes_by program blocks) known results lows (keeps faults) (block_numbered blocks j)
-        fit_by known results lows couples results_are lows_are faults j h =
-            let sc = scopes_by program blocks in
-            let sites = all_placed blocks all is_program known results lows couples results_are lows_are listed (λ x i. i) in
-            let fits = all_fit blocks sc known results lows (keeps faults) listed sites in
-            each_in (BlockFits blocks sc known results lows (keeps faults)) (block_numbered blocks j) in_text fits (back (block_numbered blocks j) (in_numbered blocks j h))
+        fit_by : (told : Told) → AreTold blocks all told → (faults : scope_faults_in program blocks all ≡ []) → (j : ℕ) → j < length blocks →
+            DeclsFit sc told (level_of (block_numbered blocks j)) (number_at blocks (block_numbered blocks j).spot) (block_numbered blocks j).decls
+            × StmtsFit sc told (level_of (block_numbered blocks j)) (number_at blocks (block_numbered blocks j).spot) (block_numbered blocks j).stmts
+        unfolding is_program
+        fit_by told are faults j h =
+            let sites = all_placed blocks all is_program many told are listed (λ x i. i) in
+            let celled = all_celled blocks all is_program told_cells told are in
+            let fits = all_fit blocks sc told refl (keeps faults) celled listed sites in
+            each_in (BlockFits blocks sc told refl (keeps faults) celled) (block_numbered blocks j) in_text fits (back (block_numbered blocks j) (in_numbered blocks j h))
+
+got_numbered : (bs : List Block) (j : ℕ) → j < length bs → slice_get bs j ≡ Some (block_numbered bs j)
+got_numbered [] j h = absurd (omega (arith, h))
+got_numbered (b ∷ bs) zero h = refl
+got_numbered (b ∷ bs) (suc j) h = got_numbered bs j (omega (arith, h))
 
 pub accepted_fit : AcceptedProgramsFit
-unfolding scopes_of blocks_of_program scope_faults check_faults declaration_at result_at
-accepted_fit (tree.program (tree.body spot ds ss)) known results lows accepted order built numbers texts couples results_are lows_are j h =
+unfolding scopes_of blocks_of_program scope_faults check_faults declaration_at result_at actual_at declared_at
+accepted_fit (tree.program (tree.body spot ds ss)) told accepted order built numbers texts are j h =
     let p = tree.program (tree.body spot ds ss) in
     let blocks = blocks_of_program p in
     let decl_sites = sites_in_decls blocks ds outermost [] in
@@ -189,5 +214,12 @@ accepted_fit (tree.program (tree.body spot ds ss)) known results lows accepted o
     let stands_behind : Stands blocks (begun spot [] ds ss) (knowing_all blocks ds outermost) = behind spot ds ss blocks refl apart whole_blocks decls_typed in
     let typed : TypedStmts blocks (knowing_all blocks ds outermost) ss =
     all_stated blocks (knowing_all blocks ds outermost) (knows_plain blocks (knowing_all blocks ds outermost) stands_behind.around) ss (has_decls ds) built.1 numbers.1 texts.1 (each_back (IsClean blocks) decl_sites stmt_sites clean) in
-    let fits = fit_by spot ds ss blocks refl apart whole_blocks decls_typed typed known results lows couples results_are lows_are accepted.scoped j h in
-    record { decls = fits.0; stmts = fits.1 }
+    let these : AreTold blocks (decl_sites ++ stmt_sites) told =
+    record { couples = are.couples; results = are.results; lows = are.lows; meant = are.meant; actuals = are.actuals } in
+    let fits = fit_by spot ds ss blocks refl apart whole_blocks decls_typed typed told these accepted.scoped j h in
+    let block = block_numbered blocks j in
+    let number : number_at blocks block.spot ≡ j = number_is blocks j block (numbers_apart spot ds ss order built.0 built.1) (got_numbered blocks j h) in
+    record {
+      decls = subst (λ (k : ℕ). DeclsFit (scopes_by p blocks) told (level_of block) k block.decls) number fits.0;
+      stmts = subst (λ (k : ℕ). StmtsFit (scopes_by p blocks) told (level_of block) k block.stmts) number fits.1;
+    }

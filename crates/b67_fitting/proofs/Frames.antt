@@ -1,6 +1,6 @@
 -- The cells that declarations have, and how they lie in a frame.
-use Rattle.std.proofs.Common.{◌≡◌, ℕ, ◌==◌, Bool, true, false, cond, List, [], ◌∷◌, ◌++◌, filter, length, Option, Some, None, refl, sym, ap, ◌∙◌, append-nil, append_assoc, if◌then◌else◌}
-use Rattle.std.proofs.lemmas.Bool.{eq-eqb}
+use Rattle.std.proofs.Common.{arith, ◌≡◌, ℕ, ◌+◌, ◌==◌, not, Bool, true, false, cond, List, [], ◌∷◌, ◌++◌, filter, length, Option, Some, None, refl, sym, ap, ◌∙◌, append-nil, append_assoc, if◌then◌else◌}
+use Rattle.std.proofs.lemmas.Bool.{eq-eqb, eqb-true}
 use Rattle.std.proofs.lemmas.List.{length-map}
 use Rattle.std.specs.List.{AllByRecursion}
 use Rattle.algol_tree.specs.declared.token.Spot.{Spot}
@@ -126,6 +126,34 @@ only_other block other cs e h =
     filter_none (λ (c : Cell). c.block == block) cs
     (each_of (IsOwn other) (λ (c : Cell). (c.block == block) ≡ false) cs (λ c g. ap (λ (n : ℕ). n == block) g ∙ e) h)
 
+-- ---- those that are no actual's
+
+abbrev pub plain : List Cell → List Cell
+plain cs = filter (λ (c : Cell). not (content_number c.content == content_number cells.actual)) cs
+
+-- what holds something else is among them
+held_plain : (x : Content) (cs : List Cell) → (content_number cells.actual == content_number x) ≡ false → holding x (plain cs) ≡ holding x cs
+held_plain x [] e = refl
+held_plain x (c ∷ cs) e = by (content_number c.content == content_number cells.actual) refl (held_plain x cs e)
+  where
+    by : (b : Bool) → (content_number c.content == content_number cells.actual) ≡ b → holding x (plain cs) ≡ holding x cs →
+        holding x (cond (not b) (c ∷ plain cs) (plain cs)) ≡ cond (content_number c.content == content_number x) (c ∷ holding x cs) (holding x cs)
+    by false f later = ap (λ z. cond (content_number c.content == content_number x) (c ∷ z) z) later
+    by true f later =
+        let other : (content_number c.content == content_number x) ≡ false =
+        ap (λ (n : ℕ). n == content_number x) (eqb-true (content_number c.content) (content_number cells.actual) f) ∙ e in
+        later ∙ sym (ap (λ (t : Bool). cond t (c ∷ holding x cs) (holding x cs)) other)
+
+-- there are as many as those and those of actuals
+pub as_many : (cs : List Cell) → length cs ≡ length (plain cs) + length (holding cells.actual cs)
+as_many [] = refl
+as_many (c ∷ cs) = by (content_number c.content == content_number cells.actual) (as_many cs)
+  where
+    by : (b : Bool) → length cs ≡ length (plain cs) + length (holding cells.actual cs) →
+        length (c ∷ cs) ≡ length (cond (not b) (c ∷ plain cs) (plain cs)) + length (cond b (c ∷ holding cells.actual cs) (holding cells.actual cs))
+    by true later = omega (arith, later)
+    by false later = omega (arith, later)
+
 -- ---- their layout
 
 module _ (block : ℕ) where
@@ -177,16 +205,9 @@ module _ (block : ℕ) where
   no_result (tree.decls (tree.procedure h s) ds) = no_result ds
   no_result (tree.decls d ds) = no_result ds
 
-  no_actual : (ds : PDecls) → holding cells.actual (decl_cells block ds) ≡ []
-  no_actual tree.no_decls = refl
-  no_actual (tree.decls (tree.simple kind ns) ds) = passed cells.variable cells.actual ns (decl_cells block ds) refl ∙ no_actual ds
-  no_actual (tree.decls (tree.arrays kind ns pairs) ds) = passed cells.made cells.actual ns (decl_cells block ds) refl ∙ no_actual ds
-  no_actual (tree.decls (tree.procedure h s) ds) = no_actual ds
-  no_actual (tree.decls d ds) = no_actual ds
-
-  joined : (p r v c m : List Cell) → p ++ r ++ v ++ c ++ [] ++ m ≡ p ++ (r ++ (v ++ (c ++ m)))
-  joined p r v c m =
-      ap (λ z. z ++ m) (append-nil (p ++ r ++ v ++ c)) ∙ append_assoc (p ++ r ++ v) c m ∙ append_assoc (p ++ r) v (c ++ m) ∙ append_assoc p r (v ++ (c ++ m))
+  joined : (p r v c x m : List Cell) → p ++ r ++ v ++ c ++ x ++ m ≡ p ++ (r ++ (v ++ (c ++ (x ++ m))))
+  joined p r v c x m =
+      append_assoc (p ++ r ++ v ++ c) x m ∙ append_assoc (p ++ r ++ v) c (x ++ m) ∙ append_assoc (p ++ r) v (c ++ (x ++ m)) ∙ append_assoc p r (v ++ (c ++ (x ++ m)))
 
   module _ (ns : List Named) (ds : PDecls) where
     abbrev params : List Cell
@@ -195,12 +216,18 @@ module _ (block : ℕ) where
     abbrev behind : List Cell
     behind = params ++ decl_cells block ds
 
-    -- what lies after the result
-    abbrev others : List Cell
-    others = variable_cells block ds ++ (control_cells block ds ++ made_cells block ds)
+    -- what lies after the result, with these cells of actuals
+    abbrev others : List Cell → List Cell
+    others acts = variable_cells block ds ++ (control_cells block ds ++ (acts ++ made_cells block ds))
 
-    lies : (o : Option Kind) (spot : Spot) → layout (result_cell o block spot ++ behind) ≡ params ++ (result_cell o block spot ++ others)
-    lies o spot = by o
+    -- those of a content
+    abbrev kept_of : Content → Option Kind → Spot → List Cell
+    kept_of x o spot = holding x (result_cell o block spot ++ behind)
+
+    lies : (o : Option Kind) (spot : Spot) (acts : List Cell) →
+        kept_of cells.parameter o spot ++ kept_of cells.result o spot ++ kept_of cells.variable o spot ++ kept_of cells.procedure o spot ++ acts ++ kept_of cells.made o spot
+        ≡ params ++ (result_cell o block spot ++ others acts)
+    lies o spot acts = by o
       where
         ps : holding cells.parameter behind ≡ params
         ps = kept cells.parameter ns (decl_cells block ds) refl ∙ ap (λ z. params ++ z) (no_parameter ds) ∙ append-nil params
@@ -214,17 +241,34 @@ module _ (block : ℕ) where
         cs : holding cells.procedure behind ≡ control_cells block ds
         cs = passed cells.parameter cells.procedure ns (decl_cells block ds) refl ∙ controlled ds
 
-        xs : holding cells.actual behind ≡ []
-        xs = passed cells.parameter cells.actual ns (decl_cells block ds) refl ∙ no_actual ds
-
         ms : holding cells.made behind ≡ made_cells block ds
         ms = passed cells.parameter cells.made ns (decl_cells block ds) refl ∙ made ds
 
-        by : (o : Option Kind) → layout (result_cell o block spot ++ behind) ≡ params ++ (result_cell o block spot ++ others)
-        by None = rw (ps, rs, vs, cs, xs, ms) (joined params [] (variable_cells block ds) (control_cells block ds) (made_cells block ds))
+        by : (o : Option Kind) →
+            kept_of cells.parameter o spot ++ kept_of cells.result o spot ++ kept_of cells.variable o spot ++ kept_of cells.procedure o spot ++ acts ++ kept_of cells.made o spot
+            ≡ params ++ (result_cell o block spot ++ others acts)
+        by None = rw (ps, rs, vs, cs, ms) (joined params [] (variable_cells block ds) (control_cells block ds) acts (made_cells block ds))
         by (Some kind) =
-            rw (ps, rs, vs, cs, xs, ms) (joined params (record { block = block; spot = spot; content = cells.result } ∷ []) (variable_cells block ds) (control_cells block ds) (made_cells block ds))
+            rw (ps, rs, vs, cs, ms) (joined params (record { block = block; spot = spot; content = cells.result } ∷ []) (variable_cells block ds) (control_cells block ds) acts (made_cells block ds))
 
-  -- first the parameters, then the result, then the variables, then the procedures, then the arrays
-  pub laid_out : (ns : List Named) (b : Block) → layout (cells_of_block block ns b) ≡ cells_for block cells.parameter ns ++ (result_cell b.result block b.spot ++ (variable_cells block b.decls ++ (control_cells block b.decls ++ made_cells block b.decls)))
-  laid_out ns b = ap layout (append_assoc (result_cell b.result block b.spot) (cells_for block cells.parameter ns) (decl_cells block b.decls)) ∙ lies ns b.decls b.result b.spot
+  -- first the parameters, then the result, then the variables, then the procedures, then the actuals, then the arrays
+  pub laid_out : (ns : List Named) (b : Block) (cs : List Cell) → plain cs ≡ cells_of_block block ns b →
+      layout cs ≡ cells_for block cells.parameter ns ++ (result_cell b.result block b.spot ++ (variable_cells block b.decls ++ (control_cells block b.decls ++ (holding cells.actual cs ++ made_cells block b.decls))))
+  laid_out ns b cs e =
+      let whole = e ∙ append_assoc (result_cell b.result block b.spot) (cells_for block cells.parameter ns) (decl_cells block b.decls) in
+      let same : (x : Content) → (content_number cells.actual == content_number x) ≡ false → holding x cs ≡ kept_of ns b.decls x b.result b.spot =
+      λ x f. sym (held_plain x cs f) ∙ ap (holding x) whole in
+      let acts = holding cells.actual cs in
+      ap (λ z. z ++ holding cells.result cs ++ holding cells.variable cs ++ holding cells.procedure cs ++ acts ++ holding cells.made cs) (same cells.parameter refl)
+      ∙ ap (λ z. kept_of ns b.decls cells.parameter b.result b.spot ++ z ++ holding cells.variable cs ++ holding cells.procedure cs ++ acts ++ holding cells.made cs) (same cells.result refl)
+      ∙ ap (λ z. kept_of ns b.decls cells.parameter b.result b.spot ++ kept_of ns b.decls cells.result b.result b.spot ++ z ++ holding cells.procedure cs ++ acts ++ holding cells.made cs)
+      (same cells.variable refl)
+      ∙ ap
+      (λ z. kept_of ns b.decls cells.parameter b.result b.spot ++ kept_of ns b.decls cells.result b.result b.spot ++ kept_of ns b.decls cells.variable b.result b.spot ++ z ++ acts ++ holding cells.made cs)
+      (same cells.procedure refl)
+      ∙ ap
+      (λ z.
+      kept_of ns b.decls cells.parameter b.result b.spot ++ kept_of ns b.decls cells.result b.result b.spot ++ kept_of ns b.decls cells.variable b.result b.spot
+      ++ kept_of ns b.decls cells.procedure b.result b.spot ++ acts ++ z)
+      (same cells.made refl)
+      ∙ lies ns b.decls b.result b.spot acts

@@ -167,13 +167,14 @@ aligned_front xs ys cs ds name spot wanted l =
       index = index_on cs ds j spot (2 + r.number) r.index;
     }
 
-module _ (blocks : List Block) (b : Block) (home : IsHome blocks b) where
+-- `acts`: the cells of its actuals
+module _ (blocks : List Block) (b : Block) (home : IsHome blocks b) (acts : List Cell) where
   abbrev pub block : ℕ
   block = number_at blocks b.spot
 
   -- what lies after the variables
   abbrev others : List Cell
-  others = control_cells block b.decls ++ made_cells block b.decls
+  others = control_cells block b.decls ++ (acts ++ made_cells block b.decls)
 
   abbrev behind : List Cell
   behind = result_cell b.result block b.spot ++ (variable_cells block b.decls ++ others)
@@ -253,7 +254,7 @@ module _ (blocks : List Block) (b : Block) (home : IsHome blocks b) where
         ap (λ (cs : List Cell). index_from 2 cs h.name.spot)
             (ap (λ z. given_places blocks b ++ z) (sym (append_assoc result vars others)) ∙ sym (append_assoc (given_places blocks b) (result ++ vars) others))
             ∙ index_past front others 2 h.name.spot far
-            ∙ index_on controls (made_cells block b.decls) (2 + length front) h.name.spot (2 + length front + r.number) (r.index (2 + length front))
+            ∙ index_on controls (acts ++ made_cells block b.decls) (2 + length front) h.name.spot (2 + length front + r.number) (r.index (2 + length front))
             ∙ ap (λ (n : ℕ). Some (2 + n + r.number)) all_long,
       )
 
@@ -263,16 +264,17 @@ module _ (blocks : List Block) (b : Block) (home : IsHome blocks b) where
   given_far : AllByRecursion (λ (c : Cell). IsApart c.spot b.spot) (given_places blocks b)
   given_far = parameters_apart block (named_of blocks b) b.spot (each_front (λ s. IsApart s b.spot) (spots_of_names (named_of blocks b)) (spots_of_decls b.decls) own_far)
 
-  -- without a result no cell stands at the block's own place
-  pub without : b.result ≡ None → index_from 2 frame b.spot ≡ None
-  without e =
+  -- without a result no cell stands at the block's own place, where no actual does
+  pub without : AllByRecursion (λ (c : Cell). IsApart c.spot b.spot) acts → b.result ≡ None → index_from 2 frame b.spot ≡ None
+  without own e =
       let far = each_back (λ s. IsApart s b.spot) (spots_of_names (named_of blocks b)) (spots_of_decls b.decls) own_far in
       let vars = variable_cells block b.decls in
       ap (λ (o : Option Kind). index_from 2 (given_places blocks b ++ (result_cell o block b.spot ++ (vars ++ others))) b.spot) e
       ∙ index_none (given_places blocks b ++ (vars ++ others)) 2 b.spot
       (each_both (λ (c : Cell). IsApart c.spot b.spot) (given_places blocks b) (vars ++ others) given_far
       (each_both (λ (c : Cell). IsApart c.spot b.spot) vars others (variables_far block b.decls b.spot far)
-      (each_both (λ (c : Cell). IsApart c.spot b.spot) (control_cells block b.decls) (made_cells block b.decls) (controls_far block b.decls b.spot far) (made_far block b.decls b.spot far))))
+      (each_both (λ (c : Cell). IsApart c.spot b.spot) (control_cells block b.decls) (acts ++ made_cells block b.decls) (controls_far block b.decls b.spot far)
+      (each_both (λ (c : Cell). IsApart c.spot b.spot) acts (made_cells block b.decls) own (made_far block b.decls b.spot far)))))
 
   -- the result lies after the parameters
   pub result_index : (kind : Kind) → b.result ≡ Some kind → index_from 2 frame b.spot ≡ Some (2 + length (given_cells blocks b))

@@ -1,4 +1,4 @@
--- Where the arrays of a block lie in its frame: after its simple cells and its procedures.
+-- Where the arrays of a block lie in its frame: after its simple cells, its procedures and its actuals.
 use Rattle.std.proofs.Common.{arith, ◌≡◌, ◌⊎◌, inl, inr, ℕ, ◌+◌, Bool, true, false, List, [], ◌∷◌, ◌++◌, length, is_some, Option, Some, None, refl, sym, ap, ◌∙◌, append_assoc, if◌then◌else◌}
 use Rattle.std.proofs.lemmas.List.{length-append}
 use Rattle.std.specs.List.{AllByRecursion}
@@ -15,7 +15,7 @@ use Rattle.algol_tree.specs.Plain.{PDecls}
 use Rattle.algol_tree.specs.Sorts.{same_name}
 use Rattle.algol_paths.specs.Arrays.{DeclaredArray, arrays_of}
 use Rattle.b67_templates.specs.Cells.{Simple, found_from, result_of, procedures, variables}
-use Rattle.b67_fitting.proofs.Aligned.{index_past}
+use Rattle.b67_fitting.proofs.Aligned.{index_past, index_on}
 use Rattle.b67_fitting.proofs.Apart.{IsIn, in_front, in_back, in_either, IsApart, Apart, apart_back, apart_from}
 use Rattle.b67_fitting.proofs.Arrayed.{array_spots, IsArrayed, from_first}
 use Rattle.b67_fitting.proofs.Frames.{named_of, variable_cells, control_cells, made_cells, decl_cells, result_cell}
@@ -100,6 +100,11 @@ none_found : (xs : List Simple) (i : ℕ) (name : List ℕ) → AllByRecursion (
 none_found [] i name h = refl
 none_found (x ∷ xs) i name h = ap (λ (b : Bool). if b then Some (record { number = i; cell = x }) else found_from (i + 1) xs name) h.0 ∙ none_found xs (i + 1) name h.1
 
+in_parts : (g r v c a m : List Cell) → g ++ (r ++ (v ++ (c ++ (a ++ m)))) ≡ (((g ++ (r ++ v)) ++ c) ++ a) ++ m
+in_parts g r v c a m =
+    ap (λ z. g ++ z) (sym (append_assoc r v (c ++ (a ++ m)))) ∙ sym (append_assoc g (r ++ v) (c ++ (a ++ m))) ∙ sym (append_assoc (g ++ (r ++ v)) c (a ++ m))
+    ∙ sym (append_assoc ((g ++ (r ++ v)) ++ c) a m)
+
 -- the result has another name
 result_other : (o : Option Kind) (own name : List ℕ) → is_one_of (if is_some o then own ∷ [] else []) name ≡ false → AllByRecursion (λ (x : Simple). same_name x.name name ≡ false) (result_of o own)
 result_other None own name h = tt
@@ -109,36 +114,69 @@ result_other (Some kind) own name h = (other (same_name own name) h, tt)
     other true g = absurd (let clash : true ≡ false = g in cc)
     other false g = refl
 
-module _ (blocks : List Block) (b : Block) (home : IsHome blocks b) where
+-- `acts`: the cells of its actuals
+module _ (blocks : List Block) (b : Block) (home : IsHome blocks b) (acts : List Cell) where
   -- no simple cell has the name
   pub no_simple : (name : List ℕ) → is_one_of (result_names_of b) name ≡ false → AllByRecursion (λ (x : Simple). same_name x.name name ≡ false) (given_cells blocks b) →
-      AllByRecursion (λ (x : Simple). same_name x.name name ≡ false) (variables b.decls) → found_from 0 (simples blocks b home) name ≡ None
+      AllByRecursion (λ (x : Simple). same_name x.name name ≡ false) (variables b.decls) → found_from 0 (simples blocks b home acts) name ≡ None
   no_simple name o g v =
-      none_found (simples blocks b home) 0 name
+      none_found (simples blocks b home acts) 0 name
       (each_both (λ (x : Simple). same_name x.name name ≡ false) (given_cells blocks b) (result_of b.result b.name ++ variables b.decls) g
       (each_both (λ (x : Simple). same_name x.name name ≡ false) (result_of b.result b.name) (variables b.decls) (result_other b.result b.name name o) v))
 
-  pub array_index : (name : List ℕ) (s : Spot) (array : DeclaredArray) → IsIn s (array_spots b.decls) →
-      (r : IsArrayed (arrays_of b.decls) (made_cells (block blocks b home) b.decls) name s array) →
-      index_from 2 (frame blocks b home) s ≡ Some (2 + length (simples blocks b home) + length (procedures b.decls) + r.number)
-  array_index name s array i r =
-      let k = block blocks b home in
+  pub array_index : (name : List ℕ) (s : Spot) (array : DeclaredArray) → AllByRecursion (λ (c : Cell). IsApart c.spot s) acts → IsIn s (array_spots b.decls) →
+      (r : IsArrayed (arrays_of b.decls) (made_cells (block blocks b home acts) b.decls) name s array) →
+      index_from 2 (frame blocks b home acts) s ≡ Some (2 + length (simples blocks b home acts) + length (procedures b.decls) + length acts + r.number)
+  array_index name s array own i r =
+      let k = block blocks b home acts in
+      let given = given_places blocks b in
+      let result = result_cell b.result k b.spot in
+      let vars = variable_cells k b.decls in
+      let controls = control_cells k b.decls in
+      let made = made_cells k b.decls in
+      let front = ((given ++ (result ++ vars)) ++ controls) ++ acts in
+      let among = array_among b.decls s i in
+      let far =
+      each_both (λ (c : Cell). IsApart c.spot s) ((given ++ (result ++ vars)) ++ controls) acts
+      (each_both (λ (c : Cell). IsApart c.spot s) (given ++ (result ++ vars)) controls
+      (each_both (λ (c : Cell). IsApart c.spot s) given (result ++ vars)
+      (parameters_apart k (named_of blocks b) s (apart_from (spots_of_names (named_of blocks b)) (spots_of_decls b.decls) s home.apart.1 among))
+      (each_both (λ (c : Cell). IsApart c.spot s) result vars (result_apart blocks b home acts b.result s (own_apart blocks b home acts s among)) (simple_apart k b.decls s (decls_apart blocks b home acts) i)))
+      (controls_apart k b.decls s (decls_apart blocks b home acts) i))
+      own in
+      let long : length front ≡ length (simples blocks b home acts) + length (procedures b.decls) + length acts =
+      omega (
+        arith,
+        length-append ((given ++ (result ++ vars)) ++ controls) acts,
+        length-append (given ++ (result ++ vars)) controls,
+        all_long blocks b home acts,
+        controls_long k b.decls,
+      ) in
+      ap (λ (cs : List Cell). index_from 2 cs s) (in_parts given result vars controls acts made)
+      ∙ index_past front made 2 s far ∙ r.index (2 + length front)
+      ∙ ap (λ (n : ℕ). Some n)
+      (let same : 2 + length front + r.number ≡ 2 + length (simples blocks b home acts) + length (procedures b.decls) + length acts + r.number = omega (arith, long) in same)
+
+  -- an actual lies after the procedures: what stands so far in front of it stands elsewhere
+  pub actual_index : (s : Spot) (number : ℕ) → AllByRecursion (λ (c : Cell). IsApart c.spot s) (given_places blocks b) → IsApart b.spot s →
+      AllByRecursion (λ (c : Cell). IsApart c.spot s) (variable_cells (block blocks b home acts) b.decls) → AllByRecursion (λ (c : Cell). IsApart c.spot s) (control_cells (block blocks b home acts) b.decls) →
+      ((j : ℕ) → index_from j acts s ≡ Some (j + number)) →
+      index_from 2 (frame blocks b home acts) s ≡ Some (2 + length (simples blocks b home acts) + length (procedures b.decls) + number)
+  actual_index s number far_given far_own far_vars far_controls its =
+      let k = block blocks b home acts in
       let given = given_places blocks b in
       let result = result_cell b.result k b.spot in
       let vars = variable_cells k b.decls in
       let controls = control_cells k b.decls in
       let made = made_cells k b.decls in
       let front = (given ++ (result ++ vars)) ++ controls in
-      let among = array_among b.decls s i in
       let far =
       each_both (λ (c : Cell). IsApart c.spot s) (given ++ (result ++ vars)) controls
-      (each_both (λ (c : Cell). IsApart c.spot s) given (result ++ vars)
-      (parameters_apart k (named_of blocks b) s (apart_from (spots_of_names (named_of blocks b)) (spots_of_decls b.decls) s home.apart.1 among))
-      (each_both (λ (c : Cell). IsApart c.spot s) result vars (result_apart blocks b home b.result s (own_apart blocks b home s among)) (simple_apart k b.decls s (decls_apart blocks b home) i)))
-      (controls_apart k b.decls s (decls_apart blocks b home) i) in
-      let long : length front ≡ length (simples blocks b home) + length (procedures b.decls) =
-      omega (arith, length-append (given ++ (result ++ vars)) controls, all_long blocks b home, controls_long k b.decls) in
-      ap (λ (cs : List Cell). index_from 2 cs s)
-      (ap (λ z. given ++ z) (sym (append_assoc result vars (controls ++ made))) ∙ sym (append_assoc given (result ++ vars) (controls ++ made)) ∙ sym (append_assoc (given ++ (result ++ vars)) controls made))
-      ∙ index_past front made 2 s far ∙ r.index (2 + length front)
-      ∙ ap (λ (n : ℕ). Some n) (let same : 2 + length front + r.number ≡ 2 + length (simples blocks b home) + length (procedures b.decls) + r.number = omega (arith, long) in same)
+      (each_both (λ (c : Cell). IsApart c.spot s) given (result ++ vars) far_given
+      (each_both (λ (c : Cell). IsApart c.spot s) result vars (result_apart blocks b home acts b.result s far_own) far_vars))
+      far_controls in
+      let long : length front ≡ length (simples blocks b home acts) + length (procedures b.decls) =
+      omega (arith, length-append (given ++ (result ++ vars)) controls, all_long blocks b home acts, controls_long k b.decls) in
+      ap (λ (cs : List Cell). index_from 2 cs s) (in_parts given result vars controls acts made ∙ append_assoc front acts made)
+      ∙ index_past front (acts ++ made) 2 s far ∙ index_on acts made (2 + length front) s (2 + length front + number) (its (2 + length front))
+      ∙ ap (λ (n : ℕ). Some n) (let same : 2 + length front + number ≡ 2 + length (simples blocks b home acts) + length (procedures b.decls) + number = omega (arith, long) in same)

@@ -1,4 +1,4 @@
--- The blocks of a program that is built have parameters by value and arrays only, with a cell for each: the heading of a procedure is
+-- The blocks of a program that is built have simple parameters and arrays only, with a cell for each: the heading of a procedure is
 -- found in the declarations of the block around, and no heading stands at a BEGIN.
 use Rattle.std.proofs.Common.{◌≡◌, List, [], ◌∷◌, ◌++◌, refl, sym, ap, ◌∙◌, subst}
 use Rattle.std.specs.Prelude.{None}

@@ -18,37 +18,37 @@ use Rattle.b67_fitting.proofs.Among.{each_among}
 use Rattle.b67_fitting.proofs.Apart.{IsIn, each_in, in_front, in_back, in_either, IsApart, Apart, apart_sym, apart_front, apart_back, apart_from, apart_across}
 use Rattle.b67_fitting.proofs.Blocked.{block_spots}
 use Rattle.b67_fitting.proofs.Frames.{control_cell, result_cell, named_of}
-use Rattle.b67_fitting.proofs.Listed.{Listed, over, passed, site, left, declared, both, block, procedure}
+use Rattle.b67_fitting.proofs.Listed.{Listed, over, passed, site, given, left, declared, both, block, procedure}
 use Rattle.b67_fitting.proofs.Lists.{each_back, each_both, each_of}
 use Rattle.b67_fitting.proofs.OnlyArrays.{typed_arrays}
 use Rattle.b67_fitting.proofs.Looked.{all_blocks}
 use Rattle.b67_fitting.proofs.Started.{HasCallees}
-use Rattle.b67_fitting.proofs.Unnamed.{AreUnnamed, typed_unnamed}
 
--- a block whose parameters and declarations are apart from one another and from its own place, whose procedures have their blocks and no
--- parameters by name, and which makes arrays only
+-- a block whose parameters and declarations are apart from one another and from its own place, whose procedures have their blocks, and which
+-- makes arrays only
 pub record IsHome (blocks : List Block) (b : Block) : Type 0 where
   pub apart : Apart (b.spot ∷ (spots_of_names (named_of blocks b) ++ spots_of_decls b.decls))
   pub callees : HasCallees blocks b b.decls
   pub made : made_of b.decls ≡ map an_array (arrays_of b.decls)
-  pub unnamed : AreUnnamed b.decls
 
 pub all_homes : (blocks : List Block) {k : ℕ} {spots : List Spot} {own : List Cell} {bs : List Block} {xs : List Site} → Listed blocks k spots own bs xs → AllByRecursion (IsHome blocks) bs
 all_homes blocks (over k) = tt
 all_homes blocks (passed k spot l) = all_homes blocks l
 all_homes blocks (site k x f l) = all_homes blocks l
+all_homes blocks (given k x c g m l) = all_homes blocks l
 all_homes blocks (left k a n e listed b g l) = all_homes blocks l
 all_homes blocks (declared k x names new f l) = all_homes blocks l
 all_homes blocks (both k {bs = bs} {cs = cs} i j) = each_both (IsHome blocks) bs cs (all_homes blocks i) (all_homes blocks j)
-all_homes blocks (block k b e i l) = (record { apart = i.apart; callees = i.callees; made = typed_arrays blocks i.begin i.begin.known b.decls i.declares; unnamed = typed_unnamed blocks i.begin i.begin.known b.decls i.declares }, all_homes blocks l)
-all_homes blocks (procedure k x b more f i l) = (record { apart = i.apart; callees = i.callees; made = typed_arrays blocks i.begin i.begin.known b.decls i.declares; unnamed = typed_unnamed blocks i.begin i.begin.known b.decls i.declares }, all_homes blocks l)
+all_homes blocks (block k b e i l) = (record { apart = i.apart; callees = i.callees; made = typed_arrays blocks i.begin i.begin.known b.decls i.declares }, all_homes blocks l)
+all_homes blocks (procedure k x b more f i l) =
+    (record { apart = i.apart; callees = i.callees; made = typed_arrays blocks i.begin i.begin.known b.decls i.declares }, all_homes blocks l)
 
 -- the place is among these, and apart from the blocks
 pub record IsFar (spots : List Spot) (bs : List Block) (spot : Spot) : Type 0 where
   pub among : IsIn spot spots
   pub apart : AllByRecursion (IsApart spot) (block_spots bs)
 
--- the cell of a variable or of a parameter
+-- the cell of a variable, of a parameter or of an actual
 abbrev pub IsValue : Cell → Type 0
 IsValue c = (c.content ≡ cells.result → ⊥) × (c.content ≡ cells.procedure → ⊥)
 
@@ -101,6 +101,11 @@ module _ (blocks : List Block) where
       let names = spots_of_names (names_in x.part) in
       let r = all_far l (apart_back names spots p) c (subst (λ (z : List Cell). IsIn c (z ++ cells_in xs)) f.cells i) e in
       record { among = in_back c.spot names spots r.among; apart = r.apart }
+  all_far (given k x d {spots = spots} {xs = xs} g m l) p c i e = by (subst (λ (z : List Cell). IsIn c (z ++ cells_in xs)) g.cells i) (all_far l p c)
+    where
+      by : IsIn c (d ∷ cells_in xs) → (IsIn c (cells_in xs) → IsValue c → IsFar (d.spot ∷ spots) [] c.spot) → IsFar (d.spot ∷ spots) [] c.spot
+      by (inl same) later = record { among = inl (ap (λ (z : Cell). z.spot) same); apart = tt }
+      by (inr j) later = later j e
   all_far (left k a n v listed b g l) p c i e =
       let r = all_far l p.1 c i e in
       record { among = inr r.among; apart = r.apart }

@@ -18,7 +18,7 @@ use Rattle.algol_tree.specs.Sorts as sort
 use Rattle.algol_tree.specs.Sorts.{same_name, Declared, look_up, declared_parameters}
 use Rattle.algol_tree.specs.Surroundings.{Surroundings, outermost, inside_procedure}
 use Rattle.algol_paths.specs.Arrays.{DeclaredArray, Shape, arrays_of, lows_among, lows_declared}
-use Rattle.b67_templates.specs.Cells.{Simple, Wanted, value, array as array_of, variables, parameters_in, parameters_around}
+use Rattle.b67_templates.specs.Cells.{Simple, Wanted, value, by_name, array as array_of, variables, parameters_in, parameters_around}
 use Rattle.b67_templates.specs.Code.{AreDimensions}
 use Rattle.b67_fitting.specs.Built.{HeadingBuilt}
 use Rattle.b67_fitting.specs.Wholes.{HaveDimensions}
@@ -29,7 +29,7 @@ use Rattle.b67_fitting.proofs.TypedBounds.{LowsWhole}
 use Rattle.b67_fitting.proofs.Clean.{IsPlain, simple, array, file, procedure, KnowsPlain}
 use Rattle.b67_fitting.proofs.Declaring.{found_either}
 use Rattle.b67_fitting.proofs.Frames.{named_around, named_of, variable_cells, made_cells}
-use Rattle.b67_fitting.proofs.Given.{lows_wanted, IsParameter, by_value, an_array, IsGiven, given}
+use Rattle.b67_fitting.proofs.Given.{lows_wanted, IsParameter, by_value, as_one, an_array, IsGiven, given}
 use Rattle.b67_fitting.proofs.Specified.{specified, SpecsWhole}
 
 -- the places of the simple variables, and the headings of the procedures
@@ -103,6 +103,17 @@ module _ (blocks : List Block) where
     pub past : AllByRecursion (λ (x : Simple). same_name x.name name ≡ false) (given_cells in_block)
     pub simple : AllByRecursion (λ (x : Simple). same_name x.name name ≡ false) (variables in_block.decls)
 
+  -- The declaration is that of a parameter by name of this kind, in a block of the program.
+  pub record IsName (depth : ℕ) (name : List ℕ) (d : Declared) (kind : Kind) : Type 0 where
+    pub in_block : Block
+    pub there : IsIn in_block blocks
+    pub class_is : d.class ≡ class.simple kind
+    pub sort_is : d.sort ≡ sort.by_name
+    pub block_is : d.block ≡ number_at blocks in_block.spot
+    pub depth_is : d.depth ≡ length in_block.outer
+    pub within : d.depth ≤ depth
+    pub place : IsParameterOf in_block name d (by_name kind)
+
   -- The declaration is that of a parameter of this shape, which stands for an array, in a block of the program.
   pub record IsFormal (depth : ℕ) (name : List ℕ) (d : Declared) (shape : Shape) : Type 0 where
     pub in_block : Block
@@ -137,6 +148,7 @@ module _ (blocks : List Block) where
   pub data IsKnown (depth : ℕ) (name : List ℕ) (d : Declared) : Type 0 where
     known_file : d.class ≡ class.file → d.sort ≡ sort.file → IsKnown depth name d
     known_variable : (kind : Kind) → IsHeld depth name d kind → IsKnown depth name d
+    known_name : (kind : Kind) → IsName depth name d kind → IsKnown depth name d
     known_array : (kind : Kind) (rank : ℕ) → IsRowed depth name d kind rank → IsKnown depth name d
     known_formal : (shape : Shape) → IsFormal depth name d shape → IsKnown depth name d
     known_procedure : (h : Heading) → IsOwned depth name d h → IsKnown depth name d
@@ -173,6 +185,17 @@ module _ (blocks : List Block) where
   deeper depth more name d l (known_file c s) = known_file c s
   deeper depth more name d l (known_variable kind h) =
       known_variable kind (record {
+        in_block = h.in_block;
+        there = h.there;
+        class_is = h.class_is;
+        sort_is = h.sort_is;
+        block_is = h.block_is;
+        depth_is = h.depth_is;
+        within = omega (arith, l, h.within);
+        place = h.place;
+      })
+  deeper depth more name d l (known_name kind h) =
+      known_name kind (record {
         in_block = h.in_block;
         there = h.there;
         class_is = h.class_is;
@@ -302,6 +325,17 @@ module _ (blocks : List Block) where
             within = omega (arith, depth_is);
             place = inr place;
           })
+      known name d wanted (as_one kind class_is sort_is) block_is depth_is place =
+          known_name kind (record {
+            in_block = c;
+            there = i;
+            class_is = class_is;
+            sort_is = sort_is;
+            block_is = block_is;
+            depth_is = depth_is ∙ inner.depth_is;
+            within = omega (arith, depth_is);
+            place = place;
+          })
       known name d wanted (an_array shape class_is sort_is dimensions) block_is depth_is place =
           known_formal shape (record {
             in_block = c;
@@ -323,6 +357,7 @@ module _ (blocks : List Block) where
   plain_class : (depth : ℕ) (name : List ℕ) (d : Declared) → IsKnown depth name d → IsPlain d.class
   plain_class depth name d (known_file c s) = subst IsPlain (sym c) file
   plain_class depth name d (known_variable k h) = subst IsPlain (sym h.class_is) (simple k)
+  plain_class depth name d (known_name k h) = subst IsPlain (sym h.class_is) (simple k)
   plain_class depth name d (known_array k rank h) = subst IsPlain (sym h.class_is) (array k rank)
   plain_class depth name d (known_formal shape h) = subst IsPlain (sym h.class_is) (array shape.kind (length shape.lows))
   plain_class depth name d (known_procedure g h) = subst IsPlain (sym h.class_is) (procedure g h.built)

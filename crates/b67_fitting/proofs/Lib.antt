@@ -17,7 +17,6 @@ pub mod Given
 pub mod Arrayed
 pub mod Stated
 pub mod OnlyArrays
-pub mod Unnamed
 pub mod Known
 pub mod ResultsApart
 pub mod Later
@@ -63,3 +62,8 @@ pub mod SurroundedSites
 pub mod Written
 pub mod NamesRead
 pub mod NamedBlocks
+pub mod ActualCells
+pub mod ActualPlaces
+pub mod ActualsFound
+pub mod ActualsCelled
+pub mod ActualsFew

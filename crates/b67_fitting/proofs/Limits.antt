@@ -7,14 +7,14 @@ use Rattle.algol_tree.specs.declared.token.Spot.{Spot}
 use Rattle.algol_tree.specs.declared.tree.Named.{Named}
 use Rattle.algol_tree.specs.Accepted.{scope_faults_in}
 use Rattle.algol_tree.specs.Blocks.{Block, number_at}
-use Rattle.algol_tree.specs.Cells.{Cell, cells_of, level_of}
+use Rattle.algol_tree.specs.Cells.{Cell, actual, holding, cells_of, level_of}
 use Rattle.algol_tree.specs.Names.{if_so, is_too_deep, found_place, place_beyond, deep_blocks, cells_beyond}
 use Rattle.algol_tree.specs.Plain as tree
 use Rattle.algol_tree.specs.Plain.{PDecls, PProgram}
 use Rattle.algol_tree.specs.Sites.{Site}
 use Rattle.algol_paths.specs.Arrays.{arrays_of}
 use Rattle.b67_templates.specs.Cells.{variables, procedures}
-use Rattle.b67_fitting.proofs.Frames.{named_of, front_cells, decl_cells, cells_of_block}
+use Rattle.b67_fitting.proofs.Frames.{plain, named_of, front_cells, decl_cells, cells_of_block, as_many as all_many}
 use Rattle.b67_fitting.proofs.Apart.{IsIn, each_in}
 use Rattle.b67_fitting.proofs.Lists.{nil_front, nil_back, nil_map, nil_each, not_so}
 
@@ -55,10 +55,18 @@ module _ (p : PProgram) (blocks : List Block) (sites : List Site) (accepted : sc
       none_beyond MOST_BLOCK_CELLS (map (λ (c : Cell). c.spot) (cells_of blocks sites (number_at blocks b.spot)))
       (each_in (λ (c : Block). place_beyond MOST_BLOCK_CELLS (map (λ (c : Cell). c.spot) (cells_of blocks sites (number_at blocks c.spot))) ≡ []) b blocks (nil_each _ blocks beyond) i)
 
-  pub few_cells : (b : Block) → IsIn b blocks → cells_of blocks sites (number_at blocks b.spot) ≡ cells_of_block (number_at blocks b.spot) (named_of blocks b) b →
-      length (variables b.decls) + length (procedures b.decls) + length (arrays_of b.decls) ≤ MOST_BLOCK_CELLS
+  pub few_cells : (b : Block) → IsIn b blocks → plain (cells_of blocks sites (number_at blocks b.spot)) ≡ cells_of_block (number_at blocks b.spot) (named_of blocks b) b →
+      length (variables b.decls) + length (procedures b.decls) + length (holding actual (cells_of blocks sites (number_at blocks b.spot))) + length (arrays_of b.decls) ≤ MOST_BLOCK_CELLS
   few_cells b i own =
-      omega (arith, few_places b i, length-map (cells_of blocks sites (number_at blocks b.spot)) (λ (c : Cell). c.spot), ap length own, as_many (number_at blocks b.spot) b.decls, length-append (front_cells (number_at blocks b.spot) (named_of blocks b) b) (decl_cells (number_at blocks b.spot) b.decls))
+      omega (
+        arith,
+        few_places b i,
+        length-map (cells_of blocks sites (number_at blocks b.spot)) (λ (c : Cell). c.spot),
+        all_many (cells_of blocks sites (number_at blocks b.spot)),
+        ap length own,
+        as_many (number_at blocks b.spot) b.decls,
+        length-append (front_cells (number_at blocks b.spot) (named_of blocks b) b) (decl_cells (number_at blocks b.spot) b.decls),
+      )
 
   pub not_deep : (b : Block) → IsIn b blocks → level_of b ≤ MOST_LEVEL
   not_deep b i =

@@ -6,7 +6,7 @@ use Rattle.algol_tree.specs.declared.tree.Named.{Named}
 use Rattle.algol_tree.specs.Ascending.{spots_of_names, spots_of_decls}
 use Rattle.algol_tree.specs.Blocks.{Block, number_at, blocks_in_stmts}
 use Rattle.algol_tree.specs.Cells as contents
-use Rattle.algol_tree.specs.Cells.{Cell, Content, cells_at}
+use Rattle.algol_tree.specs.Cells.{Cell, Content, cells_at, holding}
 use Rattle.algol_tree.specs.Couples.{Known, known_names, known_at}
 use Rattle.algol_tree.specs.Plain as tree
 use Rattle.algol_tree.specs.Plain.{PExpr}
@@ -14,9 +14,10 @@ use Rattle.algol_tree.specs.Scopes.{used, names_in, uses_at}
 use Rattle.algol_tree.specs.Sites as parts
 use Rattle.algol_tree.specs.Sites.{Part, Site, here_stmt, sites_in_stmts, sites_in_decls}
 use Rattle.algol_tree.specs.Surroundings.{Surroundings}
+use Rattle.b67_fitting.proofs.ActualCells.{cells_in_bounds, cells_in_stmts}
 use Rattle.b67_fitting.proofs.Among.{Among}
 use Rattle.b67_fitting.proofs.Apart.{IsIn, Apart}
-use Rattle.b67_fitting.proofs.Frames.{IsOwn, control_cell, named_of, front_cells, decl_cells}
+use Rattle.b67_fitting.proofs.Frames.{IsOwn, plain, control_cell, named_of, front_cells, decl_cells}
 use Rattle.b67_fitting.proofs.Known.{Stands}
 use Rattle.b67_fitting.proofs.Started.{HasCallees}
 use Rattle.b67_fitting.proofs.Stated.{TypedStmts, TypedDecls}
@@ -34,10 +35,11 @@ abbrev pub lefts_in : Part → List Named
 lefts_in (parts.statement (tree.assign (tree.subscripted n tree.none) e) listed) = n ∷ []
 lefts_in _ = []
 
--- a cell that has the place of its name by itself: that of a parameter, of a variable or of an array
+-- a cell that has its place by itself: that of a parameter, of a variable, of an actual or of an array
 abbrev pub has_own_place : Content → Bool
 has_own_place contents.parameter = true
 has_own_place contents.variable = true
+has_own_place contents.actual = true
 has_own_place contents.made = true
 has_own_place _ = false
 
@@ -55,6 +57,16 @@ module _ (blocks : List Block) where
     pub lefts : lefts_in x.part ≡ []
     pub in_block : Block
     pub stands : Stands blocks in_block x.around
+
+  -- An actual in the block with this number that has this cell.
+  pub record IsGiving (block : ℕ) (x : Site) (c : Cell) : Type 0 where
+    pub uses : uses_at x ≡ []
+    pub knows : known_at blocks x ≡ []
+    pub cells : cells_at blocks x ≡ c ∷ []
+    pub owns : c.block ≡ block
+    pub content_is : c.content ≡ contents.actual
+    pub reads : reads_in x.part ≡ []
+    pub lefts : lefts_in x.part ≡ []
 
   -- A declaration of the block with this number, with the places of its names, and its cells, of which none is another block's.
   pub record IsDeclaring (block : ℕ) (x : Site) (spots : List Spot) (own : List Cell) : Type 0 where
@@ -77,11 +89,11 @@ module _ (blocks : List Block) where
     pub reads : reads_in x.part ≡ []
     pub lefts : lefts_in x.part ≡ []
 
-  -- A block of the program whose declarations have these cells. Of its parts the last are those of its declarations and its statements.
+  -- A block of the program whose text has these cells. Of its parts the last are those of its declarations and its statements.
   pub record IsBlock (b : Block) (own : List Cell) (xs : List Site) : Type 0 where
     pub there : IsIn b blocks
     pub apart : Apart (b.spot ∷ (spots_of_names (named_of blocks b) ++ spots_of_decls b.decls))
-    pub own_is : own ≡ decl_cells (number_at blocks b.spot) b.decls
+    pub own_is : plain own ≡ decl_cells (number_at blocks b.spot) b.decls
     pub begin : Surroundings
     pub begins : Stands blocks b begin
     pub declares : TypedDecls blocks begin begin.known b.decls
@@ -90,6 +102,7 @@ module _ (blocks : List Block) where
     pub stands : Stands blocks b around
     pub typed : TypedStmts blocks around b.stmts
     pub inner : AllThere blocks (blocks_in_stmts b.stmts (b.spot ∷ b.outer))
+    pub actuals_are : holding contents.actual own ≡ cells_in_bounds blocks begin b.decls ++ cells_in_stmts around b.stmts
     pub front : List Site
     pub listed : Bool
     pub sites_are : xs ≡ front ++ sites_in_decls blocks b.decls begin begin.known ++ sites_in_stmts blocks b.stmts listed around
@@ -101,6 +114,8 @@ module _ (blocks : List Block) where
     passed : (k : ℕ) (spot : Spot) {spots : List Spot} {own : List Cell} {bs : List Block} {xs : List Site} → Listed k spots own bs xs → Listed k (spot ∷ spots) own bs xs
     site : (k : ℕ) (x : Site) {spots : List Spot} {own : List Cell} {bs : List Block} {xs : List Site} → IsFair x → Listed k spots own bs xs →
         Listed k (spots_of_names (names_in x.part) ++ spots) own bs (x ∷ xs)
+    given : (k : ℕ) (x : Site) (c : Cell) {spots : List Spot} {own : List Cell} {xs : List Site} → IsGiving k x c → Among (own_places (flat_map (cells_at blocks) xs)) spots →
+        Listed k (c.spot ∷ spots) own [] xs → Listed k (c.spot ∷ spots) (c ∷ own) [] (x ∷ xs)
     left : (k : ℕ) (a : Surroundings) (n : Named) (e : PExpr) (listed : Bool) (b : Block) {spots : List Spot} {own : List Cell} {bs : List Block} {xs : List Site} → Stands blocks b a →
         Listed k spots own bs xs → Listed k (n.spot ∷ spots) own bs (here_stmt (tree.assign (tree.subscripted n tree.none) e) listed a ∷ xs)
     declared : (k : ℕ) (x : Site) (names : List Spot) (new : List Cell) {spots : List Spot} {own : List Cell} {bs : List Block} {xs : List Site} → IsDeclaring k x names new →

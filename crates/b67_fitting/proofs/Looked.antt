@@ -18,7 +18,7 @@ use Rattle.algol_tree.specs.Surroundings.{Surroundings, declared_as}
 use Rattle.b67_fitting.proofs.Among.{Among, nothing, skip, keep, none_among, join}
 use Rattle.b67_fitting.proofs.Apart.{IsIn, each_in, in_map, Apart, same_self}
 use Rattle.b67_fitting.proofs.Declares.{names_among}
-use Rattle.b67_fitting.proofs.Listed.{Listed, over, passed, site, left, declared, both, block, procedure}
+use Rattle.b67_fitting.proofs.Listed.{Listed, over, passed, site, given, left, declared, both, block, procedure}
 
 -- ---- what is found
 
@@ -93,6 +93,8 @@ module _ (blocks : List Block) where
   all_uses (passed k spot l) = skip spot (all_uses l)
   all_uses (site k x {xs = xs} f l) =
       behind_use x xs (subst (λ (us : List Use). Among (map (λ (u : Use). u.spot) us) (spots_of_names (names_in x.part))) (sym f.uses) (uses_among x.around (names_in x.part))) (all_uses l)
+  all_uses (given k x c {spots = spots} {xs = xs} g m l) =
+      subst (λ (us : List Use). Among (map (λ (u : Use). u.spot) (us ++ flat_map uses_at xs)) (c.spot ∷ spots)) (sym g.uses) (all_uses l)
   all_uses (left k a n e listed b {xs = xs} g l) = behind_use (here_stmt (tree.assign (tree.subscripted n tree.none) e) listed a) xs (left_among a n (declared_as a n)) (all_uses l)
   all_uses (declared k x names new {xs = xs} f l) = behind_use x xs (no_use x names f.uses) (all_uses l)
   all_uses (both k {xs = xs} {ys = ys} i j) = places_both (λ (u : Use). u.spot) uses_at xs ys (all_uses i) (all_uses j)
@@ -104,6 +106,8 @@ module _ (blocks : List Block) where
   all_known (passed k spot l) = skip spot (all_known l)
   all_known (site k x {xs = xs} f l) =
       behind_known x xs (subst (λ (ks : List Known). Among (map (λ (k : Known). k.spot) ks) (spots_of_names (names_in x.part))) (sym f.knows) (names_among x.around (names_in x.part))) (all_known l)
+  all_known (given k x c {spots = spots} {xs = xs} g m l) =
+      subst (λ (ks : List Known). Among (map (λ (z : Known). z.spot) (ks ++ flat_map (known_at blocks) xs)) (c.spot ∷ spots)) (sym g.knows) (all_known l)
   all_known (left k a n e listed b {xs = xs} g l) = behind_known (here_stmt (tree.assign (tree.subscripted n tree.none) e) listed a) xs (names_among a (n ∷ [])) (all_known l)
   all_known (declared k x names new {xs = xs} f l) = behind_known x xs f.knows (all_known l)
   all_known (both k {xs = xs} {ys = ys} i j) = places_both (λ (k : Known). k.spot) (known_at blocks) xs ys (all_known i) (all_known j)
@@ -114,6 +118,7 @@ module _ (blocks : List Block) where
   all_blocks (over k) = nothing
   all_blocks (passed k spot l) = skip spot (all_blocks l)
   all_blocks (site k x f l) = join (none_among (spots_of_names (names_in x.part))) (all_blocks l)
+  all_blocks (given k x c g m l) = all_blocks l
   all_blocks (left k a n e listed b g l) = skip n.spot (all_blocks l)
   all_blocks (declared k x names new f l) = join (none_among names) (all_blocks l)
   all_blocks (both k {p = p} {q = q} {bs = bs} {cs = cs} i j) =

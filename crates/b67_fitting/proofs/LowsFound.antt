@@ -20,11 +20,11 @@ use Rattle.b67_templates.specs.Cells.{value}
 use Rattle.b67_fitting.proofs.Apart.{IsIn, each_in, in_map, in_front, in_back, IsApart, same_self, same_place}
 use Rattle.b67_fitting.proofs.Arrayed.{array_spots, own_lows}
 use Rattle.b67_fitting.proofs.Blocked.{block_spots, numbered}
-use Rattle.b67_fitting.proofs.Coupled.{given_cell, IsProgram}
+use Rattle.b67_fitting.proofs.Coupled.{given_cell, IsProgram, one_of, acts_of, act_there}
 use Rattle.b67_fitting.proofs.Frames.{named_of, result_cell, front_cells, decl_cells, cells_of_block}
 use Rattle.b67_fitting.proofs.Framing.{variable_cell, in_filter}
 use Rattle.b67_fitting.proofs.FramingArrays.{array_cell}
-use Rattle.b67_fitting.proofs.Known.{variable_spots, headings, IsVariableOf, IsParameterOf, IsHeld, IsOwned}
+use Rattle.b67_fitting.proofs.Known.{variable_spots, headings, IsVariableOf, IsParameterOf, IsHeld, IsName, IsOwned}
 use Rattle.b67_fitting.proofs.Listed.{has_own_place}
 use Rattle.b67_fitting.proofs.Made.{one_there, in_kept}
 use Rattle.b67_fitting.proofs.Started.{IsCalleeOf}
@@ -79,18 +79,38 @@ lows_where (tree.decls d ds) s found h = lows_where ds s found h
 -- ---- all blocks
 
 module _ (blocks : List Block) (all : List Site) (is : IsProgram blocks all) where
-  abbrev placed : List Cell
+  abbrev pub placed : List Cell
   placed = filter (λ (c : Cell). has_own_place c.content) (flat_map (cells_at blocks) all)
 
   -- a cell of a block is one of the program's
   cell_there : (b : Block) → IsIn b blocks → (c : Cell) → IsIn c (cells_of_block (number_at blocks b.spot) (named_of blocks b) b) → has_own_place c.content ≡ true → IsIn c placed
   cell_there b t c i e =
       let k = number_at blocks b.spot in
-      let own : IsIn c (cells_of blocks all k) = subst (λ (z : List Cell). IsIn c z) (sym (is.own b t)) i in
-      in_kept (λ (z : Cell). has_own_place z.content) c (flat_map (cells_at blocks) all) (in_filter (λ (z : Cell). z.block == k) c (flat_map (cells_at blocks) all) own) e
+      in_kept (λ (z : Cell). has_own_place z.content) c (flat_map (cells_at blocks) all) (in_filter (λ (z : Cell). z.block == k) c (flat_map (cells_at blocks) all) (one_of blocks all is b t c i)) e
+
+  -- that of an actual
+  pub act_placed : (b : Block) (c : Cell) → IsIn c (acts_of blocks all is b) → IsIn c placed
+  act_placed b c i =
+      let at = act_there blocks all is b c i in
+      in_kept (λ (z : Cell). has_own_place z.content) c (flat_map (cells_at blocks) all) at.0 (ap has_own_place at.1)
+
+  -- so another cell stands elsewhere
+  pub act_elsewhere : (b : Block) (c : Cell) → IsIn c (acts_of blocks all is b) → (d : Cell) → IsIn d placed → (d.content ≡ cells.actual → ⊥) → IsApart d.spot c.spot
+  act_elsewhere b c i d j other = by (same_spot d.spot c.spot) refl
+    where
+      by : (t : Bool) → same_spot d.spot c.spot ≡ t → t ≡ false
+      by false e = refl
+      by true e =
+          let one : d ≡ c = one_there (λ (z : Cell). z.spot) placed d c is.places_apart j (act_placed b c i) (same_place d.spot c.spot e) in
+          absurd (other (ap (λ (z : Cell). z.content) one ∙ (act_there blocks all is b c i).1))
+
+  -- the actuals of a block are apart from its variables, its parameters and its arrays
+  pub acts_past : (b : Block) → IsIn b blocks → (c : Cell) → IsIn c (acts_of blocks all is b) → (d : Cell) → IsIn d (cells_of_block (number_at blocks b.spot) (named_of blocks b) b) → has_own_place d.content ≡ true →
+      (d.content ≡ cells.actual → ⊥) → IsApart d.spot c.spot
+  acts_past b t c i d j e other = act_elsewhere b c i d (cell_there b t d j e) other
 
   -- that of the array that is declared there
-  array_there : (b : Block) → IsIn b blocks → (s : Spot) → IsIn s (array_spots b.decls) → IsIn (record { block = number_at blocks b.spot; spot = s; content = cells.made }) placed
+  pub array_there : (b : Block) → IsIn b blocks → (s : Spot) → IsIn s (array_spots b.decls) → IsIn (record { block = number_at blocks b.spot; spot = s; content = cells.made }) placed
   array_there b t s i =
       let k = number_at blocks b.spot in
       let c : Cell = record { block = k; spot = s; content = cells.made } in
@@ -237,6 +257,11 @@ module _ (blocks : List Block) (all : List Site) (is : IsProgram blocks all) whe
       by : IsVariableOf blocks h.in_block name d k ⊎ IsParameterOf blocks h.in_block name d (value k) → lows_at blocks d.spot ≡ None
       by (inl v) = variable_none h.in_block h.there d.spot v.among
       by (inr v) = parameter_none v.owner v.owner_there v.heading v.heading_there d.spot v.inside v.lows
+
+  pub named_none : (depth : ℕ) (name : List ℕ) (d : Declared) (k : Kind) → IsName blocks depth name d k → lows_at blocks d.spot ≡ None
+  named_none depth name d k h =
+      let v = h.place in
+      parameter_none v.owner v.owner_there v.heading v.heading_there d.spot v.inside v.lows
 
   pub owned_none : (depth : ℕ) (name : List ℕ) (d : Declared) (g : Heading) → IsOwned blocks depth name d g → lows_at blocks d.spot ≡ None
   owned_none depth name d g h =

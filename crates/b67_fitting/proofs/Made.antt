@@ -1,4 +1,5 @@
--- The places of the parameters, the variables and the arrays of a program are among those of its text, so no two stand at one place.
+-- The places of the parameters, the variables, the actuals that have cells and the arrays of a program are among those of its text, so no two
+-- stand at one place.
 use Rattle.std.proofs.Common.{◌≡◌, inl, inr, ℕ, Bool, true, false, cond, List, [], ◌∷◌, ◌++◌, map, filter, Option, Some, None, refl, sym, ap, ◌∙◌, subst}
 use Rattle.std.proofs.lemmas.List.{map-append}
 use Rattle.std.proofs.lemmas.List.Concat.{flat_map-append}
@@ -13,10 +14,10 @@ use Rattle.algol_tree.specs.Cells as cells
 use Rattle.algol_tree.specs.Cells.{Cell, cells_for, cells_at}
 use Rattle.algol_tree.specs.Scopes.{names_in}
 use Rattle.algol_tree.specs.Sites.{Site}
-use Rattle.b67_fitting.proofs.Among.{Among, nothing, skip, none_among, join}
+use Rattle.b67_fitting.proofs.Among.{Among, nothing, skip, keep, none_among, join}
 use Rattle.b67_fitting.proofs.Apart.{IsIn, each_in, in_map, IsApart, Apart, same_self}
 use Rattle.b67_fitting.proofs.Frames.{control_cell, result_cell, named_of, front_cells}
-use Rattle.b67_fitting.proofs.Listed.{has_own_place, own_places, Listed, over, passed, site, left, declared, both, block, procedure}
+use Rattle.b67_fitting.proofs.Listed.{has_own_place, own_places, Listed, over, passed, site, given, left, declared, both, block, procedure}
 
 -- of the cells of a heading those of the parameters have places of their own
 result_places : (o : Option Kind) (k : ℕ) (spot : Spot) (cs : List Cell) → own_places (result_cell o k spot ++ cs) ≡ own_places cs
@@ -34,7 +35,10 @@ module _ (blocks : List Block) where
   abbrev pub places_in : List Site → List Spot
   places_in xs = own_places (flat_map (cells_at blocks) xs)
 
-  joined : (cs ds : List Cell) → own_places (cs ++ ds) ≡ own_places cs ++ own_places ds
+  abbrev kept_in : List Site → List Cell
+  kept_in xs = filter (λ (c : Cell). has_own_place c.content) (flat_map (cells_at blocks) xs)
+
+  pub joined : (cs ds : List Cell) → own_places (cs ++ ds) ≡ own_places cs ++ own_places ds
   joined cs ds =
       ap (map (λ (c : Cell). c.spot)) (filter-append (λ (c : Cell). has_own_place c.content) cs ds)
       ∙ map-append (λ (c : Cell). c.spot) (filter (λ (c : Cell). has_own_place c.content) cs) (filter (λ (c : Cell). has_own_place c.content) ds)
@@ -49,6 +53,9 @@ module _ (blocks : List Block) where
   all_places (over k) = nothing
   all_places (passed k spot l) = skip spot (all_places l)
   all_places (site k x {xs = xs} f l) = behind x xs (none x (spots_of_names (names_in x.part)) f.cells) (all_places l)
+  all_places (given k x c {spots = spots} {xs = xs} g m l) =
+      subst (λ (cs : List Cell). Among (own_places (cs ++ flat_map (cells_at blocks) xs)) (c.spot ∷ spots)) (sym g.cells)
+      (subst (λ (b : Bool). Among (map (λ (z : Cell). z.spot) (cond b (c ∷ kept_in xs) (kept_in xs))) (c.spot ∷ spots)) (sym (ap has_own_place g.content_is)) (keep c.spot m))
   all_places (left k a n e listed b g l) = skip n.spot (all_places l)
   all_places (declared k x names new {xs = xs} f l) = behind x xs (subst (λ (cs : List Cell). Among (own_places cs) names) (sym f.cells) f.places) (all_places l)
   all_places (both k {p = p} {q = q} {xs = xs} {ys = ys} i j) =

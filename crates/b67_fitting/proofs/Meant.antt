@@ -1,4 +1,4 @@
--- What a name means where it is of a class: a variable, an array or a procedure whose declaration is known.
+-- What a name means where it is of a class: a variable, a parameter by name, an array or a procedure whose declaration is known.
 use Rattle.std.proofs.Common.{◌≡◌, ℕ, List, length, Option, Some, None, refl, sym, ◌∙◌, subst}
 use Rattle.algol_tree.specs.declared.tree.Heading.{Heading}
 use Rattle.algol_tree.specs.declared.tree.Kind.{Kind}
@@ -9,7 +9,7 @@ use Rattle.algol_tree.specs.Classes.{Class}
 use Rattle.algol_tree.specs.Sorts.{Declared}
 use Rattle.algol_tree.specs.Surroundings.{Surroundings, class_of, class_of_declared, declared_as}
 use Rattle.algol_paths.specs.Arrays.{Shape}
-use Rattle.b67_fitting.proofs.Known.{IsHeld, IsRowed, IsFormal, IsOwned, IsKnown, known_file, known_variable, known_array, known_formal, known_procedure}
+use Rattle.b67_fitting.proofs.Known.{IsHeld, IsName, IsRowed, IsFormal, IsOwned, IsKnown, known_file, known_variable, known_name, known_array, known_formal, known_procedure}
 use Rattle.b67_fitting.proofs.Typed.{IsOf}
 
 pub record IsDeclared (a : Surroundings) (c : Class) (n : Named) : Type 0 where
@@ -31,18 +31,27 @@ pub declared_array : (a : Surroundings) (k : Kind) (rank : ℕ) (n : Named) → 
 declared_array a k rank n h = declared_of a (class.array k rank) n (declared_as a n) (λ e. let clash : class.unknown ≡ class.array k rank = e in cc) refl h
 
 module _ (blocks : List Block) where
-  pub held_of : (depth : ℕ) (name : List ℕ) (d : Declared) (k : Kind) → d.class ≡ class.simple k → IsKnown blocks depth name d → IsHeld blocks depth name d k
+  -- a variable, or a parameter by name
+  pub data IsSimpleAs (depth : ℕ) (name : List ℕ) (d : Declared) (k : Kind) : Type 0 where
+    held : IsHeld blocks depth name d k → IsSimpleAs depth name d k
+    given : IsName blocks depth name d k → IsSimpleAs depth name d k
+
+  pub held_of : (depth : ℕ) (name : List ℕ) (d : Declared) (k : Kind) → d.class ≡ class.simple k → IsKnown blocks depth name d → IsSimpleAs depth name d k
   held_of depth name d k c (known_file f s) = absurd (let clash : class.simple k ≡ class.file = sym c ∙ f in cc)
   held_of depth name d k c (known_array m rank h) = absurd (let clash : class.simple k ≡ class.array m rank = sym c ∙ h.class_is in cc)
   held_of depth name d k c (known_formal shape h) = absurd (let clash : class.simple k ≡ class.array shape.kind (length shape.lows) = sym c ∙ h.class_is in cc)
   held_of depth name d k c (known_procedure g h) = absurd (let clash : class.simple k ≡ class.procedure g = sym c ∙ h.class_is in cc)
   held_of depth name d k c (known_variable kind h) =
       let same : kind ≡ k = (let e : class.simple kind ≡ class.simple k = sym h.class_is ∙ c in cc) in
-      subst (λ (z : Kind). IsHeld blocks depth name d z) same h
+      held (subst (λ (z : Kind). IsHeld blocks depth name d z) same h)
+  held_of depth name d k c (known_name kind h) =
+      let same : kind ≡ k = (let e : class.simple kind ≡ class.simple k = sym h.class_is ∙ c in cc) in
+      given (subst (λ (z : Kind). IsName blocks depth name d z) same h)
 
   pub owned_of : (depth : ℕ) (name : List ℕ) (d : Declared) (g : Heading) → d.class ≡ class.procedure g → IsKnown blocks depth name d → IsOwned blocks depth name d g
   owned_of depth name d g c (known_file f s) = absurd (let clash : class.procedure g ≡ class.file = sym c ∙ f in cc)
   owned_of depth name d g c (known_variable kind h) = absurd (let clash : class.procedure g ≡ class.simple kind = sym c ∙ h.class_is in cc)
+  owned_of depth name d g c (known_name kind h) = absurd (let clash : class.procedure g ≡ class.simple kind = sym c ∙ h.class_is in cc)
   owned_of depth name d g c (known_array m rank h) = absurd (let clash : class.procedure g ≡ class.array m rank = sym c ∙ h.class_is in cc)
   owned_of depth name d g c (known_formal shape h) = absurd (let clash : class.procedure g ≡ class.array shape.kind (length shape.lows) = sym c ∙ h.class_is in cc)
   owned_of depth name d g c (known_procedure f h) =
@@ -57,6 +66,7 @@ module _ (blocks : List Block) where
   pub arrayed_of : (depth : ℕ) (name : List ℕ) (d : Declared) (k : Kind) (rank : ℕ) → d.class ≡ class.array k rank → IsKnown blocks depth name d → IsArrayAs depth name d k rank
   arrayed_of depth name d k rank c (known_file f s) = absurd (let clash : class.array k rank ≡ class.file = sym c ∙ f in cc)
   arrayed_of depth name d k rank c (known_variable kind h) = absurd (let clash : class.array k rank ≡ class.simple kind = sym c ∙ h.class_is in cc)
+  arrayed_of depth name d k rank c (known_name kind h) = absurd (let clash : class.array k rank ≡ class.simple kind = sym c ∙ h.class_is in cc)
   arrayed_of depth name d k rank c (known_procedure g h) = absurd (let clash : class.array k rank ≡ class.procedure g = sym c ∙ h.class_is in cc)
   arrayed_of depth name d k rank c (known_array kind many h) =
       let same : class.array kind many ≡ class.array k rank = sym h.class_is ∙ c in

@@ -1,5 +1,5 @@
 -- The blocks of an accepted program that is built lie in one another.
-use Rattle.std.proofs.Common.{arith, ◌≡◌, ℕ, ◌≤◌, nat_lt, Bool, true, false, List, [], ◌∷◌, ◌++◌, filter, length, map, take, Option, Some, None, refl, sym, ap, subst, zero, suc, slice_get, get_or, if◌then◌else◌}
+use Rattle.std.proofs.Common.{arith, ◌≡◌, inl, inr, ℕ, ◌<◌, ◌≤◌, nat_lt, Bool, true, false, List, [], ◌∷◌, ◌++◌, filter, length, map, take, Option, Some, None, refl, sym, ap, subst, zero, suc, slice_get, get_or, if◌then◌else◌}
 use Rattle.std.proofs.lemmas.Bool.Decides.{nat_tests}
 use Rattle.std.proofs.lemmas.List.{length-map}
 use Rattle.std.proofs.lemmas.Option.{slice_get-get_or}
@@ -8,7 +8,7 @@ use Rattle.algol_tree.specs.declared.TheConstants.{MOST_BLOCK_CELLS, MOST_SEGMEN
 use Rattle.algol_tree.specs.declared.token.Spot.{Spot}
 use Rattle.algol_tree.specs.Accepted.{scope_faults, check_faults, sites_of}
 use Rattle.algol_tree.specs.Ascending.{IsInOrder, spots_of, spots_of_decls, spots_of_stmts}
-use Rattle.algol_tree.specs.Blocks.{Block, blocks_of_program, blocks_in_decls, blocks_in_stmts, number_at, around}
+use Rattle.algol_tree.specs.Blocks.{Block, block_numbered, blocks_of_program, blocks_in_decls, blocks_in_stmts, number_at, around}
 use Rattle.algol_tree.specs.Cells.{Cell, cells_of, level_of}
 use Rattle.algol_tree.specs.Checks.{wrong_types, not_assignable}
 use Rattle.algol_tree.specs.Names.{Segment, if_so, is_too_deep, declared_twice, found_place, place_beyond, cells_beyond, procedures, procedures_beyond, deep_blocks, segments, long_segments, unknown_names}
@@ -18,13 +18,13 @@ use Rattle.algol_tree.specs.Scopes.{Scopes, scopes_of, scopes_by, uses_at}
 use Rattle.algol_tree.specs.Sites.{Site, sites_in_decls, sites_in_stmts, has_decls}
 use Rattle.algol_tree.specs.Surroundings.{Surroundings, outermost, knowing_all}
 use Rattle.algol_paths.specs.Segments.{is_procedure, procedures_before, tokens_or_none, segment_tokens}
-use Rattle.b67_templates.specs.Cells.{parameters_around}
+use Rattle.b67_templates.specs.Cells.{parameters_around, actuals_in_stmts}
 use Rattle.b67_fitting.specs.Built.{DeclsBuilt, StmtsBuilt}
 use Rattle.b67_fitting.specs.Names.{DeclsNamed, StmtsNamed}
 use Rattle.b67_fitting.specs.Nested.{AreParameters, IsText, AreNested, BuiltProgramsLieNested}
 use Rattle.b67_fitting.proofs.Lists.{each_front, each_back, each_both, nil_front, nil_back, nil_map, nil_each, not_so}
 use Rattle.b67_fitting.proofs.Numbering.{times_both, places, places_both, once, Apart, once_apart, use_place, IsThere, all_there, block_place, IsNumbered, all_numbered, block_is, each_at, number_is, number_first}
-use Rattle.b67_fitting.proofs.Apart.{Apart as IsApartList, each_in, ascending_apart, apart_front, apart_back}
+use Rattle.b67_fitting.proofs.Apart.{Apart as IsApartList, IsIn, each_in, ascending_apart, apart_front, apart_back}
 use Rattle.b67_fitting.proofs.Clean.{none_long}
 use Rattle.b67_fitting.proofs.Frames.{named_of, named_long}
 use Rattle.b67_fitting.proofs.Given.{AreWhole}
@@ -34,10 +34,11 @@ use Rattle.b67_fitting.proofs.ResultsApart.{IsClear, AreClear, AreOnce, in_stmts
 use Rattle.b67_fitting.proofs.Headed.{IsIt, of_begin, in_stmts as headed_stmts, in_decls as headed_decls}
 use Rattle.b67_fitting.proofs.UsesOnce as uses
 use Rattle.b67_fitting.proofs.BlocksOnce as inner
+use Rattle.b67_fitting.proofs.ActualsFew.{few_bounds, few_stmts}
 use Rattle.b67_fitting.proofs.Callees.{IsChain, AreCallees}
 use Rattle.b67_fitting.proofs.Surrounded.{IsAround, knows_all, AreKept, AreGood}
 use Rattle.b67_fitting.proofs.Bounds.{in_bounds}
-use Rattle.b67_fitting.proofs.CellsFew.{as_many, parameters_many}
+use Rattle.b67_fitting.proofs.CellsFew.{cells_both, FewBounds, as_many, parameters_many}
 use Rattle.b67_fitting.proofs.OneBlock.{the_block, IsFine, AreFine, ArePart, front, back, IsTextOf, is_text}
 use Rattle.b67_fitting.proofs.TextsNested.{callees, in_stmts, in_decls}
 
@@ -102,6 +103,12 @@ all_good sc (x ∷ xs) t k = (record { there = t.0; known = k.0 }, all_good sc x
 pub all_kept : (blocks : List Block) (xs : List Site) → AllByRecursion (λ x. wrong_types blocks x ≡ []) xs → AllByRecursion (λ x. not_assignable blocks x ≡ []) xs → AreKept blocks xs
 all_kept blocks [] w n = tt
 all_kept blocks (x ∷ xs) w n = (record { right = w.0; assignable = n.0 }, all_kept blocks xs w.1 n.1)
+
+-- a block of such a number is one of them
+there_numbered : (bs : List Block) (j : ℕ) → j < length bs → IsIn (block_numbered bs j) bs
+there_numbered [] j h = absurd (omega (arith, h))
+there_numbered (b ∷ bs) zero h = inl refl
+there_numbered (b ∷ bs) (suc j) h = inr (there_numbered bs j (omega (arith, h)))
 
 module _ (sc : Scopes) (all : List Site) where
   abbrev IsLow : Block → Type 0
@@ -239,7 +246,8 @@ module _ (spot : Spot) (ds : PDecls) (ss : PStmts) (order : IsInOrder (tree.prog
         known = tt;
       }
 
-  module _ (good : AreGood sc all) (kept : AreKept blocks all) (fine : AreFine sc all blocks) where
+  -- `its_own`: each block has the cells of its parameters
+  module _ (its_own : (k : ℕ) → k < length blocks → AreParameters sc (block_numbered blocks k)) (good : AreGood sc all) (kept : AreKept blocks all) (fine : AreFine sc all blocks) where
     parts : ArePart sc all all
     parts = record { good = good; kept = kept; less = λ k. omega arith }
 
@@ -248,14 +256,19 @@ module _ (spot : Spot) (ds : PDecls) (ss : PStmts) (order : IsInOrder (tree.prog
         let fine_decls = each_front (IsFine sc all) (blocks_in_decls ds outer) (blocks_in_stmts ss outer) fine.1 in
         let fine_stmts = each_back (IsFine sc all) (blocks_in_decls ds outer) (blocks_in_stmts ss outer) fine.1 in
         let part = front sc all declared stated parts in
-        let called : AreCallees blocks first ds = callees sc all first outer ds outermost [] starts.chain_is built_decls fine_decls part in
+        let called : AreCallees blocks first ds = callees sc all its_own refl first outer ds outermost [] starts.chain_is built_decls fine_decls part in
         let begun = knows_all blocks first outer ds outermost built_decls called starts in
-        let in_procedures = in_decls sc all first outer outermost ds [] starts built_decls called part fine_decls in
-        let nested = in_stmts sc all first outer behind ss (has_decls ds) begun built (back sc all declared stated parts) fine_stmts in
+        let in_procedures = in_decls sc all its_own refl first outer outermost ds [] starts built_decls called part fine_decls in
+        let nested = in_stmts sc all its_own refl first outer behind ss (has_decls ds) begun built (back sc all declared stated parts) fine_stmts in
+        let few_declared : FewBounds sc outermost [] ds = few_bounds sc its_own refl first outer outermost [] ds starts built_decls part.good in
+        let few_stated : length (actuals_in_stmts sc ss) ≤ length (cells_of blocks stated first) =
+        subst (λ (m : ℕ). length (actuals_in_stmts sc ss) ≤ length (cells_of blocks stated m)) begun.block_is
+        (few_stmts sc its_own refl first outer behind begun ss (has_decls ds) built ((back sc all declared stated parts).good)) in
         let same_cells : length (cells_of blocks declared first) ≡ length (cells_of blocks declared 0) = ap (λ (i : ℕ). length (cells_of blocks declared i)) number_outer in
         let bounds = in_bounds sc first outer outermost ds [] starts tt built_decls part.good in
         let its_text =
-        is_text sc all (the_block spot [] ds ss) fine.0 built_decls called (omega (arith, as_many blocks ds outermost [] built_decls, same_cells, part.less first)) bounds nested.0 in
+        is_text sc all (the_block spot [] ds ss) fine.0 built_decls called
+        (omega (arith, as_many sc ds outermost [] built_decls few_declared, few_stated, same_cells, cells_both blocks declared stated first, parts.less first)) bounds nested.0 in
         (its_text, each_both (IsTextOf sc all) (blocks_in_decls ds outer) (blocks_in_stmts ss outer) in_procedures nested.1)
 
     nested_by : procedures_beyond blocks ≡ [] → AreNested sc
@@ -286,7 +299,8 @@ module _ (spot : Spot) (ds : PDecls) (ss : PStmts) (order : IsInOrder (tree.prog
       flat_map (not_assignable blocks) all ≡ [] → AreNested sc
   lies_by named unknown twice deep cells many wrong assigned =
       let kept = all_kept blocks all (nil_each (wrong_types blocks) all wrong) (nil_each (not_assignable blocks) all assigned) in
-      nested_by (good_by unknown) kept (all_fine sc all blocks (all_numbered blocks blocks_apart) (headed (nil_each (declared_twice blocks) all twice)) named (nil_each _ blocks deep) (nil_each _ blocks cells)) many
+      let its = headed (nil_each (declared_twice blocks) all twice) in
+      nested_by (λ k h. each_in (AreParameters sc) (block_numbered blocks k) blocks its (there_numbered blocks k h)) (good_by unknown) kept (all_fine sc all blocks (all_numbered blocks blocks_apart) its named (nil_each _ blocks deep) (nil_each _ blocks cells)) many
 
 pub built_programs_lie_nested : BuiltProgramsLieNested
 unfolding scopes_of blocks_of_program scope_faults check_faults

@@ -1,5 +1,6 @@
 -- A block that keeps the rules: its text keeps to it where its bounds and its statements do.
 use Rattle.std.proofs.Common.{arith, ◌≡◌, ℕ, ◌+◌, ◌<◌, ◌≤◌, not, List, [], ◌∷◌, ◌++◌, length, map, Some, None, sym, ap, ◌∙◌, subst, zero, suc, slice_get}
+use Rattle.std.proofs.lemmas.List.{length-append}
 use Rattle.std.proofs.lemmas.Option.{slice_get_within}
 use Rattle.std.specs.List.{AllByRecursion}
 use Rattle.algol_tree.specs.declared.TheConstants.{MOST_BLOCK_CELLS, MOST_LEVEL}
@@ -17,7 +18,7 @@ use Rattle.algol_paths.specs.Arrays.{arrays_of}
 use Rattle.algol_paths.specs.Blocks.{IsSeen, IsSeenAround, IsInner}
 use Rattle.algol_paths.specs.Laws.{ItemsKeepToText}
 use Rattle.algol_paths.specs.Texts.{InStmts}
-use Rattle.b67_templates.specs.Cells.{simple_cells, result_of, variables, procedures, made_of}
+use Rattle.b67_templates.specs.Cells.{simple_cells, result_of, variables, procedures, actuals_in_decls, actuals_in_stmts, actuals_of, made_of}
 use Rattle.b67_fitting.specs.Built.{DeclsBuilt}
 use Rattle.b67_fitting.specs.Names.{DeclsNamed}
 use Rattle.b67_fitting.specs.Nested.{IsDeclared, AreParameters, IsText}
@@ -111,15 +112,17 @@ module _ (sc : Scopes) (all : List Site) where
     outer_is = ap (λ (z : Block). map (number_at sc.blocks) z.outer) it_is
 
     pub is_text : DeclsBuilt b.decls → AreCallees sc.blocks k b.decls →
-        length b.parameters + (length (result_of b.result b.name) + (length (variables b.decls) + length (procedures b.decls) + length (arrays_of b.decls))) ≤ length (cells_of sc.blocks all k) →
+        length b.parameters + (length (result_of b.result b.name) + (length (variables b.decls) + length (procedures b.decls) + length (arrays_of b.decls))) + length (actuals_in_decls sc b.decls)
+        + length (actuals_in_stmts sc b.stmts)
+        ≤ length (cells_of sc.blocks all k) →
         InBounds (IsSeenAround sc k) b.decls → InStmts (IsSeen sc k) (IsInner sc k) b.stmts → IsTextOf b
     is_text d c n s t =
-        let few : length (simple_cells sc b) + length (procedures b.decls) + length (made_of b.decls) ≤ MOST_BLOCK_CELLS =
-        omega (arith, simple_many sc b, parameters_many sc b f.headed, n, f.few, made_many b.decls d) in
+        let few : length (simple_cells sc b) + length (procedures b.decls) + length (actuals_of sc b) + length (made_of b.decls) ≤ MOST_BLOCK_CELLS =
+        omega (arith, simple_many sc b, parameters_many sc b f.headed, n, f.few, made_many b.decls d, length-append (actuals_in_decls sc b.decls) (actuals_in_stmts sc b.stmts)) in
         record {
           items = subst (λ (z : Block). ItemsKeepToText sc k (items_of z)) (sym it_is) (in_items (IsSeen sc k) (IsInner sc k) (IsSeenAround sc k) b d s t);
           parameters = subst (AreParameters sc) (sym it_is) f.headed;
-          few = subst (λ (z : Block). length (simple_cells sc z) + length (procedures z.decls) + length (made_of z.decls) ≤ MOST_BLOCK_CELLS) (sym it_is) few;
+          few = subst (λ (z : Block). length (simple_cells sc z) + length (procedures z.decls) + length (actuals_of sc z) + length (made_of z.decls) ≤ MOST_BLOCK_CELLS) (sym it_is) few;
           low = subst (λ (z : Block). level_of z ≤ MOST_LEVEL) (sym it_is) f.low;
           procedure = λ i declared h. declared_by sc k b.decls c f.named i declared (subst (λ (z : Block). slice_get (procedures z.decls) i ≡ Some declared) it_is h);
         }

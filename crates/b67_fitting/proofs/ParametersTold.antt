@@ -1,4 +1,4 @@
--- The parameters of a heading that is built, one by one beside their cells: that of a value has its kind, that of an array its shape.
+-- The parameters of a heading that is built, one by one beside their cells: that of a simple one has its kind, that of an array its shape.
 use Rattle.std.proofs.Common.{◌≡◌, List, [], ◌∷◌, map, length, suc, refl, ap}
 use Rattle.algol_tree.specs.declared.tree.Heading.{Heading}
 use Rattle.algol_tree.specs.declared.tree.Named.{Named}
@@ -7,11 +7,11 @@ use Rattle.b67_templates.specs.Cells.{Simple, parameters_in}
 use Rattle.b67_fitting.specs.Built.{HeadingBuilt}
 use Rattle.b67_fitting.specs.Nested as told
 use Rattle.b67_fitting.specs.Nested.{IsTold, AreTold}
-use Rattle.b67_fitting.proofs.Specified.{IsSpecified, as_value, as_array, AreSpecified, specified}
-use Rattle.b67_fitting.proofs.Wanting.{wanted_of, wanted_value, wanted_array}
+use Rattle.b67_fitting.proofs.Specified.{IsSpecified, as_value, as_name, as_array, AreSpecified, specified}
+use Rattle.b67_fitting.proofs.Wanting.{wanted_of, wanted_value, wanted_name, wanted_array}
 
 module _ (h : Heading) where
-  abbrev as_parameter : Named → Parameter
+  abbrev pub as_parameter : Named → Parameter
   as_parameter n = record { name = n.name; sort = sort_in h.specs (is_named_in h.values n.name) n.name }
 
   abbrev as_cell : Named → Simple
@@ -23,6 +23,7 @@ module _ (h : Heading) where
 
   told_one : (n : Named) → IsSpecified h n → IsTold (as_parameter n) (as_cell n)
   told_one n (as_value kind c v s) = told.by_value kind (wanted_value h n kind c v) (ap is_variable s)
+  told_one n (as_name kind c v s) = told.by_name kind (wanted_name h n kind c v) s
   told_one n (as_array shape c a s) = told.an_array shape (wanted_array h n shape c a) s
 
   told_all : (ns : List Named) → AreSpecified h ns → AreTold (map as_parameter ns) (map as_cell ns)

@@ -1,4 +1,4 @@
--- The parameters of a heading that is built: each is by value and has a kind, or is an array with the lower bounds of its specification.
+-- The parameters of a heading that is built: each is simple and has a kind, or is an array with the lower bounds of its specification.
 use Rattle.std.proofs.Common.{◌≡◌, ◌⊎◌, inl, inr, ℕ, Bool, true, false, List, [], ◌∷◌, length, Some, None, refl, ap, ◌∙◌, subst, if◌then◌else◌}
 use Rattle.std.specs.List.{AllByRecursion}
 use Rattle.std.proofs.lemmas.List.Elements.{recursion_from_All}
@@ -22,6 +22,7 @@ record IsSimpleIn (ss : List Spec) (name : List ℕ) : Type 0 where
   pub kind : Kind
   pub class_is : class_in ss name ≡ class.simple kind
   pub sort_is : sort_in ss true name ≡ sort.variable
+  pub name_is : sort_in ss false name ≡ sort.by_name
 
 simple_by : (s : Spec) (ss : List Spec) (name : List ℕ) → specified_by s name ≡ true → is_simple (class_by s) ≡ true → IsSimpleIn (s ∷ ss) name
 simple_by (spec.Simple kind ns) ss name e g =
@@ -29,6 +30,7 @@ simple_by (spec.Simple kind ns) ss name e g =
       kind = kind;
       class_is = ap (λ (b : Bool). if b then class.simple kind else class_in ss name) e;
       sort_is = ap (λ (b : Bool). if b then sort.variable else sort_in ss true name) e;
+      name_is = ap (λ (b : Bool). if b then sort.by_name else sort_in ss false name) e;
     }
 simple_by (spec.Events ns) ss name e g = absurd (let clash : false ≡ true = g in cc)
 simple_by (spec.Arrays kind ns lows) ss name e g = absurd (let clash : false ≡ true = g in cc)
@@ -44,6 +46,7 @@ simple_in (s ∷ ss) name h = by (specified_by s name) refl (simple_in ss name) 
           kind = r.kind;
           class_is = ap (λ (b : Bool). if b then class_by s else class_in ss name) e ∙ r.class_is;
           sort_is = ap (λ (b : Bool). if b then sort_by s true else sort_in ss true name) e ∙ r.sort_is;
+          name_is = ap (λ (b : Bool). if b then sort_by s false else sort_in ss false name) e ∙ r.name_is;
         }
     by true e later g = simple_by s ss name e g
 
@@ -82,9 +85,10 @@ arrayed_in (s ∷ ss) name h = by (specified_by s name) refl (arrayed_in ss name
 
 -- ---- headings
 
--- a parameter by value, or an array
+-- a parameter by value or by name, or an array
 pub data IsSpecified (h : Heading) (n : Named) : Type 0 where
   as_value : (kind : Kind) → class_in h.specs n.name ≡ class.simple kind → is_named_in h.values n.name ≡ true → sort_in h.specs (is_named_in h.values n.name) n.name ≡ sort.variable → IsSpecified h n
+  as_name : (kind : Kind) → class_in h.specs n.name ≡ class.simple kind → is_named_in h.values n.name ≡ false → sort_in h.specs (is_named_in h.values n.name) n.name ≡ sort.by_name → IsSpecified h n
   as_array : (shape : Shape) → class_in h.specs n.name ≡ class.array shape.kind (length shape.lows) → shape_in h.specs n.name ≡ Some shape →
       sort_in h.specs (is_named_in h.values n.name) n.name ≡ sort.formal_array shape.lows → IsSpecified h n
 
@@ -93,12 +97,17 @@ AreSpecified h ns = AllByRecursion (IsSpecified h) ns
 
 module _ (h : Heading) where
   abbrev IsOne : Named → Type 0
-  IsOne n = ((is_simple (class_in h.specs n.name) ≡ true) × (is_named_in h.values n.name ≡ true)) ⊎ (is_array (class_in h.specs n.name) ≡ true)
+  IsOne n = (is_simple (class_in h.specs n.name) ≡ true) ⊎ (is_array (class_in h.specs n.name) ≡ true)
+
+  simple_specified : (n : Named) → IsSimpleIn h.specs n.name → IsSpecified h n
+  simple_specified n r = by (is_named_in h.values n.name) refl
+    where
+      by : (b : Bool) → is_named_in h.values n.name ≡ b → IsSpecified h n
+      by true e = as_value r.kind r.class_is e (ap (λ (z : Bool). sort_in h.specs z n.name) e ∙ r.sort_is)
+      by false e = as_name r.kind r.class_is e (ap (λ (z : Bool). sort_in h.specs z n.name) e ∙ r.name_is)
 
   one_specified : (n : Named) → IsOne n → IsSpecified h n
-  one_specified n (inl p) =
-      let r = simple_in h.specs n.name p.0 in
-      as_value r.kind r.class_is p.1 (ap (λ (b : Bool). sort_in h.specs b n.name) p.1 ∙ r.sort_is)
+  one_specified n (inl p) = simple_specified n (simple_in h.specs n.name p)
   one_specified n (inr p) =
       let r = arrayed_in h.specs n.name p in
       as_array r.shape r.class_is r.shape_is (r.sort_is (is_named_in h.values n.name))

@@ -1,5 +1,5 @@
 -- Statements and declarations at which no rule is broken, where all that is declared are simple variables, arrays, files and procedures
--- whose parameters are simple ones, by value, or arrays.
+-- whose parameters are simple ones or arrays.
 use Rattle.std.proofs.Common.{◌≡◌, ◌⊎◌, inl, inr, ℕ, ◌+◌, ◌≤◌, ◌==◌, ◌&&◌, not, Bool, true, false, List, [], ◌∷◌, ◌++◌, map, length, is_some, Option, Some, None, refl, sym, ap, subst, if◌then◌else◌}
 use Rattle.std.specs.List.{list_any}
 use Rattle.algol_tree.specs.declared.token.Spot.{Spot}
@@ -34,7 +34,7 @@ use Rattle.b67_fitting.proofs.Clean.{IsClean, AreClean, IsPlain, simple, array, 
 use Rattle.b67_fitting.proofs.Declaring.{found_either, declared_is}
 use Rattle.b67_fitting.proofs.Formats.{fitting_line, fitting_phrases}
 use Rattle.b67_fitting.proofs.Typed.{IsOf, IsCalled, HasElements, TypedExpr, TypedLine, HasKind, of_kind, elements, typed, typed_actuals, typed_line}
-use Rattle.b67_fitting.proofs.Specified.{IsSpecified, as_value, as_array, AreSpecified, specified, SpecsWhole}
+use Rattle.b67_fitting.proofs.Specified.{IsSpecified, as_value, as_name, as_array, AreSpecified, specified, SpecsWhole}
 
 module _ (blocks : List Block) where
   -- the place is inside the procedure
@@ -179,6 +179,7 @@ built_body name h (tree.decls d ds) p b = built_body name h ds p b.1
 -- so are parameters
 specified_plain : (h : Heading) (n : Named) → IsSpecified h n → IsPlain (class_in h.specs n.name)
 specified_plain h n (as_value k c v s) = subst IsPlain (sym c) (simple k)
+specified_plain h n (as_name k c v s) = subst IsPlain (sym c) (simple k)
 specified_plain h n (as_array shape c e s) = subst IsPlain (sym c) (array shape.kind (length shape.lows))
 
 plain_parameters : (h : Heading) (block depth : ℕ) (ns : List Named) → AreSpecified h ns → (name : List ℕ) (d : Declared) →

@@ -24,7 +24,7 @@ use Rattle.algol_paths.specs.Texts.{InExpr, InExprs}
 use Rattle.b67_fitting.specs.Built.{DeclBuilt, DeclsBuilt}
 use Rattle.b67_fitting.proofs.Lists.{each_front, each_back, each_both, each_of, nil_front, nil_back, not_so, second_so}
 use Rattle.b67_fitting.proofs.Numbering.{IsThere}
-use Rattle.b67_fitting.proofs.Specified.{IsSpecified, as_value, as_array, AreSpecified, specified}
+use Rattle.b67_fitting.proofs.Specified.{IsSpecified, as_value, as_name, as_array, AreSpecified, specified}
 use Rattle.b67_fitting.proofs.Callees.{IsCallee, AreCallees, IsChain, is_among, chain_at}
 
 -- ---- what is known
@@ -34,6 +34,7 @@ module _ (blocks : List Block) where
   -- what a name that a block declares can be, as a sort and as a class
   pub data Means (block : ℕ) : Sort → Class → Type 0 where
     a_variable : (kind : Kind) → Means block sort.variable (class.simple kind)
+    a_name : (kind : Kind) → Means block sort.by_name (class.simple kind)
     a_file : Means block sort.file class.file
     an_array : (kind : Kind) (count : ℕ) → Means block sort.array (class.array kind count)
     a_formal : (lows : List ℤ) (kind : Kind) (count : ℕ) → Means block (sort.formal_array lows) (class.array kind count)
@@ -57,10 +58,12 @@ module _ (blocks : List Block) where
     pub deep : length (around blocks j) ≡ a.depth
     pub known : AllByRecursion (IsKnown j a.depth) a.known
 
-  -- the parameters of a procedure are variables of its block, or stand for arrays
+  -- the parameters of a procedure are variables of its block, or stand for something else
   means_parameter : (k : ℕ) (h : Heading) (n : Named) → IsSpecified h n → Means k (sort_in h.specs (is_named_in h.values n.name) n.name) (class_in h.specs n.name)
   means_parameter k h n (as_value kind c v s) =
       subst (λ (z : Sort). Means k z (class_in h.specs n.name)) (sym s) (subst (λ (z : Class). Means k sort.variable z) (sym c) (a_variable kind))
+  means_parameter k h n (as_name kind c v s) =
+      subst (λ (z : Sort). Means k z (class_in h.specs n.name)) (sym s) (subst (λ (z : Class). Means k sort.by_name z) (sym c) (a_name kind))
   means_parameter k h n (as_array shape c a s) =
       subst (λ (z : Sort). Means k z (class_in h.specs n.name)) (sym s)
       (subst (λ (z : Class). Means k (sort.formal_array shape.lows) z) (sym c) (a_formal shape.lows shape.kind (length shape.lows)))
@@ -218,7 +221,7 @@ name_good sc n true a g = g
 name_good sc n false a g = record { there = g.there; known = g.known }
 
 -- the part of an actual is as its expression
-actual_good : (sc : Scopes) (e : PExpr) (f : Option Formal) (a : Surroundings) → IsGood sc (record { part = actual_part e f; around = a }) → IsGood sc (here e a)
+pub actual_good : (sc : Scopes) (e : PExpr) (f : Option Formal) (a : Surroundings) → IsGood sc (record { part = actual_part e f; around = a }) → IsGood sc (here e a)
 actual_good sc (tree.variable (tree.subscripted n tree.none)) f a g = name_good sc n (wants_value f) a g
 actual_good sc (tree.variable (tree.subscripted n (tree.more e es))) f a g = g
 actual_good sc (tree.number z spot) f a g = g
@@ -259,6 +262,7 @@ module _ (sc : Scopes) (j : ℕ) (outer : List Spot) (a : Surroundings) (r : IsA
   left_as : (n : Named) (d : Declared) (s : Sort) (c : Class) → IsKnown sc.blocks j a.depth d → Means sc.blocks d.block s c → class_of a n ≡ c → StandsInside n →
       IsThere sc.uses (left_use (the_use n d) s) → IsSeen sc j n
   left_as n d s c k (a_variable kind) e i t = seen_use n (the_use n d) t k.found
+  left_as n d s c k (a_name kind) e i t = seen_use n (the_use n d) t k.found
   left_as n d s c k a_file e i t = seen_use n (the_use n d) t k.found
   left_as n d s c k (an_array kind count) e i t = seen_use n (the_use n d) t k.found
   left_as n d s c k (a_formal lows kind count) e i t = seen_use n (the_use n d) t k.found

@@ -1,11 +1,12 @@
 -- The text of each block of a program that is built keeps to it: its names are seen from there, those in bounds from the block around it,
 -- but for parameters, and the blocks in it stand in it.
-use Rattle.std.proofs.Common.{◌≡◌, arith, ℕ, Bool, true, false, List, ◌∷◌, ◌++◌, map, length, refl, []}
-use Rattle.std.proofs.lemmas.List.{length-map}
+use Rattle.std.proofs.Common.{◌≡◌, arith, ℕ, ◌<◌, ◌≤◌, Bool, true, false, List, ◌∷◌, ◌++◌, map, length, refl, subst, []}
+use Rattle.std.proofs.lemmas.List.{length-map, length-append}
 use Rattle.algol_tree.specs.declared.token.Spot.{Spot}
 use Rattle.algol_tree.specs.declared.tree.Heading.{Heading}
 use Rattle.algol_tree.specs.declared.tree.Named.{Named}
-use Rattle.algol_tree.specs.Blocks.{Block, Begin, of_statement, of_procedure, decls_of, stmts_of, blocks_of, blocks_in_decls, blocks_in_stmts, procedure_block, number_at, around}
+use Rattle.algol_tree.specs.Blocks.{Block, Begin, of_statement, of_procedure, decls_of, stmts_of, blocks_of, blocks_in_decls, blocks_in_stmts, procedure_block, block_numbered, number_at, around}
+use Rattle.algol_tree.specs.Cells.{cells_of}
 use Rattle.algol_tree.specs.Plain as tree
 use Rattle.algol_tree.specs.Plain.{PStmt, PStmts, PDecls}
 use Rattle.algol_tree.specs.Scopes.{Scopes}
@@ -14,13 +15,20 @@ use Rattle.algol_tree.specs.Sorts.{Declared, Parameter, is_named_in, sort_in, pa
 use Rattle.algol_tree.specs.Surroundings.{Surroundings, formals_at, knowing, knowing_all, inside_begin, inside_procedure}
 use Rattle.algol_paths.specs.Blocks.{IsSeen, IsInner}
 use Rattle.algol_paths.specs.Texts.{InStmt, InStmts}
+use Rattle.b67_templates.specs.Cells.{actuals_in_stmt, actuals_in_stmts}
 use Rattle.b67_fitting.specs.Built.{DeclsBuilt, StmtBuilt, StmtsBuilt}
+use Rattle.b67_fitting.specs.Nested.{AreParameters}
+use Rattle.b67_fitting.proofs.ActualsFew.{few_bounds, few_stmt, few_stmts}
 use Rattle.b67_fitting.proofs.Lists.{each_front, each_back, each_both}
 use Rattle.b67_fitting.proofs.Callees.{AreCallees, are_callees}
-use Rattle.b67_fitting.proofs.Surrounded.{IsAround, knows_one, knows_all, enters, enters_procedure, IsGood, all_seen, left_seen, in_expr, in_list, in_actuals}
+use Rattle.b67_fitting.proofs.Surrounded.{IsAround, knows_one, knows_all, enters, enters_procedure, IsGood, AreGood, all_seen, left_seen, in_expr, in_list, in_actuals}
 use Rattle.b67_fitting.proofs.Bounds.{early_inside, early_procedure, in_bounds, in_body}
-use Rattle.b67_fitting.proofs.CellsFew.{declaring, as_many, procedure_many}
+use Rattle.b67_fitting.proofs.CellsFew.{cells_both, declaring, FewBounds, FewInBody, as_many, procedure_many}
 use Rattle.b67_fitting.proofs.OneBlock.{the_block, IsFine, AreFine, fine_numbered, ArePart, part_named, front, back, rest, IsTextOf, AreTexts, is_there, outer_is, is_text, is_inner}
+
+same_number : (blocks : List Block) (ds : PDecls) (a : Surroundings) → (knowing_all blocks ds a).block ≡ a.block
+same_number blocks tree.no_decls a = refl
+same_number blocks (tree.decls d ds) a = same_number blocks ds (knowing blocks d ds a)
 
 heading_long : (h : Heading) → length (parameters_of h) ≡ length h.params
 heading_long h = length-map {B = Parameter} h.params (λ (n : Named). record { name = n.name; sort = sort_in h.specs (is_named_in h.values n.name) n.name })
@@ -34,7 +42,7 @@ IsNoBlock (tree.block b) = ⊥
 IsNoBlock t = Unit {0}
 
 -- `all`: all parts of the tree
-module _ (sc : Scopes) (all : List Site) where
+module _ (sc : Scopes) (all : List Site) (each : (k : ℕ) → k < length sc.blocks → AreParameters sc (block_numbered sc.blocks k)) (outermost : (block_numbered sc.blocks 0).outer ≡ []) where
   abbrev stmt_sites : PStmt → Begin → Bool → Surroundings → List Site
   stmt_sites t begin listed a = here_stmt t listed a ∷ inside_stmt sc.blocks t begin listed a
 
@@ -56,6 +64,37 @@ module _ (sc : Scopes) (all : List Site) where
   text_in of_statement j t p i = i
   text_in of_procedure j (tree.block b) p i = absurd p
   text_in of_procedure j t p i = (i, tt)
+
+  -- the body of a procedure has few actuals
+  few_alone : (j : ℕ) (outer : List Spot) (a : Surroundings) (t : PStmt) → IsAround sc.blocks j outer a → StmtBuilt t → AreGood sc (here_stmt t false a ∷ inside_stmt sc.blocks t of_statement false a) →
+      length (actuals_in_stmts sc (tree.stmts t tree.no_stmts)) ≤ length (cells_of sc.blocks (here_stmt t false a ∷ inside_stmt sc.blocks t of_statement false a) a.block)
+  few_alone j outer a t r b g = omega (arith, few_stmt sc each outermost j outer a r t false b g, length-append (actuals_in_stmt sc t) [])
+
+  few_body : (j : ℕ) (outer : List Spot) (a : Surroundings) (t : PStmt) → IsAround sc.blocks j outer a → StmtBuilt t → AreGood sc (stmt_sites t of_procedure false a) →
+      AreCallees sc.blocks j (decls_of t) → FewInBody sc t a
+  few_body j outer a (tree.block (tree.body spot ds ss)) r b g called =
+      let declared = sites_in_decls sc.blocks ds a a.known in
+      let after = knowing_all sc.blocks ds a in
+      let stated = sites_in_stmts sc.blocks ss (has_decls ds) after in (
+        few_bounds sc each outermost j outer a a.known ds r b.0 (each_front (IsGood sc) declared stated g.1),
+        subst (λ (m : ℕ). length (actuals_in_stmts sc ss) ≤ length (cells_of sc.blocks stated m)) (same_number sc.blocks ds a)
+            (few_stmts sc each outermost j outer after (knows_all sc.blocks j outer ds a b.0 called r) ss (has_decls ds) b.1 (each_back (IsGood sc) declared stated g.1)),
+      )
+  few_body j outer a tree.empty r b g called = few_alone j outer a tree.empty r b g
+  few_body j outer a (tree.label n t) r b g called = few_alone j outer a (tree.label n t) r b g
+  few_body j outer a (tree.assign (tree.subscripted n es) e) r b g called = few_alone j outer a (tree.assign (tree.subscripted n es) e) r b g
+  few_body j outer a (tree.call_of (tree.called n es)) r b g called = few_alone j outer a (tree.call_of (tree.called n es)) r b g
+  few_body j outer a (tree.go_to n) r b g called = few_alone j outer a (tree.go_to n) r b g
+  few_body j outer a (tree.if_then c x) r b g called = few_alone j outer a (tree.if_then c x) r b g
+  few_body j outer a (tree.if_else c x y) r b g called = few_alone j outer a (tree.if_else c x y) r b g
+  few_body j outer a (tree.while c x) r b g called = few_alone j outer a (tree.while c x) r b g
+  few_body j outer a (tree.until x c) r b g called = few_alone j outer a (tree.until x c) r b g
+  few_body j outer a (tree.for v x s l t) r b g called = few_alone j outer a (tree.for v x s l t) r b g
+  few_body j outer a (tree.thru e x) r b g called = few_alone j outer a (tree.thru e x) r b g
+  few_body j outer a (tree.case e ss) r b g called = few_alone j outer a (tree.case e ss) r b g
+  few_body j outer a (tree.process c task) r b g called = absurd b
+  few_body j outer a (tree.event act e) r b g called = few_alone j outer a (tree.event act e) r b g
+  few_body j outer a (tree.write n spot phrases es) r b g called = few_alone j outer a (tree.write n spot phrases es) r b g
 
   abbrev IsNested : Begin → ℕ → List Spot → PStmt → Type 0
   IsNested begin j outer t = IsTextIn begin j t × Texts (blocks_of t begin outer)
@@ -114,9 +153,14 @@ module _ (sc : Scopes) (all : List Site) where
         let part = front sc all declared stated parts in
         let called = callees k (spot ∷ outer) (tree.decls d ds) c c.known begun.chain_is b.0 fine_decls part in
         let inner = in_decls k (spot ∷ outer) c (tree.decls d ds) c.known begun b.0 called part fine_decls in
-        let nested = in_stmts k (spot ∷ outer) after ss true (knows_all sc.blocks k (spot ∷ outer) (tree.decls d ds) c b.0 called begun) b.1 (back sc all declared stated parts) fine_stmts in
+        let known_behind = knows_all sc.blocks k (spot ∷ outer) (tree.decls d ds) c b.0 called begun in
+        let nested = in_stmts k (spot ∷ outer) after ss true known_behind b.1 (back sc all declared stated parts) fine_stmts in
+        let few_declared : FewBounds sc c c.known (tree.decls d ds) = few_bounds sc each outermost k (spot ∷ outer) c c.known (tree.decls d ds) begun b.0 part.good in
+        let few_stated : length (actuals_in_stmts sc ss) ≤ length (cells_of sc.blocks stated k) =
+        subst (λ (m : ℕ). length (actuals_in_stmts sc ss) ≤ length (cells_of sc.blocks stated m)) known_behind.block_is
+        (few_stmts sc each outermost k (spot ∷ outer) after known_behind ss true b.1 ((back sc all declared stated parts).good)) in
         let bounds = in_bounds sc k (spot ∷ outer) c (tree.decls d ds) c.known begun (early_inside sc j outer a r) b.0 part.good in
-        let its_text : IsTextOf sc all its = is_text sc all its f.0 b.0 called (omega (arith, as_many sc.blocks (tree.decls d ds) c c.known b.0, part.less k)) bounds nested.0 in (
+        let its_text : IsTextOf sc all its = is_text sc all its f.0 b.0 called (omega (arith, as_many sc (tree.decls d ds) c c.known b.0 few_declared, few_stated, cells_both sc.blocks declared stated k, parts.less k)) bounds nested.0 in (
           is_inner sc all spot outer (tree.decls d ds) ss f.0 j r.chain_is,
           (its_text, each_both (IsTextOf sc all) (blocks_in_decls (tree.decls d ds) (spot ∷ outer)) (blocks_in_stmts ss (spot ∷ outer)) inner nested.1),
         )
@@ -230,6 +274,6 @@ module _ (sc : Scopes) (all : List Site) where
         let called = body_callees k (g.name.spot ∷ outer) t d begun.chain_is b.0.1 fine_body part in
         let bounds = in_body sc k (g.name.spot ∷ outer) d t begun (early_procedure sc j outer after known g b.0.0) b.0.1 part.good in
         let its_text : IsTextOf sc all (procedure_block g t outer) =
-        is_text sc all (procedure_block g t outer) f.0 (body_built t b.0.1) called (omega (arith, heading_long g, procedure_many sc.blocks g t ds a d refl b.0.1, whole.less k)) bounds nested.0 in
+        is_text sc all (procedure_block g t outer) f.0 (body_built t b.0.1) called (omega (arith, heading_long g, procedure_many sc g t ds a d refl b.0.1 (few_body k (g.name.spot ∷ outer) d t begun b.0.1 part.good called), whole.less k)) bounds nested.0 in
         (its_text, each_both (IsTextOf sc all) (blocks_of t of_procedure (g.name.spot ∷ outer)) (blocks_in_decls ds outer) nested.1 inner)
     in_decls j outer a (tree.decls d ds) first r b c h f = absurd b.0

@@ -21,7 +21,7 @@ use Rattle.b67_fitting.specs.Built.{HeadingBuilt}
 use Rattle.b67_fitting.specs.Wholes.{NumbersWhole, AllWhole}
 use Rattle.b67_fitting.proofs.Lists.{each_front, each_back, nil_front, nil_back}
 use Rattle.b67_fitting.proofs.Actuals.{IsArrayActual, array_actual}
-use Rattle.b67_fitting.proofs.Specified.{IsSpecified, as_value, as_array, AreSpecified, specified}
+use Rattle.b67_fitting.proofs.Specified.{IsSpecified, as_value, as_name, as_array, AreSpecified, specified}
 use Rattle.b67_fitting.proofs.Clean.{IsClean, AreClean, KnowsPlain, plain_first, misnamed, none_happens, array_of, has_others, subscripts_as_many, as_many, none_taken, function_of, IsRead, read_kind, read_as, wrong, wrong_for, wrong_list, kind_wanted, wrong_if}
 
 -- a parameter as its call sees it
@@ -74,11 +74,11 @@ module _ (a : Surroundings) where
         (h : Heading) × (class_of a n ≡ class.procedure h) × HeadingBuilt h × (h.kind ≡ Some k) × TypedActuals (formals_of h) es
     TypedExpr k _ = ⊥
 
-    -- actuals of these parameters: values, and names of arrays
+    -- actuals of these parameters: of simple ones values, and names of arrays
     pub TypedActuals : List Formal → PExprs → Type 0
     TypedActuals [] tree.none = Unit {0}
     TypedActuals (f ∷ fs) (tree.more e es) =
-        (((k : Kind) × (f.class ≡ class.simple k) × (f.by_value ≡ true) × TypedExpr k e) ⊎ IsArrayActual a f e) × TypedActuals fs es
+        (((k : Kind) × (f.class ≡ class.simple k) × TypedExpr k e) ⊎ IsArrayActual a f e) × TypedActuals fs es
     TypedActuals _ _ = ⊥
 
     pub TypedLine : PExprs → Type 0
@@ -87,7 +87,7 @@ module _ (a : Surroundings) where
 
   -- an actual of this parameter
   abbrev pub TypedActual : Formal → PExpr → Type 0
-  TypedActual f e = ((k : Kind) × (f.class ≡ class.simple k) × (f.by_value ≡ true) × TypedExpr k e) ⊎ IsArrayActual a f e
+  TypedActual f e = ((k : Kind) × (f.class ≡ class.simple k) × TypedExpr k e) ⊎ IsArrayActual a f e
 
   -- a call that a statement makes
   abbrev pub IsCalled : Named → PExprs → Type 0
@@ -118,13 +118,19 @@ module _ (blocks : List Block) (a : Surroundings) (plain : KnowsPlain a) where
       let r = array_of (class_of a n) n.spot (plain_first a plain n [] known) named in
       (r.0, subscripts_as_many (class_of a n) r.0 r.1 (exprs_count es) n.spot r.2 counted)
 
-  actual_typed : (h : Heading) (n : Named) → IsSpecified h n → (e : PExpr) → (IsClean blocks (here e a) → HasKind a e) →
+  -- an actual of a simple parameter
+  value_typed : (h : Heading) (n : Named) (k : Kind) → class_in h.specs n.name ≡ class.simple k → (e : PExpr) → (IsClean blocks (here e a) → HasKind a e) →
       IsClean blocks (record { part = actual_part e (Some (as_formal h n)); around = a }) → wrong_actual (Some (as_formal h n)) e a ≡ [] → TypedActual a (as_formal h n) e
-  actual_typed h n (as_value k c v s) e typed own w =
+  value_typed h n k c e typed own w =
       let f = as_formal h n in
       let valued : wants_value (Some f) ≡ true = ap is_of_value c in
       let he = typed (subst (λ (p : Part). IsClean blocks (record { part = p; around = a })) (actual_part_is e (Some f) valued) own) in
-      inl (k, c, v, of_kind a k e he (subst (λ (d : Class). wrong_actual (Some (record { class = d; by_value = f.by_value })) e a ≡ []) c w))
+      inl (k, c, of_kind a k e he (subst (λ (d : Class). wrong_actual (Some (record { class = d; by_value = f.by_value })) e a ≡ []) c w))
+
+  actual_typed : (h : Heading) (n : Named) → IsSpecified h n → (e : PExpr) → (IsClean blocks (here e a) → HasKind a e) →
+      IsClean blocks (record { part = actual_part e (Some (as_formal h n)); around = a }) → wrong_actual (Some (as_formal h n)) e a ≡ [] → TypedActual a (as_formal h n) e
+  actual_typed h n (as_value k c v s) e typed own w = value_typed h n k c e typed own w
+  actual_typed h n (as_name k c v s) e typed own w = value_typed h n k c e typed own w
   actual_typed h n (as_array shape c e' s) e typed own w = inr (array_actual blocks a plain (as_formal h n) shape.kind (length shape.lows) c e w own)
 
   mutual

@@ -1,5 +1,5 @@
--- What a parameter of a heading is given: by value a value of its kind, as an array one of its shape.
-use Rattle.std.proofs.Common.{◌≡◌, Bool, true, length, Option, Some, ap, ◌∙◌}
+-- What a parameter of a heading is given: by value a value of its kind, by name a name of its kind, as an array one of its shape.
+use Rattle.std.proofs.Common.{◌≡◌, Bool, true, false, length, Option, Some, ap, ◌∙◌}
 use Rattle.algol_tree.specs.declared.tree.Heading.{Heading}
 use Rattle.algol_tree.specs.declared.tree.Kind.{Kind}
 use Rattle.algol_tree.specs.declared.tree.Named.{Named}
@@ -7,13 +7,18 @@ use Rattle.algol_tree.specs.Classes as class
 use Rattle.algol_tree.specs.Classes.{Class}
 use Rattle.algol_tree.specs.Sorts.{is_named_in, class_in}
 use Rattle.algol_paths.specs.Arrays.{Shape, shape_in}
-use Rattle.b67_templates.specs.Cells.{Wanted, value, array, wanted_for}
+use Rattle.b67_templates.specs.Cells.{Wanted, value, by_name, array, wanted_for}
 
 abbrev pub wanted_of : Heading → Named → Wanted
 wanted_of h n = wanted_for (class_in h.specs n.name) (is_named_in h.values n.name) (shape_in h.specs n.name)
 
 pub wanted_value : (h : Heading) (n : Named) (kind : Kind) → class_in h.specs n.name ≡ class.simple kind → is_named_in h.values n.name ≡ true → wanted_of h n ≡ value kind
 wanted_value h n kind c v =
+    ap (λ (z : Class). wanted_for z (is_named_in h.values n.name) (shape_in h.specs n.name)) c
+    ∙ ap (λ (b : Bool). wanted_for (class.simple kind) b (shape_in h.specs n.name)) v
+
+pub wanted_name : (h : Heading) (n : Named) (kind : Kind) → class_in h.specs n.name ≡ class.simple kind → is_named_in h.values n.name ≡ false → wanted_of h n ≡ by_name kind
+wanted_name h n kind c v =
     ap (λ (z : Class). wanted_for z (is_named_in h.values n.name) (shape_in h.specs n.name)) c
     ∙ ap (λ (b : Bool). wanted_for (class.simple kind) b (shape_in h.specs n.name)) v
 

@@ -1,5 +1,5 @@
--- Which programs are built: all that they declare are simple variables, files, arrays and procedures whose parameters are simple and by
--- value or arrays, in whatever block, and no process is started.
+-- Which programs are built: all that they declare are simple variables, files, arrays and procedures whose parameters are simple ones or
+-- arrays, in whatever block, and no process is started.
 use Rattle.std.specs.Prelude.{◌≡◌, ◌⊎◌, true}
 use Rattle.std.specs.List.{All}
 use Rattle.algol_tree.specs.declared.tree.Heading.{Heading}
@@ -7,15 +7,11 @@ use Rattle.algol_tree.specs.declared.tree.Named.{Named}
 use Rattle.algol_tree.specs.Plain as tree
 use Rattle.algol_tree.specs.Plain.{PStmt, PStmts, PDecl, PDecls, PProgram}
 use Rattle.algol_tree.specs.Classes.{is_simple, is_array}
-use Rattle.algol_tree.specs.Sorts.{is_named_in, class_in}
+use Rattle.algol_tree.specs.Sorts.{class_in}
 
--- each parameter is specified as a simple one, and is by value, or as an array
+-- each parameter is specified as a simple one, by value or by name, or as an array
 abbrev pub HeadingBuilt : Heading → Type 0
-HeadingBuilt h =
-    All
-    (λ (n : Named).
-    ((is_simple (class_in h.specs n.name) ≡ true) × (is_named_in h.values n.name ≡ true)) ⊎ (is_array (class_in h.specs n.name) ≡ true))
-    h.params
+HeadingBuilt h = All (λ (n : Named). (is_simple (class_in h.specs n.name) ≡ true) ⊎ (is_array (class_in h.specs n.name) ≡ true)) h.params
 
 abbrev mutual
   pub DeclBuilt : PDecl → Type 0

@@ -1,17 +1,23 @@
 -- An accepted program that is built has code: its trees fit.
-use Rattle.std.specs.Prelude.{◌≡◌, ℕ, ◌<◌, length, Option, Some, None}
+use Rattle.std.specs.Prelude.{◌≡◌, ℕ, ◌<◌, if◌then◌else◌, map, length, Option, Some, None}
+use Rattle.std.specs.List.{flat_map}
 use Rattle.algol_tree.specs.declared.token.Spot.{Spot}
 use Rattle.algol_tree.specs.Plain.{PProgram}
 use Rattle.algol_tree.specs.Accepted.{Accepted}
 use Rattle.algol_tree.specs.Ascending.{IsInOrder}
-use Rattle.algol_tree.specs.Blocks.{block_numbered}
+use Rattle.algol_tree.specs.Blocks.{block_numbered, blocks_of_program}
 use Rattle.algol_tree.specs.Cells as cells
-use Rattle.algol_tree.specs.Cells.{level_of}
-use Rattle.algol_tree.specs.Couples.{Located, declaration_at, result_at}
+use Rattle.algol_tree.specs.Cells.{level_of, is_by_name}
+use Rattle.algol_tree.specs.Classes as class
+use Rattle.algol_tree.specs.Classes.{Class, Formal}
+use Rattle.algol_tree.specs.Couples.{Located, declaration_at, result_at, actual_at, known_at, known_there}
 use Rattle.algol_tree.specs.Scopes.{scopes_of}
+use Rattle.algol_tree.specs.Sites.{sites_by}
+use Rattle.algol_tree.specs.Sorts as sort
+use Rattle.algol_tree.specs.Sorts.{Sort, Declared, formals_of}
 use Rattle.algol_paths.specs.Arrays.{Lows, lows_at}
 use Rattle.b67_ops.specs.declared.Couple.{Couple}
-use Rattle.b67_templates.specs.Fitting.{DeclsFit, StmtsFit}
+use Rattle.b67_templates.specs.Fitting.{Meant, a_variable, a_name, a_procedure, another, Told, DeclsFit, StmtsFit}
 use Rattle.b67_fitting.specs.Built.{IsBuilt}
 use Rattle.b67_fitting.specs.Texts.{HasPlainTexts}
 use Rattle.b67_fitting.specs.Wholes.{HasWholeNumbers}
@@ -34,15 +40,38 @@ AreResults p results = (spot : Spot) (d : Located) → declaration_at p spot ≡
 abbrev pub AreLows : PProgram → (Spot → Option Lows) → Type 0
 AreLows p lows = (spot : Spot) (d : Located) → declaration_at p spot ≡ Some d → lows spot ≡ lows_at (scopes_of p).blocks d.spot
 
+-- the declaration of the name that is used or declared there
+unfoldable pub declared_at : PProgram → Spot → Option Declared
+declared_at p spot = known_there (flat_map (known_at (blocks_of_program p)) (sites_by p (blocks_of_program p))) spot
+
+-- what a name is that is declared as this: of a procedure it is told which of its parameters are by name
+abbrev pub meant_as : Class → Sort → Meant
+meant_as (class.simple kind) s = if sort.is_by_name s then a_name else a_variable
+meant_as (class.procedure h) s = a_procedure (map (λ (f : Formal). is_by_name (Some f)) (formals_of h))
+meant_as _ s = another
+
+abbrev pub AreMeant : PProgram → (Spot → Meant) → Type 0
+AreMeant p meant = (spot : Spot) (d : Declared) → declared_at p spot ≡ Some d → meant spot ≡ meant_as d.class d.sort
+
+-- .. and the couple of each actual that has a cell, by the place where it begins
+abbrev pub AreActuals : PProgram → (Spot → Option Couple) → Type 0
+AreActuals p actuals = (spot : Spot) (c : cells.Couple) → actual_at p spot ≡ Some c → actuals spot ≡ Some (record { level = c.level; index = c.index })
+
+-- this is told of the names of a program
+pub record IsToldOf (p : PProgram) (told : Told) : Type 0 where
+  pub couples : AreCouples p told.couples
+  pub results : AreResults p told.results
+  pub lows : AreLows p told.lows
+  pub meant : AreMeant p told.meant
+  pub actuals : AreActuals p told.actuals
+
 -- the declarations and the statements of a block
-pub record BlockFits (p : PProgram) (known results : Spot → Option Couple) (lows : Spot → Option Lows) (j : ℕ) : Type 0 where
-  pub decls :
-      DeclsFit (scopes_of p) known results lows (level_of (block_numbered ((scopes_of p).blocks) j)) ((block_numbered ((scopes_of p).blocks) j).decls)
-  pub stmts :
-      StmtsFit (scopes_of p) known results lows (level_of (block_numbered ((scopes_of p).blocks) j)) ((block_numbered ((scopes_of p).blocks) j).stmts)
+pub record BlockFits (p : PProgram) (told : Told) (j : ℕ) : Type 0 where
+  pub decls : DeclsFit (scopes_of p) told (level_of (block_numbered ((scopes_of p).blocks) j)) j ((block_numbered ((scopes_of p).blocks) j).decls)
+  pub stmts : StmtsFit (scopes_of p) told (level_of (block_numbered ((scopes_of p).blocks) j)) j ((block_numbered ((scopes_of p).blocks) j).stmts)
 
 -- each block fits its level
 abbrev pub AcceptedProgramsFit : Type 0
 AcceptedProgramsFit =
-    (p : PProgram) (known results : Spot → Option Couple) (lows : Spot → Option Lows) → Accepted p → IsInOrder p → IsBuilt p → HasWholeNumbers p → HasPlainTexts p →
-    AreCouples p known → AreResults p results → AreLows p lows → (j : ℕ) → j < length (scopes_of p).blocks → BlockFits p known results lows j
+    (p : PProgram) (told : Told) → Accepted p → IsInOrder p → IsBuilt p → HasWholeNumbers p → HasPlainTexts p → IsToldOf p told → (j : ℕ) → j < length (scopes_of p).blocks →
+    BlockFits p told j

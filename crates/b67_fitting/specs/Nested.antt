@@ -5,7 +5,8 @@ use Rattle.algol_tree.specs.declared.tree.Kind.{Kind}
 use Rattle.algol_tree.specs.declared.tree.Named.{Named}
 use Rattle.algol_tree.specs.Accepted.{Accepted}
 use Rattle.algol_tree.specs.Ascending.{IsInOrder}
-use Rattle.algol_tree.specs.Sorts.{Parameter, is_variable, formal_array}
+use Rattle.algol_tree.specs.Sorts as sort
+use Rattle.algol_tree.specs.Sorts.{Parameter, is_variable}
 use Rattle.algol_tree.specs.Blocks.{Block, block_numbered, number_at, around}
 use Rattle.algol_tree.specs.Cells.{level_of}
 use Rattle.algol_tree.specs.Plain.{PProgram}
@@ -14,7 +15,8 @@ use Rattle.algol_meaning.specs.Statements.{items_of}
 use Rattle.algol_paths.specs.Arrays.{Shape}
 use Rattle.algol_paths.specs.Laws.{ItemsKeepToText}
 use Rattle.algol_paths.specs.Segments.{is_procedure, procedures_before, segment_tokens}
-use Rattle.b67_templates.specs.Cells.{Simple, value, array, parameter_cells, simple_cells, found_from, procedures, made_of}
+use Rattle.b67_templates.specs.Cells as wants
+use Rattle.b67_templates.specs.Cells.{Simple, parameter_cells, simple_cells, found_from, procedures, actuals_of, made_of}
 use Rattle.b67_fitting.specs.Built.{IsBuilt}
 use Rattle.b67_fitting.specs.Names.{HasNames}
 
@@ -24,31 +26,32 @@ pub record IsDeclared (sc : Scopes) (j : ℕ) (declared : Named) : Type 0 where
   pub around_is : around sc.blocks (number_at sc.blocks declared.spot) ≡ j ∷ around sc.blocks j
   pub procedure : is_procedure (block_numbered sc.blocks (number_at sc.blocks declared.spot)) ≡ true
 
--- The cell of a parameter by value has its kind, that of an array its shape.
+-- The cell of a parameter by value or by name has its kind, that of an array its shape.
 pub data IsTold (p : Parameter) (cell : Simple) : Type 0 where
-  by_value : (kind : Kind) → cell.wanted ≡ value kind → is_variable p.sort ≡ true → IsTold p cell
-  an_array : (shape : Shape) → cell.wanted ≡ array shape → p.sort ≡ formal_array shape.lows → IsTold p cell
+  by_value : (kind : Kind) → cell.wanted ≡ wants.value kind → is_variable p.sort ≡ true → IsTold p cell
+  by_name : (kind : Kind) → cell.wanted ≡ wants.by_name kind → p.sort ≡ sort.by_name → IsTold p cell
+  an_array : (shape : Shape) → cell.wanted ≡ wants.array shape → p.sort ≡ sort.formal_array shape.lows → IsTold p cell
 
 abbrev pub AreTold : List Parameter → List Simple → Type 0
 AreTold [] [] = Unit {0}
 AreTold (p ∷ ps) (c ∷ cells) = (p.name ≡ c.name) × IsTold p c × AreTold ps cells
 AreTold _ _ = ⊥
 
--- Each parameter of a block is by value or an array, and has a cell. Where the block gives a result, no parameter has the block's name
+-- Each parameter of a block is simple or an array, and has a cell. Where the block gives a result, no parameter has the block's name
 -- (rule DeclaredTwice), so the first cell with that name is the result's.
 pub record AreParameters (sc : Scopes) (b : Block) : Type 0 where
   pub told : AreTold b.parameters (parameter_cells sc b)
   pub apart : (kind : Kind) → b.result ≡ Some kind → found_from 0 (parameter_cells sc b) b.name ≡ None
 
 -- Each block's text keeps to it: its names are seen from there, those in bounds from the block around it, but for parameters, and the
--- blocks in it stand in it. Its parameters are by value or arrays, it has no more cells than a block may have (rule TooManyCells), and a
+-- blocks in it stand in it. Its parameters are simple ones or arrays, it has no more cells than a block may have (rule TooManyCells), and a
 -- level that the machine has (rule TooManyLevels).
 pub record IsText (sc : Scopes) (j : ℕ) : Type 0 where
   pub items : ItemsKeepToText sc j (items_of (block_numbered sc.blocks j))
   pub parameters : AreParameters sc (block_numbered sc.blocks j)
   pub few :
       length (simple_cells sc (block_numbered sc.blocks j)) + length (procedures (block_numbered sc.blocks j).decls)
-      + length (made_of (block_numbered sc.blocks j).decls)
+      + length (actuals_of sc (block_numbered sc.blocks j)) + length (made_of (block_numbered sc.blocks j).decls)
       ≤ MOST_BLOCK_CELLS
   pub low : level_of (block_numbered sc.blocks j) ≤ MOST_LEVEL
   pub procedure : (k : ℕ) (declared : Named) → slice_get (procedures ((block_numbered sc.blocks j).decls)) k ≡ Some declared → IsDeclared sc j declared

@@ -35,9 +35,9 @@ pub fn procedures_of_sources_have_names()
 
 /// Law: the blocks of an accepted program that is built lie in one another. Each name in a block's text means a declaration of that block
 /// or of one around it, so many up as the scopes say, and each name in a bound of its arrays one of a block around it or a parameter. A
-/// block's parameters are by value or arrays, and none of a typed procedure has the procedure's name (rule DeclaredTwice). A block has at
-/// most `MOST_BLOCK_CELLS` cells, its parameters' and its arrays' among them, and the program's text at most `MOST_SEGMENT_TOKENS` tokens
-/// (rules TooManyCells and SegmentTooLong).
+/// block's parameters are simple ones or arrays, and none of a typed procedure has the procedure's name (rule DeclaredTwice). A block has
+/// at most `MOST_BLOCK_CELLS` cells, those of its parameters, of its arrays and of the actuals in it among them, and the program's text at
+/// most `MOST_SEGMENT_TOKENS` tokens (rules TooManyCells and SegmentTooLong).
 pub fn built_programs_lie_nested()
     ensures { BuiltProgramsLieNested }
 {}

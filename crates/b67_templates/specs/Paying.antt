@@ -1,34 +1,58 @@
 -- How many syllables the code of an expression has where it stands, and how many that of the actuals in it which have cells: so the two together
 -- are paid by the tokens, although an actual with subscripts has its code twice.
-use Rattle.std.specs.Prelude.{ℕ, ◌+◌, ◌*◌, ◌≤◌, Bool, true, false, List, [], ◌∷◌}
+use Rattle.std.specs.Prelude.{ℕ, ◌+◌, ◌*◌, ◌≤◌, ◌&&◌, not, if◌then◌else◌, Bool, true, false, List, [], ◌∷◌, Option, Some, None, slice_get}
 use Rattle.algol_tree.specs.Plain as tree
 use Rattle.algol_tree.specs.Plain.{PExpr, PExprs}
 use Rattle.algol_tree.specs.Counts.{expr_tokens}
-use Rattle.algol_tree.specs.Scopes.{Scopes}
-use Rattle.b67_templates.specs.Cells.{Wanted, value, Actual, own_actual, wants_of, has_place}
+use Rattle.b67_templates.specs.Cells.{has_place}
+use Rattle.b67_templates.specs.Fitting.{Meant, a_variable, a_name, a_procedure, Told}
 
-abbrev pub is_value : Wanted → Bool
-is_value (value k) = true
-is_value _ = false
+-- of each parameter of a procedure, whether it is by name
+abbrev pub modes_of : Meant → List Bool
+modes_of (a_procedure modes) = modes
+modes_of _ = []
 
--- the control word, and the code of the actual with its RETN
+abbrev pub if_known : Option Bool → Bool
+if_known None = false
+if_known (Some mode) = mode
+
+-- the parameter with this number is by name
+abbrev pub mode_at : Meant → ℕ → Bool
+mode_at m number = if_known (slice_get (modes_of m) number)
+
+-- a name of that stands for itself where it is given for a parameter by name
+abbrev pub stands : Meant → Bool
+stands a_variable = true
+stands a_name = true
+stands _ = false
+
+-- the code of an actual with its RETN, where it is subscripted that of its place, too
+abbrev pub routine_code : Bool → ℕ → ℕ
+routine_code true inline = 2 * inline + 5
+routine_code false inline = inline + 1
+
+-- .. and the control word
 abbrev pub routine_syllables : Bool → ℕ → ℕ
-routine_syllables true inline = 12 + 2 * inline + 5
-routine_syllables false inline = 12 + inline + 1
+routine_syllables place inline = 12 + routine_code place inline
 
-abbrev pub routines_for : List Actual → PExpr → ℕ → ℕ
-routines_for [] e inline = 0
-routines_for (a ∷ as') e inline = routine_syllables (has_place e) inline
-
+-- what is given for a parameter, by name or not
 abbrev pub given_syllables : Bool → ℕ → ℕ
-given_syllables true inline = inline
-given_syllables false inline = 3
+given_syllables true inline = 3
+given_syllables false inline = inline
 
-module _ (sc : Scopes) where
+module _ (told : Told) where
+  -- what is given for a parameter by name has a cell, unless it is a variable or a parameter by itself
+  abbrev pub has_cell : PExpr → Bool
+  has_cell (tree.variable (tree.subscripted n tree.none)) = not (stands (told.meant n.spot))
+  has_cell e = true
+
+  abbrev pub own_routine : Bool → PExpr → ℕ → ℕ
+  own_routine mode e inline = if mode && has_cell e then routine_syllables (has_place e) inline else 0
+
   abbrev mutual
     pub inline : PExpr → ℕ
     inline (tree.variable (tree.subscripted n (tree.more e es))) = 36 + inline e + inline_all es
-    inline (tree.call (tree.called n es)) = 12 + inline_given (wants_of sc n) es
+    inline (tree.call (tree.called n es)) = 12 + inline_given (modes_of (told.meant n.spot)) es
     inline (tree.tested t e spot) = 12
     inline (tree.paren e spot) = inline e
     inline (tree.plus e spot) = inline e
@@ -42,15 +66,15 @@ module _ (sc : Scopes) where
     inline_all tree.none = 0
     inline_all (tree.more e es) = 12 + inline e + inline_all es
 
-    pub inline_given : List Wanted → PExprs → ℕ
-    inline_given wanted tree.none = 0
+    pub inline_given : List Bool → PExprs → ℕ
+    inline_given modes tree.none = 0
     inline_given [] (tree.more e es) = inline e + inline_given [] es
-    inline_given (w ∷ wanted) (tree.more e es) = given_syllables (is_value w) (inline e) + inline_given wanted es
+    inline_given (mode ∷ modes) (tree.more e es) = given_syllables mode (inline e) + inline_given modes es
 
   abbrev mutual
     pub routines : PExpr → ℕ
     routines (tree.variable (tree.subscripted n es)) = routines_all es
-    routines (tree.call (tree.called n es)) = routines_given (wants_of sc n) es
+    routines (tree.call (tree.called n es)) = routines_given (modes_of (told.meant n.spot)) es
     routines (tree.paren e spot) = routines e
     routines (tree.plus e spot) = routines e
     routines (tree.neg e spot) = routines e
@@ -63,11 +87,11 @@ module _ (sc : Scopes) where
     routines_all tree.none = 0
     routines_all (tree.more e es) = routines e + routines_all es
 
-    pub routines_given : List Wanted → PExprs → ℕ
-    routines_given wanted tree.none = 0
+    pub routines_given : List Bool → PExprs → ℕ
+    routines_given modes tree.none = 0
     routines_given [] (tree.more e es) = routines e + routines_given [] es
-    routines_given (w ∷ wanted) (tree.more e es) = routines_for (own_actual sc w e) e (inline e) + routines e + routines_given wanted es
+    routines_given (mode ∷ modes) (tree.more e es) = own_routine mode e (inline e) + routines e + routines_given modes es
 
 -- the tokens of an expression pay for its code in place twice, as where it is the step of a FOR, and for that of its actuals once
 abbrev pub TokensPay : Type 0
-TokensPay = (sc : Scopes) (e : PExpr) → 2 * inline sc e + routines sc e ≤ 24 * expr_tokens e
+TokensPay = (told : Told) (e : PExpr) → 2 * inline told e + routines told e ≤ 24 * expr_tokens e
