@@ -1,5 +1,5 @@
 -- The entry of code is a mark, its control word, and ENTR; and control words of procedures stand one after another.
-use Rattle.std.proofs.Common.{◌≡◌, ℕ, ◌+◌, ◌*◌, ◌<◌, ◌≤◌, List, [], ◌∷◌, ◌++◌, length, take, get_or, refl, sym, ap, ◌∙◌, subst, arith, length-append}
+use Rattle.std.proofs.Common.{◌≡◌, ℕ, Bool, ◌+◌, ◌*◌, ◌<◌, ◌≤◌, List, [], ◌∷◌, ◌++◌, length, take, get_or, refl, sym, ap, ◌∙◌, subst, arith, length-append}
 use Rattle.std.proofs.lemmas.List.{take_more}
 use Rattle.b67_control.specs.declared.Pcw.{Pcw}
 use Rattle.b67_control.specs.Control.{Fits_pcw, pcw_word}
@@ -7,7 +7,7 @@ use Rattle.b67_ops.specs.declared.Operator.TheVariants as ops
 use Rattle.b67_ops.specs.declared.PlainKind.TheVariants as kinds
 use Rattle.b67_segment.specs.Operators.{Placed, size}
 use Rattle.b67_segment.specs.Building.{Built, level_set}
-use Rattle.b67_templates.specs.Fragments.{Has, EntryAt, ControlsAt, code_at, procedure_controls}
+use Rattle.b67_templates.specs.Fragments.{Has, EntryAt, ControlsAt, code_at, routine_at, procedure_controls}
 use Rattle.b67_templates.specs.Emitting.{Emitted}
 use Rattle.b67_emitter.proofs.Appends.{same_level}
 use Rattle.b67_emitter.proofs.Composing.{weaker, then}
@@ -47,6 +47,25 @@ pub control_part : (segment bits : ℕ) (a b : Built) → bits ≡ (pcw_word (co
 control_part segment bits a b is fits h =
     let M : ℕ → Type 0 = λ n. Emitted a b (λ qs. Has qs (level_set a) (size a.operators) (ops.Mpcw n) (size b.operators)) in
     weaker (λ qs. ControlsAt qs (level_set a) (procedure_controls (level_set a) (segment ∷ [])) (size a.operators) (size b.operators)) (subst M is h) (λ qs x. (size b.operators, x, fits, refl))
+
+-- .. and of the code of an actual
+
+pub routine_bits : (bits : ℕ) (names : Bool) (pcw : Pcw) (segment place level inner : ℕ) → bits ≡ (pcw_word (record pcw { names = names })).bits → pcw ≡ code_at segment place level → level ≡ inner →
+    bits ≡ (pcw_word (routine_at names segment place inner)).bits
+routine_bits bits names pcw segment place level inner b p l =
+    b ∙ ap (λ (x : Pcw). (pcw_word (record x { names = names })).bits) p ∙ ap (λ (n : ℕ). (pcw_word (routine_at names segment place n)).bits) l
+
+pub fits_named : (names : Bool) (pcw : Pcw) (segment place level inner : ℕ) → pcw ≡ code_at segment place level → level ≡ inner → Fits_pcw pcw →
+    Fits_pcw (routine_at names segment place inner)
+fits_named names pcw segment place level inner p l f = fits_as pcw segment place level inner p l f
+
+pub routine_part : (names : Bool) (segment place bits : ℕ) (a b : Built) → bits ≡ (pcw_word (routine_at names segment place (level_set a + 1))).bits →
+    Fits_pcw (routine_at names segment place (level_set a + 1)) →
+    Emitted a b (λ qs. Has qs (level_set a) (size a.operators) (ops.Mpcw bits) (size b.operators)) →
+    Emitted a b (λ qs. ControlsAt qs (level_set a) (routine_at names segment place (level_set a + 1) ∷ []) (size a.operators) (size b.operators))
+routine_part names segment place bits a b is fits h =
+    let M : ℕ → Type 0 = λ n. Emitted a b (λ qs. Has qs (level_set a) (size a.operators) (ops.Mpcw n) (size b.operators)) in
+    weaker (λ qs. ControlsAt qs (level_set a) (routine_at names segment place (level_set a + 1) ∷ []) (size a.operators) (size b.operators)) (subst M is h) (λ qs x. (size b.operators, x, fits, refl))
 
 pub controls-append : (qs : List Placed) (level : ℕ) (ks : List ℕ) (k from middle to : ℕ) → ControlsAt qs level (procedure_controls level ks) from middle → ControlsAt qs level (procedure_controls level (k ∷ [])) middle to →
     ControlsAt qs level (procedure_controls level (ks ++ k ∷ [])) from to

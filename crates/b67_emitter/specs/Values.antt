@@ -1,5 +1,5 @@
 -- What names mean, and what a call promises that appends the code of an expression, or of what an assignment stores through.
-use Rattle.std.specs.Prelude.{◌≡◌, ℕ, ◌+◌, ◌<◌, Option, Some, None, List}
+use Rattle.std.specs.Prelude.{◌≡◌, ℕ, ◌+◌, ◌<◌, ◌≤◌, Bool, true, false, Option, Some, None, List, map}
 use Rattle.std.specs.BTreeMap.{get}
 use Rattle.algol_tree.specs.declared.TheConstants.{MOST_BLOCK_CELLS}
 use Rattle.algol_tree.specs.declared.token.Spot.{Spot}
@@ -9,12 +9,16 @@ use Rattle.algol_tree.specs.contracts.token.SpotOrd.TheImpl.{ghosts}
 use Rattle.algol_tree.specs.Plain as tree
 use Rattle.algol_tree.specs.Plain.{PExpr, PExprs, PCall, PVariable}
 use Rattle.algol_tree.specs.Blocks.{block_numbered}
+use Rattle.algol_tree.specs.Cells.{first_spot}
 use Rattle.algol_tree.specs.Scopes.{Scopes}
 use Rattle.algol_frames.specs.declared.scopes.Couple as found
 use Rattle.algol_frames.specs.declared.scopes.Declared.{Declared}
-use Rattle.algol_scope.specs.Resolved.{declaration_of, result_of}
+use Rattle.algol_frames.specs.Answers.{declaration_of, actual_of, result_of, parameters_of}
 use Rattle.algol_frames.specs.declared.scopes.Scopes as table
-use Rattle.algol_meaning.specs.Settle.{sorts_of}
+use Rattle.algol_meaning.specs.Settle.{name_alone, sorts_of}
+use Rattle.algol_sorts.specs.declared.sort.Sort.{Sort}
+use Rattle.algol_sorts.specs.declared.sort.Sort.TheVariants as sorts
+use Rattle.algol_sorts.specs.Sorts.{is_by_name}
 use Rattle.algol_paths.specs.Arrays as arrays
 use Rattle.algol_paths.specs.Arrays.{Shape}
 pub use Rattle.algol_lows.specs.Lows.{told, lows_told}
@@ -26,10 +30,11 @@ use Rattle.b67_segment.specs.Building.{Built}
 use Rattle.b67_templates.specs.Contexts.{Context}
 use Rattle.b67_templates.specs.Fragments.{Has}
 use Rattle.b67_templates.specs.Cells.{parameter_wants, IsArray}
-use Rattle.b67_templates.specs.Code.{ExprAt, SubscriptsAt, ReferenceAt, CallAt, ActualsAt}
-use Rattle.b67_templates.specs.Depths.{expr_syllables}
+use Rattle.b67_templates.specs.Code.{ExprAt, SubscriptsAt, PlaceAt, CallAt, ActualsAt, RoutineAt}
 use Rattle.b67_templates.specs.Emitting.{Emitted, EmittedWithExits}
-use Rattle.b67_templates.specs.Fitting.{couple_on_left, LeftFits, ExprFits, ProcedureFits, ActualsFit, ArrayFits, SubscriptsFit}
+use Rattle.b67_templates.specs.Fitting.{Meant, a_variable, a_name, a_procedure, another, Told, on_left, PlaceFits, ExprFits, ProcedureFits, ActualsFit, ArrayFits, SubscriptsFit}
+use Rattle.b67_templates.specs.Paying.{inline}
+use Rattle.b67_emitter.specs.declared.meanings.Given.{Given}
 use Rattle.b67_emitter.specs.declared.names.Names.{Names}
 
 -- ---- couples
@@ -54,10 +59,6 @@ result_declared s (Some d) = couple_found (result_of s d.spot)
 abbrev pub results : Names → Spot → Option Couple
 results s spot = result_declared s.scopes.now (declaration_of s.scopes.now spot)
 
--- the couple of the name that stands there on the left of an assignment
-abbrev pub lefts : Names → Spot → Option Couple
-lefts s spot = couple_on_left (results s spot) (couples s spot)
-
 abbrev pub lows_found : Names → Option Declared → Option arrays.Lows
 lows_found s None = None
 lows_found s (Some d) = lows_told (get ghosts.cmp s.lows d.spot)
@@ -66,85 +67,147 @@ lows_found s (Some d) = lows_told (get ghosts.cmp s.lows d.spot)
 abbrev pub lows : Names → Spot → Option arrays.Lows
 lows s spot = lows_found s (declaration_of s.scopes.now spot)
 
+-- ---- what is told of the names
+
+-- what is declared as that sort, a procedure with parameters of these
+abbrev pub meant_sorted : Option (List Sort) → Sort → Meant
+meant_sorted ps (sorts.Variable kind) = a_variable
+meant_sorted ps (sorts.ByName kind) = a_name
+meant_sorted (Some ps) (sorts.Procedure kind) = a_procedure (map is_by_name ps)
+meant_sorted ps s = another
+
+abbrev pub meant_declared : table.Scopes → Option Declared → Meant
+meant_declared s None = another
+meant_declared s (Some d) = meant_sorted (parameters_of s d.spot) d.sort
+
+-- what the name that stands there is
+abbrev pub meant : Names → Spot → Meant
+meant s spot = meant_declared s.scopes.now (declaration_of s.scopes.now spot)
+
+-- the couple of the actual that begins there, none where it has no cell
+abbrev pub actuals : Names → Spot → Option Couple
+actuals s spot = couple_found (actual_of s.scopes.now spot)
+
+abbrev pub meanings : Names → Told
+meanings s = record { couples = couples s; results = results s; lows = lows s; meant = meant s; actuals = actuals s }
+
+-- the couple of the name that stands there on the left of an assignment
+abbrev pub lefts : Names → Spot → Option Couple
+lefts s spot = on_left (meanings s) spot
+
 -- each cell lies among the first of its frame, as many as a block may have, after the frame's two words
 pub record AreNear (s : Names) : Type 0 where
   pub own : (spot : Spot) (c : Couple) → couples s spot ≡ Some c → c.index < 2 + MOST_BLOCK_CELLS
   pub result : (spot : Spot) (c : Couple) → results s spot ≡ Some c → c.index < 2 + MOST_BLOCK_CELLS
+  pub actual : (spot : Spot) (c : Couple) → actuals s spot ≡ Some c → c.index < 2 + MOST_BLOCK_CELLS
+
+-- ---- what is given for a parameter by name
+
+abbrev pub given_as : Bool → Option Couple → Option Given
+given_as loads None = None
+given_as loads (Some c) = Some (record { couple = c; loads = loads })
+
+-- a variable's own couple, that of another parameter by name, or the actual's
+abbrev pub given_alone : Meant → Option Couple → Option Couple → Option Given
+given_alone a_variable own actual = given_as false own
+given_alone a_name own actual = given_as true own
+given_alone _ own actual = given_as false actual
+
+abbrev pub given_named : Names → Option Named → Spot → Option Given
+given_named s None first = given_as false (actuals s first)
+given_named s (Some n) first = given_alone (meant s n.spot) (couples s n.spot) (actuals s first)
+
+abbrev pub given : Names → PExpr → Option Given
+given s e = given_named s (name_alone e) (first_spot e)
 
 -- ---- expressions
 
--- the expression has code at that level: it fits, in whatever program names have this meaning
+-- the expression has code at that level: it fits there or in a block further out, in whatever program names have this meaning
 pub record HasCode (s : Names) (level : ℕ) (e : PExpr) : Type 0 where
   pub scopes : Scopes
+  pub own : ℕ
+  pub block : ℕ
   pub kind : Kind
-  pub fits : ExprFits scopes (couples s) (results s) (lows s) level kind e
+  pub outer : own ≤ level
+  pub fits : ExprFits scopes (meanings s) own block kind e
 
 -- From the first builder to the second the expression's code was appended, and the value stands at the place after it.
 pub record ValueEmitted (s : Names) (level : ℕ) (before after : Built) (e : PExpr) : Type 0 where
   pub code :
-      (scopes : Scopes) (context : Context) (kind : Kind) → ExprFits scopes (couples s) (results s) (lows s) context.level kind e →
+      (scopes : Scopes) (context : Context) (kind : Kind) → ExprFits scopes (meanings s) context.level context.block kind e →
       Emitted before after (λ qs. ExprAt scopes context qs level kind e (size before.operators) (size after.operators) (size after.operators))
 
 -- The same, but that the branches out of it are exits.
 pub record ValueWithExits (s : Names) (level : ℕ) (before after : Built) (exits_before exits_after : List ℕ) (e : PExpr) : Type 0 where
   pub code :
-      (scopes : Scopes) (context : Context) (kind : Kind) → ExprFits scopes (couples s) (results s) (lows s) context.level kind e →
+      (scopes : Scopes) (context : Context) (kind : Kind) → ExprFits scopes (meanings s) context.level context.block kind e →
       EmittedWithExits before after exits_before exits_after
       (λ qs target. ExprAt scopes context qs level kind e (size before.operators) (size after.operators) target)
 
 -- ---- calls
 
--- the call has code at that level: the procedure's name and the actuals fit, in whatever program names have this meaning
+-- the call has code at that level: the procedure's name and the actuals fit there or further out, in whatever program names have this meaning
 pub record HasCall (s : Names) (level : ℕ) (c : PCall) : Type 0 where
   pub scopes : Scopes
+  pub own : ℕ
+  pub block : ℕ
   pub name : Named
   pub actuals : PExprs
   pub callee : ℕ
   pub call_is : c ≡ tree.called name actuals
-  pub procedure : ProcedureFits scopes (couples s) (results s) (lows s) level name callee
+  pub outer : own ≤ level
+  pub procedure : ProcedureFits scopes (meanings s) own name callee
   pub fits :
-      ActualsFit scopes (couples s) (results s) (lows s) level (sorts_of ((block_numbered scopes.blocks callee).parameters)) (parameter_wants scopes callee) actuals
+      ActualsFit scopes (meanings s) own block (sorts_of ((block_numbered scopes.blocks callee).parameters)) (parameter_wants scopes callee) actuals
 
 -- From the first builder to the second the call's code was appended, the actuals and the entry with it.
 pub record CallEmitted (s : Names) (level : ℕ) (before after : Built) (c : PCall) : Type 0 where
   pub code :
       (scopes : Scopes) (context : Context) (n : Named) (es : PExprs) (callee : ℕ) → c ≡ tree.called n es →
-      ProcedureFits scopes (couples s) (results s) (lows s) context.level n callee →
-      ActualsFit scopes (couples s) (results s) (lows s) context.level (sorts_of ((block_numbered scopes.blocks callee).parameters)) (parameter_wants scopes callee) es →
+      ProcedureFits scopes (meanings s) context.level n callee →
+      ActualsFit scopes (meanings s) context.level context.block (sorts_of ((block_numbered scopes.blocks callee).parameters)) (parameter_wants scopes callee) es →
       Emitted before after (λ qs. CallAt scopes context qs level n callee
       (ActualsAt scopes context qs level (sorts_of ((block_numbered scopes.blocks callee).parameters)) (parameter_wants scopes callee) es)
       (size before.operators) (size after.operators))
 
+-- ---- the code of actuals
+
+-- From the first builder to the second the code of the actual was appended, its RETN with it.
+pub record RoutineEmitted (s : Names) (level : ℕ) (before after : Built) (e : PExpr) : Type 0 where
+  pub code :
+      (scopes : Scopes) (context : Context) (kind : Kind) → ExprFits scopes (meanings s) context.level context.block kind e →
+      Emitted before after (λ qs. RoutineAt scopes context qs level (record { expr = e; kind = kind }) (size before.operators))
+
 -- ---- what an assignment stores through
 
 -- an element of an array: each subscript fits
-abbrev pub ElementFits : Names → Scopes → ℕ → Named → Shape → PExprs → Type 0
-ElementFits s scopes level n shape es =
-    ArrayFits scopes (couples s) (results s) (lows s) level n shape × SubscriptsFit scopes (couples s) (results s) (lows s) level shape.lows es
+abbrev pub ElementFits : Names → Scopes → ℕ → ℕ → Named → Shape → PExprs → Type 0
+ElementFits s scopes level block n shape es = ArrayFits scopes (meanings s) level n shape × SubscriptsFit scopes (meanings s) level block shape.lows es
 
--- a name by itself that has a cell on the left of an assignment, or an element
+-- at that level or further out, a name by itself that has a cell on the left of an assignment, or an element
 pub data HasReference (s : Names) (level : ℕ) (v : PVariable) : Type 0 where
   alone :
-      (scopes : Scopes) (kind : Kind) (name : Named) → v ≡ tree.subscripted name tree.none →
-      LeftFits scopes (couples s) (results s) (lows s) level kind name → HasReference s level v
+      (scopes : Scopes) (own : ℕ) (kind : Kind) (name : Named) → own ≤ level → v ≡ tree.subscripted name tree.none →
+      PlaceFits scopes (meanings s) own kind name → HasReference s level v
   element :
-      (scopes : Scopes) (name : Named) (shape : Shape) (es : PExprs) → v ≡ tree.subscripted name es →
-      ElementFits s scopes level name shape es → HasReference s level v
+      (scopes : Scopes) (own block : ℕ) (name : Named) (shape : Shape) (es : PExprs) → own ≤ level → v ≡ tree.subscripted name es →
+      ElementFits s scopes own block name shape es → HasReference s level v
 
--- From the first builder to the second the variable's reference was appended, or the descriptor of the element.
+-- From the first builder to the second the variable's reference was appended, or that of the parameter and EVAL, or the descriptor of the
+-- element.
 pub record ReferenceEmitted (s : Names) (level : ℕ) (before after : Built) (v : PVariable) : Type 0 where
   pub alone :
       (scopes : Scopes) (context : Context) (kind : Kind) (name : Named) → v ≡ tree.subscripted name tree.none →
-      LeftFits scopes (couples s) (results s) (lows s) context.level kind name →
-      Emitted before after (λ qs. ReferenceAt scopes context qs level name kind (size before.operators) (size after.operators))
+      PlaceFits scopes (meanings s) context.level kind name →
+      Emitted before after (λ qs. PlaceAt scopes context qs level name kind (size before.operators) (size after.operators))
   pub element :
       (scopes : Scopes) (context : Context) (name : Named) (shape : Shape) (es : PExprs) → v ≡ tree.subscripted name es →
-      ElementFits s scopes context.level name shape es →
+      ElementFits s scopes context.level context.block name shape es →
       Emitted before after (λ qs. (c : Couple) × (m : ℕ) × IsArray scopes context.level name shape c
       × SubscriptsAt scopes context qs level c shape.lows es (size before.operators) m
       × Has qs level m (ops.Plain kinds.Indx) (size after.operators))
 
 -- how many syllables that is at most
-abbrev pub place_syllables : PVariable → ℕ
-place_syllables (tree.subscripted n tree.none) = 2
-place_syllables (tree.subscripted n (tree.more e es)) = expr_syllables (tree.variable (tree.subscripted n (tree.more e es)))
+abbrev pub place_syllables : Names → PVariable → ℕ
+place_syllables s (tree.subscripted n tree.none) = 3
+place_syllables s (tree.subscripted n (tree.more e es)) = inline (meanings s) (tree.variable (tree.subscripted n (tree.more e es)))

@@ -7,7 +7,7 @@ ghost use Rattle.b67_ops.specs.declared.TheConstants.{MOST_LEVEL};
 ghost use Rattle.b67_segment.specs.declared.TheConstants.{MOST_SEGMENT_SYLLABLES};
 ghost use Rattle.b67_segment.specs.Operators.{size};
 ghost use Rattle.b67_segment.specs.Building.{level_set};
-ghost use Rattle.b67_templates.specs.Fragments.{ControlsAt, EntryAt, code_at, procedure_controls};
+ghost use Rattle.b67_templates.specs.Fragments.{ControlsAt, EntryAt, code_at, procedure_controls, routine_at};
 ghost use Rattle.b67_templates.specs.Emitting.{Emitted};
 
 use crate::appending::{append_operator, append_plain};
@@ -93,4 +93,31 @@ pub fn append_controls(out: &mut Builder, segments: &[u16], level: u8) -> Result
         append_control(out, *segment, level)?;
     }
     Ok(())
+}
+
+/// Appends the control word of the code of an actual, which begins at a place of a segment and runs at this level, which is one further
+/// in than its block's. Where the actual is subscripted its code gives a place, too.
+pub fn append_routine(
+    out: &mut Builder,
+    segment: u16,
+    place: u16,
+    level: u8,
+    names: bool,
+) -> Result<(), AllocError>
+    requires set { IsSome out.old.level }
+    requires inner { level ≡ level_set out.old + 1 }
+    requires most { level ≤ MOST_LEVEL }
+    requires segment { segment < 2 ^ 10 }
+    requires place { place < MOST_SEGMENT_SYLLABLES }
+    requires room { size out.old.operators + 12 ≤ MOST_SEGMENT_SYLLABLES }
+    ensures code { OnOk result (Emitted out.old out.new
+        (λ qs. ControlsAt qs (level_set out.old) (routine_at names segment place (level_set out.old + 1) ∷ []) (size out.old.operators) (size out.new.operators))) }
+    ensures level { OnOk result (out.new.level ≡ out.old.level) }
+    ensures size { OnOk result (size out.new.operators ≤ size out.old.operators + 12) }
+{
+    let control = Pcw {
+        names,
+        ..code_at(segment, place, level)
+    };
+    append_operator(out, &Operator::Mpcw(control.pack().bits()))
 }

@@ -6,8 +6,9 @@ ghost use Rattle.algol_tree.specs.Image.{expr, call, variable};
 ghost use Rattle.b67_segment.specs.declared.TheConstants.{MOST_SEGMENT_SYLLABLES};
 ghost use Rattle.b67_segment.specs.Operators.{size};
 ghost use Rattle.b67_segment.specs.Building.{level_set};
-ghost use Rattle.b67_templates.specs.Depths.{expr_syllables};
-ghost use Rattle.b67_emitter.specs.Values.{couples, results, lefts, lows, told, lows_told, AreNear, HasCode, ValueEmitted, HasCall, CallEmitted, HasReference, ReferenceEmitted, place_syllables};
+ghost use Rattle.b67_templates.specs.Cells.{has_place};
+ghost use Rattle.b67_templates.specs.Paying.{inline, routine_code};
+ghost use Rattle.b67_emitter.specs.Values.{couples, results, lefts, lows, told, lows_told, meanings, AreNear, HasCode, ValueEmitted, HasCall, CallEmitted, RoutineEmitted, HasReference, ReferenceEmitted, place_syllables};
 
 use crate::names::Names;
 use algol_lows::Lows;
@@ -94,28 +95,41 @@ pub trait ExprEmitter {
         requires set { IsSome out.old.level }
         requires near { AreNear names.now }
         requires code { HasCode names.now (level_set out.old) (expr e.now) }
-        requires room { size out.old.operators + expr_syllables (expr e.now) ≤ MOST_SEGMENT_SYLLABLES }
+        requires room { size out.old.operators + inline (meanings names.now) (expr e.now) ≤ MOST_SEGMENT_SYLLABLES }
         ensures code { OnOk result (ValueEmitted names.now (level_set out.old) out.old out.new (expr e.now)) }
         ensures level { OnOk result (out.new.level ≡ out.old.level) }
-        ensures size { OnOk result (size out.new.operators ≤ size out.old.operators + expr_syllables (expr e.now)) };
+        ensures size { OnOk result (size out.new.operators ≤ size out.old.operators + inline (meanings names.now) (expr e.now)) };
 
     /// The code of a call, with its actuals and its entry: after it the result lies on top, if the procedure is typed.
     fn call(&self, c: &Call, names: &Names, out: &mut Builder) -> Result<(), AllocError>
         requires set { IsSome out.old.level }
         requires near { AreNear names.now }
         requires code { HasCall names.now (level_set out.old) (call c.now) }
-        requires room { size out.old.operators + expr_syllables (tree.call (call c.now)) ≤ MOST_SEGMENT_SYLLABLES }
+        requires room { size out.old.operators + inline (meanings names.now) (tree.call (call c.now)) ≤ MOST_SEGMENT_SYLLABLES }
         ensures code { OnOk result (CallEmitted names.now (level_set out.old) out.old out.new (call c.now)) }
         ensures level { OnOk result (out.new.level ≡ out.old.level) }
-        ensures size { OnOk result (size out.new.operators ≤ size out.old.operators + expr_syllables (tree.call (call c.now))) };
+        ensures size { OnOk result (size out.new.operators ≤ size out.old.operators + inline (meanings names.now) (tree.call (call c.now))) };
 
-    /// What an assignment stores through: the reference to the cell of a variable or a result, or the descriptor of an element.
+    /// What an assignment stores through: the reference to the cell of a variable or a result, what EVAL makes of that of a parameter by
+    /// name, or the descriptor of an element.
     fn name(&self, v: &Variable, names: &Names, out: &mut Builder) -> Result<(), AllocError>
         requires set { IsSome out.old.level }
         requires near { AreNear names.now }
         requires code { HasReference names.now (level_set out.old) (variable v.now) }
-        requires room { size out.old.operators + place_syllables (variable v.now) ≤ MOST_SEGMENT_SYLLABLES }
+        requires room { size out.old.operators + place_syllables names.now (variable v.now) ≤ MOST_SEGMENT_SYLLABLES }
         ensures code { OnOk result (ReferenceEmitted names.now (level_set out.old) out.old out.new (variable v.now)) }
         ensures level { OnOk result (out.new.level ≡ out.old.level) }
-        ensures size { OnOk result (size out.new.operators ≤ size out.old.operators + place_syllables (variable v.now)) };
+        ensures size { OnOk result (size out.new.operators ≤ size out.old.operators + place_syllables names.now (variable v.now)) };
+
+    /// The code of an actual that has a cell: its value is given back, or, where it is subscripted and the selector on the stack asks for
+    /// it, the place of its element.
+    fn routine(&self, e: &Expr, names: &Names, out: &mut Builder) -> Result<(), AllocError>
+        requires set { IsSome out.old.level }
+        requires near { AreNear names.now }
+        requires code { HasCode names.now (level_set out.old) (expr e.now) }
+        requires room { size out.old.operators + routine_code (has_place (expr e.now)) (inline (meanings names.now) (expr e.now)) ≤ MOST_SEGMENT_SYLLABLES }
+        ensures code { OnOk result (RoutineEmitted names.now (level_set out.old) out.old out.new (expr e.now)) }
+        ensures level { OnOk result (out.new.level ≡ out.old.level) }
+        ensures size { OnOk result (size out.new.operators
+            ≤ size out.old.operators + routine_code (has_place (expr e.now)) (inline (meanings names.now) (expr e.now))) };
 }

@@ -8,6 +8,7 @@ mod appending;
 mod calling;
 mod entering;
 mod expressions;
+mod meanings;
 mod moving;
 mod names;
 mod numbers;
@@ -18,8 +19,9 @@ pub use appending::{
     append_reading, append_reference, append_turn,
 };
 pub use calling::{append_array, append_begun, append_dropped};
-pub use entering::{append_control, append_controls, append_entry};
+pub use entering::{append_control, append_controls, append_entry, append_routine};
 pub use expressions::{ExprEmitter, array_of, couple_of, left_of, lows_of, result_of};
+pub use meanings::{Given, given_of, has_cell, is_name, name_alone, takes_name};
 pub use moving::append_moved;
 pub use names::Names;
 pub use numbers::literal;
