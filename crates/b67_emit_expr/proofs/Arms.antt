@@ -10,8 +10,9 @@ use Rattle.algol_tree.specs.Image.{expr, exprs, variable, call}
 use Rattle.algol_tree.specs.Plain as tree
 use Rattle.algol_tree.specs.Plain.{PExpr}
 use Rattle.b67_segment.specs.Building.{Built}
+use Rattle.b67_templates.specs.Paying.{inline}
 use Rattle.b67_emitter.specs.declared.names.Names.{Names}
-use Rattle.b67_emitter.specs.Values.{HasCode, ValueEmitted, ValueWithExits, HasCall, CallEmitted}
+use Rattle.b67_emitter.specs.Values.{meanings, HasCode, ValueEmitted, ValueWithExits, HasCall, CallEmitted}
 use Rattle.b67_emit_expr.proofs.Shapes.{naming_is, call_is, calling_is}
 use Rattle.b67_emit_expr.proofs.Forms.{listed_as, variable_form, call_form}
 
@@ -35,6 +36,9 @@ module _ (s : Names) (level : ℕ) where
     pub variable_as : expr_tokens (expr e) ≡ variable_tokens (variable v)
     variable_as = ap expr_tokens shape
 
+    pub variable_syllables : inline (meanings s) (expr e) ≡ inline (meanings s) (tree.variable (variable v))
+    variable_syllables = ap (inline (meanings s)) shape
+
     pub variable_has : HasCode s level (expr e) → HasCode s level (tree.variable (variable v))
     variable_has h = has_as e (tree.variable (variable v)) shape h
 
@@ -51,15 +55,21 @@ module _ (s : Names) (level : ℕ) where
     pub calling_tokens : expr_tokens (expr e) ≡ call_tokens (call c)
     calling_tokens = ap expr_tokens calling
 
+    pub calling_syllables : inline (meanings s) (expr e) ≡ inline (meanings s) (tree.call (call c))
+    calling_syllables = ap (inline (meanings s)) calling
+
     pub call_has : HasCode s level (expr e) → HasCall s level (call c)
     call_has h =
         let has = has_as e (tree.call (tree.called c.name (exprs c.actuals))) (calling ∙ ap tree.call (call_is c)) h in
         record {
           scopes = has.scopes;
+          own = has.own;
+          block = has.block;
           name = c.name;
           actuals = exprs c.actuals;
           callee = has.fits.0;
           call_is = call_is c;
+          outer = has.outer;
           procedure = has.fits.1;
           fits = has.fits.2;
         }

@@ -15,10 +15,11 @@ use Rattle.b67_ops.specs.declared.Couple.{Couple}
 use Rattle.b67_ops.specs.Spelling.{index_bits, IsSeen}
 use Rattle.b67_ops.proofs.Couples.{level_bits-within}
 use Rattle.b67_segment.specs.Building.{Built}
-use Rattle.b67_templates.specs.Cells.{IsArray, declared, formal}
-use Rattle.b67_templates.specs.Fitting.{couple_on_left, LeftFits, ProcedureFits, ArrayFits}
+use Rattle.b67_templates.specs.Cells.{IsRead, of_variable, of_formal, IsArray, declared, formal}
+use Rattle.b67_templates.specs.Fitting as fitting
+use Rattle.b67_templates.specs.Fitting.{couple_on_left, PlaceFits, ProcedureFits, ArrayFits}
 use Rattle.b67_emitter.specs.declared.names.Names.{Names}
-use Rattle.b67_emitter.specs.Values.{couples, results, lefts, lows, AreNear, HasCode}
+use Rattle.b67_emitter.specs.Values.{couples, results, lefts, meanings, AreNear, HasCode}
 use Rattle.b67_emit_expr.specs.Naming.{NameMeans, NameHasCode}
 
 -- ---- expressions
@@ -34,9 +35,13 @@ pub some : {A : Type 0} (o : Option A) (x : A) → o ≡ Some x → IsSome o
 some {A} o x e = let S : Option A → Type 0 = λ y. IsSome y in subst S (sym e) refl
 
 module _ (s : Names) (level : ℕ) where
+  -- the first of two operands
+  pub first_code : (op : Op) (x y : PExpr) → HasCode s level (tree.two op x y) → HasCode s level x
+  first_code op x y h = record { scopes = h.scopes; own = h.own; block = h.block; kind = taken_by op; outer = h.outer; fits = h.fits.1 }
+
   -- the second of two operands
   pub second_code : (op : Op) (x y : PExpr) → HasCode s level (tree.two op x y) → HasCode s level y
-  second_code op x y h = record { scopes = h.scopes; kind = taken_by op; fits = h.fits.2 }
+  second_code op x y h = record { scopes = h.scopes; own = h.own; block = h.block; kind = taken_by op; outer = h.outer; fits = h.fits.2 }
 
   -- ---- names
 
@@ -48,16 +53,22 @@ module _ (s : Names) (level : ℕ) where
       omega arith
 
   -- a couple of a level up from here can stand there
-  seen_up : (c : Couple) (up : ℕ) → c.index < 2 + MOST_BLOCK_CELLS → c.level + up ≡ level → IsSeen level c
+  pub seen_up : (c : Couple) (up : ℕ) → c.index < 2 + MOST_BLOCK_CELLS → c.level + up ≡ level → IsSeen level c
   seen_up c up close is =
       let wide = wide_index in
       record { level_seen = omega (arith, is); index_fits = omega arith }
 
-  pub known_procedure : (scopes : Scopes) (n : Named) (callee : ℕ) → ProcedureFits scopes (couples s) (results s) (lows s) level n callee → IsSome (couples s n.spot)
+  -- .. and so can one that can stand further out
+  pub seen_further : (own : ℕ) (c : Couple) → own ≤ level → c.index < 2 + MOST_BLOCK_CELLS → IsSeen own c → IsSeen level c
+  seen_further own c outer close seen =
+      let wide = wide_index in
+      record { level_seen = omega (arith, seen.level_seen, outer); index_fits = omega arith }
+
+  pub known_procedure : (scopes : Scopes) (n : Named) (callee : ℕ) → ProcedureFits scopes (meanings s) level n callee → IsSome (couples s n.spot)
   known_procedure scopes n callee p = some (couples s n.spot) p.couple p.known_is
 
   pub seen_procedure : (scopes : Scopes) (n : Named) (callee : ℕ) (c : Couple) → AreNear s → couples s n.spot ≡ Some c →
-      ProcedureFits scopes (couples s) (results s) (lows s) level n callee → IsSeen level c
+      ProcedureFits scopes (meanings s) level n callee → IsSeen level c
   seen_procedure scopes n callee c near is p =
       let same : p.couple ≡ c = cc (p.known_is, is) in
       let I : Couple → Type 0 = λ d. IsSeen level d in
@@ -68,42 +79,55 @@ module _ (s : Names) (level : ℕ) where
   level_up scopes n shape c (declared d is r) = r.made.level_is
   level_up scopes n shape c (formal r) = r.level_is
 
-  pub known_array : (scopes : Scopes) (n : Named) (shape : Shape) → ArrayFits scopes (couples s) (results s) (lows s) level n shape → IsSome (couples s n.spot)
+  pub known_array : (scopes : Scopes) (n : Named) (shape : Shape) → ArrayFits scopes (meanings s) level n shape → IsSome (couples s n.spot)
   known_array scopes n shape f = some (couples s n.spot) f.couple f.known_is
 
   pub seen_array : (scopes : Scopes) (n : Named) (shape : Shape) (c : Couple) → AreNear s → couples s n.spot ≡ Some c →
-      ArrayFits scopes (couples s) (results s) (lows s) level n shape → IsSeen level c
+      ArrayFits scopes (meanings s) level n shape → IsSeen level c
   seen_array scopes n shape c near is f =
       let same : f.couple ≡ c = cc (f.known_is, is) in
       let I : Couple → Type 0 = λ d. IsSeen level d in
       subst I same (seen_up f.couple (use_of scopes n).up (near.own n.spot f.couple f.known_is) (level_up scopes n shape f.couple f.array))
 
-  pub known_name : (n : Named) → NameHasCode s level n → IsSome (couples s n.spot)
-  known_name n h = by h.fits
-    where
-      by : NameMeans s h.scopes level h.kind n → IsSome (couples s n.spot)
-      by (inl ((c, is, v), none)) = some (couples s n.spot) c is
-      by (inr (callee, p, none, is)) = known_procedure h.scopes n callee p
+  -- .. of what is read, too
+  read_up : (scopes : Scopes) (k : Kind) (n : Named) (c : Couple) → IsRead scopes level n k c → c.level + (use_of scopes n).up ≡ level
+  read_up scopes k n c (of_variable v) = v.level_is
+  read_up scopes k n c (of_formal v) = v.level_is
 
-  pub seen_name : (n : Named) (c : Couple) → AreNear s → couples s n.spot ≡ Some c → NameHasCode s level n → IsSeen level c
-  seen_name n c near is h = by h.fits
-    where
-      by : NameMeans s h.scopes level h.kind n → IsSeen level c
-      by (inl ((d, known, v), none)) =
-          let same : d ≡ c = cc (known, is) in
-          let I : Couple → Type 0 = λ x. IsSeen level x in
-          subst I same (seen_up d (use_of h.scopes n).up (near.own n.spot d known) v.level_is)
-      by (inr (callee, p, none, typed)) = seen_procedure h.scopes n callee c near is p
+  name_known : (scopes : Scopes) (kind : Kind) (n : Named) → NameMeans s scopes level kind n → IsSome (couples s n.spot)
+  name_known scopes kind n (inl ((c, is, v), none)) = some (couples s n.spot) c is
+  name_known scopes kind n (inr (callee, p, none, is)) = known_procedure scopes n callee p
+
+  name_seen : (scopes : Scopes) (kind : Kind) (n : Named) (c : Couple) → AreNear s → couples s n.spot ≡ Some c → NameMeans s scopes level kind n → IsSeen level c
+  name_seen scopes kind n c near is (inl ((d, known, v), none)) =
+      let same : d ≡ c = cc (known, is) in
+      let I : Couple → Type 0 = λ x. IsSeen level x in
+      subst I same (seen_up d (use_of scopes n).up (near.own n.spot d known) (read_up scopes kind n d v))
+  name_seen scopes kind n c near is (inr (callee, p, none, typed)) = seen_procedure scopes n callee c near is p
 
   -- the couple of a name on the left is that of its own cell or of a result
-  left_near : (own result : Option Couple) (c : Couple) → ((d : Couple) → own ≡ Some d → d.index < 2 + MOST_BLOCK_CELLS) →
+  pub left_near : (own result : Option Couple) (c : Couple) → ((d : Couple) → own ≡ Some d → d.index < 2 + MOST_BLOCK_CELLS) →
       ((d : Couple) → result ≡ Some d → d.index < 2 + MOST_BLOCK_CELLS) → couple_on_left result own ≡ Some c → c.index < 2 + MOST_BLOCK_CELLS
   left_near own None c near near' is = near c is
   left_near own (Some d) c near near' is = near' c is
 
-  pub seen_left : (scopes : Scopes) (kind : Kind) (n : Named) (c : Couple) → AreNear s → lefts s n.spot ≡ Some c →
-      LeftFits scopes (couples s) (results s) (lows s) level kind n → IsSeen level c
-  seen_left scopes kind n c near is (d, known, v) =
+  seen_left : (n : Named) (c d : Couple) (up : ℕ) → AreNear s → lefts s n.spot ≡ Some c → lefts s n.spot ≡ Some d → d.level + up ≡ level → IsSeen level c
+  seen_left n c d up near is known at =
       let same : d ≡ c = cc (known, is) in
       let I : Couple → Type 0 = λ x. IsSeen level x in
-      subst I same (seen_up d (use_of scopes n).up (left_near (couples s n.spot) (results s n.spot) d (near.own n.spot) (near.result n.spot) known) v.level_is)
+      subst I same (seen_up d up (left_near (couples s n.spot) (results s n.spot) d (near.own n.spot) (near.result n.spot) known) at)
+
+  pub known_place : (scopes : Scopes) (kind : Kind) (n : Named) → PlaceFits scopes (meanings s) level kind n → IsSome (lefts s n.spot)
+  known_place scopes kind n (fitting.own (d, known, v) off) = some (lefts s n.spot) d known
+  known_place scopes kind n (fitting.resolved d known on v) = some (lefts s n.spot) d known
+
+  pub seen_place : (scopes : Scopes) (kind : Kind) (n : Named) (c : Couple) → AreNear s → lefts s n.spot ≡ Some c → PlaceFits scopes (meanings s) level kind n → IsSeen level c
+  seen_place scopes kind n c near is (fitting.own (d, known, v) off) = seen_left n c d (use_of scopes n).up near is known v.level_is
+  seen_place scopes kind n c near is (fitting.resolved d known on v) = seen_left n c d (use_of scopes n).up near is known v.level_is
+
+module _ (s : Names) (level : ℕ) where
+  pub known_name : (n : Named) → NameHasCode s level n → IsSome (couples s n.spot)
+  known_name n h = name_known s h.own h.scopes h.kind n h.fits
+
+  pub seen_name : (n : Named) (c : Couple) → AreNear s → couples s n.spot ≡ Some c → NameHasCode s level n → IsSeen level c
+  seen_name n c near is h = seen_further s level h.own c h.outer (near.own n.spot c is) (name_seen s h.own h.scopes h.kind n c near is h.fits)

@@ -51,10 +51,13 @@ module _ (s : Names) where
   element_has level (tree.subscripted n tree.none) is h = absurd is
   element_has level (tree.subscripted n (tree.more e es)) is h = record {
     scopes = h.scopes;
+    own = h.own;
+    block = h.block;
     name = n;
     shape = h.fits.0;
     subscripts = tree.more e es;
     variable_is = refl;
+    outer = h.outer;
     fits = (h.fits.1, h.fits.3);
   }
 
@@ -75,7 +78,7 @@ module _ (s : Names) where
   alone_has level v none h =
       let H : PVariable → Type 0 = λ w. HasCode s level (tree.variable w) in
       let own : HasCode s level (tree.variable (tree.subscripted v.name tree.none)) = subst H (is_alone v none) h in
-      record { scopes = own.scopes; kind = own.kind; fits = own.fits.0 }
+      record { scopes = own.scopes; own = own.own; kind = own.kind; outer = own.outer; fits = own.fits.0 }
 
   pub alone_form : (level : ℕ) (a b : Built) (v : Variable) → v.subs ≡ [] → NameEmitted s level a b v.name → ValueEmitted s level a b (tree.variable (variable v))
   alone_form level a b v none h =

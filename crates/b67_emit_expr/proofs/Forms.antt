@@ -44,6 +44,10 @@ module _ (s : Names) where
       Emitted a b (λ qs. Has qs level (size a.operators) (ops.Plain k') (size b.operators))
   plain_as level a b k k' is h = let K : PlainKind → Type 0 = λ x. Emitted a b (λ qs. Has qs level (size a.operators) (ops.Plain x) (size b.operators)) in subst K is h
 
+  pub plain_on : (l m : ℕ) (a b : Built) (k : PlainKind) → l ≡ m → Emitted a b (λ qs. Has qs l (size a.operators) (ops.Plain k) (size b.operators)) →
+      Emitted a b (λ qs. Has qs m (size a.operators) (ops.Plain k) (size b.operators))
+  plain_on l m a b k same h = let K : ℕ → Type 0 = λ n. Emitted a b (λ qs. Has qs n (size a.operators) (ops.Plain k) (size b.operators)) in subst K same h
+
   -- ---- without parts
 
   pub number_form : (level : ℕ) (a b : Built) (xs : List ℕ) (z : ℤ) (spot : Spot) → Emitted a b (λ qs. NumberAt qs level z (size a.operators) (size b.operators)) →

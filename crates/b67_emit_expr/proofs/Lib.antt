@@ -3,7 +3,9 @@ pub mod Couples
 pub mod Calls
 pub mod Names
 pub mod Elements
+pub mod Modes
 pub mod Passed
+pub mod Givens
 pub mod Actuals
 pub mod Forms
 pub mod Listed
@@ -11,3 +13,4 @@ pub mod Called
 pub mod Arms
 pub mod Subscripts
 pub mod References
+pub mod Routines

@@ -12,13 +12,13 @@ use Rattle.b67_emitter.specs.declared.names.Names.{Names}
 use Rattle.b67_emitter.specs.Values.{HasCode, ValueWithExits}
 use Rattle.b67_emitter.proofs.Exits.{exits_kept}
 
--- a context of this level, where any will do
-abbrev pub nowhere : ℕ → Context
-nowhere level = record { formats = []; segment = 0; block = 0; level = level; yields = nothing; labels = λ spot. None }
+-- a context of this level and this block, where any will do
+abbrev pub nowhere : ℕ → ℕ → Context
+nowhere level block = record { formats = []; segment = 0; block = block; level = level; yields = nothing; labels = λ spot. None }
 
 module _ (s : Names) (level : ℕ) (a b : Built) (xs ys : List ℕ) (e : PExpr) (has : HasCode s level e) (h : ValueWithExits s level a b xs ys e) where
-  own : EmittedWithExits a b xs ys (λ qs target. ExprAt has.scopes (nowhere level) qs level has.kind e (size a.operators) (size b.operators) target)
-  own = h.code has.scopes (nowhere level) has.kind has.fits
+  own : EmittedWithExits a b xs ys (λ qs target. ExprAt has.scopes (nowhere has.own has.block) qs level has.kind e (size a.operators) (size b.operators) target)
+  own = h.code has.scopes (nowhere has.own has.block) has.kind has.fits
 
   pub list_grown : length xs ≤ length ys
   list_grown = omega (arith, ap length own.added, length-append xs own.exits)

@@ -1,11 +1,10 @@
 -- An actual is a value, or an array's name by itself: by the lower bounds that are known of names it is told which.
-use Rattle.std.proofs.Common.{◌≡◌, ℕ, ◌<◌, ◌≤◌, true, false, [], length, Bool, Option, Some, None, is_some, option_copied, refl, sym, ap, ◌∙◌, subst, arith, if◌then◌else◌}
+use Rattle.std.proofs.Common.{◌≡◌, ℕ, ◌<◌, true, false, [], length, Bool, Option, Some, None, is_some, option_copied, refl, sym, ap, ◌∙◌, subst, if◌then◌else◌}
 use Rattle.std.specs.Prelude.{IsSome}
 use Rattle.std.specs.Borrow.{Bor}
 use Rattle.algol_tree.specs.declared.tree.Kind.{Kind}
 use Rattle.algol_tree.specs.declared.tree.Named.{Named}
 use Rattle.algol_tree.specs.declared.tree.Variable.{Variable}
-use Rattle.algol_tree.specs.Counts.{expr_tokens}
 use Rattle.algol_tree.specs.Plain as tree
 use Rattle.algol_tree.specs.Image.{variable}
 use Rattle.algol_tree.specs.Plain.{PExpr, PVariable}
@@ -23,13 +22,14 @@ use Rattle.b67_templates.specs.Cells as wants
 use Rattle.b67_templates.specs.Cells.{Wanted, Agrees, IsArray}
 use Rattle.b67_templates.specs.Code.{ArrayActualAt}
 use Rattle.b67_templates.specs.Emitting.{Emitted}
-use Rattle.b67_templates.specs.Fitting.{ArrayFits, ExprFits}
+use Rattle.b67_templates.specs.Fitting.{is_by_name, ArrayFits, ExprFits}
+use Rattle.b67_templates.specs.Paying.{inline}
 use Rattle.algol_lows.specs.declared.bounds.Lows.{Lows}
 use Rattle.b67_emitter.specs.declared.names.Names.{Names}
-use Rattle.b67_emitter.specs.Values.{couples, results, lows, told, lows_told, AreNear, HasCode, ValueEmitted}
+use Rattle.b67_emitter.specs.Values.{couples, lows, told, lows_told, meanings, AreNear, HasCode, ValueEmitted}
 use Rattle.b67_emitter.proofs.Composing.{weaker}
 use Rattle.b67_emit_expr.specs.Passing.{if_array, array_alone, ActualFits, ActualAt, HasActual, ActualEmitted}
-use Rattle.b67_emit_expr.proofs.Couples.{some, known_array, seen_array}
+use Rattle.b67_emit_expr.proofs.Couples.{some, known_array, seen_array, seen_further}
 use Rattle.b67_emit_expr.proofs.Elements.{IsElement, is_element, is_alone}
 
 -- ---- a name by itself
@@ -60,42 +60,50 @@ module _ (s : Names) where
 
   -- ---- at which level
 
-  pub wanted_on : (l m : ℕ) (e : PExpr) → m ≡ l → HasActual s l e → HasActual s m e
-  wanted_on l m e same h = let H : ℕ → Type 0 = λ n. HasActual s n e in subst H (sym same) h
+  pub wanted_on : (l m : ℕ) (mode : Bool) (e : PExpr) → m ≡ l → HasActual s l mode e → HasActual s m mode e
+  wanted_on l m mode e same h = let H : ℕ → Type 0 = λ n. HasActual s n mode e in subst H (sym same) h
 
-  pub actual_on : (l m : ℕ) (a b : Built) (e : PExpr) → l ≡ m → ActualEmitted s l a b e → ActualEmitted s m a b e
-  actual_on l m a b e same h = let V : ℕ → Type 0 = λ n. ActualEmitted s n a b e in subst V same h
+  pub actual_on : (l m : ℕ) (a b : Built) (mode : Bool) (e : PExpr) → l ≡ m → ActualEmitted s l a b mode e → ActualEmitted s m a b mode e
+  actual_on l m a b mode e same h = let V : ℕ → Type 0 = λ n. ActualEmitted s n a b mode e in subst V same h
+
+  -- ---- by name or not
+
+  pub wanted_as : (level : ℕ) (mode mode' : Bool) (e : PExpr) → mode ≡ mode' → HasActual s level mode e → HasActual s level mode' e
+  wanted_as level mode mode' e same h = let H : Bool → Type 0 = λ m. HasActual s level m e in subst H same h
+
+  pub actual_as : (level : ℕ) (a b : Built) (mode mode' : Bool) (e : PExpr) → mode ≡ mode' → ActualEmitted s level a b mode' e → ActualEmitted s level a b mode e
+  actual_as level a b mode mode' e same h = let V : Bool → Type 0 = λ m. ActualEmitted s level a b m e in subst V (sym same) h
 
 -- ---- what is wanted of an actual, as it was found
 
-module _ (s : Names) (level : ℕ) (e : PExpr) where
+module _ (s : Names) (level block : ℕ) (e : PExpr) where
   -- an array
-  wanted_array : (scopes : Scopes) (wanted : Wanted) (n : Named) → array_alone s e ≡ Some n → ActualFits s scopes level wanted e →
-      (shape : Shape) × (wanted ≡ wants.array shape) × ((a : Shape) × ArrayFits scopes (couples s) (results s) (lows s) level n a × Agrees shape a)
-  wanted_array scopes (wants.value kind) n is fits =
+  wanted_array : (scopes : Scopes) (wanted : Wanted) (n : Named) → is_by_name wanted ≡ false → array_alone s e ≡ Some n → ActualFits s scopes level block wanted e →
+      (shape : Shape) × (wanted ≡ wants.array shape) × ((a : Shape) × ArrayFits scopes (meanings s) level n a × Agrees shape a)
+  wanted_array scopes (wants.value kind) n off is fits =
       let found = found_alone s e n is in
-      let F : PExpr → Type 0 = λ x. ActualFits s scopes level (wants.value kind) x in
+      let F : PExpr → Type 0 = λ x. ActualFits s scopes level block (wants.value kind) x in
       let own : F (tree.variable (tree.subscripted n tree.none)) = subst F (alone_is e n found.0) fits in
       let S : Option arrays.Lows → Type 0 = λ o. IsSome o in
       absurd (let none : S None = subst S own.1 found.1 in cc)
-  wanted_array scopes (wants.array shape) n is (m, same, fits) =
+  wanted_array scopes (wants.array shape) n off is (m, same, fits) =
       let found = found_alone s e n is in
       let one : m ≡ n = cc (sym same ∙ alone_is e n found.0) in
-      let F : Named → Type 0 = λ x. (a : Shape) × ArrayFits scopes (couples s) (results s) (lows s) level x a × Agrees shape a in
+      let F : Named → Type 0 = λ x. (a : Shape) × ArrayFits scopes (meanings s) level x a × Agrees shape a in
       (shape, refl, subst F one fits)
-  wanted_array scopes (wants.by_name kind) n is fits = absurd fits
-  wanted_array scopes wants.event n is fits = absurd fits
-  wanted_array scopes wants.other n is fits = absurd fits
+  wanted_array scopes (wants.by_name kind) n off is fits = absurd (let clash : true ≡ false = off in cc)
+  wanted_array scopes wants.event n off is fits = absurd fits
+  wanted_array scopes wants.other n off is fits = absurd fits
 
   -- a value
-  wanted_value : (scopes : Scopes) (wanted : Wanted) → array_alone s e ≡ None → ActualFits s scopes level wanted e →
-      (kind : Kind) × (wanted ≡ wants.value kind) × ExprFits scopes (couples s) (results s) (lows s) level kind e
-  wanted_value scopes (wants.value kind) none fits = (kind, refl, fits)
-  wanted_value scopes (wants.array shape) none (n, same, (a, fits, agrees)) =
+  wanted_value : (scopes : Scopes) (wanted : Wanted) → is_by_name wanted ≡ false → array_alone s e ≡ None → ActualFits s scopes level block wanted e →
+      (kind : Kind) × (wanted ≡ wants.value kind) × ExprFits scopes (meanings s) level block kind e
+  wanted_value scopes (wants.value kind) off none fits = (kind, refl, fits)
+  wanted_value scopes (wants.array shape) off none (n, same, (a, fits, agrees)) =
       absurd (not_found s e n (record { list = a.lows; formal = is_formal ((use_of scopes n).sort) }) same fits.lows_are none)
-  wanted_value scopes (wants.by_name kind) none fits = absurd fits
-  wanted_value scopes wants.event none fits = absurd fits
-  wanted_value scopes wants.other none fits = absurd fits
+  wanted_value scopes (wants.by_name kind) off none fits = absurd (let clash : true ≡ false = off in cc)
+  wanted_value scopes wants.event off none fits = absurd fits
+  wanted_value scopes wants.other off none fits = absurd fits
 
 module _ (s : Names) (level : ℕ) (e : PExpr) where
   -- ---- an array
@@ -104,28 +112,26 @@ module _ (s : Names) (level : ℕ) (e : PExpr) where
     pub known_bounds : IsSome (lows s n.spot)
     known_bounds = let found = found_alone s e n is in found.1
 
-    pub known_actual : HasActual s level e → IsSome (couples s n.spot)
+    pub known_actual : HasActual s level false e → IsSome (couples s n.spot)
     known_actual h =
-        let own = wanted_array s level e h.scopes h.wanted n is h.fits in
-        known_array s level h.scopes n own.2.0 own.2.1
+        let own = wanted_array s h.own h.block e h.scopes h.wanted n h.mode is h.fits in
+        known_array s h.own h.scopes n own.2.0 own.2.1
 
-    pub seen_actual : (c : Couple) → AreNear s → couples s n.spot ≡ Some c → HasActual s level e → IsSeen level c
+    pub seen_actual : (c : Couple) → AreNear s → couples s n.spot ≡ Some c → HasActual s level false e → IsSeen level c
     seen_actual c near known h =
-        let own = wanted_array s level e h.scopes h.wanted n is h.fits in
-        seen_array s level h.scopes n own.2.0 c near known own.2.1
+        let own = wanted_array s h.own h.block e h.scopes h.wanted n h.mode is h.fits in
+        seen_further s level h.own c h.outer (near.own n.spot c known) (seen_array s h.own h.scopes n own.2.0 c near known own.2.1)
 
-    pub actual_tokens : 1 ≤ expr_tokens e
-    actual_tokens =
-        let found = found_alone s e n is in
-        omega (arith, ap expr_tokens (alone_is e n found.0))
+    pub actual_syllables : inline (meanings s) e ≡ 12
+    actual_syllables = let found = found_alone s e n is in ap (inline (meanings s)) (alone_is e n found.0)
 
     pub array_form : (a b : Built) (c : Couple) (l : Lows) → couples s n.spot ≡ Some c → lows s n.spot ≡ Some (told l) →
         ((scopes : Scopes) (context : Context) (shape x : Shape) (m : Named) → IsArray scopes context.level m x c → l.formal ≡ is_formal ((use_of scopes m).sort) → Agrees shape x →
-        Emitted a b (λ qs. ArrayActualAt scopes context qs level shape m (size a.operators) (size b.operators))) → ActualEmitted s level a b e
-    array_form a b c l known bounds h = record { code = λ scopes context wanted fits. by scopes context wanted (wanted_array s context.level e scopes wanted n is fits) }
+        Emitted a b (λ qs. ArrayActualAt scopes context qs level shape m (size a.operators) (size b.operators))) → ActualEmitted s level a b false e
+    array_form a b c l known bounds h = record { code = λ scopes context wanted mode fits. by scopes context wanted (wanted_array s context.level context.block e scopes wanted n mode is fits) }
       where
         by : (scopes : Scopes) (context : Context) (wanted : Wanted) →
-            (shape : Shape) × (wanted ≡ wants.array shape) × ((x : Shape) × ArrayFits scopes (couples s) (results s) (lows s) context.level n x × Agrees shape x) →
+            (shape : Shape) × (wanted ≡ wants.array shape) × ((x : Shape) × ArrayFits scopes (meanings s) context.level n x × Agrees shape x) →
             Emitted a b (λ qs. ActualAt scopes context qs level wanted e (size a.operators) (size b.operators))
         by scopes context wanted (shape, wish, (x, fits, agrees)) =
             let found = found_alone s e n is in
@@ -141,13 +147,15 @@ module _ (s : Names) (level : ℕ) (e : PExpr) where
   -- ---- a value
 
   module _ (none : array_alone s e ≡ None) where
-    pub actual_code : HasActual s level e → HasCode s level e
-    actual_code h = let own = wanted_value s level e h.scopes h.wanted none h.fits in record { scopes = h.scopes; kind = own.0; fits = own.2 }
+    pub actual_code : HasActual s level false e → HasCode s level e
+    actual_code h =
+        let own = wanted_value s h.own h.block e h.scopes h.wanted h.mode none h.fits in
+        record { scopes = h.scopes; own = h.own; block = h.block; kind = own.0; outer = h.outer; fits = own.2 }
 
-    pub value_form : (a b : Built) → ValueEmitted s level a b e → ActualEmitted s level a b e
+    pub value_form : (a b : Built) → ValueEmitted s level a b e → ActualEmitted s level a b false e
     value_form a b h = record {
-      code = λ scopes context wanted fits.
-          let own = wanted_value s context.level e scopes wanted none fits in
+      code = λ scopes context wanted mode fits.
+          let own = wanted_value s context.level context.block e scopes wanted mode none fits in
           let W : Wanted → Type 0 = λ w. Emitted a b (λ qs. ActualAt scopes context qs level w e (size a.operators) (size b.operators)) in
           subst W (sym own.1) (h.code scopes context own.0 own.2);
     }

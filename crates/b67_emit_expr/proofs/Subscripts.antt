@@ -25,17 +25,18 @@ use Rattle.b67_templates.specs.Cells.{IsArray}
 use Rattle.b67_templates.specs.Code.{SubscriptsAt}
 use Rattle.b67_templates.specs.Fragments.{Has, IsWhole}
 use Rattle.b67_templates.specs.Emitting.{Emitted}
-use Rattle.b67_templates.specs.Fitting.{ArrayFits, ExprFits, SubscriptsFit}
+use Rattle.b67_templates.specs.Fitting.{Told, ArrayFits, ExprFits, SubscriptsFit}
+use Rattle.b67_templates.specs.Paying.{inline, inline_all}
 use Rattle.algol_lows.specs.declared.bounds.Lows.{Lows}
 use Rattle.b67_emitter.specs.declared.names.Names.{Names}
-use Rattle.b67_emitter.specs.Values.{couples, results, lows, told, AreNear, HasCode, ElementFits}
+use Rattle.b67_emitter.specs.Values.{couples, lows, told, meanings, AreNear, HasCode, ElementFits}
 use Rattle.b67_emitter.proofs.Appends.{same_level}
 use Rattle.b67_emitter.proofs.Composing.{then, weaker}
 use Rattle.b67_emit_expr.specs.Subscripting.{SubscriptEmitted, HasSubscripts, SubscriptsEmitted}
 use Rattle.b67_emit_expr.proofs.Shapes.{variable_is, own_name, own_subscripts}
-use Rattle.b67_emit_expr.proofs.Couples.{some, known_array, seen_array}
+use Rattle.b67_emit_expr.proofs.Couples.{seen_further, some, known_array, seen_array}
 
--- ---- tokens
+-- ---- tokens, and syllables
 
 pub first_tokens : (xs : List Expr) (x : Expr) → 0 < length xs → x ≡ get_or xs 0 x → 1 + expr_tokens (expr x) ≤ exprs_tokens (exprs xs)
 first_tokens [] x some is = omega arith
@@ -48,9 +49,21 @@ both_tokens (z ∷ []) x y some first second = omega arith
 both_tokens (z ∷ w ∷ ws) x y some first second =
     omega (arith, ap (λ (u : Expr). expr_tokens (expr u)) first, ap (λ (u : Expr). expr_tokens (expr u)) second)
 
-pub all_tokens : (n : Named) (xs : List Expr) → 0 < length xs → variable_tokens (tree.subscripted n (exprs xs)) ≡ 2 + exprs_tokens (exprs xs)
-all_tokens n [] some = absurd (let none : 0 < 0 = some in omega arith)
-all_tokens n (x ∷ xs) some = omega arith
+module _ (told : Told) where
+  pub first_syllables : (xs : List Expr) (x : Expr) → 0 < length xs → x ≡ get_or xs 0 x → 12 + inline told (expr x) ≤ inline_all told (exprs xs)
+  first_syllables [] x some is = omega arith
+  first_syllables (y ∷ ys) x some is = omega (arith, ap (λ (z : Expr). inline told (expr z)) is)
+
+  pub both_syllables : (xs : List Expr) (x y : Expr) → 1 < length xs → x ≡ get_or xs 0 x → y ≡ get_or xs 1 y →
+      24 + inline told (expr x) + inline told (expr y) ≤ inline_all told (exprs xs)
+  both_syllables [] x y some first second = omega arith
+  both_syllables (z ∷ []) x y some first second = omega arith
+  both_syllables (z ∷ w ∷ ws) x y some first second =
+      omega (arith, ap (λ (u : Expr). inline told (expr u)) first, ap (λ (u : Expr). inline told (expr u)) second)
+
+  all_syllables : (n : Named) (xs : List Expr) → 0 < length xs → inline told (tree.variable (tree.subscripted n (exprs xs))) ≡ 24 + inline_all told (exprs xs)
+  all_syllables n [] some = absurd (let none : 0 < 0 = some in omega arith)
+  all_syllables n (x ∷ xs) some = omega arith
 
 few_tokens : (n : Named) (es : PExprs) → 1 + exprs_tokens es ≤ variable_tokens (tree.subscripted n es)
 few_tokens n tree.none = omega arith
@@ -61,9 +74,9 @@ subscripts_fewer v = omega (arith, ap variable_tokens (variable_is v), few_token
 
 -- ---- which fit
 
-module _ (s : Names) (scopes : Scopes) (level : ℕ) where
+module _ (s : Names) (scopes : Scopes) (level block : ℕ) where
   abbrev pub Fit : List ℤ → List Expr → Type 0
-  Fit ls xs = SubscriptsFit scopes (couples s) (results s) (lows s) level ls (exprs xs)
+  Fit ls xs = SubscriptsFit scopes (meanings s) level block ls (exprs xs)
 
   -- as many as there are lower bounds, and some
   pub as_many : (ls : List ℤ) (xs : List Expr) → Fit ls xs → (length ls ≡ length xs) × (0 < length xs)
@@ -78,7 +91,7 @@ module _ (s : Names) (scopes : Scopes) (level : ℕ) where
   as_many (l ∷ m ∷ n ∷ ns) xs fit = absurd fit
 
   abbrev IsFitting : ℤ → Expr → Type 0
-  IsFitting low x = IsWhole low × ExprFits scopes (couples s) (results s) (lows s) level types.Number (expr x)
+  IsFitting low x = IsWhole low × ExprFits scopes (meanings s) level block types.Number (expr x)
 
   named_as : (low l : ℤ) (x y : Expr) → low ≡ l → x ≡ y → IsFitting l y → IsFitting low x
   named_as low l x y p q h = let F : ℤ → Expr → Type 0 = IsFitting in subst (λ z. F z x) (sym p) (subst (F l) (sym q) h)
@@ -122,7 +135,7 @@ module _ (s : Names) (scopes : Scopes) (context : Context) (level : ℕ) (couple
   subscript_as a b low l x y p q h =
       let S : ℤ → Expr → Type 0 = λ m z. SubscriptEmitted s level a b m (expr z) in subst (λ m. S m y) p (subst (S low) q h)
 
-  pub one_code : (a b c : Built) (ls : List ℤ) (xs : List Expr) (low : ℤ) (x : Expr) → Fit s scopes context.level ls xs → length xs ≤ 1 → low ≡ get_or ls 0 (pos 0) → x ≡ get_or xs 0 x →
+  pub one_code : (a b c : Built) (ls : List ℤ) (xs : List Expr) (low : ℤ) (x : Expr) → Fit s scopes context.level context.block ls xs → length xs ≤ 1 → low ≡ get_or ls 0 (pos 0) → x ≡ get_or xs 0 x →
       SubscriptEmitted s level a b low (expr x) → Emitted b c (λ qs. Has qs level (size b.operators) (ops.Namc couple) (size c.operators)) →
       Emitted a c (λ qs. SubscriptsAt scopes context qs level couple ls (exprs xs) (size a.operators) (size c.operators))
   one_code a b c [] xs low x fit few p q h r = absurd fit
@@ -142,7 +155,7 @@ module _ (s : Names) (scopes : Scopes) (context : Context) (level : ℕ) (couple
       (r : Emitted b c (λ qs. Has qs level (size b.operators) (ops.Namc couple) (size c.operators)))
       (n : Emitted c d (λ qs. Has qs level (size c.operators) (ops.Plain kinds.Nxln) (size d.operators)))
       (h' : SubscriptEmitted s level d e low' (expr x')) (k : Emitted e f (λ qs. Has qs level (size e.operators) (ops.Plain kinds.Exch) (size f.operators))) where
-    pub two_code : (ls : List ℤ) (xs : List Expr) → Fit s scopes context.level ls xs → 1 < length xs → low ≡ get_or ls 0 (pos 0) → x ≡ get_or xs 0 x →
+    pub two_code : (ls : List ℤ) (xs : List Expr) → Fit s scopes context.level context.block ls xs → 1 < length xs → low ≡ get_or ls 0 (pos 0) → x ≡ get_or xs 0 x →
         low' ≡ get_or ls 1 (pos 0) → x' ≡ get_or xs 1 x' →
         Emitted a f (λ qs. SubscriptsAt scopes context qs level couple ls (exprs xs) (size a.operators) (size f.operators))
     two_code [] xs fit many p q p' q' = absurd fit
@@ -180,75 +193,78 @@ told_list s n l ls is known = ap list_told known ∙ ap (λ (ms : List ℤ). Som
 
 module _ (s : Names) (level : ℕ) (v : Variable) where
   -- .. whatever array its name is
-  module _ (scopes : Scopes) (n : Named) (shape : Shape) (es : PExprs) (is : variable v ≡ tree.subscripted n es) (fits : ElementFits s scopes level n shape es) where
-    pub its_array : ArrayFits scopes (couples s) (results s) (lows s) level v.name shape
-    its_array = let A : Named → Type 0 = λ m. ArrayFits scopes (couples s) (results s) (lows s) level m shape in subst A (own_name v n es is) fits.0
+  module _ (scopes : Scopes) (block : ℕ) (n : Named) (shape : Shape) (es : PExprs) (is : variable v ≡ tree.subscripted n es) (fits : ElementFits s scopes level block n shape es) where
+    pub its_array : ArrayFits scopes (meanings s) level v.name shape
+    its_array = let A : Named → Type 0 = λ m. ArrayFits scopes (meanings s) level m shape in subst A (own_name v n es is) fits.0
 
-    pub its_subscripts : (ls : List ℤ) → list_told (lows s v.name.spot) ≡ Some ls → Fit s scopes level ls v.subs
+    pub its_subscripts : (ls : List ℤ) → list_told (lows s v.name.spot) ≡ Some ls → Fit s scopes level block ls v.subs
     its_subscripts ls bounds =
         let same : shape.lows ≡ ls = cc (ap list_told its_array.lows_are, bounds) in
-        let F : List ℤ → PExprs → Type 0 = λ ms xs. SubscriptsFit scopes (couples s) (results s) (lows s) level ms xs in
+        let F : List ℤ → PExprs → Type 0 = λ ms xs. SubscriptsFit scopes (meanings s) level block ms xs in
         subst (λ ms. F ms (exprs v.subs)) same (subst (F shape.lows) (own_subscripts v n es is) fits.1)
 
 module _ (s : Names) (level : ℕ) (v : Variable) where
   module _ (h : HasSubscripts s level (variable v)) where
-    own : ArrayFits h.scopes (couples s) (results s) (lows s) level v.name h.shape
-    own = its_array s level v h.scopes h.name h.shape h.subscripts h.variable_is h.fits
+    own : ArrayFits h.scopes (meanings s) h.own v.name h.shape
+    own = its_array s h.own v h.scopes h.block h.name h.shape h.subscripts h.variable_is h.fits
 
     pub known_lows : IsSome (lows s v.name.spot)
     known_lows = some (lows s v.name.spot) (record { list = h.shape.lows; formal = is_formal ((use_of h.scopes v.name).sort) }) own.lows_are
 
     pub known_element : IsSome (couples s v.name.spot)
-    known_element = known_array s level h.scopes v.name h.shape own
+    known_element = known_array s h.own h.scopes v.name h.shape own
 
     pub seen_element : (m : ℕ) (c : Couple) → m ≡ level → AreNear s → couples s v.name.spot ≡ Some c → IsSeen m c
-    seen_element m c same near is = let I : ℕ → Type 0 = λ l. IsSeen l c in subst I (sym same) (seen_array s level h.scopes v.name h.shape c near is own)
+    seen_element m c same near is = let I : ℕ → Type 0 = λ l. IsSeen l c in
+        subst I (sym same) (seen_further s level h.own c h.outer (near.own v.name.spot c is) (seen_array s h.own h.scopes v.name h.shape c near is own))
 
     -- its subscripts and the lower bounds, as they were found
     module _ (ls : List ℤ) (xs : List Expr) (bounds : list_told (lows s v.name.spot) ≡ Some ls) (whole : xs ≡ v.subs) where
-      own_fit : Fit s h.scopes level ls xs
+      own_fit : Fit s h.scopes h.own h.block ls xs
       own_fit =
-          let F : List Expr → Type 0 = λ ys. Fit s h.scopes level ls ys in
-          subst F (sym whole) (its_subscripts s level v h.scopes h.name h.shape h.subscripts h.variable_is h.fits ls bounds)
+          let F : List Expr → Type 0 = λ ys. Fit s h.scopes h.own h.block ls ys in
+          subst F (sym whole) (its_subscripts s h.own v h.scopes h.block h.name h.shape h.subscripts h.variable_is h.fits ls bounds)
 
       pub some_subscripts : 0 < length xs
-      some_subscripts = let many = as_many s h.scopes level ls xs own_fit in many.1
+      some_subscripts = let many = as_many s h.scopes h.own h.block ls xs own_fit in many.1
 
       pub as_many_lows : length ls ≡ length xs
-      as_many_lows = let many = as_many s h.scopes level ls xs own_fit in many.0
+      as_many_lows = let many = as_many s h.scopes h.own h.block ls xs own_fit in many.0
 
-      pub own_tokens : variable_tokens (variable v) ≡ 2 + exprs_tokens (exprs xs)
-      own_tokens = ap variable_tokens (variable_is v) ∙ ap (λ (ys : List Expr). variable_tokens (tree.subscripted v.name (exprs ys))) (sym whole) ∙ all_tokens v.name xs some_subscripts
+      pub own_syllables : inline (meanings s) (tree.variable (variable v)) ≡ 24 + inline_all (meanings s) (exprs xs)
+      own_syllables =
+          ap (λ (w : PVariable). inline (meanings s) (tree.variable w)) (variable_is v)
+          ∙ ap (λ (ys : List Expr). inline (meanings s) (tree.variable (tree.subscripted v.name (exprs ys)))) (sym whole) ∙ all_syllables (meanings s) v.name xs some_subscripts
 
       pub first_has : (x : Expr) → x ≡ get_or xs 0 x → HasCode s level (expr x)
-      first_has x is = record { scopes = h.scopes; kind = types.Number; fits = (first_fits s h.scopes level ls xs (get_or ls 0 (pos 0)) x own_fit refl is).1 }
+      first_has x is = record { scopes = h.scopes; own = h.own; block = h.block; kind = types.Number; outer = h.outer; fits = (first_fits s h.scopes h.own h.block ls xs (get_or ls 0 (pos 0)) x own_fit refl is).1 }
 
       pub first_back : (x : Expr) → x ≡ get_or xs 0 x → to_z w64 (of_z w64 (get_or ls 0 (pos 0))) ≡ get_or ls 0 (pos 0)
-      first_back x is = read_back (get_or ls 0 (pos 0)) (first_fits s h.scopes level ls xs (get_or ls 0 (pos 0)) x own_fit refl is).0
+      first_back x is = read_back (get_or ls 0 (pos 0)) (first_fits s h.scopes h.own h.block ls xs (get_or ls 0 (pos 0)) x own_fit refl is).0
 
       pub first_whole : (x : Expr) → x ≡ get_or xs 0 x → IsWhole (to_z w64 (of_z w64 (get_or ls 0 (pos 0))))
-      first_whole x is = (first_fits s h.scopes level ls xs (to_z w64 (of_z w64 (get_or ls 0 (pos 0)))) x own_fit (first_back x is) is).0
+      first_whole x is = (first_fits s h.scopes h.own h.block ls xs (to_z w64 (of_z w64 (get_or ls 0 (pos 0)))) x own_fit (first_back x is) is).0
 
       pub second_has : (x : Expr) → 1 < length xs → x ≡ get_or xs 1 x → HasCode s level (expr x)
-      second_has x many is = record { scopes = h.scopes; kind = types.Number; fits = (second_fits s h.scopes level ls xs (get_or ls 1 (pos 0)) x own_fit many refl is).1 }
+      second_has x many is = record { scopes = h.scopes; own = h.own; block = h.block; kind = types.Number; outer = h.outer; fits = (second_fits s h.scopes h.own h.block ls xs (get_or ls 1 (pos 0)) x own_fit many refl is).1 }
 
       pub second_back : (x : Expr) → 1 < length xs → x ≡ get_or xs 1 x → to_z w64 (of_z w64 (get_or ls 1 (pos 0))) ≡ get_or ls 1 (pos 0)
-      second_back x many is = read_back (get_or ls 1 (pos 0)) (second_fits s h.scopes level ls xs (get_or ls 1 (pos 0)) x own_fit many refl is).0
+      second_back x many is = read_back (get_or ls 1 (pos 0)) (second_fits s h.scopes h.own h.block ls xs (get_or ls 1 (pos 0)) x own_fit many refl is).0
 
       pub second_whole : (x : Expr) → 1 < length xs → x ≡ get_or xs 1 x → IsWhole (to_z w64 (of_z w64 (get_or ls 1 (pos 0))))
-      second_whole x many is = (second_fits s h.scopes level ls xs (to_z w64 (of_z w64 (get_or ls 1 (pos 0)))) x own_fit many (second_back x many is) is).0
+      second_whole x many is = (second_fits s h.scopes h.own h.block ls xs (to_z w64 (of_z w64 (get_or ls 1 (pos 0)))) x own_fit many (second_back x many is) is).0
 
   -- the couple of the array and its lower bounds, as they were found
   module _ (ls : List ℤ) (xs : List Expr) (couple : Couple) (bounds : list_told (lows s v.name.spot) ≡ Some ls) (known : couples s v.name.spot ≡ Some couple) (whole : xs ≡ v.subs)
-      (a b : Built) (code : (scopes : Scopes) (context : Context) → Fit s scopes context.level ls xs →
+      (a b : Built) (code : (scopes : Scopes) (context : Context) → Fit s scopes context.level context.block ls xs →
       Emitted a b (λ qs. SubscriptsAt scopes context qs level couple ls (exprs xs) (size a.operators) (size b.operators))) where
-    own_code : (scopes : Scopes) (context : Context) (shape : Shape) → ArrayFits scopes (couples s) (results s) (lows s) context.level v.name shape →
-        Fit s scopes context.level ls v.subs → Emitted a b (λ qs. (c : Couple) × IsArray scopes context.level v.name shape c
+    own_code : (scopes : Scopes) (context : Context) (shape : Shape) → ArrayFits scopes (meanings s) context.level v.name shape →
+        Fit s scopes context.level context.block ls v.subs → Emitted a b (λ qs. (c : Couple) × IsArray scopes context.level v.name shape c
         × SubscriptsAt scopes context qs level c shape.lows (exprs v.subs) (size a.operators) (size b.operators))
     own_code scopes context shape f fit =
         let same : ls ≡ shape.lows = cc (ap list_told f.lows_are, bounds) in
         let there : f.couple ≡ couple = cc (f.known_is, known) in
-        let F : List Expr → Type 0 = λ ys. Fit s scopes context.level ls ys in
+        let F : List Expr → Type 0 = λ ys. Fit s scopes context.level context.block ls ys in
         let C : List ℤ → List Expr → Type 0 = λ ms ys. Emitted a b (λ qs. SubscriptsAt scopes context qs level couple ms (exprs ys) (size a.operators) (size b.operators)) in
         let I : Couple → Type 0 = λ c. IsArray scopes context.level v.name shape c in
         weaker (λ qs. (c : Couple) × IsArray scopes context.level v.name shape c
@@ -262,7 +278,7 @@ module _ (s : Names) (level : ℕ) (v : Variable) where
           let E : Named → PExprs → Type 0 = λ m ys. Emitted a b (λ qs. (c : Couple) × IsArray scopes context.level m shape c
           × SubscriptsAt scopes context qs level c shape.lows ys (size a.operators) (size b.operators)) in
           subst (λ m. E m es) (sym (own_name v n es is)) (subst (E v.name) (sym (own_subscripts v n es is))
-          (own_code scopes context shape (its_array s context.level v scopes n shape es is fits) (its_subscripts s context.level v scopes n shape es is fits ls bounds)));
+          (own_code scopes context shape (its_array s context.level v scopes context.block n shape es is fits) (its_subscripts s context.level v scopes context.block n shape es is fits ls bounds)));
     }
 
 -- The subscripts are appended at the level of the builder before them.

@@ -13,11 +13,11 @@ use Rattle.b67_templates.specs.Code.{ExprAt}
 use Rattle.b67_templates.specs.Emitting.{Emitted}
 use Rattle.b67_templates.specs.Fitting.{ExprFits}
 use Rattle.b67_emitter.specs.declared.names.Names.{Names}
-use Rattle.b67_emitter.specs.Values.{couples, results, lows}
+use Rattle.b67_emitter.specs.Values.{meanings}
 
 -- From the first builder to the second the expression's code was appended, and then this operator.
 pub record AppliedEmitted (s : Names) (level : ℕ) (before after : Built) (operator : PlainKind) (e : PExpr) : Type 0 where
   pub code :
-      (scopes : Scopes) (context : Context) (kind : Kind) → ExprFits scopes (couples s) (results s) (lows s) context.level kind e →
+      (scopes : Scopes) (context : Context) (kind : Kind) → ExprFits scopes (meanings s) context.level context.block kind e →
       Emitted before after
       (λ qs. (m : ℕ) × ExprAt scopes context qs level kind e (size before.operators) m m × Has qs level m (ops.Plain operator) (size after.operators))

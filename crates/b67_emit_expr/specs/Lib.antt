@@ -1,4 +1,5 @@
 pub mod Applying
 pub mod Naming
 pub mod Passing
+pub mod Placing
 pub mod Subscripting

@@ -1,9 +1,11 @@
 //! The emitter of expressions.
 
-use crate::values::{called, operand, subscripts};
+use crate::naming::append_place;
+use crate::placing::place_of;
+use crate::values::{applied, called, operand, subscripts};
 use algol_tree::{Call, Expr, Variable};
-use b67_emitter::{ExprEmitter, Names, append_plain, append_reference, left_of};
-use b67_ops::PlainKind;
+use b67_emitter::{ExprEmitter, Names, aim, append_branch, append_plain};
+use b67_ops::{BranchKind, PlainKind};
 use b67_segment::Builder;
 use std::alloc::{AllocError, Global};
 
@@ -25,10 +27,24 @@ impl ExprEmitter for Exprs {
 
     fn name(&self, v: &Variable, names: &Names, out: &mut Builder) -> Result<(), AllocError> {
         if v.subs.items().is_empty() {
-            append_reference(out, left_of(names, &v.name))
+            append_place(&v.name, names, out)
         } else {
             subscripts(v, names, out, &mut Vec::new(self.alloc))?;
             append_plain(out, PlainKind::Indx)
+        }
+    }
+
+    fn routine(&self, e: &Expr, names: &Names, out: &mut Builder) -> Result<(), AllocError> {
+        let mut exits = Vec::new(self.alloc);
+        match place_of(e) {
+            None => applied(PlainKind::Retn, e, names, out, &mut exits),
+            Some(v) => {
+                let to_place = append_branch(out, BranchKind::Brtr)?;
+                applied(PlainKind::Retn, e, names, out, &mut exits)?;
+                aim(out, &[to_place]);
+                self.name(v, names, out)?;
+                append_plain(out, PlainKind::Retn)
+            }
         }
     }
 }

@@ -4,10 +4,12 @@
 //! value of the whole is used, so that no branch leads to a branch.
 #![tactic(auto)]
 
+mod by_name;
 mod emitter;
 mod naming;
 mod operators;
 mod passing;
+mod placing;
 mod values;
 
 pub use emitter::Exprs;

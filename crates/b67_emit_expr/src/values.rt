@@ -1,26 +1,27 @@
 //! The code of an expression's value, part by part.
 
-ghost use Rattle.std.specs.Prelude.{◌≡◌, ◌+◌, ◌*◌, ◌≤◌, IsSome, OnOk};
+ghost use Rattle.std.specs.Prelude.{◌≡◌, ◌+◌, ◌*◌, ◌≤◌, false, IsSome, OnOk};
 ghost use Rattle.algol_tree.specs.declared.token.Spot.{Spot};
 ghost use Rattle.algol_tree.specs.Image.{expr, call, variable};
 ghost use Rattle.algol_tree.specs.Plain as tree;
 ghost use Rattle.b67_segment.specs.declared.TheConstants.{MOST_SEGMENT_SYLLABLES};
 ghost use Rattle.b67_segment.specs.Operators.{size};
 ghost use Rattle.b67_segment.specs.Building.{level_set};
-ghost use Rattle.b67_templates.specs.Depths.{expr_syllables};
-ghost use Rattle.b67_emitter.specs.Values.{AreNear, HasCode, ValueEmitted, ValueWithExits, HasCall, CallEmitted};
+ghost use Rattle.b67_templates.specs.Paying.{given_syllables, inline};
+ghost use Rattle.b67_emitter.specs.Values.{AreNear, meanings, HasCode, ValueEmitted, ValueWithExits, HasCall, CallEmitted};
 ghost use Rattle.b67_templates.specs.Fragments.{IsWhole};
 ghost use Rattle.b67_emit_expr.specs.Applying.{AppliedEmitted};
 ghost use Rattle.b67_emit_expr.specs.Passing.{HasActual, ActualEmitted};
 ghost use Rattle.b67_emit_expr.specs.Subscripting.{SubscriptEmitted, HasSubscripts, SubscriptsEmitted};
 
+use crate::by_name::append_given;
 use crate::naming::append_name;
 use crate::operators::{append_ready, operator_for, truth_literal};
 use crate::passing::array_alone;
 use algol_tree::{Call, Expr, Op, Variable};
 use b67_emitter::{
     Names, aim, aim_exits, append_array, append_begun, append_branch, append_exit, append_moved,
-    append_number, append_plain, append_reference, couple_of, lows_of,
+    append_number, append_plain, append_reference, couple_of, lows_of, takes_name,
 };
 use b67_ops::{BranchKind, PlainKind};
 use b67_segment::Builder;
@@ -37,10 +38,10 @@ pub fn operand(
     requires set { IsSome out.old.level }
     requires near { AreNear names.now }
     requires code { HasCode names.now (level_set out.old) (expr e.now) }
-    requires room { size out.old.operators + expr_syllables (expr e.now) ≤ MOST_SEGMENT_SYLLABLES }
+    requires room { size out.old.operators + inline (meanings names.now) (expr e.now) ≤ MOST_SEGMENT_SYLLABLES }
     ensures code { OnOk result (ValueEmitted names.now (level_set out.old) out.old out.new (expr e.now)) }
     ensures level { OnOk result (out.new.level ≡ out.old.level) }
-    ensures size { OnOk result (size out.new.operators ≤ size out.old.operators + expr_syllables (expr e.now)) }
+    ensures size { OnOk result (size out.new.operators ≤ size out.old.operators + inline (meanings names.now) (expr e.now)) }
     ensures exits { OnOk result (exits.new.items ≡ exits.old.items) }
 {
     let first = exits.len();
@@ -51,7 +52,7 @@ pub fn operand(
 
 /// An operand, and an operator on it.
 #[cycle(values)]
-fn applied(
+pub fn applied(
     kind: PlainKind,
     e: &Expr,
     names: &Names,
@@ -61,10 +62,10 @@ fn applied(
     requires set { IsSome out.old.level }
     requires near { AreNear names.now }
     requires code { HasCode names.now (level_set out.old) (expr e.now) }
-    requires room { size out.old.operators + expr_syllables (expr e.now) + 1 ≤ MOST_SEGMENT_SYLLABLES }
+    requires room { size out.old.operators + inline (meanings names.now) (expr e.now) + 1 ≤ MOST_SEGMENT_SYLLABLES }
     ensures code { OnOk result (AppliedEmitted names.now (level_set out.old) out.old out.new kind (expr e.now)) }
     ensures level { OnOk result (out.new.level ≡ out.old.level) }
-    ensures size { OnOk result (size out.new.operators ≤ size out.old.operators + expr_syllables (expr e.now) + 1) }
+    ensures size { OnOk result (size out.new.operators ≤ size out.old.operators + inline (meanings names.now) (expr e.now) + 1) }
     ensures exits { OnOk result (exits.new.items ≡ exits.old.items) }
 {
     operand(e, names, out, exits)?;
@@ -84,11 +85,11 @@ fn calculated(
     requires set { IsSome out.old.level }
     requires near { AreNear names.now }
     requires code { HasCode names.now (level_set out.old) (tree.two op (expr a.now) (expr b.now)) }
-    requires room { size out.old.operators + expr_syllables (tree.two op (expr a.now) (expr b.now)) ≤ MOST_SEGMENT_SYLLABLES }
+    requires room { size out.old.operators + inline (meanings names.now) (tree.two op (expr a.now) (expr b.now)) ≤ MOST_SEGMENT_SYLLABLES }
     ensures code { OnOk result (ValueEmitted names.now (level_set out.old) out.old out.new (tree.two op (expr a.now) (expr b.now))) }
     ensures level { OnOk result (out.new.level ≡ out.old.level) }
     ensures size { OnOk result (size out.new.operators
-        ≤ size out.old.operators + expr_syllables (tree.two op (expr a.now) (expr b.now))) }
+        ≤ size out.old.operators + inline (meanings names.now) (tree.two op (expr a.now) (expr b.now))) }
     ensures exits { OnOk result (exits.new.items ≡ exits.old.items) }
 {
     operand(a, names, out, exits)?;
@@ -97,21 +98,52 @@ fn calculated(
     append_plain(out, operator_for(op))
 }
 
-/// An actual: the value of an expression, or the reference to an array's cell.
+/// An actual that is not given by name: the value of an expression, or the reference to an array's cell.
 #[cycle(values)]
-fn given(e: &Expr, names: &Names, out: &mut Builder, exits: &mut Vec<u16>) -> Result<(), AllocError>
+fn valued(
+    e: &Expr,
+    names: &Names,
+    out: &mut Builder,
+    exits: &mut Vec<u16>,
+) -> Result<(), AllocError>
     requires set { IsSome out.old.level }
     requires near { AreNear names.now }
-    requires code { HasActual names.now (level_set out.old) (expr e.now) }
-    requires room { size out.old.operators + expr_syllables (expr e.now) ≤ MOST_SEGMENT_SYLLABLES }
-    ensures code { OnOk result (ActualEmitted names.now (level_set out.old) out.old out.new (expr e.now)) }
+    requires code { HasActual names.now (level_set out.old) false (expr e.now) }
+    requires room { size out.old.operators + inline (meanings names.now) (expr e.now) ≤ MOST_SEGMENT_SYLLABLES }
+    ensures code { OnOk result (ActualEmitted names.now (level_set out.old) out.old out.new false (expr e.now)) }
     ensures level { OnOk result (out.new.level ≡ out.old.level) }
-    ensures size { OnOk result (size out.new.operators ≤ size out.old.operators + expr_syllables (expr e.now)) }
+    ensures size { OnOk result (size out.new.operators ≤ size out.old.operators + inline (meanings names.now) (expr e.now)) }
     ensures exits { OnOk result (exits.new.items ≡ exits.old.items) }
 {
     match array_alone(e, names) {
         Some(name) => append_array(out, couple_of(names, name), lows_of(names, name).formal),
         None => operand(e, names, out, exits),
+    }
+}
+
+/// An actual, given by name or not.
+#[cycle(values)]
+fn given(
+    e: &Expr,
+    by_name: bool,
+    names: &Names,
+    out: &mut Builder,
+    exits: &mut Vec<u16>,
+) -> Result<(), AllocError>
+    requires set { IsSome out.old.level }
+    requires near { AreNear names.now }
+    requires code { HasActual names.now (level_set out.old) by_name (expr e.now) }
+    requires room { size out.old.operators + given_syllables by_name (inline (meanings names.now) (expr e.now)) ≤ MOST_SEGMENT_SYLLABLES }
+    ensures code { OnOk result (ActualEmitted names.now (level_set out.old) out.old out.new by_name (expr e.now)) }
+    ensures level { OnOk result (out.new.level ≡ out.old.level) }
+    ensures size { OnOk result (size out.new.operators
+        ≤ size out.old.operators + given_syllables by_name (inline (meanings names.now) (expr e.now))) }
+    ensures exits { OnOk result (exits.new.items ≡ exits.old.items) }
+{
+    if by_name {
+        append_given(e, names, out)
+    } else {
+        valued(e, names, out, exits)
     }
 }
 
@@ -126,16 +158,22 @@ pub fn called(
     requires set { IsSome out.old.level }
     requires near { AreNear names.now }
     requires code { HasCall names.now (level_set out.old) (call c.now) }
-    requires room { size out.old.operators + expr_syllables (tree.call (call c.now)) ≤ MOST_SEGMENT_SYLLABLES }
+    requires room { size out.old.operators + inline (meanings names.now) (tree.call (call c.now)) ≤ MOST_SEGMENT_SYLLABLES }
     ensures code { OnOk result (CallEmitted names.now (level_set out.old) out.old out.new (call c.now)) }
     ensures level { OnOk result (out.new.level ≡ out.old.level) }
-    ensures size { OnOk result (size out.new.operators ≤ size out.old.operators + expr_syllables (tree.call (call c.now))) }
+    ensures size { OnOk result (size out.new.operators ≤ size out.old.operators + inline (meanings names.now) (tree.call (call c.now))) }
     ensures exits { OnOk result (exits.new.items ≡ exits.old.items) }
 {
     append_begun(out, couple_of(names, &c.name))?;
     let actuals = c.actuals.items().as_slice();
-    'actuals: for actual in actuals {
-        given(actual, names, out, exits)?;
+    'actuals: for number in 0..actuals.len() {
+        given(
+            &actuals[number],
+            takes_name(names, &c.name, number),
+            names,
+            out,
+            exits,
+        )?;
     }
     append_plain(out, PlainKind::Entr)
 }
@@ -153,10 +191,10 @@ fn subscript(
     requires near { AreNear names.now }
     requires code { HasCode names.now (level_set out.old) (expr e.now) }
     requires whole { IsWhole low }
-    requires room { size out.old.operators + expr_syllables (expr e.now) + 21 ≤ MOST_SEGMENT_SYLLABLES }
+    requires room { size out.old.operators + inline (meanings names.now) (expr e.now) + 21 ≤ MOST_SEGMENT_SYLLABLES }
     ensures code { OnOk result (SubscriptEmitted names.now (level_set out.old) out.old out.new low (expr e.now)) }
     ensures level { OnOk result (out.new.level ≡ out.old.level) }
-    ensures size { OnOk result (size out.new.operators ≤ size out.old.operators + expr_syllables (expr e.now) + 21) }
+    ensures size { OnOk result (size out.new.operators ≤ size out.old.operators + inline (meanings names.now) (expr e.now) + 21) }
     ensures exits { OnOk result (exits.new.items ≡ exits.old.items) }
 {
     operand(e, names, out, exits)?;
@@ -175,10 +213,10 @@ pub fn subscripts(
     requires set { IsSome out.old.level }
     requires near { AreNear names.now }
     requires code { HasSubscripts names.now (level_set out.old) (variable v.now) }
-    requires room { size out.old.operators + expr_syllables (tree.variable (variable v.now)) ≤ MOST_SEGMENT_SYLLABLES }
+    requires room { size out.old.operators + inline (meanings names.now) (tree.variable (variable v.now)) ≤ MOST_SEGMENT_SYLLABLES }
     ensures code { OnOk result (SubscriptsEmitted names.now (level_set out.old) out.old out.new (variable v.now)) }
     ensures level { OnOk result (out.new.level ≡ out.old.level) }
-    ensures size { OnOk result (size out.new.operators + 1 ≤ size out.old.operators + expr_syllables (tree.variable (variable v.now))) }
+    ensures size { OnOk result (size out.new.operators + 1 ≤ size out.old.operators + inline (meanings names.now) (tree.variable (variable v.now))) }
     ensures exits { OnOk result (exits.new.items ≡ exits.old.items) }
 {
     let lows = lows_of(names, &v.name).list.items().as_slice();
@@ -204,10 +242,10 @@ fn read(
     requires set { IsSome out.old.level }
     requires near { AreNear names.now }
     requires code { HasCode names.now (level_set out.old) (tree.variable (variable v.now)) }
-    requires room { size out.old.operators + expr_syllables (tree.variable (variable v.now)) ≤ MOST_SEGMENT_SYLLABLES }
+    requires room { size out.old.operators + inline (meanings names.now) (tree.variable (variable v.now)) ≤ MOST_SEGMENT_SYLLABLES }
     ensures code { OnOk result (ValueEmitted names.now (level_set out.old) out.old out.new (tree.variable (variable v.now))) }
     ensures level { OnOk result (out.new.level ≡ out.old.level) }
-    ensures size { OnOk result (size out.new.operators ≤ size out.old.operators + expr_syllables (tree.variable (variable v.now))) }
+    ensures size { OnOk result (size out.new.operators ≤ size out.old.operators + inline (meanings names.now) (tree.variable (variable v.now))) }
     ensures exits { OnOk result (exits.new.items ≡ exits.old.items) }
 {
     if v.subs.items().is_empty() {
@@ -233,13 +271,13 @@ fn chosen(
     requires condition { HasCode names.now (level_set out.old) (expr condition.now) }
     requires first { HasCode names.now (level_set out.old) (expr x.now) }
     requires second { HasCode names.now (level_set out.old) (expr y.now) }
-    requires room { size out.old.operators + expr_syllables (expr condition.now) + expr_syllables (expr x.now) + expr_syllables (expr y.now) + 6
+    requires room { size out.old.operators + inline (meanings names.now) (expr condition.now) + inline (meanings names.now) (expr x.now) + inline (meanings names.now) (expr y.now) + 6
         ≤ MOST_SEGMENT_SYLLABLES }
     ensures code { OnOk result ((spot : Spot) → ValueWithExits names.now (level_set out.old) out.old out.new exits.old.items exits.new.items
         (tree.if (expr condition.now) (expr x.now) (expr y.now) spot)) }
     ensures level { OnOk result (out.new.level ≡ out.old.level) }
     ensures size { OnOk result (size out.new.operators
-        ≤ size out.old.operators + expr_syllables (expr condition.now) + expr_syllables (expr x.now) + expr_syllables (expr y.now) + 6) }
+        ≤ size out.old.operators + inline (meanings names.now) (expr condition.now) + inline (meanings names.now) (expr x.now) + inline (meanings names.now) (expr y.now) + 6) }
 {
     operand(condition, names, out, exits)?;
     let otherwise = append_branch(out, BranchKind::Brfl)?;
@@ -260,10 +298,10 @@ fn value_with_exits(
     requires set { IsSome out.old.level }
     requires near { AreNear names.now }
     requires code { HasCode names.now (level_set out.old) (expr e.now) }
-    requires room { size out.old.operators + expr_syllables (expr e.now) ≤ MOST_SEGMENT_SYLLABLES }
+    requires room { size out.old.operators + inline (meanings names.now) (expr e.now) ≤ MOST_SEGMENT_SYLLABLES }
     ensures code { OnOk result (ValueWithExits names.now (level_set out.old) out.old out.new exits.old.items exits.new.items (expr e.now)) }
     ensures level { OnOk result (out.new.level ≡ out.old.level) }
-    ensures size { OnOk result (size out.new.operators ≤ size out.old.operators + expr_syllables (expr e.now)) }
+    ensures size { OnOk result (size out.new.operators ≤ size out.old.operators + inline (meanings names.now) (expr e.now)) }
 {
     match e {
         Expr::Number(value, _) => append_number(out, *value),

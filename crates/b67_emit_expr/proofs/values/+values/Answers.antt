@@ -1,8 +1,8 @@
-use Rattle.std.proofs.Common.{◌≡◌, ℕ, ◌+◌, ◌*◌, ◌≤◌, ◌<◌, List, drop, length, get_or, ℤ, pos, to_z, of_z, w64, option_copied, refl, sym, ap, ◌∙◌, subst, arith}
+use Rattle.std.proofs.Common.{◌≡◌, ℕ, ◌+◌, ◌*◌, ◌≤◌, ◌<◌, Bool, true, false, List, drop, length, get_or, ℤ, pos, to_z, of_z, w64, option_copied, refl, sym, ap, ◌∙◌, subst, arith}
 use Rattle.std.proofs.lemmas.List.{drop_all}
 use Rattle.std.proofs.lemmas.Result.{on_ok_weaker}
 use Rattle.algol_tree.specs.declared.tree.Expr.{Expr}
-use Rattle.algol_tree.specs.Counts.{expr_tokens, variable_tokens, call_tokens, exprs_tokens}
+use Rattle.algol_tree.specs.Counts.{expr_tokens, exprs_tokens}
 use Rattle.algol_tree.specs.Image.{expr, exprs, variable, call}
 use Rattle.algol_tree.specs.Plain as tree
 use Rattle.b67_segment.specs.declared.TheConstants.{MOST_SEGMENT_SYLLABLES}
@@ -10,15 +10,18 @@ use Rattle.b67_segment.specs.Operators.{size}
 use Rattle.b67_segment.specs.Building.{level_set}
 use Rattle.b67_templates.specs.Fragments.{MovedAt, operator_for, truth_literal}
 use Rattle.b67_templates.specs.Emitting.{Emitted}
+use Rattle.b67_templates.specs.Paying.{mode_at, given_syllables, inline, inline_given}
+use Rattle.b67_emitter.specs.Values.{meant, meanings}
 use Rattle.b67_emitter.proofs.Appends.{same_level}
 use Rattle.b67_emit_expr.proofs.Shapes.{call_long, number_is, truth_is, paren_as, plus_as, neg_as, not_as, two_as, if_as}
-use Rattle.b67_emit_expr.proofs.Couples.{code_on, second_code, set_after}
+use Rattle.b67_emit_expr.proofs.Couples.{code_on, first_code, second_code, set_after}
 use Rattle.b67_emit_expr.proofs.Forms.{listed_as, plain_as, number_form, truth_form, moved_form, paren_form, plus_form, neg_form, not_form, applied_form, exits_aimed, operands_form, calculated_form, chosen_form}
 use Rattle.b67_emit_expr.proofs.Listed.{nowhere, list_grown, exits_lie, exits_back, hole_lies}
-use Rattle.b67_emit_expr.proofs.Called.{known_call, seen_call, begin_left, next_is, next_tokens, next_wanted, next_one, called_form}
-use Rattle.b67_emit_expr.proofs.Passed.{wanted_on, actual_on, known_bounds, known_actual, seen_actual, actual_tokens, array_form, actual_code, value_form}
-use Rattle.b67_emit_expr.proofs.Arms.{on_ok_both, emitted_as, variable_as, variable_has, variable_arm, calling_tokens, call_has, call_arm}
-use Rattle.b67_emit_expr.proofs.Subscripts.{first_tokens, both_tokens, subscripts_fewer, read_back, told_list, known_lows, known_element, seen_element, some_subscripts, as_many_lows, own_tokens, first_has, first_back, first_whole, second_has, second_back, second_whole, one_form, two_form}
+use Rattle.b67_emit_expr.proofs.Called.{known_call, seen_call, call_syllables, begin_left, next_is, next_tokens, next_syllables, next_wanted, next_one, called_form}
+use Rattle.b67_emit_expr.proofs.Passed.{wanted_on, actual_on, wanted_as, actual_as, known_bounds, known_actual, seen_actual, actual_syllables, array_form, actual_code, value_form}
+use Rattle.b67_emit_expr.proofs.Modes.{own_modes, given_named, given_valued}
+use Rattle.b67_emit_expr.proofs.Arms.{on_ok_both, emitted_as, variable_as, variable_syllables, variable_has, variable_arm, calling_tokens, calling_syllables, call_has, call_arm}
+use Rattle.b67_emit_expr.proofs.Subscripts.{first_tokens, both_tokens, first_syllables, both_syllables, subscripts_fewer, read_back, told_list, known_lows, known_element, seen_element, some_subscripts, as_many_lows, own_syllables, first_has, first_back, first_whole, second_has, second_back, second_whole, one_form, two_form}
 use Rattle.b67_emit_expr.proofs.Elements.{is_element, some_in, none_in, element_has, element_form, alone_has, alone_form}
 use Rattle.b67_emit_expr.proofs.values.+values.Goals as goal
 
@@ -65,6 +68,15 @@ calculated-returns-clause-code t c =
     c.in_ok-operand.ensures.level c.in_ok-operand-2.ensures.level)
     c.append_plain.ensures.code
 
+pub calculated-operand-requires : goal.calculated-operand-requires
+calculated-operand-requires t c =
+    let s = c.args.names.now in
+    let a = c.args.out.now in
+    let smaller : 3 * expr_tokens (expr c.args.a.now) + 1 < t = omega (arith, c.decreases) in
+    let room : size a.operators + inline (meanings s) (expr c.args.a.now) ≤ MOST_SEGMENT_SYLLABLES = omega (arith, c.requires.room) in
+    let code = first_code s (level_set a) c.args.op (expr c.args.a.now) (expr c.args.b.now) c.requires.code in
+    (smaller, (c.requires.set, (c.requires.near, (code, room))))
+
 pub calculated-operand-requires-2 : goal.calculated-operand-requires-2
 calculated-operand-requires-2 t c =
     let s = c.args.names.now in
@@ -72,53 +84,91 @@ calculated-operand-requires-2 t c =
     let b = c.append_ready.new.out in
     let level = c.in_ok-append_ready.ensures.level ∙ c.in_ok-operand.ensures.level in
     let smaller : 3 * expr_tokens (expr c.args.b.now) + 1 < t = omega (arith, c.decreases) in
-    let room : size b.operators + 12 * expr_tokens (expr c.args.b.now) ≤ MOST_SEGMENT_SYLLABLES = omega (arith, c.in_ok-append_ready.ensures.size, c.in_ok-operand.ensures.size, c.requires.room) in
+    let room : size b.operators + inline (meanings s) (expr c.args.b.now) ≤ MOST_SEGMENT_SYLLABLES = omega (arith, c.in_ok-append_ready.ensures.size, c.in_ok-operand.ensures.size, c.requires.room) in
     let code = code_on s (level_set a) (level_set b) (expr c.args.b.now) (same_level a b level)
     (second_code s (level_set a) c.args.op (expr c.args.a.now) (expr c.args.b.now) c.requires.code) in
     (smaller, (set_after a b level c.requires.set, (c.requires.near, (code, room))))
 
-pub given-couple_of-requires : goal.given-couple_of-requires
-given-couple_of-requires t c =
+pub given-append_given-requires-clause-code : goal.given-append_given-requires-clause-code
+given-append_given-requires-clause-code t c =
+    wanted_as c.args.names.now (level_set c.args.out.now) c.args.by_name true (expr c.args.e.now) c.if-by_name.true c.requires.code
+
+pub given-append_given-requires-clause-room : goal.given-append_given-requires-clause-room
+given-append_given-requires-clause-room t c =
+    omega (arith, given_named c.args.by_name (inline (meanings c.args.names.now) (expr c.args.e.now)) c.if-by_name.true, c.requires.room)
+
+pub given-valued-requires : goal.given-valued-requires
+given-valued-requires t c =
+    let s = c.args.names.now in
+    let smaller : 3 * expr_tokens (expr c.args.e.now) + 2 < t = omega (arith, c.decreases) in
+    let room : size c.args.out.now.operators + inline (meanings s) (expr c.args.e.now) ≤ MOST_SEGMENT_SYLLABLES =
+    omega (arith, given_valued c.args.by_name (inline (meanings s) (expr c.args.e.now)) c.if-by_name.false, c.requires.room) in
+    (smaller, (c.requires.set, (c.requires.near, (wanted_as s (level_set c.args.out.now) c.args.by_name false (expr c.args.e.now) c.if-by_name.false c.requires.code, room))))
+
+pub given-returns-then-by_name-clause-code : goal.given-returns-then-by_name-clause-code
+given-returns-then-by_name-clause-code t c =
+    on_ok_weaker c.append_given.result
+    (actual_as c.args.names.now (level_set c.args.out.now) c.args.out.now c.append_given.new.out c.args.by_name true (expr c.args.e.now) c.if-by_name.true)
+    c.append_given.ensures.code
+
+pub given-returns-then-by_name-clause-size : goal.given-returns-then-by_name-clause-size
+given-returns-then-by_name-clause-size t c =
+    on_ok_weaker c.append_given.result
+    (λ wide. omega (arith, given_named c.args.by_name (inline (meanings c.args.names.now) (expr c.args.e.now)) c.if-by_name.true, wide)) c.append_given.ensures.size
+
+pub given-returns-else-by_name-clause-code : goal.given-returns-else-by_name-clause-code
+given-returns-else-by_name-clause-code t c =
+    on_ok_weaker c.valued.result
+    (actual_as c.args.names.now (level_set c.args.out.now) c.args.out.now c.valued.new.out c.args.by_name false (expr c.args.e.now) c.if-by_name.false)
+    c.valued.ensures.code
+
+pub given-returns-else-by_name-clause-size : goal.given-returns-else-by_name-clause-size
+given-returns-else-by_name-clause-size t c =
+    on_ok_weaker c.valued.result
+    (λ wide. omega (arith, given_valued c.args.by_name (inline (meanings c.args.names.now) (expr c.args.e.now)) c.if-by_name.false, wide)) c.valued.ensures.size
+
+pub valued-couple_of-requires : goal.valued-couple_of-requires
+valued-couple_of-requires t c =
     let is = sym c.array_alone.ensures ∙ ap option_copied c.in-Some.is in
     known_actual c.args.names.now (level_set c.args.out.now) (expr c.args.e.now) c.in-Some.name.now is c.requires.code
 
-pub given-lows_of-requires : goal.given-lows_of-requires
-given-lows_of-requires t c =
+pub valued-lows_of-requires : goal.valued-lows_of-requires
+valued-lows_of-requires t c =
     let is = sym c.array_alone.ensures ∙ ap option_copied c.in-Some.is in
     known_bounds c.args.names.now (level_set c.args.out.now) (expr c.args.e.now) c.in-Some.name.now is
 
-pub given-append_array-requires-clause-seen : goal.given-append_array-requires-clause-seen
-given-append_array-requires-clause-seen t c =
+pub valued-append_array-requires-clause-seen : goal.valued-append_array-requires-clause-seen
+valued-append_array-requires-clause-seen t c =
     let is = sym c.array_alone.ensures ∙ ap option_copied c.in-Some.is in
     seen_actual c.args.names.now (level_set c.args.out.now) (expr c.args.e.now) c.in-Some.name.now is c.couple_of.result c.requires.near c.couple_of.ensures c.requires.code
 
-pub given-append_array-requires-clause-room : goal.given-append_array-requires-clause-room
-given-append_array-requires-clause-room t c =
+pub valued-append_array-requires-clause-room : goal.valued-append_array-requires-clause-room
+valued-append_array-requires-clause-room t c =
     let is = sym c.array_alone.ensures ∙ ap option_copied c.in-Some.is in
-    omega (arith, actual_tokens c.args.names.now (level_set c.args.out.now) (expr c.args.e.now) c.in-Some.name.now is, c.requires.room)
+    omega (arith, actual_syllables c.args.names.now (level_set c.args.out.now) (expr c.args.e.now) c.in-Some.name.now is, c.requires.room)
 
-pub given-operand-requires : goal.given-operand-requires
-given-operand-requires t c =
+pub valued-operand-requires : goal.valued-operand-requires
+valued-operand-requires t c =
     let none = sym c.array_alone.ensures ∙ ap option_copied c.in-None.is in
     let smaller : 3 * expr_tokens (expr c.args.e.now) + 1 < t = omega (arith, c.decreases) in
     (smaller, (c.requires.set, (c.requires.near, (actual_code c.args.names.now (level_set c.args.out.now) (expr c.args.e.now) none c.requires.code, c.requires.room))))
 
-pub given-returns-in-Some-clause-code : goal.given-returns-in-Some-clause-code
-given-returns-in-Some-clause-code t c =
+pub valued-returns-in-Some-clause-code : goal.valued-returns-in-Some-clause-code
+valued-returns-in-Some-clause-code t c =
     let is = sym c.array_alone.ensures ∙ ap option_copied c.in-Some.is in
     on_ok_weaker c.append_array.result
     (array_form c.args.names.now (level_set c.args.out.now) (expr c.args.e.now) c.in-Some.name.now is c.args.out.now c.append_array.new.out c.couple_of.result
     c.lows_of.result.now c.couple_of.ensures c.lows_of.ensures)
     c.append_array.ensures.code
 
-pub given-returns-in-Some-clause-size : goal.given-returns-in-Some-clause-size
-given-returns-in-Some-clause-size t c =
+pub valued-returns-in-Some-clause-size : goal.valued-returns-in-Some-clause-size
+valued-returns-in-Some-clause-size t c =
     let is = sym c.array_alone.ensures ∙ ap option_copied c.in-Some.is in
     on_ok_weaker c.append_array.result
-    (λ wide. omega (arith, actual_tokens c.args.names.now (level_set c.args.out.now) (expr c.args.e.now) c.in-Some.name.now is, wide)) c.append_array.ensures.size
+    (λ wide. omega (arith, actual_syllables c.args.names.now (level_set c.args.out.now) (expr c.args.e.now) c.in-Some.name.now is, wide)) c.append_array.ensures.size
 
-pub given-returns-in-None-clause-code : goal.given-returns-in-None-clause-code
-given-returns-in-None-clause-code t c =
+pub valued-returns-in-None-clause-code : goal.valued-returns-in-None-clause-code
+valued-returns-in-None-clause-code t c =
     let none = sym c.array_alone.ensures ∙ ap option_copied c.in-None.is in
     on_ok_weaker c.operand.result
     (value_form c.args.names.now (level_set c.args.out.now) (expr c.args.e.now) none c.args.out.now c.operand.new.out) c.operand.ensures.code
@@ -131,7 +181,7 @@ called-append_begun-requires-clause-seen t c =
     seen_call c.args.names.now (level_set c.args.out.now) c.args.c.now c.requires.code c.couple_of.result c.requires.near c.couple_of.ensures
 
 pub called-append_begun-requires-clause-room : goal.called-append_begun-requires-clause-room
-called-append_begun-requires-clause-room t c = omega (arith, call_long c.args.c.now, c.requires.room)
+called-append_begun-requires-clause-room t c = omega (arith, call_syllables c.args.names.now c.args.c.now, c.requires.room)
 
 pub called-actuals-init : goal.called-actuals-init
 called-actuals-init t c = record {
@@ -139,7 +189,7 @@ called-actuals-init t c = record {
   exits = refl;
   few = omega arith;
   short = omega (arith, c.in_ok-append_begun.ensures.size);
-  code = begin_left c.args.names.now (level_set c.args.out.now) c.append_begun.new.out c.append_begun.new.out c.as_slice-actuals.result.now;
+  code = begin_left c.args.names.now (level_set c.args.out.now) c.append_begun.new.out c.append_begun.new.out c.as_slice-actuals.result.now (own_modes c.args.names.now c.args.c.now.name);
 }
 
 pub called-given-requires : goal.called-given-requires
@@ -148,22 +198,30 @@ called-given-requires t c =
     let a = c.args.out.now in
     let b = c.actuals.out in
     let xs = c.as_slice-actuals.result.now in
-    let i = c.actuals.actual-index in
-    let x = c.actual-item.result in
+    let i = c.actuals.number in
+    let x = c.index-actuals-number.result in
+    let mode = c.takes_name.result in
     let whole : xs ≡ c.args.c.now.actuals = c.as_slice-actuals.ensures.value ∙ c.items.ensures in
-    let next = next_is xs i x c.actuals-test.true c.actual-item.is in
-    let tokens = next_tokens xs i x c.actuals-test.true c.actual-item.is in
+    let within : i < length xs = omega (arith, c.actuals-test.true) in
+    let next = next_is xs i x within c.index-actuals-number.is in
+    let tokens = next_tokens xs i x within c.index-actuals-number.is in
+    let long = next_syllables (meanings s) (own_modes s c.args.c.now.name) xs i x within c.index-actuals-number.is in
     let same = ap (λ (l : List Expr). exprs_tokens (exprs l)) whole in
-    let smaller : 3 * expr_tokens (expr x) + 2 < t = omega (arith, tokens, c.actuals.invariant.few, same, c.decreases) in
-    let room : size b.operators + 12 * expr_tokens (expr x) ≤ MOST_SEGMENT_SYLLABLES = omega (arith, tokens, same, c.actuals.invariant.short, call_long c.args.c.now, c.requires.room) in
-    let code = wanted_on s (level_set a) (level_set b) (expr x) (same_level a b c.actuals.invariant.level)
-    (next_wanted s (level_set a) c.append_begun.new.out b xs c.args.c.now x (drop i xs) (drop (i + 1) xs) whole next c.requires.code c.actuals.invariant.code) in
+    let all = ap (λ (l : List Expr). inline_given (meanings s) (own_modes s c.args.c.now.name) (exprs l)) whole in
+    let taken = ap (λ (m : Bool). given_syllables m (inline (meanings s) (expr x))) c.takes_name.ensures in
+    let smaller : 3 * expr_tokens (expr x) + 3 < t = omega (arith, tokens, c.actuals.invariant.few, same, c.decreases) in
+    let room : size b.operators + given_syllables mode (inline (meanings s) (expr x)) ≤ MOST_SEGMENT_SYLLABLES =
+    omega (arith, long, taken, all, c.actuals.invariant.short, call_syllables s c.args.c.now, c.requires.room) in
+    let code = wanted_on s (level_set a) (level_set b) mode (expr x) (same_level a b c.actuals.invariant.level)
+    (wanted_as s (level_set a) (mode_at (meant s c.args.c.now.name.spot) i) mode (expr x) (sym c.takes_name.ensures)
+    (next_wanted s (level_set a) c.append_begun.new.out b xs c.args.c.now i x (drop i xs) (drop (i + 1) xs) whole next c.requires.code c.actuals.invariant.code)) in
     (smaller, (set_after a b c.actuals.invariant.level c.requires.set, (c.requires.near, (code, room))))
 
 pub called-append_plain-requires-clause-room : goal.called-append_plain-requires-clause-room
 called-append_plain-requires-clause-room t c =
+    let s = c.args.names.now in
     let whole : c.as_slice-actuals.result.now ≡ c.args.c.now.actuals = c.as_slice-actuals.ensures.value ∙ c.items.ensures in
-    omega (arith, ap (λ (l : List Expr). exprs_tokens (exprs l)) whole, c.actuals.invariant.short, call_long c.args.c.now, c.requires.room)
+    omega (arith, ap (λ (l : List Expr). inline_given (meanings s) (own_modes s c.args.c.now.name) (exprs l)) whole, c.actuals.invariant.short, call_syllables s c.args.c.now, c.requires.room)
 
 pub called-actuals-preserved : goal.called-actuals-preserved
 called-actuals-preserved t c =
@@ -172,25 +230,38 @@ called-actuals-preserved t c =
     let b = c.actuals.out in
     let d = c.given.new.out in
     let xs = c.as_slice-actuals.result.now in
-    let i = c.actuals.actual-index in
-    let x = c.actual-item.result in
-    let next = next_is xs i x c.actuals-test.true c.actual-item.is in
-    let tokens = next_tokens xs i x c.actuals-test.true c.actual-item.is in
+    let i = c.actuals.number in
+    let x = c.index-actuals-number.result in
+    let modes = own_modes s c.args.c.now.name in
+    let within : i < length xs = omega (arith, c.actuals-test.true) in
+    let next = next_is xs i x within c.index-actuals-number.is in
+    let tokens = next_tokens xs i x within c.index-actuals-number.is in
+    let long = next_syllables (meanings s) modes xs i x within c.index-actuals-number.is in
+    let taken = ap (λ (m : Bool). given_syllables m (inline (meanings s) (expr x))) c.takes_name.ensures in
     record {
       level = c.in_ok-given.ensures.level ∙ c.actuals.invariant.level;
       exits = ◌∙◌ {A = List ℕ} c.in_ok-given.ensures.exits c.actuals.invariant.exits;
       few = omega (arith, tokens, c.actuals.invariant.few);
-      short = omega (arith, tokens, c.in_ok-given.ensures.size, c.actuals.invariant.short);
-      code = next_one s (level_set a) c.append_begun.new.out b xs d x (drop i xs) (drop (i + 1) xs) next
-          (actual_on s (level_set b) (level_set a) b d (expr x) (same_level a b c.actuals.invariant.level) c.in_ok-given.ensures.code) c.actuals.invariant.code;
+      short = omega (arith, long, taken, c.in_ok-given.ensures.size, c.actuals.invariant.short);
+      code = next_one s (level_set a) c.append_begun.new.out b xs d modes i x (drop i xs) (drop (i + 1) xs) next
+          (actual_as s (level_set a) b d (mode_at (meant s c.args.c.now.name.spot) i) c.takes_name.result (expr x) (sym c.takes_name.ensures)
+          (actual_on s (level_set b) (level_set a) b d c.takes_name.result (expr x) (same_level a b c.actuals.invariant.level) c.in_ok-given.ensures.code)) c.actuals.invariant.code;
     }
+
+pub called-returns-clause-size : goal.called-returns-clause-size
+called-returns-clause-size t c =
+    let s = c.args.names.now in
+    let whole : c.as_slice-actuals.result.now ≡ c.args.c.now.actuals = c.as_slice-actuals.ensures.value ∙ c.items.ensures in
+    on_ok_weaker c.append_plain.result
+    (λ wide. omega (arith, ap (λ (l : List Expr). inline_given (meanings s) (own_modes s c.args.c.now.name) (exprs l)) whole, c.actuals.invariant.short, call_syllables s c.args.c.now, wide))
+    c.append_plain.ensures.size
 
 pub called-returns-clause-code : goal.called-returns-clause-code
 called-returns-clause-code t c =
     let xs = c.as_slice-actuals.result.now in
     on_ok_weaker c.append_plain.result
-    (called_form c.args.names.now c.args.out.now c.append_begun.new.out c.actuals.out c.append_plain.new.out c.args.c.now xs (drop c.actuals.actual-index xs)
-    (c.as_slice-actuals.ensures.value ∙ c.items.ensures) (drop_all c.actuals.actual-index xs c.actuals-test.false) c.couple_of.result c.couple_of.ensures c.actuals.invariant.level
+    (called_form c.args.names.now c.args.out.now c.append_begun.new.out c.actuals.out c.append_plain.new.out c.args.c.now c.actuals.number xs (drop c.actuals.number xs)
+    (c.as_slice-actuals.ensures.value ∙ c.items.ensures) (drop_all c.actuals.number xs (omega (arith, c.actuals-test.false))) c.couple_of.result c.couple_of.ensures c.actuals.invariant.level
     c.in_ok-append_begun.ensures.code c.actuals.invariant.code)
     c.append_plain.ensures.code
 
@@ -199,7 +270,7 @@ chosen-aim-requires t c =
     let has = code_on c.args.names.now (level_set c.args.out.now) (level_set c.append_branch.new.out) (expr c.args.x.now)
     (same_level c.args.out.now c.append_branch.new.out (c.in_ok-otherwise.ensures.level ∙ c.in_ok-operand.ensures.level)) c.requires.first in
     hole_lies c.operand.new.out c.append_branch.new.out c.value_with_exits.new.out c.append_exit.new.out _ _ _ c.operand.new.exits.items c.value_with_exits.new.exits.items
-    c.append_exit.new.exits.items c.in_ok-otherwise.otherwise c.in_ok-otherwise.ensures.code (c.in_ok-value_with_exits.ensures.code.code has.scopes (nowhere (level_set c.append_branch.new.out)) has.kind has.fits)
+    c.append_exit.new.exits.items c.in_ok-otherwise.otherwise c.in_ok-otherwise.ensures.code (c.in_ok-value_with_exits.ensures.code.code has.scopes (nowhere has.own has.block) has.kind has.fits)
     c.in_ok-append_exit.ensures.code c.in_ok-otherwise.ensures.place
 
 pub chosen-returns-clause-code : goal.chosen-returns-clause-code
@@ -275,10 +346,11 @@ subscripts-subscript-requires t c =
     let whole : xs ≡ v.subs = c.as_slice-subs.ensures.value ∙ c.items-2.ensures in
     let x = c.index-subs-0.result in
     let tokens = first_tokens xs c.index-subs-0.result (some_subscripts s (level_set a) v c.requires.code ls xs bounds whole) c.index-subs-0.is in
-    let all = own_tokens s (level_set a) v c.requires.code ls xs bounds whole in
+    let long = first_syllables (meanings s) xs c.index-subs-0.result (some_subscripts s (level_set a) v c.requires.code ls xs bounds whole) c.index-subs-0.is in
+    let all = own_syllables s (level_set a) v c.requires.code ls xs bounds whole in
     let same = ap (λ (l : List Expr). exprs_tokens (exprs l)) whole in
     let smaller : 3 * expr_tokens (expr x) + 2 < t = omega (arith, tokens, same, c.decreases) in
-    let room : size a.operators + 12 * expr_tokens (expr x) + 21 ≤ MOST_SEGMENT_SYLLABLES = omega (arith, tokens, all, c.requires.room) in
+    let room : size a.operators + inline (meanings s) (expr x) + 21 ≤ MOST_SEGMENT_SYLLABLES = omega (arith, long, all, c.requires.room) in
     let has = first_has s (level_set a) v c.requires.code ls xs bounds whole x c.index-subs-0.is in
     let fits = first_whole s (level_set a) v c.requires.code ls xs bounds whole x c.index-subs-0.is in
     (smaller, (c.requires.set, (c.requires.near, (has, (fits, room)))))
@@ -297,9 +369,9 @@ subscripts-append_reference-requires-clause-room t c =
     let bounds = told_list s v.name c.lows_of.result.now ls (c.as_slice-lows.ensures.value ∙ c.items.ensures) c.lows_of.ensures in
     let xs = c.as_slice-subs.result.now in
     let whole : xs ≡ v.subs = c.as_slice-subs.ensures.value ∙ c.items-2.ensures in
-    let tokens = first_tokens xs c.index-subs-0.result (some_subscripts s (level_set a) v c.requires.code ls xs bounds whole) c.index-subs-0.is in
-    let all = own_tokens s (level_set a) v c.requires.code ls xs bounds whole in
-    omega (arith, tokens, all, c.in_ok-subscript.ensures.size, c.requires.room)
+    let long = first_syllables (meanings s) xs c.index-subs-0.result (some_subscripts s (level_set a) v c.requires.code ls xs bounds whole) c.index-subs-0.is in
+    let all = own_syllables s (level_set a) v c.requires.code ls xs bounds whole in
+    omega (arith, long, all, c.in_ok-subscript.ensures.size, c.requires.room)
 
 pub subscripts-append_plain-requires-clause-room : goal.subscripts-append_plain-requires-clause-room
 subscripts-append_plain-requires-clause-room t c =
@@ -310,9 +382,9 @@ subscripts-append_plain-requires-clause-room t c =
     let bounds = told_list s v.name c.lows_of.result.now ls (c.as_slice-lows.ensures.value ∙ c.items.ensures) c.lows_of.ensures in
     let xs = c.as_slice-subs.result.now in
     let whole : xs ≡ v.subs = c.as_slice-subs.ensures.value ∙ c.items-2.ensures in
-    let tokens = first_tokens xs c.index-subs-0.result (some_subscripts s (level_set a) v c.requires.code ls xs bounds whole) c.index-subs-0.is in
-    let all = own_tokens s (level_set a) v c.requires.code ls xs bounds whole in
-    omega (arith, tokens, all, c.in_ok-subscript.ensures.size, c.in_ok-append_reference.ensures.size, c.requires.room)
+    let long = first_syllables (meanings s) xs c.index-subs-0.result (some_subscripts s (level_set a) v c.requires.code ls xs bounds whole) c.index-subs-0.is in
+    let all = own_syllables s (level_set a) v c.requires.code ls xs bounds whole in
+    omega (arith, long, all, c.in_ok-subscript.ensures.size, c.in_ok-append_reference.ensures.size, c.requires.room)
 
 pub subscripts-subscript-requires-then-subs-gt1 : goal.subscripts-subscript-requires-then-subs-gt1
 subscripts-subscript-requires-then-subs-gt1 t c =
@@ -327,11 +399,12 @@ subscripts-subscript-requires-then-subs-gt1 t c =
     let y = c.index-subs-1.result in
     let level = c.in_ok-append_plain.ensures.level ∙ c.in_ok-append_reference.ensures.level ∙ c.in_ok-subscript.ensures.level in
     let tokens = both_tokens xs c.index-subs-0.result c.index-subs-1.result c.if-subs-gt1.true c.index-subs-0.is c.index-subs-1.is in
-    let all = own_tokens s (level_set a) v c.requires.code ls xs bounds whole in
+    let long = both_syllables (meanings s) xs c.index-subs-0.result c.index-subs-1.result c.if-subs-gt1.true c.index-subs-0.is c.index-subs-1.is in
+    let all = own_syllables s (level_set a) v c.requires.code ls xs bounds whole in
     let same = ap (λ (l : List Expr). exprs_tokens (exprs l)) whole in
     let smaller : 3 * expr_tokens (expr y) + 2 < t = omega (arith, tokens, same, c.decreases) in
-    let room : size d.operators + 12 * expr_tokens (expr y) + 21 ≤ MOST_SEGMENT_SYLLABLES =
-    omega (arith, tokens, all, c.in_ok-subscript.ensures.size, c.in_ok-append_reference.ensures.size, c.in_ok-append_plain.ensures.size, c.requires.room) in
+    let room : size d.operators + inline (meanings s) (expr y) + 21 ≤ MOST_SEGMENT_SYLLABLES =
+    omega (arith, long, all, c.in_ok-subscript.ensures.size, c.in_ok-append_reference.ensures.size, c.in_ok-append_plain.ensures.size, c.requires.room) in
     let has = code_on s (level_set a) (level_set d) (expr y) (same_level a d level)
     (second_has s (level_set a) v c.requires.code ls xs bounds whole y c.if-subs-gt1.true c.index-subs-1.is) in
     let fits = second_whole s (level_set a) v c.requires.code ls xs bounds whole y c.if-subs-gt1.true c.index-subs-1.is in
@@ -346,10 +419,10 @@ subscripts-append_plain-requires-then-subs-gt1-clause-room t c =
     let bounds = told_list s v.name c.lows_of.result.now ls (c.as_slice-lows.ensures.value ∙ c.items.ensures) c.lows_of.ensures in
     let xs = c.as_slice-subs.result.now in
     let whole : xs ≡ v.subs = c.as_slice-subs.ensures.value ∙ c.items-2.ensures in
-    let tokens = both_tokens xs c.index-subs-0.result c.index-subs-1.result c.if-subs-gt1.true c.index-subs-0.is c.index-subs-1.is in
-    let all = own_tokens s (level_set a) v c.requires.code ls xs bounds whole in
+    let long = both_syllables (meanings s) xs c.index-subs-0.result c.index-subs-1.result c.if-subs-gt1.true c.index-subs-0.is c.index-subs-1.is in
+    let all = own_syllables s (level_set a) v c.requires.code ls xs bounds whole in
     omega
-    (arith, tokens, all, c.in_ok-subscript.ensures.size, c.in_ok-append_reference.ensures.size, c.in_ok-append_plain.ensures.size, c.in_ok-subscript-2.ensures.size, c.requires.room)
+    (arith, long, all, c.in_ok-subscript.ensures.size, c.in_ok-append_reference.ensures.size, c.in_ok-append_plain.ensures.size, c.in_ok-subscript-2.ensures.size, c.requires.room)
 
 pub subscripts-returns-in_ok-append_plain-2-clause-code : goal.subscripts-returns-in_ok-append_plain-2-clause-code
 subscripts-returns-in_ok-append_plain-2-clause-code t c =
@@ -379,11 +452,11 @@ subscripts-returns-in_ok-append_plain-2-clause-size t c =
     let bounds = told_list s v.name c.lows_of.result.now ls (c.as_slice-lows.ensures.value ∙ c.items.ensures) c.lows_of.ensures in
     let xs = c.as_slice-subs.result.now in
     let whole : xs ≡ v.subs = c.as_slice-subs.ensures.value ∙ c.items-2.ensures in
-    let tokens = both_tokens xs c.index-subs-0.result c.index-subs-1.result c.if-subs-gt1.true c.index-subs-0.is c.index-subs-1.is in
-    let all = own_tokens s (level_set a) v c.requires.code ls xs bounds whole in
+    let long = both_syllables (meanings s) xs c.index-subs-0.result c.index-subs-1.result c.if-subs-gt1.true c.index-subs-0.is c.index-subs-1.is in
+    let all = own_syllables s (level_set a) v c.requires.code ls xs bounds whole in
     omega (
       arith,
-      tokens,
+      long,
       all,
       c.in_ok-subscript.ensures.size,
       c.in_ok-append_reference.ensures.size,
@@ -416,9 +489,9 @@ subscripts-returns-else-subs-gt1-clause-size t c =
     let bounds = told_list s v.name c.lows_of.result.now ls (c.as_slice-lows.ensures.value ∙ c.items.ensures) c.lows_of.ensures in
     let xs = c.as_slice-subs.result.now in
     let whole : xs ≡ v.subs = c.as_slice-subs.ensures.value ∙ c.items-2.ensures in
-    let tokens = first_tokens xs c.index-subs-0.result (some_subscripts s (level_set a) v c.requires.code ls xs bounds whole) c.index-subs-0.is in
-    let all = own_tokens s (level_set a) v c.requires.code ls xs bounds whole in
-    omega (arith, tokens, all, c.in_ok-subscript.ensures.size, c.in_ok-append_reference.ensures.size)
+    let long = first_syllables (meanings s) xs c.index-subs-0.result (some_subscripts s (level_set a) v c.requires.code ls xs bounds whole) c.index-subs-0.is in
+    let all = own_syllables s (level_set a) v c.requires.code ls xs bounds whole in
+    omega (arith, long, all, c.in_ok-subscript.ensures.size, c.in_ok-append_reference.ensures.size)
 
 pub read-subscripts-requires : goal.read-subscripts-requires
 read-subscripts-requires t c =
@@ -461,7 +534,7 @@ value_with_exits-read-requires t c =
     let v = c.in-Variable.v in
     let tokens = variable_as s (level_set a) c.args.e.now v c.in-Variable.is in
     let smaller : 3 * exprs_tokens (exprs v.subs) + 2 < t = omega (arith, tokens, subscripts_fewer v, c.decreases) in
-    let room : size a.operators + 12 * variable_tokens (variable v) ≤ MOST_SEGMENT_SYLLABLES = omega (arith, tokens, c.requires.room) in
+    let room : size a.operators + inline (meanings s) (tree.variable (variable v)) ≤ MOST_SEGMENT_SYLLABLES = omega (arith, variable_syllables s (level_set a) c.args.e.now v c.in-Variable.is, c.requires.room) in
     (smaller, (c.requires.set, (c.requires.near, (variable_has s (level_set a) c.args.e.now v c.in-Variable.is c.requires.code, room))))
 
 pub value_with_exits-returns-in-Variable-clause-code : goal.value_with_exits-returns-in-Variable-clause-code
@@ -567,7 +640,9 @@ value_with_exits-called-requires t c =
     let d = c.in-Call.c in
     let tokens = calling_tokens c.args.names.now (level_set c.args.out.now) c.args.e.now d c.in-Call.is in
     let smaller : 3 * exprs_tokens (exprs d.actuals) + 2 < t = omega (arith, tokens, call_long d, c.decreases) in
-    let room : size c.args.out.now.operators + 12 * call_tokens (call d) ≤ MOST_SEGMENT_SYLLABLES = omega (arith, tokens, c.requires.room) in
+    let s = c.args.names.now in
+    let room : size c.args.out.now.operators + inline (meanings s) (tree.call (call d)) ≤ MOST_SEGMENT_SYLLABLES =
+    omega (arith, calling_syllables s (level_set c.args.out.now) c.args.e.now d c.in-Call.is, c.requires.room) in
     (smaller, (c.requires.set, (c.requires.near, (call_has c.args.names.now (level_set c.args.out.now) c.args.e.now d c.in-Call.is c.requires.code, room))))
 
 pub value_with_exits-returns-in-Call-clause-code : goal.value_with_exits-returns-in-Call-clause-code

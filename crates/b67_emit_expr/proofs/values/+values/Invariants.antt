@@ -3,7 +3,10 @@ use Rattle.algol_tree.specs.Image.{expr, exprs}
 use Rattle.algol_tree.specs.Counts.{expr_tokens, exprs_tokens}
 use Rattle.b67_segment.specs.Operators.{size}
 use Rattle.b67_segment.specs.Building.{level_set}
+use Rattle.b67_templates.specs.Paying.{inline_given}
+use Rattle.b67_emitter.specs.Values.{meanings}
 use Rattle.b67_emit_expr.proofs.Called.{LeftOf}
+use Rattle.b67_emit_expr.proofs.Modes.{own_modes}
 use Rattle.b67_emit_expr.proofs.values.+values.Given as goal
 
 abbrev pub decreases-value_with_exits : goal.decreases-value_with_exits
@@ -21,8 +24,11 @@ decreases-calculated l = 3 * (expr_tokens (expr l.a.now) + expr_tokens (expr l.b
 abbrev pub decreases-chosen : goal.decreases-chosen
 decreases-chosen l = 3 * (expr_tokens (expr l.condition.now) + expr_tokens (expr l.x.now) + expr_tokens (expr l.y.now)) + 2
 
+abbrev pub decreases-valued : goal.decreases-valued
+decreases-valued l = 3 * expr_tokens (expr l.e.now) + 2
+
 abbrev pub decreases-given : goal.decreases-given
-decreases-given l = 3 * expr_tokens (expr l.e.now) + 2
+decreases-given l = 3 * expr_tokens (expr l.e.now) + 3
 
 abbrev pub decreases-called : goal.decreases-called
 decreases-called l = 3 * exprs_tokens (exprs l.c.now.actuals) + 2
@@ -31,9 +37,10 @@ abbrev pub invariant-called-actuals : goal.invariant-called-actuals
 invariant-called-actuals l = record {
   level : l.out.level ≡ l.fn.out.level;
   exits : l.exits.items ≡ l.fn.exits.items;
-  few : exprs_tokens (exprs (drop l.actual-index l.actuals)) ≤ exprs_tokens (exprs l.actuals);
-  short : size l.out.operators + 12 * exprs_tokens (exprs (drop l.actual-index l.actuals)) ≤ size l.fn.out.operators + 3 + 12 * exprs_tokens (exprs l.actuals);
-  code : LeftOf l.names (level_set l.fn.out) l.initial.out l.out l.actuals (drop l.actual-index l.actuals);
+  few : exprs_tokens (exprs (drop l.number l.actuals)) ≤ exprs_tokens (exprs l.actuals);
+  short : size l.out.operators + inline_given (meanings l.names) (drop l.number (own_modes l.names l.c.name)) (exprs (drop l.number l.actuals))
+      ≤ size l.fn.out.operators + 3 + inline_given (meanings l.names) (own_modes l.names l.c.name) (exprs l.actuals);
+  code : LeftOf l.names (level_set l.fn.out) l.initial.out l.out (own_modes l.names l.c.name) l.number l.actuals (drop l.number l.actuals);
 }
 
 abbrev pub decreases-subscript : goal.decreases-subscript
