@@ -7,19 +7,20 @@ use Rattle.b67_segment.specs.declared.code.Format.{Format}
 use Rattle.b67_segment.specs.Operators.{Placed, size}
 use Rattle.b67_segment.specs.Building.{Built, level_set}
 use Rattle.b67_templates.specs.Fragments.{BranchAt}
-use Rattle.b67_templates.specs.Depths.{stmt_syllables}
+use Rattle.b67_emit_stmt.specs.Lengths.{stmt_syllables}
 use Rattle.b67_templates.specs.Emitting.{AreExits, EmittedWithExits}
 use Rattle.b67_emitter.specs.Aiming.{Aimed}
 use Rattle.b67_emit_stmt.specs.declared.draft.Draft.{Draft}
+use Rattle.b67_emit_stmt.specs.declared.draft.Known.{Known}
 use Rattle.b67_emit_stmt.specs.Drafts.{Emits}
 use Rattle.b67_emit_stmt.proofs.Arms.{Closed, Stands}
 use Rattle.b67_emit_stmt.proofs.Drafts.{closed, emits_weaker, exits_there}
 
 -- the exits of a body go to the place after it
-pub body_closed : (sc : Place) (level : ℕ) (x : PStmt) (a b d : Draft) (first : ℕ) → first ≡ length a.exits.items → Emits (stmt_syllables x) a b (Stands sc level x a b) →
+pub body_closed : (s : Known) (sc : Place) (level : ℕ) (x : PStmt) (a b d : Draft) (first : ℕ) → first ≡ length a.exits.items → Emits (stmt_syllables s x) a b (Stands sc level x a b) →
     Aimed (drop first b.exits.items) b.out d.out → d.exits.items ≡ take first b.exits.items → d.formats.items ≡ b.formats.items →
-    Emits (stmt_syllables x) a d (Closed sc level x a d)
-body_closed sc level x a b d first is h aimed es fs =
+    Emits (stmt_syllables s x) a d (Closed sc level x a d)
+body_closed s sc level x a b d first is h aimed es fs =
     let A : ℕ → Type 0 = λ n. Aimed (drop n b.exits.items) b.out d.out in
     let E : ℕ → Type 0 = λ n. d.exits.items ≡ take n b.exits.items in
     let S : List Format → List Placed → ℕ → Type 0 = λ formats qs at. StmtAt sc formats qs level x (size a.out.operators) at at in

@@ -21,13 +21,13 @@ use Rattle.b67_templates.specs.Code.{AreDimensions}
 use Rattle.b67_templates.specs.Emitting.{Emitted}
 use Rattle.b67_emitter.proofs.Composing.{then, weaker}
 use Rattle.b67_emit_stmt.specs.declared.draft.Known.{Known}
-use Rattle.b67_emit_stmt.specs.Bodies.{arrays_syllables, decls_syllables}
+use Rattle.b67_emit_stmt.specs.Lengths.{arrays_syllables, decls_syllables}
 use Rattle.b67_emit_stmt.specs.Fits.{BoundsFit, DeclsFit}
 use Rattle.b67_emit_stmt.specs.Places.{Place, ArraysAt, DeclsAt}
 
 -- ---- declarations that make no arrays
 
-abbrev makes_none : PDecl → Bool
+abbrev pub makes_none : PDecl → Bool
 makes_none (tree.arrays kind ns ps) = false
 makes_none _ = true
 
@@ -41,7 +41,7 @@ none_of (Decl-F.Arrays kind ns ps) other = absurd (other kind ns ps (shapes.roll
 none_of (Decl-F.Forward h) other = search (rules, the_lemmas)
 none_of (Decl-F.Procedure h s) other = search (rules, the_lemmas)
 
-makes_no : (d : Decl) → ((kind : Kind) (ns : List Named) (ps : List Pair) → d ≡ shapes.Arrays kind ns ps → ⊥) → makes_none (decl d) ≡ true
+pub makes_no : (d : Decl) → ((kind : Kind) (ns : List Named) (ps : List Pair) → d ≡ shapes.Arrays kind ns ps → ⊥) → makes_none (decl d) ≡ true
 makes_no d other =
     ap (λ (e : Decl). makes_none (decl e)) (sym (roll-out-Decl d)) ∙ none_of (out-Decl d) (λ kind ns ps e. other kind ns ps (sym (roll-out-Decl d) ∙ e))
 
@@ -58,15 +58,15 @@ same_arrays (tree.arrays kind ns ps) ds none = cc
 same_arrays (tree.forward h) ds none = refl
 same_arrays (tree.procedure h s) ds none = refl
 
-same_syllables : (d : PDecl) (ds : PDecls) → makes_none d ≡ true → decls_syllables (tree.decls d ds) ≡ decls_syllables ds
-same_syllables (tree.simple kind ns) ds none = refl
-same_syllables (tree.files ns) ds none = refl
-same_syllables (tree.events ns) ds none = refl
-same_syllables (tree.tasks ns) ds none = refl
-same_syllables (tree.labels ns) ds none = refl
-same_syllables (tree.arrays kind ns ps) ds none = cc
-same_syllables (tree.forward h) ds none = refl
-same_syllables (tree.procedure h s) ds none = refl
+same_syllables : (s : Known) (d : PDecl) (ds : PDecls) → makes_none d ≡ true → decls_syllables s (tree.decls d ds) ≡ decls_syllables s ds
+same_syllables s (tree.simple kind ns) ds none = refl
+same_syllables s (tree.files ns) ds none = refl
+same_syllables s (tree.events ns) ds none = refl
+same_syllables s (tree.tasks ns) ds none = refl
+same_syllables s (tree.labels ns) ds none = refl
+same_syllables s (tree.arrays kind ns ps) ds none = cc
+same_syllables s (tree.forward h) ds none = refl
+same_syllables s (tree.procedure h t) ds none = refl
 
 module _ (sc : Place) (s : Known) (level : ℕ) where
   fits_behind : (d : PDecl) (ds : PDecls) → DeclsFit sc s level (tree.decls d ds) → DeclsFit sc s level ds
@@ -103,12 +103,12 @@ module _ (d : Decl) (left rest : List Decl) (is : left ≡ d ∷ rest) where
     pub arrays_same : arrays_of (decls left) ≡ arrays_of (decls rest)
     arrays_same = ap (λ (l : List Decl). arrays_of (decls l)) is ∙ same_arrays (decl d) (decls rest) (makes_no d other)
 
-    pub syllables_same : decls_syllables (decls left) ≡ decls_syllables (decls rest)
-    syllables_same = ap (λ (l : List Decl). decls_syllables (decls l)) is ∙ same_syllables (decl d) (decls rest) (makes_no d other)
+    pub syllables_same : (s : Known) → decls_syllables s (decls left) ≡ decls_syllables s (decls rest)
+    syllables_same s = ap (λ (l : List Decl). decls_syllables s (decls l)) is ∙ same_syllables s (decl d) (decls rest) (makes_no d other)
 
   -- .. where it makes some
   module _ (kind : Kind) (ns : List Named) (ps : List Pair) (arrays : d ≡ shapes.Arrays kind ns ps) where
-    left_is : decls left ≡ tree.decls (tree.arrays kind ns (pairs ps)) (decls rest)
+    pub left_is : decls left ≡ tree.decls (tree.arrays kind ns (pairs ps)) (decls rest)
     left_is = ap (λ (l : List Decl). decls l) is ∙ ap (λ (e : PDecl). tree.decls e (decls rest)) (ap decl arrays ∙ arrays_are kind ns ps)
 
     pub arrays_more : length (arrays_of (decls left)) ≡ length ns + length (arrays_of (decls rest))
@@ -116,8 +116,8 @@ module _ (d : Decl) (left rest : List Decl) (is : left ≡ d ∷ rest) where
         let one : Named → DeclaredArray = λ n. record { name = n.name; kind = kind; pairs = pairs ps } in
         omega (arith, ap (λ l. length (arrays_of l)) left_is, length-append (arrays_in kind ns (pairs ps)) (arrays_of (decls rest)), length-map ns one)
 
-    pub syllables_more : decls_syllables (decls left) ≡ arrays_syllables (pairs ps) + decls_syllables (decls rest)
-    syllables_more = ap decls_syllables left_is
+    pub syllables_more : (s : Known) → decls_syllables s (decls left) ≡ arrays_syllables s (pairs ps) + decls_syllables s (decls rest)
+    syllables_more s = ap (λ (l : PDecls). decls_syllables s l) left_is
 
     pub alike_fit : (sc : Place) (s : Known) (level : ℕ) → DeclsFit sc s level (decls left) → AreDimensions (pairs ps) × BoundsFit sc s level (pairs ps) × (1 ≤ length ns)
     alike_fit sc s level fit =
@@ -163,5 +163,5 @@ module _ (sc : Place) (formats : List Format) (level : ℕ) where
 pub record ArraysKept (s : Known) (a b : Built) (ds left : List Decl) (level : ℕ) : Type 0 where
   pub level_is : b.level ≡ a.level
   pub few : length (arrays_of (decls left)) ≤ MOST_BLOCK_CELLS
-  pub short : size b.operators + decls_syllables (decls left) ≤ size a.operators + decls_syllables (decls ds)
+  pub short : size b.operators + decls_syllables s (decls left) ≤ size a.operators + decls_syllables s (decls ds)
   pub code : (sc : Place) (formats : List Format) → DeclsFit sc s level (decls ds) → Emitted a b (DeclsLeft sc formats level ds left a b)

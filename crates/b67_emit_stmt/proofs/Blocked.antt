@@ -17,18 +17,20 @@ use Rattle.b67_segment.specs.declared.code.Format.{Format}
 use Rattle.b67_segment.specs.Operators.{Placed, size}
 use Rattle.b67_segment.specs.Building.{level_set}
 use Rattle.algol_tree.specs.Blocks.{number_at}
-use Rattle.b67_templates.specs.Depths.{stmt_syllables}
+use Rattle.b67_templates.specs.Cells.{actuals_in_block}
 use Rattle.b67_templates.specs.Fitting.{BlockFits}
 use Rattle.b67_emit_stmt.specs.Fits.{InsideFits, StmtFits}
 use Rattle.b67_emit_stmt.specs.declared.draft.Draft.{Draft}
 use Rattle.b67_emit_stmt.specs.Bodies.{EmitsInner, HaveFitInside, InnerAt, IsSmall, inner_syllables, variables_in}
 use Rattle.b67_emit_stmt.specs.Drafts.{IsAt, IsReady}
 use Rattle.b67_emit_stmt.specs.Emits.{EmitsStmt, EmitsStmts, HasFit}
+use Rattle.b67_emit_stmt.specs.Lengths.{celled_in, stmt_syllables}
 use Rattle.b67_emit_stmt.proofs.Arms.{Stands, block_arm}
+use Rattle.b67_emit_stmt.proofs.Blocks.{as_many}
+use Rattle.b67_emit_stmt.proofs.Celled.{celled_inside}
 use Rattle.b67_emit_stmt.proofs.Drafts.{emits_weaker}
 use Rattle.b67_emit_stmt.proofs.Matched.{emits_as, ready_as, ready_less}
 use Rattle.b67_emit_stmt.proofs.Shapes.{block_as}
-use Rattle.b67_emit_stmt.proofs.Variables.{declared_few}
 
 -- ---- whether something is declared
 
@@ -44,7 +46,7 @@ bare_emitted : (s : Known) (a b : Draft) (spot : Spot) (ds : List Decl) (ss : PS
     EmitsStmt s a b (tree.block (tree.body spot (decls ds) ss))
 bare_emitted s a b spot ds ss none h =
     let D : List Decl → Type 0 = λ l. EmitsStmt s a b (tree.block (tree.body spot (decls l) ss)) in
-    subst D (sym none) (λ sc fit. block_arm sc (level_set a.out) spot ss a b (h sc fit))
+    subst D (sym none) (λ sc fit. block_arm sc (level_set a.out) s spot ss a b (h sc fit))
 
 pub compound_emitted : (s : Known) (a b : Draft) (x : Stmt) (body : Body) (ss : List Stmt) (t : Bool) (n : ℕ) → x ≡ shapes.Block body → ss ≡ body.stmts →
     t ≡ (n == 0) → n ≡ length body.decls → t ≡ true → EmitsStmts s a b (stmts ss) → EmitsStmt s a b (stmt x)
@@ -55,18 +57,22 @@ compound_emitted s a b x body ss t n is same e m h k =
 -- ---- a block within another
 
 -- the code of a block has room
-body_room : (spot : Spot) (t : Bool) (ds : List Decl) (ss : PStmts) → t ≡ (length ds == 0) → t ≡ false → inner_syllables (decls ds) ss ≤ stmt_syllables (tree.block (tree.body spot (decls ds) ss))
-body_room spot t [] ss e h = absurd (let clash : true ≡ false = sym e ∙ h in cc)
-body_room spot t (d ∷ ds) ss e h = omega (arith, declared_few (decls (d ∷ ds)))
+body_room : (s : Known) (spot : Spot) (t : Bool) (ds : List Decl) (ss : PStmts) → t ≡ (length ds == 0) → t ≡ false →
+    inner_syllables s (decls ds) ss ≤ stmt_syllables s (tree.block (tree.body spot (decls ds) ss))
+body_room s spot t [] ss e h = absurd (let clash : true ≡ false = sym e ∙ h in cc)
+body_room s spot t (d ∷ ds) ss e h = omega arith
 
 module _ (s : Known) (sc : Place) (level : ℕ) (spot : Spot) (ss : PStmts) where
-  some_of : (t : Bool) (ds : List Decl) → t ≡ (length ds == 0) → t ≡ false → StmtFits sc s level (tree.block (tree.body spot (decls ds) ss)) →
-      BlockFits level (decls ds) × (sc.segment ≡ s.segment) × InsideFits sc s (level + 1) (decls ds) ss
-  some_of t [] e h fit = absurd (let clash : true ≡ false = sym e ∙ h in cc)
-  some_of t (d ∷ ds) e h fit = (fit.0, fit.1, (fit.2, fit.3, fit.4))
+  abbrev within : Place
+  within = inside (number_at sc.scopes.blocks spot) sc
+
+  declared : (t : Bool) (ds : List Decl) → t ≡ (length ds == 0) → t ≡ false → StmtFits sc s level (tree.block (tree.body spot (decls ds) ss)) →
+      BlockFits sc.scopes level (decls ds) ss × (sc.segment ≡ s.segment) × InsideFits within s (level + 1) (decls ds) ss
+  declared t [] e h fit = absurd (let clash : true ≡ false = sym e ∙ h in cc)
+  declared t (d ∷ ds) e h fit = (fit.0, fit.1, (fit.2, fit.3, fit.4))
 
   entered : (t : Bool) (ds : List Decl) (formats : List Format) (qs : List Placed) (from to target : ℕ) → t ≡ (length ds == 0) → t ≡ false →
-      InnerAt (inside (number_at sc.scopes.blocks spot) sc) formats qs level (decls ds) ss from to → StmtAt sc formats qs level (tree.block (tree.body spot (decls ds) ss)) from to target
+      InnerAt within formats qs level (decls ds) ss from to → StmtAt sc formats qs level (tree.block (tree.body spot (decls ds) ss)) from to target
   entered t [] formats qs from to target e h p = absurd (let clash : true ≡ false = sym e ∙ h in cc)
   entered t (d ∷ ds) formats qs from to target e h p = p
 
@@ -79,31 +85,42 @@ module _ (s : Known) (a : Draft) (x : Stmt) (body : Body) (ss : List Stmt) (ds :
   tested : t ≡ (length body.decls == 0)
   tested = e ∙ ap (λ (i : ℕ). i == 0) m
 
+  abbrev in_it : Place → Place
+  in_it sc = inside (number_at sc.scopes.blocks body.spot) sc
+
   parts : (fits : HasFit s a (stmt x)) →
-      BlockFits (level_set a.out) (decls body.decls) × (fits.0.segment ≡ s.segment) × InsideFits fits.0 s (level_set a.out + 1) (decls body.decls) (stmts ss)
+      BlockFits fits.0.scopes (level_set a.out) (decls body.decls) (stmts ss) × (fits.0.segment ≡ s.segment)
+      × InsideFits (in_it fits.0) s (level_set a.out + 1) (decls body.decls) (stmts ss)
   parts fits =
       let F : PStmt → Type 0 = λ y. StmtFits fits.0 s (level_set a.out) y in
-      some_of s fits.0 (level_set a.out) body.spot (stmts ss) t body.decls tested h (subst F (block_as x body ss is same) fits.1)
+      declared s fits.0 (level_set a.out) body.spot (stmts ss) t body.decls tested h (subst F (block_as x body ss is same) fits.1)
 
   -- of the declarations
-  pub few_cells : HasFit s a (stmt x) → IsSmall (variables_in (decls ds)) (decls ds)
-  few_cells fits = let L : List Decl → Type 0 = λ l. IsSmall (variables_in (decls l)) (decls l) in subst L (sym ds_are) (parts fits).0.1
+  pub few_cells : HasFit s a (stmt x) → IsSmall (variables_in (decls ds)) (decls ds) (celled_in s (decls ds) (stmts ss))
+  few_cells fits =
+      let L : List Decl → Type 0 = λ l. IsSmall (variables_in (decls l)) (decls l) (celled_in s (decls l) (stmts ss)) in
+      let all = parts fits in
+      let own = decls body.decls in
+      let many = as_many (actuals_in_block fits.0.scopes own (stmts ss)) (celled_in s own (stmts ss)) (celled_inside (in_it fits.0) s (level_set a.out + 1) own (stmts ss) all.2) in
+      subst L (sym ds_are) (omega (arith, all.0.1, many))
 
   pub inside_fits : HasFit s a (stmt x) → HaveFitInside s a (decls ds) (stmts ss)
-  inside_fits fits = let L : List Decl → Type 0 = λ l. InsideFits fits.0 s (level_set a.out + 1) (decls l) (stmts ss) in (fits.0, subst L (sym ds_are) (parts fits).2)
+  inside_fits fits =
+      let L : List Decl → Type 0 = λ l. InsideFits (in_it fits.0) s (level_set a.out + 1) (decls l) (stmts ss) in
+      (in_it fits.0, (parts fits).1, subst L (sym ds_are) (parts fits).2)
 
   pub inside_level : (level : ℕ) → IsAt level a → HasFit s a (stmt x) → level + 1 ≤ MOST_LEVEL
   inside_level level at fits =
       let set : level_set a.out ≡ level = ap (λ (o : Option ℕ). unwrap_or o 0) at.set in
       omega (arith, (parts fits).0.0, set)
 
-  room : inner_syllables (decls body.decls) (stmts ss) ≤ stmt_syllables p
-  room = body_room body.spot t body.decls (stmts ss) tested h
+  room : inner_syllables s (decls body.decls) (stmts ss) ≤ stmt_syllables s p
+  room = body_room s body.spot t body.decls (stmts ss) tested h
 
-  pub inside_ready : IsReady s a (stmt_syllables (stmt x)) → IsReady s a (inner_syllables (decls ds) (stmts ss))
+  pub inside_ready : IsReady s a (stmt_syllables s (stmt x)) → IsReady s a (inner_syllables s (decls ds) (stmts ss))
   inside_ready r =
-      let R : List Decl → Type 0 = λ l. IsReady s a (inner_syllables (decls l) (stmts ss)) in
-      subst R (sym ds_are) (ready_less s a (stmt_syllables p) (inner_syllables (decls body.decls) (stmts ss)) (ready_as s a (stmt x) p (block_as x body ss is same) r) room)
+      let R : List Decl → Type 0 = λ l. IsReady s a (inner_syllables s (decls l) (stmts ss)) in
+      subst R (sym ds_are) (ready_less s a (stmt_syllables s p) (inner_syllables s (decls body.decls) (stmts ss)) (ready_as s a (stmt x) p (block_as x body ss is same) r) room)
 
   pub inner_emitted : (b : Draft) → EmitsInner s a b (decls ds) (stmts ss) → EmitsStmt s a b (stmt x)
   inner_emitted b k =
@@ -111,7 +128,7 @@ module _ (s : Known) (a : Draft) (x : Stmt) (body : Body) (ss : List Stmt) (ds :
       let there = subst L ds_are k in
       emits_as s a b (stmt x) p (block_as x body ss is same)
       (λ sc fit.
-      let all = some_of s sc (level_set a.out) body.spot (stmts ss) t body.decls tested h fit in
-      emits_weaker (Stands sc (level_set a.out) p a b) (there (inside (number_at sc.scopes.blocks body.spot) sc) all.1 all.2) room
+      let all = declared s sc (level_set a.out) body.spot (stmts ss) t body.decls tested h fit in
+      emits_weaker (Stands sc (level_set a.out) p a b) (there (in_it sc) all.1 all.2) room
       (λ formats qs target hi q.
       entered s sc (level_set a.out) body.spot (stmts ss) t body.decls formats qs (size a.out.operators) (size b.out.operators) target tested h q))

@@ -1,5 +1,5 @@
 -- The call of a procedure as a statement.
-use Rattle.std.proofs.Common.{◌≡◌, ℕ, ◌+◌, ◌≤◌, ◌∙◌, Bool, List, Option, arith}
+use Rattle.std.proofs.Common.{◌≡◌, ℕ, ◌∙◌, Bool, List, Option, arith}
 use Rattle.std.specs.Prelude.{is_some}
 use Rattle.algol_tree.specs.declared.tree.Kind.{Kind}
 use Rattle.algol_tree.specs.declared.tree.Named.{Named}
@@ -12,7 +12,6 @@ use Rattle.b67_segment.specs.Building.{Built, level_set}
 use Rattle.b67_segment.specs.declared.code.Format.{Format}
 use Rattle.b67_templates.specs.Contexts.{Context}
 use Rattle.b67_templates.specs.Code.{DroppedAt}
-use Rattle.b67_templates.specs.Depths.{expr_syllables, stmt_syllables}
 use Rattle.b67_templates.specs.Emitting.{Emitted}
 use Rattle.b67_emitter.specs.Values.{CallEmitted, HasCall, results}
 use Rattle.b67_emitter.proofs.Composing.{then, weaker}
@@ -22,14 +21,20 @@ use Rattle.b67_emit_stmt.specs.Places.{Place, CallStmtAt, context_in}
 use Rattle.b67_emit_stmt.proofs.Drafts.{level_same}
 use Rattle.b67_emit_stmt.proofs.Parts.{leveled}
 
--- a statement has room for a call and DLET
-pub call_room : (n : Named) (es : PExprs) → expr_syllables (tree.call (tree.called n es)) + 1 ≤ stmt_syllables (tree.call_of (tree.called n es))
-call_room n tree.none = omega arith
-call_room n (tree.more e es) = omega arith
-
 module _ (s : Known) (n : Named) (es : PExprs) (c : PCall) (is : c ≡ tree.called n es) where
   pub call_has : (sc : Place) (level : ℕ) → CallStmtFits sc s level n es → HasCall s.names.now level c
-  call_has sc level fit = record { scopes = sc.scopes; name = n; actuals = es; callee = fit.0; call_is = is; procedure = fit.1; fits = fit.2 }
+  call_has sc level fit = record {
+    scopes = sc.scopes;
+    own = level;
+    block = sc.block;
+    name = n;
+    actuals = es;
+    callee = fit.0;
+    call_is = is;
+    outer = omega arith;
+    procedure = fit.1;
+    fits = fit.2;
+  }
 
   pub call_part : (sc : Place) (formats : List Format) (typed : Bool) (a b d : Built) → b.level ≡ a.level → typed ≡ is_some (results s.names.now n.spot) →
       CallEmitted s.names.now (level_set a) a b c →

@@ -4,7 +4,6 @@ use Rattle.std.specs.Prelude.{nat_eq, Bool}
 use Rattle.std.proofs.lemmas.Bool.{ne_eqb, eq-eqb}
 use Rattle.std.proofs.lemmas.List.{append-nil}
 use Rattle.algol_tree.specs.declared.tree.Stmt.{Stmt}
-use Rattle.algol_tree.specs.Counts.{stmt_tokens, stmts_tokens}
 use Rattle.algol_tree.specs.Image.{stmt, stmts}
 use Rattle.b67_emit_stmt.specs.Places.{Place, StmtAt, CasesAt}
 use Rattle.b67_ops.specs.declared.Operator.{Operator}
@@ -18,10 +17,12 @@ use Rattle.b67_templates.specs.Emitting.{Keeps, Emitted, is_among, Leaves, AreEx
 use Rattle.b67_emitter.specs.Aiming.{Aimed}
 use Rattle.b67_emitter.proofs.Exits.{next-behind, is_among-append, or-left, or-right, none_before, none_behind, exits_kept, exits-append}
 use Rattle.b67_emit_stmt.specs.declared.draft.Draft.{Draft}
+use Rattle.b67_emit_stmt.specs.declared.draft.Known.{Known}
 use Rattle.b67_emit_stmt.specs.Drafts.{AreListed, IsFront, HasFew, Emits}
 use Rattle.b67_emit_stmt.specs.Cases.{EntriesAt}
+use Rattle.b67_emit_stmt.specs.Lengths.{stmt_syllables, stmts_syllables}
 use Rattle.b67_emit_stmt.proofs.Drafts.{front_equal, front_trans, listed_equal}
-use Rattle.b67_emit_stmt.proofs.Lists.{tokens-append}
+use Rattle.b67_emit_stmt.proofs.Lists.{syllables-append}
 
 -- ---- tables
 
@@ -76,11 +77,11 @@ pub record Partly (exits : List ℕ) (target from upto behind to : ℕ) (ps qs :
       StandsAmong qs at level (Branch kind target) next
 
 -- The statements that are done stand after the table, and the branches to the others are not aimed yet.
-pub record Midcase (sc : Place) (level : ℕ) (done : List Stmt) (left : ℕ) (a t c : Draft) : Type 0 where
+pub record Midcase (known : Known) (sc : Place) (level : ℕ) (done : List Stmt) (left : ℕ) (a t c : Draft) : Type 0 where
   pub level_is : c.out.level ≡ a.out.level
   pub begun : size a.out.operators ≤ size t.out.operators
   pub grown : size t.out.operators ≤ size c.out.operators
-  pub short : size c.out.operators + 21 * length done ≤ size t.out.operators + 24 * stmts_tokens (stmts done)
+  pub short : size c.out.operators + 3 * length done ≤ size t.out.operators + stmts_syllables known (stmts done)
   pub formats : IsFront a.formats.items c.formats.items
   pub few : HasFew c
   pub more : length c.formats.items + size a.out.operators ≤ length a.formats.items + size c.out.operators
@@ -95,9 +96,9 @@ pub record Midcase (sc : Place) (level : ℕ) (done : List Stmt) (left : ℕ) (a
       Partly exits target (size a.out.operators) (size a.out.operators + 3 * length done) (size t.out.operators) (size c.out.operators) c.out.operators qs →
       CasesAt sc formats qs level (stmts done) (size a.out.operators) target
 
-pub midcase-first : (sc : Place) (level many : ℕ) (a t : Draft) → HasFew a → t.exits.items ≡ a.exits.items → t.formats.items ≡ a.formats.items →
-    Emitted a.out t.out (λ qs. EntriesAt qs level many (size a.out.operators) (size t.out.operators)) → Midcase sc level [] many a t t
-midcase-first sc level many a t few es fs h =
+pub midcase-first : (known : Known) (sc : Place) (level many : ℕ) (a t : Draft) → HasFew a → t.exits.items ≡ a.exits.items → t.formats.items ≡ a.formats.items →
+    Emitted a.out t.out (λ qs. EntriesAt qs level many (size a.out.operators) (size t.out.operators)) → Midcase known sc level [] many a t t
+midcase-first known sc level many a t few es fs h =
     let here = h.claimed t.out.operators (λ at level next op lo hi s. s) in
     let E : ℕ → Type 0 = λ from. EntriesAt t.out.operators level many from (size t.out.operators) in
     record {
@@ -117,12 +118,12 @@ midcase-first sc level many a t few es fs h =
       claimed = λ formats k qs target hi l. tt;
     }
 
-module _ (sc : Place) (level : ℕ) (done : List Stmt) (left : ℕ) (a t c d e f : Draft) (s : Stmt) (entry n : ℕ) (m : Midcase sc level done (suc left) a t c)
+module _ (known : Known) (sc : Place) (level : ℕ) (done : List Stmt) (left : ℕ) (a t c d e f : Draft) (s : Stmt) (entry n : ℕ) (m : Midcase known sc level done (suc left) a t c)
     (is : entry ≡ size a.out.operators + 3 * length done) (aim : Aimed (entry ∷ []) c.out d.out) (es : d.exits.items ≡ c.exits.items) (fs : d.formats.items ≡ c.formats.items)
     (g : Emits n d f
     (λ formats qs target.
     StmtAt sc formats qs level (stmt s) (size d.out.operators) (size e.out.operators) target × BranchAt qs level Brun (size e.out.operators) target (size f.out.operators)))
-    (narrow : n ≤ 24 * stmt_tokens (stmt s) + 3) where
+    (narrow : n ≤ stmt_syllables known (stmt s) + 3) where
   x : ℕ
   x = size a.out.operators + 3 * length done
 
@@ -218,7 +219,7 @@ module _ (sc : Place) (level : ℕ) (done : List Stmt) (left : ℕ) (a t c d e f
         cases-append sc formats qs level done s (size a.out.operators) target (size d.out.operators) (size e.out.operators) first branch part.0
         (over (size f.out.operators) part.1 stop)
 
-  pub midcase-more : Midcase sc level (done ++ s ∷ []) left a t f
+  pub midcase-more : Midcase known sc level (done ++ s ∷ []) left a t f
   unfolding x
   midcase-more =
       let E : ℕ → Type 0 = λ from. EntriesAt f.out.operators level left from (size t.out.operators) in
@@ -227,7 +228,7 @@ module _ (sc : Place) (level : ℕ) (done : List Stmt) (left : ℕ) (a t c d e f
         level_is = g.code.level ∙ aim.level ∙ m.level_is;
         begun = m.begun;
         grown = omega (arith, m.grown, aim.place, g.code.grown);
-        short = omega (arith, m.short, g.short, aim.place, narrow, length-append done (s ∷ []), tokens-append done s []);
+        short = omega (arith, m.short, g.short, aim.place, narrow, length-append done (s ∷ []), syllables-append known done s []);
         formats = front_trans a.formats.items c.formats.items f.formats.items m.formats more;
         few = g.few;
         more = omega (arith, m.more, ap length fs, aim.place, g.more);
@@ -245,10 +246,10 @@ module _ (sc : Place) (level : ℕ) (done : List Stmt) (left : ℕ) (a t c d e f
       }
 
 -- all statements are done
-pub midcase-last : (sc : Place) (level : ℕ) (done : List Stmt) (a t c : Draft) (n : ℕ) → Midcase sc level done zero a t c →
+pub midcase-last : (known : Known) (sc : Place) (level : ℕ) (done : List Stmt) (a t c : Draft) (n : ℕ) → Midcase known sc level done zero a t c →
     size c.out.operators ≤ size a.out.operators + n →
     Emits n a c (λ formats qs target. CasesAt sc formats qs level (stmts done) (size a.out.operators) target)
-midcase-last sc level done a t c n m short =
+midcase-last known sc level done a t c n m short =
     let all : size t.out.operators ≡ size a.out.operators + 3 * length done = sym m.pending in
     record {
       code = record {

@@ -11,7 +11,7 @@ use Rattle.b67_segment.specs.declared.TheConstants.{MOST_SEGMENT_SYLLABLES}
 use Rattle.b67_segment.specs.declared.code.Format.{Format}
 use Rattle.b67_segment.specs.Operators.{size}
 use Rattle.b67_segment.specs.Building.{Built, level_set}
-use Rattle.b67_templates.specs.Depths.{expr_syllables, stmt_syllables}
+use Rattle.b67_emit_stmt.specs.Lengths.{expr_syllables, stmt_syllables}
 use Rattle.b67_templates.specs.Emitting.{Emitted}
 use Rattle.b67_emit_stmt.specs.declared.draft.Draft.{Draft}
 use Rattle.b67_emit_stmt.specs.declared.draft.Known.{Known}
@@ -27,13 +27,13 @@ use Rattle.b67_emit_stmt.proofs.Parts.{set_same, variable_at}
 use Rattle.b67_emit_stmt.proofs.Ready.{body_piece, fit_after, ready_after}
 
 module _ (s : Known) (sc : Place) (v : Named) (first p l : PExpr) (x : PStmt) (a : Draft) (b' d' : Built) (fits : StmtFits sc s (level_set a.out) (tree.for v first p l x))
-    (ready : IsReady s a (stmt_syllables (tree.for v first p l x)))
+    (ready : IsReady s a (stmt_syllables s (tree.for v first p l x)))
     (assign : (sc' : Place) (formats : List Format) → AssignFits sc' s (level_set a.out) v first →
     Emitted a.out b' (λ qs. AssignAt sc' formats qs (level_set a.out) v first (size a.out.operators) (size b'.operators)))
-    (assign_level : b'.level ≡ a.out.level) (assign_short : size b'.operators ≤ size a.out.operators + (3 + expr_syllables first))
+    (assign_level : b'.level ≡ a.out.level) (assign_short : size b'.operators ≤ size a.out.operators + (4 + expr_syllables s first))
     (difference : (sc' : Place) (formats : List Format) → ReadFits sc' s (level_set b') types.Number v → ExprFits sc' s (level_set b') types.Number l →
     Emitted b' d' (λ qs. ExprAt sc' formats qs (level_set b') types.Number (tree.two operators.Sub (alone v) l) (size b'.operators) (size d'.operators) (size d'.operators)))
-    (difference_level : d'.level ≡ b'.level) (difference_short : size d'.operators ≤ size b'.operators + (3 + expr_syllables l)) where
+    (difference_level : d'.level ≡ b'.level) (difference_short : size d'.operators ≤ size b'.operators + (3 + expr_syllables s l)) where
   abbrev b : Draft
   b = record a { out = b' }
 
@@ -43,32 +43,32 @@ module _ (s : Known) (sc : Place) (v : Named) (first p l : PExpr) (x : PStmt) (a
   abbrev level : ℕ
   level = level_set a.out
 
-  begun : Emits (3 + expr_syllables first) a b (λ formats qs target. AssignAt sc formats qs level v first (size a.out.operators) (size b'.operators))
+  begun : Emits (4 + expr_syllables s first) a b (λ formats qs target. AssignAt sc formats qs level v first (size a.out.operators) (size b'.operators))
   begun = matched.assigned s sc level v first a b refl refl refl ready.few assign assign_short (types.Number, fits.0.1, fits.1)
 
-  tested : Emits (3 + expr_syllables l) b d
+  tested : Emits (3 + expr_syllables s l) b d
       (λ formats qs target. ExprAt sc formats qs level types.Number (tree.two operators.Sub (alone v) l) (size b'.operators) (size d'.operators) (size d'.operators))
   tested = matched.compared s sc level v l b d (level_same a.out b' assign_level) refl refl begun.few difference difference_short fits.0.0 fits.3
 
   behind_test : level_set d' ≡ level
   behind_test = level_same b' d' difference_level ∙ level_same a.out b' assign_level
 
-  pub step_ready : IsReady s d (13 + expr_syllables p)
-  step_ready = ready_after s a (stmt_syllables (tree.for v first p l x)) (13 + expr_syllables p) ready (emits_then begun tested) (omega arith)
+  pub step_ready : IsReady s d (13 + expr_syllables s p)
+  step_ready = ready_after s a (stmt_syllables s (tree.for v first p l x)) (13 + expr_syllables s p) ready (emits_then begun tested) (omega arith)
 
   module _ (e : Draft)
       (step : (sc' : Place) → ExprFits sc' s (level_set d') types.Number p →
-      Emits (13 + expr_syllables p) d e (λ formats qs target. StepAt sc' formats qs (level_set d') p (size d'.operators) target (size e.out.operators))) where
-    stepped : Emits (13 + expr_syllables p) d e (λ formats qs target. StepAt sc formats qs level p (size d'.operators) target (size e.out.operators))
+      Emits (13 + expr_syllables s p) d e (λ formats qs target. StepAt sc' formats qs (level_set d') p (size d'.operators) target (size e.out.operators))) where
+    stepped : Emits (13 + expr_syllables s p) d e (λ formats qs target. StepAt sc formats qs level p (size d'.operators) target (size e.out.operators))
     stepped = matched.stepped s sc level p d e behind_test step fits.2
 
-    pub body_needs : (own : ℕ) → IsAt own a → IsReady s e (stmt_syllables x) × HasFit s e x × IsAt own e
+    pub body_needs : (own : ℕ) → IsAt own a → IsReady s e (stmt_syllables s x) × HasFit s e x × IsAt own e
     body_needs own at =
         let all = emits_then (emits_then begun tested) stepped in
-        (ready_after s a (stmt_syllables (tree.for v first p l x)) (stmt_syllables x) ready all (omega arith), fit_after s sc x all fits.4, at_after all at)
+        (ready_after s a (stmt_syllables s (tree.for v first p l x)) (stmt_syllables s x) ready all (omega arith), fit_after s sc x all fits.4, at_after all at)
 
     module _ (f : Draft) (body : EmitsBody s e f x) where
-      performed : Emits (stmt_syllables x) e f (Closed sc level x e f)
+      performed : Emits (stmt_syllables s x) e f (Closed sc level x e f)
       performed = body_piece s sc x e f level (level_after stepped ∙ behind_test) body fits.4
 
       behind_body : level_set f.out ≡ level
@@ -79,7 +79,7 @@ module _ (s : Known) (sc : Place) (v : Named) (first p l : PExpr) (x : PStmt) (a
           let E : ℕ → Type 0 = λ n. ExprFits sc s n types.Number p in
           (sc, variable_at s (level_set f.out) level sc v behind_body fits.0, subst E (sym behind_body) fits.2)
 
-      pub advance_needs : IsSome f.out.level × (size f.out.operators + (6 + expr_syllables p) ≤ MOST_SEGMENT_SYLLABLES)
+      pub advance_needs : IsSome f.out.level × (size f.out.operators + (7 + expr_syllables s p) ≤ MOST_SEGMENT_SYLLABLES)
       advance_needs = (
         matched.set_behind a.out (emits_then stepped performed) (difference_level ∙ assign_level) ready.set,
         omega (arith, performed.short, stepped.short, difference_short, assign_short, ready.room),
@@ -88,7 +88,7 @@ module _ (s : Known) (sc : Place) (v : Named) (first p l : PExpr) (x : PStmt) (a
       module _ (n' : Built)
           (advance : (sc' : Place) (formats : List Format) → VariableFits sc' s (level_set f.out) v → ExprFits sc' s (level_set f.out) types.Number p →
           Emitted f.out n' (λ qs. AssignAt sc' formats qs (level_set f.out) v (tree.two operators.Add (alone v) p) (size f.out.operators) (size n'.operators)))
-          (advance_level : n'.level ≡ f.out.level) (advance_short : size n'.operators ≤ size f.out.operators + (6 + expr_syllables p)) where
+          (advance_level : n'.level ≡ f.out.level) (advance_short : size n'.operators ≤ size f.out.operators + (7 + expr_syllables s p)) where
         pub turn_needs : (start : ℕ) → start ≡ size b'.operators → IsSome n'.level × (start ≤ size n'.operators) × (size n'.operators + 3 ≤ MOST_SEGMENT_SYLLABLES)
         turn_needs start is =
             let advanced = matched.advanced s sc level v p f (record f { out = n' }) behind_body refl refl performed.few advance advance_short fits.0 fits.2 in (

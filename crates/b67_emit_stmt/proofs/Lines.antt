@@ -3,7 +3,6 @@ use Rattle.std.proofs.Common.{◌≡◌, ℕ, ◌+◌, ◌*◌, ◌-◌, ◌≤�
 use Rattle.algol_tree.specs.Spelling.{value_after}
 use Rattle.algol_tree.specs.declared.tree.PhraseText.{PhraseText}
 use Rattle.algol_tree.specs.Image.{expr, exprs}
-use Rattle.algol_tree.specs.Counts.{expr_tokens, exprs_tokens}
 use Rattle.algol_tree.specs.declared.tree.Expr.{Expr}
 use Rattle.algol_tree.specs.declared.tree.Kind.TheVariants as types
 use Rattle.b67_emit_stmt.specs.declared.draft.Known.{Known}
@@ -17,6 +16,7 @@ use Rattle.b67_segment.specs.declared.code.Phrase.{Phrase}
 use Rattle.b67_templates.specs.Code.{AreParts, IsPart}
 use Rattle.b67_templates.specs.Fitting.{PhraseFits, PhrasesFit}
 use Rattle.b67_emit_stmt.specs.Fits.{ExprFits, LineFits}
+use Rattle.b67_emit_stmt.specs.Lengths.{expr_syllables, items_syllables}
 
 -- a number is no less for more digits
 pub value_grows : (n : ℕ) (digits : List ℕ) → n ≤ value_after n digits
@@ -40,9 +40,10 @@ pub line_fits : (sc : Place) (known : Known) (level : ℕ) (xs : List Expr) (y :
 line_fits sc known level [] y ys h = h.0
 line_fits sc known level (x ∷ xs) y ys h = line_fits sc known level xs y ys h.1
 
-pub line_tokens : (xs : List Expr) (y : Expr) (ys : List Expr) → exprs_tokens (exprs (xs ++ y ∷ ys)) ≡ exprs_tokens (exprs xs) + (1 + expr_tokens (expr y)) + exprs_tokens (exprs ys)
-line_tokens [] y ys = omega arith
-line_tokens (x ∷ xs) y ys = omega (arith, line_tokens xs y ys)
+pub line_syllables : (s : Known) (xs : List Expr) (y : Expr) (ys : List Expr) →
+    items_syllables s (exprs (xs ++ y ∷ ys)) ≡ items_syllables s (exprs xs) + (12 + expr_syllables s (expr y)) + items_syllables s (exprs ys)
+line_syllables s [] y ys = omega arith
+line_syllables s (x ∷ xs) y ys = omega (arith, line_syllables s xs y ys)
 
 pub line-append : (sc : Place) (formats : List Format) (qs : List Placed) (level : ℕ) (xs : List Expr) (y : Expr) (f m t : ℕ) → LineAt sc formats qs level (exprs xs) f m →
     ExprAt sc formats qs level types.Number (expr y) m t t → LineAt sc formats qs level (exprs (xs ++ y ∷ [])) f t

@@ -2,13 +2,13 @@
 use Rattle.std.proofs.Common.{◌≡◌, ℕ, ◌+◌, ◌<◌, List, [], ◌∷◌, ◌++◌, length, take, drop, get_or, sym, ap, ◌∙◌, subst, arith}
 use Rattle.std.proofs.lemmas.List.{take-append-drop, drop_more, take_more}
 use Rattle.algol_tree.specs.declared.tree.Stmt.{Stmt}
-use Rattle.algol_tree.specs.Counts.{stmt_tokens, stmts_tokens}
 use Rattle.algol_tree.specs.Image.{stmt, stmts}
 use Rattle.b67_emit_stmt.specs.declared.draft.Known.{Known}
 use Rattle.b67_emit_stmt.specs.Places.{Place, StmtAt, StmtsAt}
 use Rattle.b67_segment.specs.declared.code.Format.{Format}
 use Rattle.b67_segment.specs.Operators.{Placed}
 use Rattle.b67_emit_stmt.specs.Fits.{StmtFits, StmtsFit}
+use Rattle.b67_emit_stmt.specs.Lengths.{stmt_syllables, stmts_syllables}
 
 -- a list around one of its items
 pub around : {X : Type 0} (xs : List X) (i : ℕ) (x : X) → i < length xs → x ≡ get_or xs i x → xs ≡ take i xs ++ x ∷ drop (i + 1) xs
@@ -18,11 +18,12 @@ around xs i x h e =
 pub front_more : {X : Type 0} (xs : List X) (i : ℕ) (x : X) → i < length xs → x ≡ get_or xs i x → take (i + 1) xs ≡ take i xs ++ x ∷ []
 front_more xs i x h e = take_more xs i x h ∙ ap (λ y. take i xs ++ y ∷ []) (sym e)
 
--- ---- tokens
+-- ---- lengths
 
-pub tokens-append : (xs : List Stmt) (y : Stmt) (ys : List Stmt) → stmts_tokens (stmts (xs ++ y ∷ ys)) ≡ stmts_tokens (stmts xs) + (1 + stmt_tokens (stmt y)) + stmts_tokens (stmts ys)
-tokens-append [] y ys = omega arith
-tokens-append (x ∷ xs) y ys = omega (arith, tokens-append xs y ys)
+pub syllables-append : (s : Known) (xs : List Stmt) (y : Stmt) (ys : List Stmt) →
+    stmts_syllables s (stmts (xs ++ y ∷ ys)) ≡ stmts_syllables s (stmts xs) + (6 + stmt_syllables s (stmt y)) + stmts_syllables s (stmts ys)
+syllables-append s [] y ys = omega arith
+syllables-append s (x ∷ xs) y ys = omega (arith, syllables-append s xs y ys)
 
 -- ---- fitting
 

@@ -15,22 +15,21 @@ use Rattle.b67_segment.specs.declared.TheConstants.{MOST_SEGMENT_SYLLABLES}
 use Rattle.b67_segment.specs.declared.code.Format.{Format}
 use Rattle.b67_segment.specs.Operators.{Placed, size}
 use Rattle.b67_segment.specs.Building.{Built, level_set}
-use Rattle.b67_templates.specs.Depths.{expr_syllables, stmt_syllables}
+use Rattle.b67_emit_stmt.specs.Lengths.{expr_syllables, stmt_syllables, write_syllables}
 use Rattle.b67_templates.specs.Emitting.{Emitted}
 use Rattle.b67_emit_stmt.specs.Fits.{AssignFits, CallStmtFits, ExprFits, ReadFits, VariableFits, StmtFits, WriteFits}
 use Rattle.b67_emit_stmt.specs.declared.draft.Draft.{Draft}
 use Rattle.b67_emit_stmt.specs.Drafts.{Emits, IsReady, HasFew}
-use Rattle.b67_emit_stmt.specs.Emits.{HasFit, EmitsStmt, EmitsThen, write_syllables}
+use Rattle.b67_emit_stmt.specs.Emits.{HasFit, EmitsStmt, EmitsThen}
 use Rattle.b67_emit_stmt.proofs.Arms.{Stands, if_else_arm}
-use Rattle.b67_emit_stmt.proofs.Calls.{call_room}
 use Rattle.b67_emit_stmt.proofs.Drafts.{at_level, emits_none, emits_weaker, level_after, piece}
 use Rattle.b67_emit_stmt.proofs.Parts.{leveled, set_same}
 use Rattle.b67_emit_stmt.proofs.Ready.{stmt_piece}
 
 -- ---- the same tree
 
-pub ready_as : (s : Known) (a : Draft) (p q : PStmt) → p ≡ q → IsReady s a (stmt_syllables p) → IsReady s a (stmt_syllables q)
-ready_as s a p q is r = let R : PStmt → Type 0 = λ x. IsReady s a (stmt_syllables x) in subst R is r
+pub ready_as : (s : Known) (a : Draft) (p q : PStmt) → p ≡ q → IsReady s a (stmt_syllables s p) → IsReady s a (stmt_syllables s q)
+ready_as s a p q is r = let R : PStmt → Type 0 = λ x. IsReady s a (stmt_syllables s x) in subst R is r
 
 pub fit_as : (s : Known) (a : Draft) (p q : PStmt) → p ≡ q → HasFit s a p → HasFit s a q
 fit_as s a p q is f = let F : PStmt → Type 0 = λ x. HasFit s a x in subst F is f
@@ -39,17 +38,17 @@ pub emits_as : (s : Known) (a b : Draft) (p q : PStmt) → p ≡ q → EmitsStmt
 emits_as s a b p q is e = let E : PStmt → Type 0 = λ x. EmitsStmt s a b x in subst E (sym is) e
 
 -- a call has room where its statement has
-pub call_fits : (s : Known) (a : Draft) (p : PStmt) (c : PCall) (n : Named) (es : PExprs) → p ≡ tree.call_of (tree.called n es) → c ≡ tree.called n es → IsReady s a (stmt_syllables p) →
-    size a.out.operators + (expr_syllables (tree.call c) + 1) ≤ MOST_SEGMENT_SYLLABLES
+pub call_fits : (s : Known) (a : Draft) (p : PStmt) (c : PCall) (n : Named) (es : PExprs) → p ≡ tree.call_of (tree.called n es) → c ≡ tree.called n es → IsReady s a (stmt_syllables s p) →
+    size a.out.operators + (expr_syllables s (tree.call c) + 1) ≤ MOST_SEGMENT_SYLLABLES
 call_fits s a p c n es is same ready =
-    let Z : PCall → Type 0 = λ x. size a.out.operators + (expr_syllables (tree.call x) + 1) ≤ MOST_SEGMENT_SYLLABLES in
-    let there : Z (tree.called n es) = omega (arith, call_room n es, (ready_as s a p (tree.call_of (tree.called n es)) is ready).room) in
+    let Z : PCall → Type 0 = λ x. size a.out.operators + (expr_syllables s (tree.call x) + 1) ≤ MOST_SEGMENT_SYLLABLES in
+    let there : Z (tree.called n es) = omega (arith, (ready_as s a p (tree.call_of (tree.called n es)) is ready).room) in
     subst Z (sym same) there
 
 -- ---- less room
 
 pub ready_less : (s : Known) (a : Draft) (m k : ℕ) → IsReady s a m → k ≤ m → IsReady s a k
-ready_less s a m k r le = record { set = r.set; near = r.near; many = r.many; segment = r.segment; few = r.few; room = omega (arith, le, r.room) }
+ready_less s a m k r le = record { set = r.set; near = r.near; inner = r.inner; many = r.many; segment = r.segment; few = r.few; room = omega (arith, le, r.room) }
 
 -- what a call needs after code without formats
 pub ready_behind : (s : Known) (a b : Draft) (m k : ℕ) → IsReady s a m → b.out.level ≡ a.out.level → b.formats.items ≡ a.formats.items →
@@ -57,6 +56,7 @@ pub ready_behind : (s : Known) (a b : Draft) (m k : ℕ) → IsReady s a m → b
 ready_behind s a b m k r l fs grown le = record {
   set = set_same a.out b.out l r.set;
   near = r.near;
+  inner = r.inner;
   many = r.many;
   segment = r.segment;
   few = omega (arith, ap length fs, r.few, grown);
@@ -88,11 +88,11 @@ module _ (s : Known) (sc : Place) (level : ℕ) where
   pub assigned : (n : Named) (e : PExpr) (a b : Draft) → level_set a.out ≡ level → b.exits.items ≡ a.exits.items → b.formats.items ≡ a.formats.items → HasFew a →
       ((sc' : Place) (formats : List Format) → AssignFits sc' s (level_set a.out) n e →
       Emitted a.out b.out (λ qs. AssignAt sc' formats qs (level_set a.out) n e (size a.out.operators) (size b.out.operators))) →
-      size b.out.operators ≤ size a.out.operators + (3 + expr_syllables e) → AssignFits sc s level n e →
-      Emits (3 + expr_syllables e) a b (λ formats qs target. AssignAt sc formats qs level n e (size a.out.operators) (size b.out.operators))
+      size b.out.operators ≤ size a.out.operators + (4 + expr_syllables s e) → AssignFits sc s level n e →
+      Emits (4 + expr_syllables s e) a b (λ formats qs target. AssignAt sc formats qs level n e (size a.out.operators) (size b.out.operators))
   assigned n e a b q es fs few h short fit =
       let F : ℕ → Type 0 = λ l. AssignFits sc s l n e in
-      piece {n = 3 + expr_syllables e} {d = a} {e = b} es fs few
+      piece {n = 4 + expr_syllables s e} {d = a} {e = b} es fs few
       (λ formats. leveled (λ l qs. AssignAt sc formats qs l n e (size a.out.operators) (size b.out.operators)) level q (h sc formats (subst F (sym q) fit))) short
 
   pub compared : (n : Named) (e : PExpr) (a b : Draft) → level_set a.out ≡ level → b.exits.items ≡ a.exits.items → b.formats.items ≡ a.formats.items → HasFew a →
@@ -100,13 +100,13 @@ module _ (s : Known) (sc : Place) (level : ℕ) where
       Emitted a.out b.out
       (λ qs.
       ExprAt sc' formats qs (level_set a.out) types.Number (tree.two operators.Sub (meaning.alone n) e) (size a.out.operators) (size b.out.operators) (size b.out.operators))) →
-      size b.out.operators ≤ size a.out.operators + (3 + expr_syllables e) → ReadFits sc s level types.Number n → ExprFits sc s level types.Number e →
-      Emits (3 + expr_syllables e) a b
+      size b.out.operators ≤ size a.out.operators + (3 + expr_syllables s e) → ReadFits sc s level types.Number n → ExprFits sc s level types.Number e →
+      Emits (3 + expr_syllables s e) a b
       (λ formats qs target. ExprAt sc formats qs level types.Number (tree.two operators.Sub (meaning.alone n) e) (size a.out.operators) (size b.out.operators) (size b.out.operators))
   compared n e a b q es fs few h short name fit =
       let N : ℕ → Type 0 = λ l. ReadFits sc s l types.Number n in
       let F : ℕ → Type 0 = λ l. ExprFits sc s l types.Number e in
-      piece {n = 3 + expr_syllables e} {d = a} {e = b} es fs few
+      piece {n = 3 + expr_syllables s e} {d = a} {e = b} es fs few
       (λ formats.
       leveled
       (λ l qs. ExprAt sc formats qs l types.Number (tree.two operators.Sub (meaning.alone n) e) (size a.out.operators) (size b.out.operators) (size b.out.operators)) level q
@@ -125,9 +125,9 @@ module _ (s : Known) (sc : Place) (level : ℕ) where
 
   pub stepped : (e : PExpr) (a b : Draft) → level_set a.out ≡ level →
       ((sc' : Place) → ExprFits sc' s (level_set a.out) types.Number e →
-      Emits (13 + expr_syllables e) a b (λ formats qs target. StepAt sc' formats qs (level_set a.out) e (size a.out.operators) target (size b.out.operators))) →
+      Emits (13 + expr_syllables s e) a b (λ formats qs target. StepAt sc' formats qs (level_set a.out) e (size a.out.operators) target (size b.out.operators))) →
       ExprFits sc s level types.Number e →
-      Emits (13 + expr_syllables e) a b (λ formats qs target. StepAt sc formats qs level e (size a.out.operators) target (size b.out.operators))
+      Emits (13 + expr_syllables s e) a b (λ formats qs target. StepAt sc formats qs level e (size a.out.operators) target (size b.out.operators))
   stepped e a b q h fit =
       let F : ℕ → Type 0 = λ l. ExprFits sc s l types.Number e in
       at_level level (λ l formats qs target. StepAt sc formats qs l e (size a.out.operators) target (size b.out.operators)) q (h sc (subst F (sym q) fit))
@@ -136,13 +136,13 @@ module _ (s : Known) (sc : Place) (level : ℕ) where
       ((sc' : Place) (formats : List Format) → VariableFits sc' s (level_set a.out) n → ExprFits sc' s (level_set a.out) types.Number e →
       Emitted a.out b.out
       (λ qs. AssignAt sc' formats qs (level_set a.out) n (tree.two operators.Add (meaning.alone n) e) (size a.out.operators) (size b.out.operators))) →
-      size b.out.operators ≤ size a.out.operators + (6 + expr_syllables e) → VariableFits sc s level n → ExprFits sc s level types.Number e →
-      Emits (6 + expr_syllables e) a b
+      size b.out.operators ≤ size a.out.operators + (7 + expr_syllables s e) → VariableFits sc s level n → ExprFits sc s level types.Number e →
+      Emits (7 + expr_syllables s e) a b
       (λ formats qs target. AssignAt sc formats qs level n (tree.two operators.Add (meaning.alone n) e) (size a.out.operators) (size b.out.operators))
   advanced n e a b q es fs few h short name fit =
       let N : ℕ → Type 0 = λ l. VariableFits sc s l n in
       let F : ℕ → Type 0 = λ l. ExprFits sc s l types.Number e in
-      piece {n = 6 + expr_syllables e} {d = a} {e = b} es fs few
+      piece {n = 7 + expr_syllables s e} {d = a} {e = b} es fs few
       (λ formats.
       leveled (λ l qs. AssignAt sc formats qs l n (tree.two operators.Add (meaning.alone n) e) (size a.out.operators) (size b.out.operators)) level q
       (h sc formats (subst N (sym q) name) (subst F (sym q) fit)))
@@ -154,31 +154,31 @@ module _ (s : Known) (a b : Draft) (p : PStmt) where
   pub call_emitted : (c : PCall) (n : Named) (es : PExprs) → p ≡ tree.call_of (tree.called n es) → c ≡ tree.called n es → b.exits.items ≡ a.exits.items → b.formats.items ≡ a.formats.items → HasFew a →
       ((sc : Place) (formats : List Format) → CallStmtFits sc s (level_set a.out) n es →
       Emitted a.out b.out (λ qs. CallStmtAt sc formats qs (level_set a.out) n es (size a.out.operators) (size b.out.operators))) →
-      size b.out.operators ≤ size a.out.operators + (expr_syllables (tree.call c) + 1) → EmitsStmt s a b p
+      size b.out.operators ≤ size a.out.operators + (expr_syllables s (tree.call c) + 1) → EmitsStmt s a b p
   call_emitted c n es is same xs fs few h short = λ sc fit.
       let level = level_set a.out in
-      let Z : PCall → Type 0 = λ x. size b.out.operators ≤ size a.out.operators + (expr_syllables (tree.call x) + 1) in
-      let most = expr_syllables (tree.call (tree.called n es)) + 1 in
+      let Z : PCall → Type 0 = λ x. size b.out.operators ≤ size a.out.operators + (expr_syllables s (tree.call x) + 1) in
+      let most = expr_syllables s (tree.call (tree.called n es)) + 1 in
       let F : PStmt → Type 0 = λ x. StmtFits sc s level x in
-      let E : PStmt → Type 0 = λ x. Emits (stmt_syllables x) a b (Stands sc level x a b) in
+      let E : PStmt → Type 0 = λ x. Emits (stmt_syllables s x) a b (Stands sc level x a b) in
       let code : Emits most a b (λ formats qs target. CallStmtAt sc formats qs level n es (size a.out.operators) (size b.out.operators)) =
       piece {n = most} {d = a} {e = b} xs fs few (λ formats. h sc formats (subst F is fit)) (subst Z same short) in
-      subst E (sym is) (emits_weaker (Stands sc level (tree.call_of (tree.called n es)) a b) code (call_room n es) (λ formats qs target hi x. x))
+      subst E (sym is) (emits_weaker (Stands sc level (tree.call_of (tree.called n es)) a b) code (omega arith) (λ formats qs target hi x. x))
 
   pub write_emitted : (n : Named) (spot : Spot) (phrases : List PhraseText) (es : PExprs) → p ≡ tree.write n spot phrases es →
       ((sc : Place) → WriteFits sc s (level_set a.out) phrases es →
-      Emits (write_syllables es) a b (λ formats qs target. WriteAt sc formats qs (level_set a.out) phrases es (size a.out.operators) (size b.out.operators))) → EmitsStmt s a b p
+      Emits (write_syllables s es) a b (λ formats qs target. WriteAt sc formats qs (level_set a.out) phrases es (size a.out.operators) (size b.out.operators))) → EmitsStmt s a b p
   write_emitted n spot phrases es is h = λ sc fit.
       let level = level_set a.out in
       let F : PStmt → Type 0 = λ x. StmtFits sc s level x in
-      let E : PStmt → Type 0 = λ x. Emits (stmt_syllables x) a b (Stands sc level x a b) in
+      let E : PStmt → Type 0 = λ x. Emits (stmt_syllables s x) a b (Stands sc level x a b) in
       subst E (sym is) (emits_weaker (Stands sc level (tree.write n spot phrases es) a b) (h sc (subst F is fit)) (omega arith) (λ formats qs target hi x. x))
 
 pub else_emitted : (s : Known) (a b d : Draft) (p : PStmt) (e : PExpr) (x y : PStmt) → p ≡ tree.if_else e x y → EmitsThen s a b e x → EmitsStmt s b d y → EmitsStmt s a d p
 else_emitted s a b d p e x y is h k = λ sc fit.
     let level = level_set a.out in
     let F : PStmt → Type 0 = λ z. StmtFits sc s level z in
-    let E : PStmt → Type 0 = λ z. Emits (stmt_syllables z) a d (Stands sc level z a d) in
+    let E : PStmt → Type 0 = λ z. Emits (stmt_syllables s z) a d (Stands sc level z a d) in
     let there = subst F is fit in
     let first = h sc there.0 there.1 in
-    subst E (sym is) (if_else_arm sc level e x y a b d first (stmt_piece s sc y b d level (level_after first) k there.2))
+    subst E (sym is) (if_else_arm sc level s e x y a b d first (stmt_piece s sc y b d level (level_after first) k there.2))

@@ -1,6 +1,6 @@
 -- The couples of names, and of intrinsics, can be spelled where they stand.
-use Rattle.std.proofs.Common.{◌≡◌, ℕ, ◌+◌, ◌-◌, ◌^◌, ◌≤◌, ◌<◌, Bool, true, false, Option, Some, None, sym, ◌∙◌, subst, arith, lit≤, lit<}
-use Rattle.std.specs.Prelude.{if◌then◌else◌, nat_le}
+use Rattle.std.proofs.Common.{◌≡◌, ℕ, ◌+◌, ◌-◌, ◌^◌, ◌≤◌, ◌<◌, Bool, true, false, Option, Some, None, sym, ◌∙◌, refl, subst, arith, lit≤, lit<}
+use Rattle.std.specs.Prelude.{if◌then◌else◌, nat_le, IsSome}
 use Rattle.algol_tree.specs.declared.token.Spot.{Spot}
 use Rattle.algol_tree.specs.declared.tree.Kind.{Kind}
 use Rattle.algol_tree.specs.declared.tree.Named.{Named}
@@ -10,8 +10,9 @@ use Rattle.b67_ops.specs.declared.intrinsic.Intrinsic.{Intrinsic}
 use Rattle.b67_ops.specs.declared.intrinsic.Intrinsic.TheVariants.{GoTo, Select, Arrays, Event, Start, Write, Wait, Cause, Reset, Happened, Procure, Liberate}
 use Rattle.b67_ops.specs.Intrinsics.{couple_of_intrinsic}
 use Rattle.b67_ops.specs.Spelling.{level_bits, index_bits, IsSeen}
-use Rattle.b67_templates.specs.Cells.{IsVariable}
-use Rattle.b67_templates.specs.Fitting.{NameFits, couple_on_left}
+use Rattle.b67_templates.specs.Cells.{IsRead, of_variable, of_formal}
+use Rattle.b67_templates.specs.Fitting as fitting
+use Rattle.b67_templates.specs.Fitting.{Told, PlaceFits, on_left, couple_on_left}
 use Rattle.b67_emitter.specs.declared.names.Names.{Names}
 use Rattle.algol_tree.specs.declared.TheConstants.{MOST_BLOCK_CELLS}
 use Rattle.b67_emitter.specs.Values.{AreNear, couples, lefts, results}
@@ -54,11 +55,15 @@ intrinsic_seen level name = seen level (couple_of_intrinsic name) (omega arith) 
 some_same : (c d : Couple) → Some c ≡ Some d → c ≡ d
 some_same c d e = cc
 
--- the couple that is known is that of the variable
-pub variable_is : (sc : Scopes) (known : Spot → Option Couple) (level : ℕ) (k : Kind) (n : Named) (c : Couple) → NameFits sc known level k n → known n.spot ≡ Some c →
-    IsVariable sc level n k c
-variable_is sc known level k n c fit e =
-    let V : Couple → Type 0 = λ d. IsVariable sc level n k d in subst V (some_same fit.0 c (sym fit.1 ∙ e)) fit.2
+-- what is read is known
+pub read_known : (known : Option Couple) (c : Couple) → known ≡ Some c → IsSome known
+read_known known c is = let S : Option Couple → Type 0 = λ o. IsSome o in subst S (sym is) refl
+
+-- the couple that is known is that of what is read
+pub read_is : (sc : Scopes) (known : Spot → Option Couple) (level : ℕ) (k : Kind) (n : Named) (c : Couple) →
+    (d : Couple) × (known n.spot ≡ Some d) × IsRead sc level n k d → known n.spot ≡ Some c → IsRead sc level n k c
+read_is sc known level k n c fit e =
+    let V : Couple → Type 0 = λ d. IsRead sc level n k d in subst V (some_same fit.0 c (sym fit.1 ∙ e)) fit.2
 
 -- the couple of a name on the left is that of its own cell or of a result
 pub left_near : (s : Names) (n : Named) (c : Couple) → AreNear s → lefts s n.spot ≡ Some c → c.index < 512
@@ -69,7 +74,16 @@ left_near s n c near is = by (couples s n.spot) (results s n.spot) (near.own n.s
     by own None h k e = omega (arith, h c e)
     by own (Some d) h k e = omega (arith, k c e)
 
-pub name_seen : (sc : Scopes) (known : Spot → Option Couple) (level : ℕ) (k : Kind) (n : Named) (c : Couple) → NameFits sc known level k n → known n.spot ≡ Some c → c.index < 512 →
-    IsSeen level c
+read_level : (sc : Scopes) (level : ℕ) (k : Kind) (n : Named) (c : Couple) → IsRead sc level n k c → c.level ≤ level
+read_level sc level k n c (of_variable v) = omega (arith, v.level_is)
+read_level sc level k n c (of_formal v) = omega (arith, v.level_is)
+
+pub name_seen : (sc : Scopes) (known : Spot → Option Couple) (level : ℕ) (k : Kind) (n : Named) (c : Couple) →
+    (d : Couple) × (known n.spot ≡ Some d) × IsRead sc level n k d → known n.spot ≡ Some c → c.index < 512 → IsSeen level c
 name_seen sc known level k n c fit e near =
-    let v = variable_is sc known level k n c fit e in seen level c (omega (arith, v.level_is)) near
+    seen level c (read_level sc level k n c (read_is sc known level k n c fit e)) near
+
+-- what an assignment stores through is a variable, a result or a parameter by name
+pub place_read : (sc : Scopes) (told : Told) (level : ℕ) (k : Kind) (n : Named) → PlaceFits sc told level k n → (d : Couple) × (on_left told n.spot ≡ Some d) × IsRead sc level n k d
+place_read sc told level k n (fitting.own (d, is, v) unnamed) = (d, is, of_variable v)
+place_read sc told level k n (fitting.resolved d is named v) = (d, is, of_formal v)

@@ -6,16 +6,22 @@ use Rattle.std.specs.List.{All}
 use Rattle.algol_tree.specs.declared.token.Spot.{Spot}
 use Rattle.algol_tree.specs.declared.tree.Named.{Named}
 use Rattle.algol_tree.specs.Blocks.{number_at, same_spot}
+use Rattle.algol_tree.specs.Plain.{PDecls}
 use Rattle.algol_tree.specs.Scopes.{Scopes}
 use Rattle.algol_places.specs.Numbers.{number_from, number_of}
 use Rattle.algol_paths.specs.Segments.{segment_of}
 use Rattle.b67_ops.specs.declared.TheConstants.{MOST_LEVEL}
+use Rattle.b67_templates.specs.Cells.{procedures, control_segments}
 use Rattle.b67_emit_stmt.specs.declared.draft.Known.{Known}
 use Rattle.b67_emit_stmt.specs.Bodies.{numbers_of}
 use Rattle.b67_emit_stmt.specs.Fits.{AreNumbered, number_in}
 
 pub numbers_long : (s : Known) (ns : List Named) → length (numbers_of s ns) ≡ length ns
 numbers_long s ns = length-map ns (λ (n : Named). number_in s.procedures.now n.spot)
+
+-- there are as many control words as procedures
+pub controls_many : (sc : Scopes) (ds : PDecls) → length (control_segments sc ds) ≡ length (procedures ds)
+controls_many sc ds = length-map (procedures ds) (λ (n : Named). segment_of sc.blocks (number_at sc.blocks n.spot))
 
 module _ (s : Known) (sc : Scopes) (level : ℕ) where
   pub numbers_fit : (ns : List Named) → AreNumbered sc s level ns → All (λ (k : ℕ). k < 2 ^ 10) (numbers_of s ns)

@@ -1,5 +1,5 @@
 -- Operators one after another, at the level that was set before all of them.
-use Rattle.std.proofs.Common.{◌≡◌, ℕ, Option, List, refl, sym, subst, arith}
+use Rattle.std.proofs.Common.{◌≡◌, ℕ, ◌≤◌, Option, List, refl, sym, subst, arith}
 use Rattle.std.specs.Prelude.{IsSome, Result, Ok, Err, OnOk}
 use Rattle.algol_tree.specs.declared.tree.Kind.{Kind}
 use Rattle.algol_tree.specs.declared.tree.Kind.TheVariants as types
@@ -7,7 +7,7 @@ use Rattle.algol_tree.specs.declared.tree.Op.TheVariants as operators
 use Rattle.algol_tree.specs.declared.tree.Named.{Named}
 use Rattle.algol_tree.specs.Plain as tree
 use Rattle.algol_tree.specs.Plain.{PExpr}
-use Rattle.b67_emit_stmt.specs.Places.{Place, context_in, AssignAt, ExprAt, ReadAt, ReferenceAt}
+use Rattle.b67_emit_stmt.specs.Places.{Place, context_in, AssignAt, ExprAt, ReadAt, PlaceAt}
 use Rattle.b67_templates.specs.Code.{own, reads}
 use Rattle.b67_emit_stmt.specs.declared.draft.Known.{Known}
 use Rattle.algol_meaning.specs.Statements.{alone}
@@ -21,7 +21,7 @@ use Rattle.b67_segment.specs.declared.code.Format.{Format}
 use Rattle.b67_segment.specs.Operators.{Placed, size}
 use Rattle.b67_segment.specs.Building.{Built, level_set}
 use Rattle.b67_templates.specs.Fragments.{Has, IntrinsicAt}
-use Rattle.b67_templates.specs.Cells.{IsVariable, of_variable}
+use Rattle.b67_templates.specs.Cells.{IsVariable, IsRead}
 use Rattle.b67_templates.specs.Emitting.{Emitted}
 use Rattle.b67_emit_stmt.specs.Fits.{ExprFits, VariableFits}
 use Rattle.b67_emitter.specs.Values.{HasCode, ValueEmitted}
@@ -43,7 +43,7 @@ plain_at {b} {c} kind level e h = leveled (λ l qs. Has qs l (size b.operators) 
 -- the expression has code at a level that is the same
 pub code_at : (s : Known) (level' level : ℕ) (sc : Place) (k : Kind) (e : PExpr) → level' ≡ level → ExprFits sc s level k e → HasCode s.names.now level' e
 code_at s level' level sc k e q fit =
-    let F : ℕ → Type 0 = λ l. ExprFits sc s l k e in record { scopes = sc.scopes; kind = k; fits = subst F (sym q) fit }
+    let at_most : level ≤ level' = omega (arith, q) in record { scopes = sc.scopes; own = level; block = sc.block; kind = k; outer = at_most; fits = fit }
 
 pub variable_at : (s : Known) (level' level : ℕ) (sc : Place) (n : Named) → level' ≡ level → VariableFits sc s level n → VariableFits sc s level' n
 variable_at s level' level sc n q fit = let F : ℕ → Type 0 = λ l. VariableFits sc s l n in subst F (sym q) fit
@@ -69,25 +69,25 @@ intrinsic_part name a b c e h k =
 
 pub reference_part : (sc : Place) (formats : List Format) (k : Kind) (n : Named) (c : Couple) (a b : Built) → IsVariable sc.scopes (level_set a) n k c →
     Emitted a b (λ qs. Has qs (level_set a) (size a.operators) (ops.Namc c) (size b.operators)) →
-    Emitted a b (λ qs. ReferenceAt sc formats qs (level_set a) n k (size a.operators) (size b.operators))
+    Emitted a b (λ qs. PlaceAt sc formats qs (level_set a) n k (size a.operators) (size b.operators))
 reference_part sc formats k n c a b v h =
-    weaker (λ qs. ReferenceAt sc formats qs (level_set a) n k (size a.operators) (size b.operators)) h (λ qs p. (c, v, p))
+    weaker (λ qs. PlaceAt sc formats qs (level_set a) n k (size a.operators) (size b.operators)) h (λ qs p. own (c, v, p))
 
-pub read_part : (sc : Place) (formats : List Format) (k : Kind) (n : Named) (c : Couple) (a b : Built) → IsVariable sc.scopes (level_set a) n k c →
+pub read_part : (sc : Place) (formats : List Format) (k : Kind) (n : Named) (c : Couple) (a b : Built) → IsRead sc.scopes (level_set a) n k c →
     Emitted a b (λ qs. Has qs (level_set a) (size a.operators) (ops.Valc c) (size b.operators)) →
     Emitted a b (λ qs. ReadAt sc formats qs (level_set a) n k (size a.operators) (size b.operators))
 read_part sc formats k n c a b v h =
-    weaker (λ qs. ReadAt sc formats qs (level_set a) n k (size a.operators) (size b.operators)) h (λ qs p. (c, of_variable v, p))
+    weaker (λ qs. ReadAt sc formats qs (level_set a) n k (size a.operators) (size b.operators)) h (λ qs p. (c, v, p))
 
 module _ (sc : Place) (formats : List Format) (level : ℕ) where
   pub assign_part : (k : Kind) (n : Named) (e : PExpr) (a b c d : Built) →
-      Emitted a b (λ qs. ReferenceAt sc formats qs level n k (size a.operators) (size b.operators)) →
+      Emitted a b (λ qs. PlaceAt sc formats qs level n k (size a.operators) (size b.operators)) →
       Emitted b c (λ qs. ExprAt sc formats qs level k e (size b.operators) (size c.operators) (size c.operators)) →
       Emitted c d (λ qs. Has qs level (size c.operators) (ops.Plain kinds.Stod) (size d.operators)) →
       Emitted a d (λ qs. AssignAt sc formats qs level n e (size a.operators) (size d.operators))
   assign_part k n e a b c d h i j =
       weaker (λ qs. AssignAt sc formats qs level n e (size a.operators) (size d.operators)) (then (then h i) j)
-      (λ qs p. (k, size b.operators, size c.operators, own p.0.0, p.0.1, p.1))
+      (λ qs p. (k, size b.operators, size c.operators, p.0.0, p.0.1, p.1))
 
   pub difference_part : (n : Named) (e : PExpr) (a b c d : Built) →
       Emitted a b (λ qs. ReadAt sc formats qs level n types.Number (size a.operators) (size b.operators)) →
@@ -99,7 +99,7 @@ module _ (sc : Place) (formats : List Format) (level : ℕ) where
       (λ qs p. (size b.operators, size b.operators, size c.operators, refl, reads p.0.0, refl, p.0.1, p.1))
 
   pub advance_part : (n : Named) (e : PExpr) (a b c d x y : Built) →
-      Emitted a b (λ qs. ReferenceAt sc formats qs level n types.Number (size a.operators) (size b.operators)) →
+      Emitted a b (λ qs. PlaceAt sc formats qs level n types.Number (size a.operators) (size b.operators)) →
       Emitted b c (λ qs. ReadAt sc formats qs level n types.Number (size b.operators) (size c.operators)) →
       Emitted c d (λ qs. ExprAt sc formats qs level types.Number e (size c.operators) (size d.operators) (size d.operators)) →
       Emitted d x (λ qs. Has qs level (size d.operators) (ops.Plain kinds.Add) (size x.operators)) →
@@ -109,7 +109,7 @@ module _ (sc : Place) (formats : List Format) (level : ℕ) where
       weaker (λ qs. AssignAt sc formats qs level n (tree.two operators.Add (alone n) e) (size a.operators) (size y.operators))
       (then h (then (then (then i j) k) l))
       (λ qs p.
-      (types.Number, size b.operators, size x.operators, own p.0, (size c.operators, size c.operators, size d.operators, refl, reads p.1.0.0.0, refl, p.1.0.0.1, p.1.0.1), p.1.1))
+      (types.Number, size b.operators, size x.operators, p.0, (size c.operators, size c.operators, size d.operators, refl, reads p.1.0.0.0, refl, p.1.0.0.1, p.1.0.1), p.1.1))
 
 -- ---- answers
 

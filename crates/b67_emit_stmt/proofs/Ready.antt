@@ -10,7 +10,7 @@ use Rattle.b67_segment.specs.declared.code.Format.{Format}
 use Rattle.b67_segment.specs.Operators.{Placed, size}
 use Rattle.b67_segment.specs.Building.{level_set}
 use Rattle.b67_templates.specs.Fragments.{AllAt, BranchAt, TurnAt}
-use Rattle.b67_templates.specs.Depths.{expr_syllables, stmt_syllables}
+use Rattle.b67_emit_stmt.specs.Lengths.{expr_syllables, stmt_syllables}
 use Rattle.b67_templates.specs.Emitting.{Emitted, EmittedWithExits}
 use Rattle.b67_emit_stmt.specs.Fits.{ExprFits, StmtFits}
 use Rattle.b67_emitter.specs.Values.{ValueEmitted}
@@ -22,18 +22,18 @@ use Rattle.b67_emit_stmt.proofs.Parts.{leveled, value_at}
 use Rattle.b67_emit_stmt.proofs.Arms.{Closed, Left, Stands, Turned}
 
 pub ready_after : {n : ℕ} {b : Draft} {P : List Format → List Placed → ℕ → Type 0} (s : Known) (a : Draft) (m k : ℕ) → IsReady s a m → Emits n a b P → n + k ≤ m → IsReady s b k
-ready_after {n} {b} s a m k r e le = record { set = set_after e r.set; near = r.near; many = r.many; segment = r.segment; few = e.few; room = omega (arith, e.short, r.room) }
+ready_after {n} {b} s a m k r e le = record { set = set_after e r.set; near = r.near; inner = r.inner; many = r.many; segment = r.segment; few = e.few; room = omega (arith, e.short, r.room) }
 
 pub fit_after : {n : ℕ} {a b : Draft} {P : List Format → List Placed → ℕ → Type 0} (s : Known) (sc : Place) (x : PStmt) → Emits n a b P →
     StmtFits sc s (level_set a.out) x → HasFit s b x
 fit_after {n} {a} {b} s sc x e fit = let F : ℕ → Type 0 = λ l. StmtFits sc s l x in (sc, subst F (sym (level_after e)) fit)
 
 pub value_piece : (s : Known) (a b : Draft) (level : ℕ) (sc : Place) (k : Kind) (e : PExpr) → level_set a.out ≡ level → b.exits.items ≡ a.exits.items →
-    b.formats.items ≡ a.formats.items → HasFew a → ValueEmitted s.names.now (level_set a.out) a.out b.out e → size b.out.operators ≤ size a.out.operators + expr_syllables e →
+    b.formats.items ≡ a.formats.items → HasFew a → ValueEmitted s.names.now (level_set a.out) a.out b.out e → size b.out.operators ≤ size a.out.operators + expr_syllables s e →
     ExprFits sc s level k e →
-    Emits (expr_syllables e) a b (λ formats qs target. ExprAt sc formats qs level k e (size a.out.operators) (size b.out.operators) (size b.out.operators))
+    Emits (expr_syllables s e) a b (λ formats qs target. ExprAt sc formats qs level k e (size a.out.operators) (size b.out.operators) (size b.out.operators))
 value_piece s a b level sc k e q es fs few v short fit =
-    piece {n = expr_syllables e} {d = a} {e = b} es fs few (λ formats. value_at s a.out b.out level sc formats k e q v fit) short
+    piece {n = expr_syllables s e} {d = a} {e = b} es fs few (λ formats. value_at s a.out b.out level sc formats k e q v fit) short
 
 pub branch_piece : (sc : Place) (kind : BranchKind) (a b : Draft) (level : ℕ) → level_set a.out ≡ level → b.formats.items ≡ a.formats.items → HasFew a →
     EmittedWithExits a.out b.out a.exits.items b.exits.items (λ qs target. BranchAt qs (level_set a.out) kind (size a.out.operators) target (size b.out.operators)) →
@@ -56,11 +56,11 @@ all_piece n kinds a b level q es fs few h wide =
     piece {n = n} {d = a} {e = b} es fs few (λ formats. leveled (λ l qs. AllAt qs l kinds (size a.out.operators) (size b.out.operators)) level q h) wide
 
 pub stmt_piece : (s : Known) (sc : Place) (x : PStmt) (a b : Draft) (level : ℕ) → level_set a.out ≡ level → EmitsStmt s a b x → StmtFits sc s level x →
-    Emits (stmt_syllables x) a b (Stands sc level x a b)
+    Emits (stmt_syllables s x) a b (Stands sc level x a b)
 stmt_piece s sc x a b level q h fit =
     let F : ℕ → Type 0 = λ l. StmtFits sc s l x in at_level level (λ l. Stands sc l x a b) q (h sc (subst F (sym q) fit))
 
 pub body_piece : (s : Known) (sc : Place) (x : PStmt) (a b : Draft) (level : ℕ) → level_set a.out ≡ level → EmitsBody s a b x → StmtFits sc s level x →
-    Emits (stmt_syllables x) a b (Closed sc level x a b)
+    Emits (stmt_syllables s x) a b (Closed sc level x a b)
 body_piece s sc x a b level q h fit =
     let F : ℕ → Type 0 = λ l. StmtFits sc s l x in at_level level (λ l. Closed sc l x a b) q (h sc (subst F (sym q) fit))

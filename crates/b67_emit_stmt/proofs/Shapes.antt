@@ -31,6 +31,9 @@ block_is b = search (rules, stmts'.the_lemmas)
 if_else_is : (e : Expr) (x y : Box Stmt Global) → stmt (shapes.If e x (Some y)) ≡ tree.if_else (expr e) (stmt x.value) (stmt y.value)
 if_else_is e x y = search (rules, stmts'.the_lemmas)
 
+for_is : (v : Named) (a z l : Expr) (b : Box Stmt Global) → stmt (shapes.For v a z l b) ≡ tree.for v (expr a) (expr z) (expr l) (stmt b.value)
+for_is v a z l b = search (rules, stmts'.the_lemmas)
+
 write_is : (n : Named) (spot : Spot) (ps : List PhraseText) (es : List Expr) → stmt (shapes.Write n spot ps es) ≡ tree.write n spot ps (exprs es)
 write_is n spot ps es = search (rules, stmts'.the_lemmas)
 
@@ -63,6 +66,10 @@ pub if_else_as : (s p q : Stmt) (e : Expr) (x : Box Stmt Global) (o : Option (Bo
 if_else_as s p q e x o y is some first second =
     ap stmt (is ∙ ap (shapes.If e x) some) ∙ if_else_is e x y ∙ ap (λ (z : Stmt). tree.if_else (expr e) (stmt z) (stmt y.value)) (sym first)
     ∙ ap (λ (z : Stmt). tree.if_else (expr e) (stmt p) (stmt z)) (sym second)
+
+pub for_as : (s p : Stmt) (v : Named) (a z l : Expr) (b : Box Stmt Global) → s ≡ shapes.For v a z l b → p ≡ b.value →
+    stmt s ≡ tree.for v (expr a) (expr z) (expr l) (stmt p)
+for_as s p v a z l b is same = ap stmt is ∙ for_is v a z l b ∙ ap (λ (x : Stmt). tree.for v (expr a) (expr z) (expr l) (stmt x)) (sym same)
 
 pub write_as : (s : Stmt) (n : Named) (spot : Spot) (ps qs : List PhraseText) (es fs : List Expr) → s ≡ shapes.Write n spot ps es → qs ≡ ps → fs ≡ es →
     stmt s ≡ tree.write n spot qs (exprs fs)

@@ -9,7 +9,7 @@ use Rattle.b67_segment.specs.declared.TheConstants.{MOST_SEGMENT_SYLLABLES}
 use Rattle.b67_segment.specs.declared.code.Format.{Format}
 use Rattle.b67_segment.specs.Operators.{Placed, size}
 use Rattle.b67_segment.specs.Building.{Built, level_set}
-use Rattle.b67_templates.specs.Depths.{expr_syllables, stmt_syllables}
+use Rattle.b67_emit_stmt.specs.Lengths.{expr_syllables, stmt_syllables}
 use Rattle.b67_templates.specs.Emitting.{Emitted}
 use Rattle.b67_templates.specs.Fragments.{Has}
 use Rattle.b67_emitter.specs.Values.{HasReference, ReferenceEmitted, ValueEmitted, alone, element, place_syllables}
@@ -29,8 +29,8 @@ use Rattle.b67_emit_stmt.proofs.Parts.{assign_part, plain_at, value_at}
 
 module _ (s : Known) (sc : Place) (level : ℕ) where
   pub store_has : (v : PVariable) (e : PExpr) → StoreFits sc s level v e → HasReference s.names.now level v
-  store_has (tree.subscripted n tree.none) e fit = alone sc.scopes fit.0 n refl fit.1
-  store_has (tree.subscripted n (tree.more i is)) e fit = element sc.scopes n fit.0 (tree.more i is) refl (fit.1, fit.2)
+  store_has (tree.subscripted n tree.none) e fit = alone sc.scopes level fit.0 n (omega arith) refl fit.1
+  store_has (tree.subscripted n (tree.more i is)) e fit = element sc.scopes level sc.block n fit.0 (tree.more i is) (omega arith) refl (fit.1, fit.2)
 
   -- the kind of the value
   pub store_value : (v : PVariable) (e : PExpr) → StoreFits sc s level v e → (k : Kind) × ExprFits sc s level k e
@@ -38,13 +38,9 @@ module _ (s : Known) (sc : Place) (level : ℕ) where
   store_value (tree.subscripted n (tree.more i is)) e fit = (fit.0.kind, fit.3)
 
 -- a statement has room for them
-store_room : (v : PVariable) (e : PExpr) → place_syllables v + expr_syllables e + 1 ≤ stmt_syllables (tree.assign v e)
-store_room (tree.subscripted n tree.none) e = omega arith
-store_room (tree.subscripted n (tree.more i is)) e = omega arith
-
-pub store_fits : (s : Known) (a : Draft) (p : PStmt) (v : PVariable) (e : PExpr) → p ≡ tree.assign v e → IsReady s a (stmt_syllables p) →
-    size a.out.operators + (place_syllables v + expr_syllables e + 1) ≤ MOST_SEGMENT_SYLLABLES
-store_fits s a p v e is ready = omega (arith, store_room v e, (ready_as s a p (tree.assign v e) is ready).room)
+pub store_fits : (s : Known) (a : Draft) (p : PStmt) (v : PVariable) (e : PExpr) → p ≡ tree.assign v e → IsReady s a (stmt_syllables s p) →
+    size a.out.operators + (place_syllables s.names.now v + expr_syllables s e + 1) ≤ MOST_SEGMENT_SYLLABLES
+store_fits s a p v e is ready = omega (arith, (ready_as s a p (tree.assign v e) is ready).room)
 
 -- ---- the code
 
@@ -72,10 +68,10 @@ pub store_emitted : (s : Known) (a b : Draft) (p : PStmt) (v : PVariable) (e : P
     HasFew a →
     ((sc : Place) (formats : List Format) → StoreFits sc s (level_set a.out) v e →
     Emitted a.out b.out (λ qs. StoredAt sc formats qs (level_set a.out) v e (size a.out.operators) (size b.out.operators))) →
-    size b.out.operators ≤ size a.out.operators + (place_syllables v + expr_syllables e + 1) → EmitsStmt s a b p
+    size b.out.operators ≤ size a.out.operators + (place_syllables s.names.now v + expr_syllables s e + 1) → EmitsStmt s a b p
 store_emitted s a b p v e is xs fs few h short =
     emits_as s a b p (tree.assign v e) is
     (λ sc fit.
     emits_weaker (Stands sc (level_set a.out) (tree.assign v e) a b)
-    (piece {n = place_syllables v + expr_syllables e + 1} {d = a} {e = b} xs fs few (λ formats. h sc formats fit) short) (store_room v e)
+    (piece {n = place_syllables s.names.now v + expr_syllables s e + 1} {d = a} {e = b} xs fs few (λ formats. h sc formats fit) short) (omega arith)
     (λ formats qs target hi x. stored sc formats qs (level_set a.out) v e (size a.out.operators) (size b.out.operators) target x))

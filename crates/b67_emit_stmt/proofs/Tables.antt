@@ -4,7 +4,6 @@ use Rattle.std.proofs.lemmas.List.{length-take-le}
 use Rattle.std.specs.Prelude.{IsSome}
 use Rattle.algol_tree.specs.declared.tree.Kind.TheVariants as types
 use Rattle.algol_tree.specs.declared.tree.Stmt.{Stmt}
-use Rattle.algol_tree.specs.Counts.{stmts_tokens}
 use Rattle.algol_tree.specs.Image.{stmt, stmts}
 use Rattle.algol_tree.specs.Plain as tree
 use Rattle.algol_tree.specs.Plain.{PExpr}
@@ -20,30 +19,30 @@ use Rattle.b67_segment.specs.Operators.{Placed, size}
 use Rattle.b67_segment.specs.Building.{Built, level_set}
 use Rattle.b67_templates.specs.Fragments.{Has, BranchAt, IntrinsicAt, IsWhole, NumberAt, two_bytes}
 use Rattle.b67_templates.specs.Code.{stmts_count}
-use Rattle.b67_templates.specs.Depths.{expr_syllables, stmt_syllables}
+use Rattle.b67_emit_stmt.specs.Lengths.{expr_syllables, stmt_syllables, stmts_syllables}
 use Rattle.b67_templates.specs.Emitting.{AreExits, Emitted, EmittedWithExits}
 use Rattle.b67_emit_stmt.specs.Fits.{StmtFits, StmtsFit}
 use Rattle.b67_emitter.specs.Aiming.{Aimed}
 use Rattle.b67_emitter.proofs.Composing.{then, weaker}
 use Rattle.b67_emit_stmt.specs.declared.draft.Draft.{Draft}
 use Rattle.b67_emit_stmt.specs.Drafts.{Emits, HasFew, IsAt, IsReady}
-use Rattle.b67_emit_stmt.specs.Emits.{EmitsStmt, HasFit, stmts_syllables}
+use Rattle.b67_emit_stmt.specs.Emits.{EmitsStmt, HasFit}
 use Rattle.b67_emit_stmt.specs.Cases.{EntriesAt, SelectAt}
 use Rattle.b67_emit_stmt.proofs.Arms.{Stands}
 use Rattle.b67_emit_stmt.proofs.Cases.{Midcase, entries_more, entries_size, midcase-first, midcase-last, midcase-more}
 use Rattle.b67_emit_stmt.proofs.Drafts.{emits_then, emits_weaker, level_same}
 use Rattle.b67_emit_stmt.proofs.Lists.{around, front_more}
 use Rattle.b67_emit_stmt.proofs.Levels.{at_same}
-use Rattle.b67_emit_stmt.proofs.Listed.{next_fits, next_tokens}
+use Rattle.b67_emit_stmt.proofs.Listed.{next_fits, next_syllables}
 use Rattle.b67_emit_stmt.proofs.Matched.{fit_at, ready_less, set_behind}
 use Rattle.b67_emit_stmt.proofs.Parts.{leveled, set_same}
 use Rattle.b67_emit_stmt.proofs.Ready.{branch_piece, stmt_piece}
 
 -- ---- how many
 
-pub few_statements : (ss : List Stmt) → length ss ≤ stmts_tokens (stmts ss)
-few_statements [] = omega arith
-few_statements (s ∷ ss) = omega (arith, few_statements ss)
+pub few_statements : (s : Known) (ss : List Stmt) → 6 * length ss ≤ stmts_syllables s (stmts ss)
+few_statements s [] = omega arith
+few_statements s (x ∷ xs) = omega (arith, few_statements s xs)
 
 count_is : (ss : List Stmt) → length ss ≡ stmts_count (stmts ss)
 count_is [] = refl
@@ -84,11 +83,11 @@ module _ (sc : Place) (formats : List Format) (level many : ℕ) (e : PExpr) (a 
 
 -- ---- the whole
 
-pub case_arm : (sc : Place) (level : ℕ) (e : PExpr) (ss : List Stmt) (a b d : Draft) →
-    Emits (19 + expr_syllables e) a b (λ formats qs target. SelectAt sc formats qs level e (length ss) (size a.out.operators) (size b.out.operators)) →
-    Emits (stmts_syllables (stmts ss)) b d (λ formats qs target. CasesAt sc formats qs level (stmts ss) (size b.out.operators) target) →
-    Emits (stmt_syllables (tree.case e (stmts ss))) a d (Stands sc level (tree.case e (stmts ss)) a d)
-case_arm sc level e ss a b d h i =
+pub case_arm : (s : Known) (sc : Place) (level : ℕ) (e : PExpr) (ss : List Stmt) (a b d : Draft) →
+    Emits (19 + expr_syllables s e) a b (λ formats qs target. SelectAt sc formats qs level e (length ss) (size a.out.operators) (size b.out.operators)) →
+    Emits (stmts_syllables s (stmts ss)) b d (λ formats qs target. CasesAt sc formats qs level (stmts ss) (size b.out.operators) target) →
+    Emits (stmt_syllables s (tree.case e (stmts ss))) a d (Stands sc level (tree.case e (stmts ss)) a d)
+case_arm s sc level e ss a b d h i =
     emits_weaker (Stands sc level (tree.case e (stmts ss)) a d) (emits_then h i) (omega arith)
     (λ formats qs target hi p.
     let T : ℕ → Type 0 = λ n. TableAt sc formats qs level n p.0.1 (size b.out.operators) in
@@ -97,29 +96,29 @@ case_arm sc level e ss a b d h i =
 -- ---- the statements after the table, one after another
 
 -- none is done
-pub cases_begun : (sc : Place) (level many : ℕ) (xs : List Stmt) (a t : Draft) → many ≡ length xs → HasFew a → t.exits.items ≡ a.exits.items → t.formats.items ≡ a.formats.items →
-    Emitted a.out t.out (λ qs. EntriesAt qs level many (size a.out.operators) (size t.out.operators)) → Midcase sc level (take 0 xs) (length xs - 0) a t t
-cases_begun sc level many xs a t is few es fs h =
-    let M : ℕ → Type 0 = λ n. Midcase sc level [] n a t t in
+pub cases_begun : (s : Known) (sc : Place) (level many : ℕ) (xs : List Stmt) (a t : Draft) → many ≡ length xs → HasFew a → t.exits.items ≡ a.exits.items → t.formats.items ≡ a.formats.items →
+    Emitted a.out t.out (λ qs. EntriesAt qs level many (size a.out.operators) (size t.out.operators)) → Midcase s sc level (take 0 xs) (length xs - 0) a t t
+cases_begun s sc level many xs a t is few es fs h =
+    let M : ℕ → Type 0 = λ n. Midcase s sc level [] n a t t in
     let all : many ≡ length xs - 0 = omega (arith, is) in
-    subst M all (midcase-first sc level many a t few es fs h)
+    subst M all (midcase-first s sc level many a t few es fs h)
 
 -- all are done
-pub cases_ended : (sc : Place) (level : ℕ) (xs : List Stmt) (i : ℕ) (a t b : Draft) → take i xs ≡ xs → length xs ≤ i → Midcase sc level (take i xs) (length xs - i) a t b →
-    Emits (stmts_syllables (stmts xs)) a b (λ formats qs target. CasesAt sc formats qs level (stmts xs) (size a.out.operators) target)
-cases_ended sc level xs i a t b all over m =
+pub cases_ended : (s : Known) (sc : Place) (level : ℕ) (xs : List Stmt) (i : ℕ) (a t b : Draft) → take i xs ≡ xs → length xs ≤ i → Midcase s sc level (take i xs) (length xs - i) a t b →
+    Emits (stmts_syllables s (stmts xs)) a b (λ formats qs target. CasesAt sc formats qs level (stmts xs) (size a.out.operators) target)
+cases_ended s sc level xs i a t b all over m =
     let none : length xs - i ≡ zero = omega (arith, over) in
-    let L : List Stmt → Type 0 = λ l. Midcase sc level l (length xs - i) a t b in
-    let M : ℕ → Type 0 = λ n. Midcase sc level xs n a t b in
+    let L : List Stmt → Type 0 = λ l. Midcase s sc level l (length xs - i) a t b in
+    let M : ℕ → Type 0 = λ n. Midcase s sc level xs n a t b in
     let last = subst M none (subst L all m) in
-    midcase-last sc level xs a t b (stmts_syllables (stmts xs)) last (omega (arith, last.short, last.pending))
+    midcase-last s sc level xs a t b (stmts_syllables s (stmts xs)) last (omega (arith, last.short, last.pending))
 
 module _ (s : Known) (sc : Place) (level : ℕ) (xs : List Stmt) (i : ℕ) (x : Stmt) (lo : i < length xs) (is : x ≡ get_or xs i x) (a t b : Draft) (entry : ℕ)
-    (at : entry ≡ size a.out.operators + 3 * i) (m : Midcase sc level (take i xs) (length xs - i) a t b) where
-  left : Midcase sc level (take i xs) (suc (length xs - (i + 1))) a t b
+    (at : entry ≡ size a.out.operators + 3 * i) (m : Midcase s sc level (take i xs) (length xs - i) a t b) where
+  left : Midcase s sc level (take i xs) (suc (length xs - (i + 1))) a t b
   left =
       let one : length xs - i ≡ suc (length xs - (i + 1)) = omega (arith, lo) in
-      let M : ℕ → Type 0 = λ n. Midcase sc level (take i xs) n a t b in
+      let M : ℕ → Type 0 = λ n. Midcase s sc level (take i xs) n a t b in
       subst M one m
 
   many_done : length (take i xs) ≡ i
@@ -142,34 +141,35 @@ module _ (s : Known) (sc : Place) (level : ℕ) (xs : List Stmt) (i : ℕ) (x : 
   pub entry_below : entry + 3 ≤ size t.out.operators
   entry_below = omega (arith, at, lo, table_size)
 
-  next_ready : (d : Draft) (n : ℕ) → Aimed (entry ∷ []) b.out d.out → d.formats.items ≡ b.formats.items → stmts_syllables (stmts xs) ≤ n → IsReady s a n →
-      IsReady s d (stmt_syllables (stmt x) + 3)
+  next_ready : (d : Draft) (n : ℕ) → Aimed (entry ∷ []) b.out d.out → d.formats.items ≡ b.formats.items → stmts_syllables s (stmts xs) ≤ n → IsReady s a n →
+      IsReady s d (stmt_syllables s (stmt x) + 3)
   next_ready d n aimed fs le r =
       let split : length xs ≡ length (take i xs) + (1 + length (drop (i + 1) xs)) =
       omega (arith, ap (λ (l : List Stmt). length l) (around xs i x lo is), length-append (take i xs) (x ∷ drop (i + 1) xs)) in
       record {
         set = set_same b.out d.out aimed.level (set_same a.out b.out m.level_is r.set);
         near = r.near;
+        inner = r.inner;
         many = r.many;
         segment = r.segment;
         few = omega (arith, m.few, ap length fs, aimed.place);
-        room = omega (arith, aimed.place, m.short, table_size, split, few_statements (drop (i + 1) xs), next_tokens xs i x lo is, le, r.room);
+        room = omega (arith, aimed.place, m.short, table_size, split, few_statements s (drop (i + 1) xs), next_syllables s xs i x lo is, le, r.room);
       }
 
   next_level : (d : Draft) → level_set a.out ≡ level → Aimed (entry ∷ []) b.out d.out → level_set d.out ≡ level
   next_level d q aimed = level_same b.out d.out aimed.level ∙ level_same a.out b.out m.level_is ∙ q
 
   -- what the next statement needs
-  pub stmt_needs : (d : Draft) (n : ℕ) → Aimed (entry ∷ []) b.out d.out → d.formats.items ≡ b.formats.items → stmts_syllables (stmts xs) ≤ n → IsReady s a n → level_set a.out ≡ level →
-      StmtsFit sc s level (stmts xs) → (own : ℕ) → IsAt own a → IsReady s d (stmt_syllables (stmt x)) × HasFit s d (stmt x) × IsAt own d
+  pub stmt_needs : (d : Draft) (n : ℕ) → Aimed (entry ∷ []) b.out d.out → d.formats.items ≡ b.formats.items → stmts_syllables s (stmts xs) ≤ n → IsReady s a n → level_set a.out ≡ level →
+      StmtsFit sc s level (stmts xs) → (own : ℕ) → IsAt own a → IsReady s d (stmt_syllables s (stmt x)) × HasFit s d (stmt x) × IsAt own d
   stmt_needs d n aimed fs le r q fits own at = (
-    ready_less s d (stmt_syllables (stmt x) + 3) (stmt_syllables (stmt x)) (next_ready d n aimed fs le r) (omega arith),
+    ready_less s d (stmt_syllables s (stmt x) + 3) (stmt_syllables s (stmt x)) (next_ready d n aimed fs le r) (omega arith),
     fit_at s sc (stmt x) d level (next_level d q aimed) (next_fits s sc level xs i x lo is fits),
     at_same a d (aimed.level ∙ m.level_is) at,
   )
 
   -- .. and the branch after it
-  pub exit_needs : (d : Draft) (n : ℕ) → Aimed (entry ∷ []) b.out d.out → d.formats.items ≡ b.formats.items → stmts_syllables (stmts xs) ≤ n → IsReady s a n → level_set a.out ≡ level →
+  pub exit_needs : (d : Draft) (n : ℕ) → Aimed (entry ∷ []) b.out d.out → d.formats.items ≡ b.formats.items → stmts_syllables s (stmts xs) ≤ n → IsReady s a n → level_set a.out ≡ level →
       StmtsFit sc s level (stmts xs) → (e : Draft) → EmitsStmt s d e (stmt x) → IsSome e.out.level × (size e.out.operators + 3 ≤ MOST_SEGMENT_SYLLABLES)
   exit_needs d n aimed fs le r q fits e k =
       let part = stmt_piece s sc (stmt x) d e level (next_level d q aimed) k (next_fits s sc level xs i x lo is fits) in
@@ -178,12 +178,12 @@ module _ (s : Known) (sc : Place) (level : ℕ) (xs : List Stmt) (i : ℕ) (x : 
   pub cases_more : (d e f : Draft) → level_set a.out ≡ level → Aimed (entry ∷ []) b.out d.out → d.exits.items ≡ b.exits.items → d.formats.items ≡ b.formats.items →
       StmtFits sc s level (stmt x) → EmitsStmt s d e (stmt x) → f.formats.items ≡ e.formats.items →
       EmittedWithExits e.out f.out e.exits.items f.exits.items (λ qs target. BranchAt qs (level_set e.out) Brun (size e.out.operators) target (size f.out.operators)) →
-      size f.out.operators ≡ size e.out.operators + 3 → Midcase sc level (take (i + 1) xs) (length xs - (i + 1)) a t f
+      size f.out.operators ≡ size e.out.operators + 3 → Midcase s sc level (take (i + 1) xs) (length xs - (i + 1)) a t f
   cases_more d e f q aimed es fs fit k fs' h wide =
       let there : level_set d.out ≡ level = level_same b.out d.out aimed.level ∙ level_same a.out b.out m.level_is ∙ q in
       let part = stmt_piece s sc (stmt x) d e level there k fit in
       let behind : level_set e.out ≡ level = level_same d.out e.out part.code.level ∙ there in
-      let M : List Stmt → Type 0 = λ l. Midcase sc level l (length xs - (i + 1)) a t f in
+      let M : List Stmt → Type 0 = λ l. Midcase s sc level l (length xs - (i + 1)) a t f in
       subst M (sym (front_more xs i x lo is))
-      (midcase-more sc level (take i xs) (length xs - (i + 1)) a t b d e f x entry (stmt_syllables (stmt x) + 3) left here aimed es fs
+      (midcase-more s sc level (take i xs) (length xs - (i + 1)) a t b d e f x entry (stmt_syllables s (stmt x) + 3) left here aimed es fs
       (emits_then part (branch_piece sc Brun e f level behind fs' part.few h wide)) (omega arith))

@@ -16,11 +16,11 @@ use Rattle.algol_paths.specs.Segments.{segment_of}
 use Rattle.b67_ops.specs.declared.TheConstants.{OUTER_LEVEL}
 use Rattle.b67_templates.specs.Cells.{procedures}
 use Rattle.b67_templates.specs.Fitting as fitting
-use Rattle.b67_emitter.specs.Values.{couples, lows, results}
+use Rattle.b67_emitter.specs.Values.{meanings}
 use Rattle.b67_emit_stmt.specs.declared.draft.Known.{Known}
 use Rattle.b67_emit_stmt.specs.Fits.{AreNumbered, InsideFits, IsNumbered, StmtFits, StmtsFit, next_to, number_in}
 use Rattle.b67_emit_stmt.specs.Places.{Place}
-use Rattle.b67_emit_stmt.specs.Programs.{AreDue}
+use Rattle.b67_emit_stmt.specs.Programs.{AreDue, block_of}
 use Rattle.b67_emit_stmt.specs.Texts.{Text, HaveLevelsBody, outer_text, places_of, texts, texts_of, texts_in_body, texts_in_decl, texts_in_decls, texts_in_stmts}
 use Rattle.b67_emit_stmt.proofs.TextStanding.{place_of}
 use Rattle.b67_emit_stmt.proofs.TextTrees.{Each, Fine, Within, each_at, each_from, each_left, each_right, hold_body, levels_all, levels_decls, within_procedure}
@@ -45,42 +45,46 @@ module _ (place : Place) (s : Known) where
   known_procedures (tree.decls (tree.arrays kind ns pairs) ds) level h = known_procedures ds level h
   known_procedures (tree.decls (tree.forward g) ds) level h = known_procedures ds level h
 
+  -- in the block with this number
+  abbrev in_block : ℕ → Place
+  in_block block = record place { block = block }
+
   module _ (same : place.segment ≡ s.segment) where
     mutual
-      known_fits : (x : PStmt) (level : ℕ) → fitting.StmtFits place.scopes (couples s.names.now) (results s.names.now) (lows s.names.now) level x → Each Numbered (texts_of x of_statement level) →
-          StmtFits place s level x
-      known_fits tree.empty level fit h = tt
-      known_fits (tree.label n t) level fit h = absurd fit
-      known_fits (tree.assign (tree.subscripted n tree.none) e) level fit h = fit
-      known_fits (tree.assign (tree.subscripted n (tree.more i is)) e) level fit h = fit
-      known_fits (tree.call_of (tree.called n es)) level fit h = fit
-      known_fits (tree.go_to n) level fit h = absurd fit
-      known_fits (tree.block (tree.body spot tree.no_decls ss)) level fit h = known_all ss level fit h
-      known_fits (tree.block (tree.body spot (tree.decls d ds) ss)) level fit h =
+      known_fits : (x : PStmt) (level block : ℕ) → fitting.StmtFits place.scopes (meanings s.names.now) level block x → Each Numbered (texts_of x of_statement level) →
+          StmtFits (in_block block) s level x
+      known_fits tree.empty level block fit h = tt
+      known_fits (tree.label n t) level block fit h = absurd fit
+      known_fits (tree.assign (tree.subscripted n tree.none) e) level block fit h = fit
+      known_fits (tree.assign (tree.subscripted n (tree.more i is)) e) level block fit h = fit
+      known_fits (tree.call_of (tree.called n es)) level block fit h = fit
+      known_fits (tree.go_to n) level block fit h = absurd fit
+      known_fits (tree.block (tree.body spot tree.no_decls ss)) level block fit h = known_all ss level block fit h
+      known_fits (tree.block (tree.body spot (tree.decls d ds) ss)) level block fit h =
           let declared = texts_in_decls (tree.decls d ds) (level + 1) in
           let behind = texts_in_stmts ss (level + 1) in
-          (fit.0, same, known_procedures (tree.decls d ds) (level + 1) (each_left Numbered declared behind h), fit.1, known_all ss (level + 1) fit.2 (each_right Numbered declared behind h))
-      known_fits (tree.if_then c x) level fit h = (fit.0, known_fits x level fit.1 h)
-      known_fits (tree.if_else c x y) level fit h = (
+          (fit.0, same, known_procedures (tree.decls d ds) (level + 1) (each_left Numbered declared behind h), fit.1, known_all ss (level + 1) (number_at place.scopes.blocks spot) fit.2 (each_right Numbered declared behind h))
+      known_fits (tree.if_then c x) level block fit h = (fit.0, known_fits x level block fit.1 h)
+      known_fits (tree.if_else c x y) level block fit h = (
         fit.0,
-        known_fits x level fit.1 (each_left Numbered (texts_of x of_statement level) (texts_of y of_statement level) h),
-        known_fits y level fit.2 (each_right Numbered (texts_of x of_statement level) (texts_of y of_statement level) h),
+        known_fits x level block fit.1 (each_left Numbered (texts_of x of_statement level) (texts_of y of_statement level) h),
+        known_fits y level block fit.2 (each_right Numbered (texts_of x of_statement level) (texts_of y of_statement level) h),
       )
-      known_fits (tree.while c b) level fit h = (fit.0, known_fits b level fit.1 h)
-      known_fits (tree.until b c) level fit h = (known_fits b level fit.0 h, fit.1)
-      known_fits (tree.for v a t l b) level fit h = ((fit.0, fit.1), fit.2, fit.3, fit.4, known_fits b level fit.5 h)
-      known_fits (tree.thru e b) level fit h = (fit.0, known_fits b level fit.1 h)
-      known_fits (tree.case e ss) level fit h = (fit.0, known_all ss level fit.1 h)
-      known_fits (tree.process c task) level fit h = absurd fit
-      known_fits (tree.event act e) level fit h = absurd fit
-      known_fits (tree.write n spot phrases es) level fit h = fit
+      known_fits (tree.while c b) level block fit h = (fit.0, known_fits b level block fit.1 h)
+      known_fits (tree.until b c) level block fit h = (known_fits b level block fit.0 h, fit.1)
+      known_fits (tree.for v a t l b) level block fit h = ((fit.0, fit.1), fit.2, fit.3, fit.4, known_fits b level block fit.5 h)
+      known_fits (tree.thru e b) level block fit h = (fit.0, known_fits b level block fit.1 h)
+      known_fits (tree.case e ss) level block fit h = (fit.0, known_all ss level block fit.1 h)
+      known_fits (tree.process c task) level block fit h = absurd fit
+      known_fits (tree.event act e) level block fit h = absurd fit
+      known_fits (tree.write n spot phrases es) level block fit h = fit
 
-      pub known_all : (xs : PStmts) (level : ℕ) → fitting.StmtsFit place.scopes (couples s.names.now) (results s.names.now) (lows s.names.now) level xs → Each Numbered (texts_in_stmts xs level) →
-          StmtsFit place s level xs
-      known_all tree.no_stmts level fit h = tt
-      known_all (tree.stmts x xs) level fit h = (
-        known_fits x level fit.0 (each_left Numbered (texts_of x of_statement level) (texts_in_stmts xs level) h),
-        known_all xs level fit.1 (each_right Numbered (texts_of x of_statement level) (texts_in_stmts xs level) h),
+      pub known_all : (xs : PStmts) (level block : ℕ) → fitting.StmtsFit place.scopes (meanings s.names.now) level block xs → Each Numbered (texts_in_stmts xs level) →
+          StmtsFit (in_block block) s level xs
+      known_all tree.no_stmts level block fit h = tt
+      known_all (tree.stmts x xs) level block fit h = (
+        known_fits x level block fit.0 (each_left Numbered (texts_of x of_statement level) (texts_in_stmts xs level) h),
+        known_all xs level block fit.1 (each_right Numbered (texts_of x of_statement level) (texts_in_stmts xs level) h),
       )
 
 -- ---- the number of a text
@@ -137,19 +141,19 @@ outer_within P (tree.body spot ds ss) h =
     (each_left P (texts_in_decls ds OUTER_LEVEL) (texts_in_stmts ss OUTER_LEVEL) h, each_right P (texts_in_decls ds OUTER_LEVEL) (texts_in_stmts ss OUTER_LEVEL) h)
 
 module _ (sc : Scopes) (known : Names) where
-  levels_by : (b : PBody) → fitting.StmtsFit sc (couples known) (results known) (lows known) (outer_text b).level (outer_text b).stmts →
-      Each (Fine sc (couples known) (results known) (lows known)) (texts_in_body b OUTER_LEVEL) → HaveLevelsBody b OUTER_LEVEL
+  levels_by : (b : PBody) → fitting.StmtsFit sc (meanings known) (outer_text b).level (block_of sc (outer_text b)) (outer_text b).stmts →
+      Each (Fine sc (meanings known)) (texts_in_body b OUTER_LEVEL) → HaveLevelsBody b OUTER_LEVEL
   levels_by (tree.body spot ds ss) fit h =
-      let F = Fine sc (couples known) (results known) (lows known) in (
-        levels_decls sc (couples known) (results known) (lows known) ds OUTER_LEVEL (each_left F (texts_in_decls ds OUTER_LEVEL) (texts_in_stmts ss OUTER_LEVEL) h),
-        levels_all sc (couples known) (results known) (lows known) ss OUTER_LEVEL (omega arith) fit (each_right F (texts_in_decls ds OUTER_LEVEL) (texts_in_stmts ss OUTER_LEVEL) h),
+      let F = Fine sc (meanings known) in (
+        levels_decls sc (meanings known) ds OUTER_LEVEL (each_left F (texts_in_decls ds OUTER_LEVEL) (texts_in_stmts ss OUTER_LEVEL) h),
+        levels_all sc (meanings known) ss OUTER_LEVEL (number_at sc.blocks spot) (omega arith) fit (each_right F (texts_in_decls ds OUTER_LEVEL) (texts_in_stmts ss OUTER_LEVEL) h),
       )
 
   -- its blocks have levels
   pub levels_there : (b : PBody) → AreDue sc known (texts b) → HaveLevelsBody b OUTER_LEVEL
   levels_there b due =
       levels_by b (due 0 (outer_text b) refl).fits
-      (each_from (Fine sc (couples known) (results known) (lows known)) (texts_in_body b OUTER_LEVEL) (λ k t e. ((due (suc k) t e).level, (due (suc k) t e).fits)))
+      (each_from (Fine sc (meanings known)) (texts_in_body b OUTER_LEVEL) (λ k t e. ((due (suc k) t e).level, (due (suc k) t e).fits)))
 
 module _ (sc : Scopes) (s : Known) (b : PBody) (are : s.procedures.now ≡ places_of (texts_in_body b OUTER_LEVEL)) (few : length (texts b) ≤ 1 + MOST_PROCEDURES)
     (due : AreDue sc s.names.now (texts b)) where
@@ -177,4 +181,4 @@ module _ (sc : Scopes) (s : Known) (b : PBody) (are : s.procedures.now ≡ place
       let W : Text → Type 0 = λ u. Within P u.level u.decls u.stmts in
       let within : Each W (texts b) = (outer_within P b all, hold_body 0 P W (λ level h x le own. within_procedure P level x own) b OUTER_LEVEL (omega arith) all) in
       let here = each_at W (texts b) k t within e in
-      (known_procedures place s t.decls t.level here.0, (due k t e).decls, known_all place s ((due k t e).segment ∙ sym is) t.stmts t.level (due k t e).fits here.1)
+      (known_procedures place s t.decls t.level here.0, (due k t e).decls, known_all place s ((due k t e).segment ∙ sym is) t.stmts t.level place.block (due k t e).fits here.1)

@@ -5,8 +5,9 @@ use Rattle.b67_segment.specs.declared.TheConstants.{MOST_SEGMENT_SYLLABLES}
 use Rattle.b67_segment.specs.declared.code.Format.{Format}
 use Rattle.b67_segment.specs.declared.code.Segment.{Segment}
 use Rattle.b67_emit_stmt.specs.declared.draft.Known.{Known}
-use Rattle.b67_emit_stmt.specs.Bodies.{IsNear, IsSmall, Stands, text_syllables, zeros_for}
+use Rattle.b67_emit_stmt.specs.Bodies.{HaveInside, IsNear, IsSmall, Stands, text_syllables, zeros_for}
 use Rattle.b67_emit_stmt.specs.Fits.{InsideFits}
+use Rattle.b67_emit_stmt.specs.Lengths.{celled_in}
 use Rattle.b67_emit_stmt.specs.Places.{Place}
 use Rattle.b67_emit_stmt.specs.Segments.{CanStand, HasSegment, TextFits, code_syllables, returned_in}
 use Rattle.b67_emit_stmt.specs.Texts.{Text}
@@ -28,19 +29,19 @@ module _ (t : Text) (returned : Option ℕ) (level : ℕ) (ds : PDecls) (ss : PS
     pub cell_found : IsNear returned
     cell_found = found (λ r l xs ys. IsNear r) can.cell
 
-    pub small_found : IsSmall (zeros_for returned ds) ds
-    small_found = found (λ r l xs ys. IsSmall (zeros_for r xs) xs) can.small
+    pub small_found : IsSmall (zeros_for returned ds) ds (celled_in s ds ss)
+    small_found = found (λ r l xs ys. IsSmall (zeros_for r xs) xs (celled_in s xs ys)) can.small
 
-    pub fits_found : (sc : Place) × InsideFits sc s level ds ss
-    fits_found = found (λ r l xs ys. (sc : Place) × InsideFits sc s l xs ys) can.fits
+    pub fits_found : HaveInside s level ds ss
+    fits_found = found (λ r l xs ys. HaveInside s l xs ys) can.fits
 
-    pub room_found : text_syllables returned ds ss + 5 ≤ MOST_SEGMENT_SYLLABLES
-    room_found = found (λ r l xs ys. text_syllables r xs ys + 5 ≤ MOST_SEGMENT_SYLLABLES) can.room
+    pub room_found : text_syllables s returned ds ss + 5 ≤ MOST_SEGMENT_SYLLABLES
+    room_found = found (λ r l xs ys. text_syllables s r xs ys + 5 ≤ MOST_SEGMENT_SYLLABLES) can.room
 
     pub segment_own : (sc : Place) (all : List Format) (segment : Segment) → (InsideFits sc s level ds ss → Stands sc all segment level returned ds ss) → TextFits sc s t →
         HasSegment sc all segment t
     segment_own sc all segment h fit =
         own (λ r l xs ys. Stands sc all segment l r xs ys) (h (found (λ r l xs ys. InsideFits sc s l xs ys) fit))
 
-  pub short_own : (n : ℕ) → n ≤ text_syllables returned ds ss + 5 → n ≤ code_syllables t + 5
-  short_own n le = own (λ r l xs ys. n ≤ text_syllables r xs ys + 5) le
+  pub short_own : (s : Known) (n : ℕ) → n ≤ text_syllables s returned ds ss + 5 → n ≤ code_syllables s t + 5
+  short_own s n le = own (λ r l xs ys. n ≤ text_syllables s r xs ys + 5) le

@@ -13,18 +13,23 @@ use Rattle.algol_tree.specs.Image.{body, decls, stmts}
 use Rattle.algol_tree.specs.Plain as tree
 use Rattle.algol_tree.specs.Plain.{PDecls, PStmts, PBody}
 use Rattle.algol_tree.specs.Scopes.{Scopes}
+use Rattle.algol_paths.specs.Segments.{segment_of}
 use Rattle.b67_emitter.specs.declared.names.Names.{Names}
 use Rattle.b67_ops.specs.declared.TheConstants.{OUTER_LEVEL}
 use Rattle.b67_segment.specs.declared.code.Format.{Format}
 use Rattle.b67_segment.specs.declared.code.Segment.{Segment}
-use Rattle.b67_templates.specs.Cells.{variables}
+use Rattle.b67_templates.specs.Cells.{variables, actuals_in_block}
 use Rattle.b67_emit_stmt.specs.declared.draft.Known.{Known}
 use Rattle.b67_emit_stmt.specs.declared.texts.Procedure.{Procedure}
 use Rattle.b67_emit_stmt.specs.Bodies.{IsNear, result_index, zeros_for}
 use Rattle.b67_emit_stmt.specs.Places.{Place}
-use Rattle.b67_emit_stmt.specs.Programs.{AreDue}
+use Rattle.b67_emit_stmt.specs.Lengths.{celled_in}
+use Rattle.b67_emit_stmt.specs.Programs.{AreDue, block_of}
 use Rattle.b67_emit_stmt.specs.Segments.{CanStand, HasSegment, TextFits, code_syllables, returned_in}
 use Rattle.b67_emit_stmt.specs.Texts.{Text, outer_text, places_of, text_of, texts, texts_in_body}
+use Rattle.b67_emit_stmt.proofs.Blocks.{as_many}
+use Rattle.b67_emit_stmt.proofs.Celled.{celled_inside}
+use Rattle.b67_emit_stmt.proofs.Paid.{inside_pays}
 use Rattle.b67_emit_stmt.proofs.TextNumbers.{fits_there, lies_within}
 use Rattle.b67_emit_stmt.proofs.TextStanding.{AllStand, TextStands, place_of, stand_more, text_at, zeros_are}
 use Rattle.b67_emit_stmt.proofs.TextTrees.{Each, Roomy, each_at, each_from, hold_body, outer_roomy, procedure_roomy}
@@ -105,35 +110,40 @@ near_by None parameters ds few = tt
 near_by (Some kind) parameters ds few = omega (arith, few)
 
 module _ (sc : Scopes) (known : Names) (b : PBody) (due : AreDue sc known (texts b)) (k : ℕ) (t : Text) (e : slice_get (texts b) k ≡ Some t) where
-  syllables_there : code_syllables t + 5 ≤ 24 * t.tokens + 48
-  syllables_there =
+  syllables_there : (s : Known) → code_syllables s t + 5 ≤ 24 * t.tokens + 48
+  syllables_there s =
       let R : Each Roomy (texts b) = (
         outer_roomy b,
         hold_body 0 (λ u. Unit {0}) Roomy (λ l h x le own. procedure_roomy l h x) b OUTER_LEVEL (omega arith) (nothing (texts_in_body b OUTER_LEVEL)),
       ) in
-      omega (arith, zeros_few (returned_in t) t.decls, each_at Roomy (texts b) k t R e)
+      omega (arith, zeros_few (returned_in t) t.decls, inside_pays s t.decls t.stmts, each_at Roomy (texts b) k t R e)
 
   module _ (s : Known) (same : s.names.now ≡ known) (are : s.procedures.now ≡ places_of (texts_in_body b OUTER_LEVEL)) (few : length (texts b) ≤ 1 + MOST_PROCEDURES) (is : s.segment ≡ k) where
     inside_there : TextFits (place_of sc t) s t
     inside_there = let D : Names → Type 0 = λ x. AreDue sc x (texts b) in fits_there sc s b are few (subst D (sym same) due) k t e is
 
+    segment_there : segment_of sc.blocks (block_of sc t) ≡ s.segment
+    segment_there = (due k t e).segment ∙ sym is
+
     pub can_stand : CanStand s t
     can_stand =
         let d = due k t e in
         let zeros = zeros_are t.result t.parameters t.name t.decls in
+        let many = as_many (actuals_in_block sc t.decls t.stmts) (celled_in s t.decls t.stmts) (celled_inside (place_of sc t) s t.level t.decls t.stmts inside_there) in
         record {
           outer = deep_there b k t e;
           most = d.level;
           parameters = omega (arith, d.few);
           cell = near_by t.result t.parameters t.decls (omega (arith, zeros, d.few));
-          small = omega (arith, zeros, d.few);
-          fits = (place_of sc t, inside_there);
-          room = omega (arith, syllables_there, d.room);
+          small = omega (arith, zeros, many, d.few);
+          fits = (place_of sc t, segment_there, inside_there);
+          room = omega (arith, syllables_there s, d.room);
         }
 
-    pub stands_there : (all : List Format) (segment : Segment) → ((place : Place) → TextFits place s t → HasSegment place all segment t) →
-        6 * length segment.words ≤ code_syllables t + 5 → TextStands sc all segment t
-    stands_there all segment h short = text_at sc all known k t segment (due k t e) (h (place_of sc t) inside_there) (omega (arith, short, syllables_there))
+    pub stands_there : (all : List Format) (segment : Segment) → ((place : Place) → place.segment ≡ s.segment → TextFits place s t → HasSegment place all segment t) →
+        6 * length segment.words ≤ code_syllables s t + 5 → TextStands sc all segment t
+    stands_there all segment h short =
+        text_at sc all known k t segment (due k t e) (h (place_of sc t) segment_there inside_there) (omega (arith, short, syllables_there s))
 
 -- ---- one more of them
 

@@ -11,9 +11,8 @@ use Rattle.b67_segment.specs.declared.code.Segment.{Segment}
 use Rattle.b67_segment.specs.Operators.{Placed}
 use Rattle.b67_segment.specs.Syllables.{Spells}
 use Rattle.b67_templates.specs.Contexts.{yields_of}
-use Rattle.b67_templates.specs.Cells.{result_of, variables, control_segments}
-use Rattle.b67_templates.specs.Code.{CellsAt}
-use Rattle.b67_templates.specs.Fragments.{procedure_controls}
+use Rattle.b67_templates.specs.Cells.{result_of, variables, actuals_in_block}
+use Rattle.b67_templates.specs.Code.{CellsAt, control_pcws}
 use Rattle.b67_emit_stmt.specs.Bodies.{EndingAt, Stands, result_couple, result_index, zeros_for}
 use Rattle.b67_emit_stmt.specs.Places.{Place}
 use Rattle.b67_emit_stmt.specs.Programs.{AreShort, Coded, EndAt, IsDue, TextAt, block_of, context_of}
@@ -67,10 +66,23 @@ ending sc all known number t ps e (Some kind) due is h = record {
 pub text_at : (sc : Scopes) (all : List Format) (known : Names) (number : ℕ) (t : Text) (segment : Segment) → IsDue sc known number t →
     Stands (place_of sc t) all segment t.level (result_index t.result t.parameters) t.decls t.stmts → 6 * length segment.words ≤ 24 * t.tokens + 48 → TextStands sc all segment t
 text_at sc all known number t segment due h short =
-    let C : ℕ → Type 0 = λ many. CellsAt sc (context_of sc all t) h.operators t.level many (procedure_controls t.level (control_segments sc t.decls)) 0 h.code.0 in (
+    let pcws = control_pcws sc (segment_of sc.blocks (block_of sc t)) t.level t.decls (actuals_in_block sc t.decls t.stmts) h.ats in
+    let C : ℕ → Type 0 = λ many. CellsAt sc (context_of sc all t) h.operators t.level many pcws h.begin h.code.0 in (
       h.operators,
       h.spells,
-      (h.code.0, h.code.1, h.end, subst C (zeros_are t.result t.parameters t.name t.decls) h.code.2, h.code.3, h.code.4, ending sc all known number t h.operators h.end t.result due refl h.ending),
+      (
+        h.begin,
+        h.ats,
+        h.code.0,
+        h.code.1,
+        h.end,
+        h.over,
+        h.routines,
+        subst C (zeros_are t.result t.parameters t.name t.decls) h.code.2,
+        h.code.3,
+        h.code.4,
+        ending sc all known number t h.operators h.end t.result due refl h.ending,
+      ),
       short,
     )
 

@@ -1,21 +1,15 @@
 -- What holds of each text of a program, by the trees that they are.
-use Rattle.std.proofs.Common.{◌≡◌, ℕ, zero, suc, ◌+◌, ◌*◌, ◌≤◌, List, [], ◌∷◌, ◌++◌, length, refl, subst, arith}
-use Rattle.std.specs.Prelude.{Option, Some, slice_get}
-use Rattle.algol_tree.specs.declared.token.Spot.{Spot}
+use Rattle.std.proofs.Common.{◌≡◌, ℕ, zero, suc, ◌+◌, ◌≤◌, List, [], ◌∷◌, ◌++◌, refl, subst, arith}
+use Rattle.std.specs.Prelude.{Some, slice_get}
 use Rattle.algol_tree.specs.declared.tree.Heading.{Heading}
-use Rattle.algol_tree.specs.Blocks.{Begin, of_statement, of_procedure, decls_of, stmts_of}
-use Rattle.algol_tree.specs.Counts.{stmt_tokens, stmts_tokens}
+use Rattle.algol_tree.specs.Blocks.{Begin, of_statement, of_procedure, decls_of, stmts_of, number_at}
+use Rattle.algol_tree.specs.Counts.{stmt_tokens, stmts_tokens, decls_tokens}
 use Rattle.algol_tree.specs.Plain as tree
 use Rattle.algol_tree.specs.Plain.{PStmt, PStmts, PDecl, PDecls, PBody}
-use Rattle.algol_paths.specs.Arrays.{Lows}
-use Rattle.b67_ops.specs.declared.Couple.{Couple}
 use Rattle.b67_ops.specs.declared.TheConstants.{MOST_LEVEL}
 use Rattle.algol_tree.specs.Scopes.{Scopes}
-use Rattle.b67_templates.specs.Cells.{procedures, variables}
-use Rattle.b67_templates.specs.Fitting.{StmtFits, StmtsFit}
-use Rattle.b67_emit_stmt.specs.Bodies.{decls_syllables}
+use Rattle.b67_templates.specs.Fitting.{Told, StmtFits, StmtsFit}
 use Rattle.b67_emit_stmt.specs.Texts.{Text, begin_level, outer_text, procedure_text, texts_of, texts_in_body, texts_in_decl, texts_in_decls, texts_in_stmts, HaveLevels, HaveLevelsDecl, HaveLevelsDecls, HaveLevelsStmts}
-use Rattle.b67_emit_stmt.proofs.Variables.{declared_few}
 
 -- ---- each of a list
 
@@ -131,44 +125,44 @@ within_procedure P level (tree.write n spot phrases es) h = (tt, tt)
 
 -- ---- levels
 
-module _ (sc : Scopes) (known results : Spot → Option Couple) (lows : Spot → Option Lows) where
+module _ (sc : Scopes) (told : Told) where
   abbrev pub Fine : Text → Type 0
-  Fine t = (t.level ≤ MOST_LEVEL) × StmtsFit sc known results lows t.level t.stmts
+  Fine t = (t.level ≤ MOST_LEVEL) × StmtsFit sc told t.level (number_at sc.blocks t.spot) t.stmts
 
   mutual
-    levels : (s : PStmt) (level : ℕ) → level ≤ MOST_LEVEL → StmtFits sc known results lows level s → Each Fine (texts_of s of_statement level) → HaveLevels s of_statement level
-    levels tree.empty level le fit h = tt
-    levels (tree.label n s) level le fit h = absurd fit
-    levels (tree.assign v e) level le fit h = tt
-    levels (tree.call_of c) level le fit h = tt
-    levels (tree.go_to n) level le fit h = tt
-    levels (tree.block (tree.body spot tree.no_decls ss)) level le fit h = (le, (tt, levels_all ss level le fit h))
-    levels (tree.block (tree.body spot (tree.decls d ds) ss)) level le fit h = (
+    levels : (s : PStmt) (level block : ℕ) → level ≤ MOST_LEVEL → StmtFits sc told level block s → Each Fine (texts_of s of_statement level) → HaveLevels s of_statement level
+    levels tree.empty level block le fit h = tt
+    levels (tree.label n s) level block le fit h = absurd fit
+    levels (tree.assign v e) level block le fit h = tt
+    levels (tree.call_of c) level block le fit h = tt
+    levels (tree.go_to n) level block le fit h = tt
+    levels (tree.block (tree.body spot tree.no_decls ss)) level block le fit h = (le, (tt, levels_all ss level block le fit h))
+    levels (tree.block (tree.body spot (tree.decls d ds) ss)) level block le fit h = (
       fit.0.0,
       (
         levels_decls (tree.decls d ds) (level + 1) (each_left Fine (texts_in_decls (tree.decls d ds) (level + 1)) (texts_in_stmts ss (level + 1)) h),
-        levels_all ss (level + 1) fit.0.0 fit.2 (each_right Fine (texts_in_decls (tree.decls d ds) (level + 1)) (texts_in_stmts ss (level + 1)) h),
+        levels_all ss (level + 1) (number_at sc.blocks spot) fit.0.0 fit.2 (each_right Fine (texts_in_decls (tree.decls d ds) (level + 1)) (texts_in_stmts ss (level + 1)) h),
       ),
     )
-    levels (tree.if_then c x) level le fit h = levels x level le fit.1 h
-    levels (tree.if_else c x y) level le fit h = (
-      levels x level le fit.1 (each_left Fine (texts_of x of_statement level) (texts_of y of_statement level) h),
-      levels y level le fit.2 (each_right Fine (texts_of x of_statement level) (texts_of y of_statement level) h),
+    levels (tree.if_then c x) level block le fit h = levels x level block le fit.1 h
+    levels (tree.if_else c x y) level block le fit h = (
+      levels x level block le fit.1 (each_left Fine (texts_of x of_statement level) (texts_of y of_statement level) h),
+      levels y level block le fit.2 (each_right Fine (texts_of x of_statement level) (texts_of y of_statement level) h),
     )
-    levels (tree.while c b) level le fit h = levels b level le fit.1 h
-    levels (tree.until b c) level le fit h = levels b level le fit.0 h
-    levels (tree.for v a s l b) level le fit h = levels b level le fit.5 h
-    levels (tree.thru e b) level le fit h = levels b level le fit.1 h
-    levels (tree.case e ss) level le fit h = levels_all ss level le fit.1 h
-    levels (tree.process c task) level le fit h = tt
-    levels (tree.event act e) level le fit h = tt
-    levels (tree.write n spot phrases es) level le fit h = tt
+    levels (tree.while c b) level block le fit h = levels b level block le fit.1 h
+    levels (tree.until b c) level block le fit h = levels b level block le fit.0 h
+    levels (tree.for v a s l b) level block le fit h = levels b level block le fit.5 h
+    levels (tree.thru e b) level block le fit h = levels b level block le fit.1 h
+    levels (tree.case e ss) level block le fit h = levels_all ss level block le fit.1 h
+    levels (tree.process c task) level block le fit h = tt
+    levels (tree.event act e) level block le fit h = tt
+    levels (tree.write n spot phrases es) level block le fit h = tt
 
-    pub levels_all : (ss : PStmts) (level : ℕ) → level ≤ MOST_LEVEL → StmtsFit sc known results lows level ss → Each Fine (texts_in_stmts ss level) → HaveLevelsStmts ss level
-    levels_all tree.no_stmts level le fit h = tt
-    levels_all (tree.stmts s ss) level le fit h = (
-      levels s level le fit.0 (each_left Fine (texts_of s of_statement level) (texts_in_stmts ss level) h),
-      levels_all ss level le fit.1 (each_right Fine (texts_of s of_statement level) (texts_in_stmts ss level) h),
+    pub levels_all : (ss : PStmts) (level block : ℕ) → level ≤ MOST_LEVEL → StmtsFit sc told level block ss → Each Fine (texts_in_stmts ss level) → HaveLevelsStmts ss level
+    levels_all tree.no_stmts level block le fit h = tt
+    levels_all (tree.stmts s ss) level block le fit h = (
+      levels s level block le fit.0 (each_left Fine (texts_of s of_statement level) (texts_in_stmts ss level) h),
+      levels_all ss level block le fit.1 (each_right Fine (texts_of s of_statement level) (texts_in_stmts ss level) h),
     )
 
     pub levels_decls : (ds : PDecls) (level : ℕ) → Each Fine (texts_in_decls ds level) → HaveLevelsDecls ds level
@@ -179,7 +173,7 @@ module _ (sc : Scopes) (known results : Spot → Option Couple) (lows : Spot →
     )
 
     levels_decl : (d : PDecl) (level : ℕ) → Each Fine (texts_in_decl d level) → HaveLevelsDecl d level
-    levels_decl (tree.procedure g s) level h = (h.0.0, levels_procedure s (level + 1) h.0.0 h.0.1 h.1)
+    levels_decl (tree.procedure g s) level h = (h.0.0, levels_procedure s (level + 1) (number_at sc.blocks g.name.spot) h.0.0 h.0.1 h.1)
     levels_decl (tree.simple kind ns) level h = tt
     levels_decl (tree.files ns) level h = tt
     levels_decl (tree.events ns) level h = tt
@@ -188,59 +182,59 @@ module _ (sc : Scopes) (known results : Spot → Option Couple) (lows : Spot →
     levels_decl (tree.arrays kind ns pairs) level h = tt
     levels_decl (tree.forward g) level h = tt
 
-    levels_procedure : (s : PStmt) (level : ℕ) → level ≤ MOST_LEVEL → StmtsFit sc known results lows level (stmts_of s) → Each Fine (texts_of s of_procedure level) → HaveLevels s of_procedure level
-    levels_procedure (tree.block (tree.body spot ds ss)) level le fit h = (
+    levels_procedure : (s : PStmt) (level block : ℕ) → level ≤ MOST_LEVEL → StmtsFit sc told level block (stmts_of s) → Each Fine (texts_of s of_procedure level) → HaveLevels s of_procedure level
+    levels_procedure (tree.block (tree.body spot ds ss)) level block le fit h = (
       le,
       (
         levels_decls ds level (each_left Fine (texts_in_decls ds level) (texts_in_stmts ss level) h),
-        levels_all ss level le fit (each_right Fine (texts_in_decls ds level) (texts_in_stmts ss level) h),
+        levels_all ss level block le fit (each_right Fine (texts_in_decls ds level) (texts_in_stmts ss level) h),
       ),
     )
-    levels_procedure tree.empty level le fit h = tt
-    levels_procedure (tree.label n s) level le fit h = absurd fit.0
-    levels_procedure (tree.assign v e) level le fit h = tt
-    levels_procedure (tree.call_of c) level le fit h = tt
-    levels_procedure (tree.go_to n) level le fit h = tt
-    levels_procedure (tree.if_then c x) level le fit h = levels x level le fit.0.1 h
-    levels_procedure (tree.if_else c x y) level le fit h = (
-      levels x level le fit.0.1 (each_left Fine (texts_of x of_statement level) (texts_of y of_statement level) h),
-      levels y level le fit.0.2 (each_right Fine (texts_of x of_statement level) (texts_of y of_statement level) h),
+    levels_procedure tree.empty level block le fit h = tt
+    levels_procedure (tree.label n s) level block le fit h = absurd fit.0
+    levels_procedure (tree.assign v e) level block le fit h = tt
+    levels_procedure (tree.call_of c) level block le fit h = tt
+    levels_procedure (tree.go_to n) level block le fit h = tt
+    levels_procedure (tree.if_then c x) level block le fit h = levels x level block le fit.0.1 h
+    levels_procedure (tree.if_else c x y) level block le fit h = (
+      levels x level block le fit.0.1 (each_left Fine (texts_of x of_statement level) (texts_of y of_statement level) h),
+      levels y level block le fit.0.2 (each_right Fine (texts_of x of_statement level) (texts_of y of_statement level) h),
     )
-    levels_procedure (tree.while c b) level le fit h = levels b level le fit.0.1 h
-    levels_procedure (tree.until b c) level le fit h = levels b level le fit.0.0 h
-    levels_procedure (tree.for v a s l b) level le fit h = levels b level le fit.0.5 h
-    levels_procedure (tree.thru e b) level le fit h = levels b level le fit.0.1 h
-    levels_procedure (tree.case e ss) level le fit h = levels_all ss level le fit.0.1 h
-    levels_procedure (tree.process c task) level le fit h = tt
-    levels_procedure (tree.event act e) level le fit h = tt
-    levels_procedure (tree.write n spot phrases es) level le fit h = tt
+    levels_procedure (tree.while c b) level block le fit h = levels b level block le fit.0.1 h
+    levels_procedure (tree.until b c) level block le fit h = levels b level block le fit.0.0 h
+    levels_procedure (tree.for v a s l b) level block le fit h = levels b level block le fit.0.5 h
+    levels_procedure (tree.thru e b) level block le fit h = levels b level block le fit.0.1 h
+    levels_procedure (tree.case e ss) level block le fit h = levels_all ss level block le fit.0.1 h
+    levels_procedure (tree.process c task) level block le fit h = tt
+    levels_procedure (tree.event act e) level block le fit h = tt
+    levels_procedure (tree.write n spot phrases es) level block le fit h = tt
 
 -- ---- room
 
-begun_few : (s : PStmt) → length (variables (decls_of s)) + 12 * length (procedures (decls_of s)) + decls_syllables (decls_of s) + 24 * stmts_tokens (stmts_of s) ≤ 24 * stmt_tokens s + 24
-begun_few (tree.block (tree.body spot ds ss)) = omega (arith, declared_few ds)
-begun_few tree.empty = omega arith
-begun_few (tree.label n s) = omega arith
-begun_few (tree.assign v e) = omega arith
-begun_few (tree.call_of c) = omega arith
-begun_few (tree.go_to n) = omega arith
-begun_few (tree.if_then c x) = omega arith
-begun_few (tree.if_else c x y) = omega arith
-begun_few (tree.while c b) = omega arith
-begun_few (tree.until b c) = omega arith
-begun_few (tree.for v a s l b) = omega arith
-begun_few (tree.thru e b) = omega arith
-begun_few (tree.case e ss) = omega arith
-begun_few (tree.process c task) = omega arith
-begun_few (tree.event act e) = omega arith
-begun_few (tree.write n spot phrases es) = omega arith
+body_few : (s : PStmt) → decls_tokens (decls_of s) + stmts_tokens (stmts_of s) ≤ stmt_tokens s + 1
+body_few (tree.block (tree.body spot ds ss)) = omega arith
+body_few tree.empty = omega arith
+body_few (tree.label n s) = omega arith
+body_few (tree.assign v e) = omega arith
+body_few (tree.call_of c) = omega arith
+body_few (tree.go_to n) = omega arith
+body_few (tree.if_then c x) = omega arith
+body_few (tree.if_else c x y) = omega arith
+body_few (tree.while c b) = omega arith
+body_few (tree.until b c) = omega arith
+body_few (tree.for v a s l b) = omega arith
+body_few (tree.thru e b) = omega arith
+body_few (tree.case e ss) = omega arith
+body_few (tree.process c task) = omega arith
+body_few (tree.event act e) = omega arith
+body_few (tree.write n spot phrases es) = omega arith
 
--- the code of a text has room where its tokens have
+-- a text has the tokens of its declarations and statements
 abbrev pub Roomy : Text → Type 0
-Roomy t = 1 + length (variables t.decls) + 12 * length (procedures t.decls) + decls_syllables t.decls + 24 * stmts_tokens t.stmts + 9 ≤ 24 * t.tokens + 48
+Roomy t = decls_tokens t.decls + stmts_tokens t.stmts ≤ t.tokens + 1
 
 pub procedure_roomy : (level : ℕ) (h : Heading) (s : PStmt) → Roomy (procedure_text level h s)
-procedure_roomy level h s = omega (arith, begun_few s)
+procedure_roomy level h s = omega (arith, body_few s)
 
 pub outer_roomy : (b : PBody) → Roomy (outer_text b)
-outer_roomy (tree.body spot ds ss) = omega (arith, declared_few ds)
+outer_roomy (tree.body spot ds ss) = omega arith

@@ -7,7 +7,7 @@ use Rattle.algol_tree.specs.Plain.{PExpr, PStmt}
 use Rattle.b67_segment.specs.declared.TheConstants.{MOST_SEGMENT_SYLLABLES}
 use Rattle.b67_segment.specs.Operators.{size}
 use Rattle.b67_segment.specs.Building.{Built, level_set}
-use Rattle.b67_templates.specs.Depths.{expr_syllables, stmt_syllables}
+use Rattle.b67_emit_stmt.specs.Lengths.{expr_syllables, stmt_syllables}
 use Rattle.b67_emitter.specs.Aiming.{Aimed}
 use Rattle.b67_emitter.specs.Values.{ValueEmitted}
 use Rattle.b67_emit_stmt.specs.declared.draft.Draft.{Draft}
@@ -24,8 +24,8 @@ use Rattle.b67_emit_stmt.proofs.Parts.{set_same}
 use Rattle.b67_emit_stmt.proofs.Ready.{body_piece, value_piece}
 
 module _ (s : Known) (sc : Place) (p : PExpr) (x : PStmt) (a : Draft) (b' d' e' f' : Built) (fits : StmtFits sc s (level_set a.out) (tree.thru p x))
-    (ready : IsReady s a (stmt_syllables (tree.thru p x))) (value : ValueEmitted s.names.now (level_set a.out) a.out b' p) (value_level : b'.level ≡ a.out.level)
-    (value_short : size b'.operators ≤ size a.out.operators + expr_syllables p) (tests_level : d'.level ≡ b'.level) (tests_wide : size d'.operators ≡ size b'.operators + 3)
+    (ready : IsReady s a (stmt_syllables s (tree.thru p x))) (value : ValueEmitted s.names.now (level_set a.out) a.out b' p) (value_level : b'.level ≡ a.out.level)
+    (value_short : size b'.operators ≤ size a.out.operators + expr_syllables s p) (tests_level : d'.level ≡ b'.level) (tests_wide : size d'.operators ≡ size b'.operators + 3)
     (branch_level : e'.level ≡ d'.level) (branch_wide : size e'.operators ≡ size d'.operators + 3) (less_level : f'.level ≡ e'.level)
     (less_wide : size f'.operators ≡ size e'.operators + 2) where
   abbrev f : Draft
@@ -34,18 +34,18 @@ module _ (s : Known) (sc : Place) (p : PExpr) (x : PStmt) (a : Draft) (b' d' e' 
   same : f'.level ≡ a.out.level
   same = less_level ∙ branch_level ∙ tests_level ∙ value_level
 
-  pub body_needs : (own : ℕ) → IsAt own a → IsReady s f (stmt_syllables x) × HasFit s f x × IsAt own f
+  pub body_needs : (own : ℕ) → IsAt own a → IsReady s f (stmt_syllables s x) × HasFit s f x × IsAt own f
   body_needs own at =
       let b : Draft = record a { out = b' } in
       let v = value_piece s a b (level_set a.out) sc types.Number p refl refl refl ready.few value value_short fits.0 in (
-        ready_behind s a f (stmt_syllables (tree.thru p x)) (stmt_syllables x) ready same refl (omega (arith, v.code.grown, tests_wide, branch_wide, less_wide))
+        ready_behind s a f (stmt_syllables s (tree.thru p x)) (stmt_syllables s x) ready same refl (omega (arith, v.code.grown, tests_wide, branch_wide, less_wide))
             (omega (arith, value_short, tests_wide, branch_wide, less_wide)),
         fit_at s sc x f (level_set a.out) (level_same a.out f' same) fits.1,
         at_same a f same at,
       )
 
   module _ (n : Draft) (body : EmitsBody s f n x) where
-    performed : Emits (stmt_syllables x) f n (Closed sc (level_set a.out) x f n)
+    performed : Emits (stmt_syllables s x) f n (Closed sc (level_set a.out) x f n)
     performed = body_piece s sc x f n (level_set a.out) (level_same a.out f' same) body fits.1
 
     pub turn_needs : (start : ℕ) → start ≡ size b'.operators → IsSome n.out.level × (start ≤ size n.out.operators) × (size n.out.operators + 3 ≤ MOST_SEGMENT_SYLLABLES)

@@ -14,7 +14,7 @@ use Rattle.b67_ops.specs.declared.PlainKind.TheVariants as kinds
 use Rattle.b67_segment.specs.declared.code.Format.{Format}
 use Rattle.b67_segment.specs.Operators.{size}
 use Rattle.b67_segment.specs.Building.{Built, level_set}
-use Rattle.b67_templates.specs.Depths.{expr_syllables}
+use Rattle.b67_emit_stmt.specs.Lengths.{expr_syllables}
 use Rattle.b67_templates.specs.Emitting.{AreExits, Emitted, EmittedWithExits}
 use Rattle.b67_emit_stmt.specs.Fits.{AssignFits, ExprFits, ReadFits, StmtFits, VariableFits}
 use Rattle.b67_templates.specs.Fragments.{Has, AllAt, BranchAt, TurnAt}
@@ -33,7 +33,7 @@ use Rattle.b67_emit_stmt.proofs.Ready.{all_piece, body_piece, turn_piece, value_
 -- ---- THRU
 
 module _ (s : Known) (p : PExpr) (x : PStmt) (a n : Draft) (b' d' e' f' o' : Built) (over start : ℕ) (few : HasFew a) (value : ValueEmitted s.names.now (level_set a.out) a.out b' p)
-    (value_level : b'.level ≡ a.out.level) (value_short : size b'.operators ≤ size a.out.operators + expr_syllables p) (start_is : start ≡ size b'.operators)
+    (value_level : b'.level ≡ a.out.level) (value_short : size b'.operators ≤ size a.out.operators + expr_syllables s p) (start_is : start ≡ size b'.operators)
     (tests : Emitted b' d' (λ qs. AllAt qs (level_set b') (kinds.Dupl ∷ kinds.One ∷ kinds.Less ∷ []) (size b'.operators) (size d'.operators))) (tests_level : d'.level ≡ b'.level)
     (tests_wide : size d'.operators ≡ size b'.operators + 3) (over_is : over ≡ size d'.operators)
     (branch : EmittedWithExits d' e' [] (size d'.operators ∷ []) (λ qs target. BranchAt qs (level_set d') Brtr (size d'.operators) target (size e'.operators)))
@@ -86,23 +86,23 @@ module _ (s : Known) (p : PExpr) (x : PStmt) (a n : Draft) (b' d' e' f' o' : Bui
       let there : level_set j.out ≡ level = level_same o.out j.out aimed.level ∙ level_same n.out o.out turn_level ∙ z in
       let lots : HasFew j = omega (arith, round.few, aimed.place) in
       let last = piece {n = 1} {d = j} {e = k} refl refl lots (λ formats. plain_at kinds.Dlet level there h) (omega (arith, wide)) in
-      thru_arm sc level p x a b d e f n o j k (over ∷ []) v test (hole_as Brtr d.out e.out level over r over_is branch) (omega (arith, branch_wide)) refl refl minus part round aimed refl refl last
+      thru_arm sc level s p x a b d e f n o j k (over ∷ []) v test (hole_as Brtr d.out e.out level over r over_is branch) (omega (arith, branch_wide)) refl refl minus part round aimed refl refl last
 
 -- ---- FOR
 
 pub for_emitted : (s : Known) (v : Named) (first p l : PExpr) (x : PStmt) (a e f : Draft) (b' d' n' o' : Built) (start : ℕ) → HasFew a →
     ((sc : Place) (formats : List Format) → AssignFits sc s (level_set a.out) v first →
     Emitted a.out b' (λ qs. AssignAt sc formats qs (level_set a.out) v first (size a.out.operators) (size b'.operators))) →
-    b'.level ≡ a.out.level → size b'.operators ≤ size a.out.operators + (3 + expr_syllables first) → start ≡ size b'.operators →
+    b'.level ≡ a.out.level → size b'.operators ≤ size a.out.operators + (4 + expr_syllables s first) → start ≡ size b'.operators →
     ((sc : Place) (formats : List Format) → ReadFits sc s (level_set b') types.Number v → ExprFits sc s (level_set b') types.Number l →
     Emitted b' d' (λ qs. ExprAt sc formats qs (level_set b') types.Number (tree.two operators.Sub (alone v) l) (size b'.operators) (size d'.operators) (size d'.operators))) →
-    d'.level ≡ b'.level → size d'.operators ≤ size b'.operators + (3 + expr_syllables l) →
+    d'.level ≡ b'.level → size d'.operators ≤ size b'.operators + (3 + expr_syllables s l) →
     ((sc : Place) → ExprFits sc s (level_set d') types.Number p →
-    Emits (13 + expr_syllables p) (record a { out = d' }) e (λ formats qs target. StepAt sc formats qs (level_set d') p (size d'.operators) target (size e.out.operators))) →
+    Emits (13 + expr_syllables s p) (record a { out = d' }) e (λ formats qs target. StepAt sc formats qs (level_set d') p (size d'.operators) target (size e.out.operators))) →
     EmitsBody s e f x →
     ((sc : Place) (formats : List Format) → VariableFits sc s (level_set f.out) v → ExprFits sc s (level_set f.out) types.Number p →
     Emitted f.out n' (λ qs. AssignAt sc formats qs (level_set f.out) v (tree.two operators.Add (alone v) p) (size f.out.operators) (size n'.operators))) →
-    n'.level ≡ f.out.level → size n'.operators ≤ size f.out.operators + (6 + expr_syllables p) →
+    n'.level ≡ f.out.level → size n'.operators ≤ size f.out.operators + (7 + expr_syllables s p) →
     Emitted n' o' (λ qs. TurnAt qs (level_set n') (size n'.operators) start (size o'.operators)) → size o'.operators ≡ size n'.operators + 3 →
     EmitsStmt s a (record f { out = o' }) (tree.for v first p l x)
 for_emitted s v first p l x a e f b' d' n' o' start few assign assign_level assign_short start_is difference difference_level difference_short step code advance advance_level advance_short h wide =
@@ -120,5 +120,5 @@ for_emitted s v first p l x a e f b' d' n' o' start few assign assign_level assi
     let part = body_piece s sc x e f level (level_after past ∙ r) code fit.4 in
     let u = level_after (emits_then past part) ∙ r in
     let next = matched.advanced s sc level v p f n u refl refl part.few advance advance_short fit.0 fit.2 in
-    for_arm sc level v first p l x a b d e f n o begin test past part next
+    for_arm sc level s v first p l x a b d e f n o begin test past part next
     (turn_piece sc b n o start level start_is (level_same f.out n.out advance_level ∙ u) refl refl next.few h wide)

@@ -1,5 +1,5 @@
--- The variables and procedures that are declared, and that the code of declarations has room where their tokens have.
-use Rattle.std.proofs.Common.{rules, ◌≡◌, ◌+◌, ◌*◌, ◌≤◌, List, ◌∷◌, length, ap, sym, ◌∙◌, arith, length-append}
+-- The variables and procedures that are declared.
+use Rattle.std.proofs.Common.{rules, ◌≡◌, ◌+◌, List, ◌∷◌, length, ap, sym, ◌∙◌, arith, length-append}
 use Rattle.std.proofs.lemmas.List.{length-map}
 use Rattle.std.specs.declared.boxed.Box.{Box}
 use Rattle.std.specs.declared.alloc.Global.{Global}
@@ -10,15 +10,13 @@ use Rattle.algol_tree.specs.declared.tree.Decl.TheOpen.{Decl-F}
 use Rattle.algol_tree.specs.declared.tree.Decl.TheVariants as shapes
 use Rattle.algol_tree.specs.declared.tree.Kind.{Kind}
 use Rattle.algol_tree.specs.declared.tree.Named.{Named}
-use Rattle.algol_tree.specs.Counts.{decls_tokens}
 use Rattle.algol_tree.specs.declared.tree.Heading.{Heading}
 use Rattle.algol_tree.specs.Image.{decl, decls, stmt}
 use Rattle.algol_tree.specs.Plain as tree
 use Rattle.algol_tree.specs.Plain.{PDecl, PDecls}
 use Rattle.b67_templates.specs.Cells.{Simple, value, of_kind, procedures, variables}
-use Rattle.b67_emit_stmt.specs.Bodies.{decls_syllables}
 
-declared : (kind : Kind) (ns : List Named) (ds : PDecls) → length (variables (tree.decls (tree.simple kind ns) ds)) ≡ length ns + length (variables ds)
+pub declared : (kind : Kind) (ns : List Named) (ds : PDecls) → length (variables (tree.decls (tree.simple kind ns) ds)) ≡ length ns + length (variables ds)
 declared kind ns ds =
     let one : Named → Simple = λ n. record { name = n.name; wanted = value kind } in
     omega (arith, length-append (of_kind kind ns) (variables ds), length-map ns one)
@@ -74,17 +72,3 @@ none_more (Decl-F.Procedure h s) ds other = absurd (other h s (shapes.rolls-Proc
 pub procedures_same : (d : Decl) (ds : List Decl) → ((h : Heading) (s : Box Stmt Global) → d ≡ shapes.Procedure h s → ⊥) → procedures (decls (d ∷ ds)) ≡ procedures (decls ds)
 procedures_same d ds other =
     ap (λ (e : Decl). procedures (tree.decls (decl e) (decls ds))) (sym (roll-out-Decl d)) ∙ none_more (out-Decl d) (decls ds) (λ h s e. other h s (sym (roll-out-Decl d) ∙ e))
-
--- ---- room
-
--- cells, control words and what makes arrays are no more than the declarations' tokens have room for
-pub declared_few : (ds : PDecls) → length (variables ds) + 12 * length (procedures ds) + decls_syllables ds ≤ 24 * decls_tokens ds
-declared_few tree.no_decls = omega arith
-declared_few (tree.decls (tree.simple kind ns) ds) = omega (arith, declared kind ns ds, declared_few ds)
-declared_few (tree.decls (tree.files ns) ds) = omega (arith, declared_few ds)
-declared_few (tree.decls (tree.events ns) ds) = omega (arith, declared_few ds)
-declared_few (tree.decls (tree.tasks ns) ds) = omega (arith, declared_few ds)
-declared_few (tree.decls (tree.labels ns) ds) = omega (arith, declared_few ds)
-declared_few (tree.decls (tree.arrays kind ns pairs) ds) = omega (arith, declared_few ds)
-declared_few (tree.decls (tree.forward h) ds) = omega (arith, declared_few ds)
-declared_few (tree.decls (tree.procedure h s) ds) = omega (arith, declared_few ds)

@@ -1,29 +1,31 @@
 -- The code of blocks and of texts.
-use Rattle.std.specs.Prelude.{◌≡◌, ℕ, ◌+◌, ◌*◌, ◌<◌, ◌≤◌, Option, Some, None, List, map, length}
+use Rattle.std.specs.Prelude.{◌≡◌, ℕ, ◌+◌, ◌<◌, ◌≤◌, Option, Some, None, List, [], ◌∷◌, map, length}
 use Rattle.algol_tree.specs.declared.TheConstants.{MOST_BLOCK_CELLS}
 use Rattle.algol_tree.specs.declared.tree.Kind.{Kind}
 use Rattle.algol_tree.specs.declared.tree.Named.{Named}
-use Rattle.algol_tree.specs.Plain as tree
-use Rattle.algol_tree.specs.Plain.{PDecls, PPair, PStmts}
-use Rattle.algol_tree.specs.Counts.{pairs_tokens}
+use Rattle.algol_tree.specs.Plain.{PExpr, PDecls, PStmts}
 use Rattle.algol_paths.specs.Arrays.{arrays_of}
 use Rattle.b67_ops.specs.declared.Couple.{Couple}
 use Rattle.b67_ops.specs.declared.Operator.TheVariants as ops
 use Rattle.b67_ops.specs.declared.PlainKind.TheVariants as kinds
 use Rattle.b67_segment.specs.Operators.{Placed, size}
-use Rattle.b67_segment.specs.Building.{level_set}
+use Rattle.b67_segment.specs.Building.{Built, level_set}
 use Rattle.b67_segment.specs.Syllables.{Spells}
 use Rattle.b67_segment.specs.declared.code.Format.{Format}
 use Rattle.b67_segment.specs.declared.code.Segment.{Segment}
-use Rattle.b67_templates.specs.Cells.{variables, procedures, control_segments}
+use Rattle.b67_templates.specs.Cells.{Actual, variables, procedures, control_segments, actuals_in_block}
 use Rattle.b67_templates.specs.Code as code
-use Rattle.b67_templates.specs.Fragments.{Has, Goes, EntryAt}
+use Rattle.b67_templates.specs.Code.{routine_controls}
+use Rattle.b67_templates.specs.Emitting.{Emitted}
+use Rattle.b67_emitter.specs.Values.{meanings}
+use Rattle.b67_templates.specs.Fragments.{Has, Goes, EntryAt, ControlsAt}
 use Rattle.b67_emit_stmt.specs.declared.draft.Draft.{Draft}
 use Rattle.b67_emit_stmt.specs.declared.draft.Known.{Known}
 use Rattle.b67_emit_stmt.specs.Drafts.{Emits}
-use Rattle.b67_emit_stmt.specs.Emits.{stmts_syllables}
 use Rattle.b67_emit_stmt.specs.Fits.{AreNumbered, DeclsFit, InsideFits, number_in}
-use Rattle.b67_emit_stmt.specs.Places.{Place, CellsAt, DeclsAt, StmtsAt, context_in}
+use Rattle.b67_emit_stmt.specs.Places.{Place, CellsAt, RoutinesAt, DeclsAt, StmtsAt, context_in}
+use Rattle.b67_emit_stmt.specs.Actuals.{exprs_of, HaveValues}
+use Rattle.b67_emit_stmt.specs.Lengths.{routines_syllables, cells_syllables, begin_syllables, stmts_syllables, celled_in}
 
 -- ---- cells
 
@@ -31,71 +33,99 @@ use Rattle.b67_emit_stmt.specs.Places.{Place, CellsAt, DeclsAt, StmtsAt, context
 abbrev pub variables_in : PDecls → ℕ
 variables_in ds = length (variables ds)
 
--- so many cells of 0 and those of procedures and arrays are no more than a block may have
-abbrev pub IsSmall : ℕ → PDecls → Type 0
-IsSmall many ds = many + length (procedures ds) + length (arrays_of ds) ≤ MOST_BLOCK_CELLS
+-- so many cells of 0 and those of procedures, of actuals and of arrays are no more than a block may have
+abbrev pub IsSmall : ℕ → PDecls → List PExpr → Type 0
+IsSmall many ds es = many + length (procedures ds) + length es + length (arrays_of ds) ≤ MOST_BLOCK_CELLS
 
 -- the numbers that are known of procedures
 abbrev pub numbers_of : Known → List Named → List ℕ
 numbers_of s ns = map (λ (n : Named). number_in s.procedures.now n.spot) ns
 
--- a zero for each of so many, the control words, their making into cells
-abbrev pub cells_syllables : ℕ → PDecls → ℕ
-cells_syllables many ds = many + 12 * length (procedures ds) + 1
+-- these are the actuals of a block that have cells, each of which has a value in it, and its code a level
+pub record AreActuals (sc : Place) (s : Known) (level : ℕ) (es : List PExpr) (actuals : List Actual) : Type 0 where
+  pub same : exprs_of actuals ≡ es
+  pub values : HaveValues sc.scopes (meanings s.names.now) level sc.block actuals
 
-abbrev pub EmitsCells : Known → ℕ → Draft → Draft → ℕ → PDecls → Type 0
-EmitsCells s level before after many ds =
-    (sc : Place) → AreNumbered sc.scopes s level (procedures ds) →
-    Emits (cells_syllables many ds) before after
-    (λ formats qs target. CellsAt sc formats qs level many (control_segments sc.scopes ds) (size before.out.operators) (size after.out.operators))
+-- the code of these actuals was appended, and begins at these places
+abbrev pub CodesEmitted : Known → ℕ → Built → Built → List PExpr → List ℕ → Type 0
+CodesEmitted s level before after es ats =
+    (sc : Place) (formats : List Format) (actuals : List Actual) → AreActuals sc s level es actuals →
+    Emitted before after (λ qs. code.RoutinesAt sc.scopes (context_in sc formats level) qs (level_set before) actuals ats)
 
--- ---- arrays
+-- .. was added to a draft, one level further in
+abbrev pub EmitsRoutines : Known → ℕ → Draft → Draft → List PExpr → List ℕ → Type 0
+EmitsRoutines s level before after es ats =
+    (sc : Place) (actuals : List Actual) → AreActuals sc s level es actuals →
+    Emits (routines_syllables s es) before after (λ formats qs target. RoutinesAt sc formats qs level actuals ats)
 
--- a lower bound as it stands, and the value of an upper bound
-abbrev pub bounds_syllables : List PPair → ℕ
-bounds_syllables pairs = 12 * pairs_tokens pairs
+-- .. with a branch over it, where there is any
+abbrev pub over_syllables : List PExpr → ℕ
+over_syllables [] = 0
+over_syllables (e ∷ es) = 3
 
--- a mark, a reference, how many arrays, their bounds, the entry, and PUSH
-abbrev pub arrays_syllables : List PPair → ℕ
-arrays_syllables pairs = 17 + bounds_syllables pairs
+abbrev pub EmitsTextRoutines : Known → ℕ → Draft → Draft → List PExpr → List ℕ → Type 0
+EmitsTextRoutines s level before after es ats =
+    (sc : Place) (actuals : List Actual) → AreActuals sc s level es actuals →
+    Emits (over_syllables es + routines_syllables s es) before after
+    (λ formats qs target. Goes qs level (size before.out.operators) (size after.out.operators) × RoutinesAt sc formats qs level actuals ats)
 
-abbrev pub decls_syllables : PDecls → ℕ
-decls_syllables tree.no_decls = 0
-decls_syllables (tree.decls (tree.arrays kind ns pairs) ds) = arrays_syllables pairs + decls_syllables ds
-decls_syllables (tree.decls d ds) = decls_syllables ds
+-- the control words of actuals whose code begins at these places
+abbrev pub WordsEmitted : Known → ℕ → Built → Built → List PExpr → List ℕ → Type 0
+WordsEmitted s level before after es ats =
+    (actuals : List Actual) → exprs_of actuals ≡ es →
+    Emitted before after (λ qs. ControlsAt qs level (routine_controls s.segment level actuals ats) (size before.operators) (size after.operators))
+
+abbrev pub EmitsCells : Known → ℕ → Draft → Draft → ℕ → PDecls → List PExpr → List ℕ → Type 0
+EmitsCells s level before after many ds es ats =
+    (sc : Place) (actuals : List Actual) → sc.segment ≡ s.segment → exprs_of actuals ≡ es → AreNumbered sc.scopes s level (procedures ds) →
+    Emits (cells_syllables s many ds es) before after
+    (λ formats qs target. CellsAt sc formats qs level many (control_segments sc.scopes ds) actuals ats (size before.out.operators) (size after.out.operators))
 
 -- ---- what a block begins with
 
 -- the cells, and after them the arrays
-abbrev pub BeginAt : Place → List Format → List Placed → ℕ → ℕ → PDecls → ℕ → ℕ → Type 0
-BeginAt sc formats ps level many ds f t =
-    (b : ℕ) × CellsAt sc formats ps level many (control_segments sc.scopes ds) f b × DeclsAt sc formats ps level ds b t
+abbrev pub BeginAt : Place → List Format → List Placed → ℕ → ℕ → PDecls → List Actual → List ℕ → ℕ → ℕ → Type 0
+BeginAt sc formats ps level many ds actuals ats f t =
+    (b : ℕ) × CellsAt sc formats ps level many (control_segments sc.scopes ds) actuals ats f b × DeclsAt sc formats ps level ds b t
 
-abbrev pub begin_syllables : ℕ → PDecls → ℕ
-begin_syllables many ds = cells_syllables many ds + decls_syllables ds
-
-abbrev pub EmitsBegin : Known → ℕ → Draft → Draft → ℕ → PDecls → Type 0
-EmitsBegin s level before after many ds =
-    (sc : Place) → AreNumbered sc.scopes s level (procedures ds) → DeclsFit sc s level ds →
-    Emits (begin_syllables many ds) before after
-    (λ formats qs target. BeginAt sc formats qs level many ds (size before.out.operators) (size after.out.operators))
+abbrev pub EmitsBegin : Known → ℕ → Draft → Draft → ℕ → PDecls → List PExpr → List ℕ → Type 0
+EmitsBegin s level before after many ds es ats =
+    (sc : Place) (actuals : List Actual) → sc.segment ≡ s.segment → exprs_of actuals ≡ es → AreNumbered sc.scopes s level (procedures ds) → DeclsFit sc s level ds →
+    Emits (begin_syllables s many ds es) before after
+    (λ formats qs target. BeginAt sc formats qs level many ds actuals ats (size before.out.operators) (size after.out.operators))
 
 -- ---- a block up to its end
 
 -- the cells, the arrays, and the statements, whose exits go to the place after them
-abbrev pub InsideAt : Place → List Format → List Placed → ℕ → ℕ → PDecls → PStmts → ℕ → ℕ → Type 0
-InsideAt sc formats ps level many ds ss f e =
-    (b : ℕ) × (d : ℕ) × CellsAt sc formats ps level many (control_segments sc.scopes ds) f b × DeclsAt sc formats ps level ds b d
+abbrev pub InsideAt : Place → List Format → List Placed → ℕ → ℕ → PDecls → PStmts → List Actual → List ℕ → ℕ → ℕ → Type 0
+InsideAt sc formats ps level many ds ss actuals ats f e =
+    (b : ℕ) × (d : ℕ) × CellsAt sc formats ps level many (control_segments sc.scopes ds) actuals ats f b × DeclsAt sc formats ps level ds b d
     × StmtsAt sc formats ps level ss d e e
 
-abbrev pub inside_syllables : ℕ → PDecls → PStmts → ℕ
-inside_syllables many ds ss = begin_syllables many ds + stmts_syllables ss
+abbrev pub inside_syllables : Known → ℕ → PDecls → PStmts → List PExpr → ℕ
+inside_syllables s many ds ss es = begin_syllables s many ds es + stmts_syllables s ss
 
-abbrev pub EmitsInside : Known → ℕ → Draft → Draft → ℕ → PDecls → PStmts → Type 0
-EmitsInside s level before after many ds ss =
-    (sc : Place) → InsideFits sc s level ds ss →
-    Emits (inside_syllables many ds ss) before after
-    (λ formats qs target. InsideAt sc formats qs level many ds ss (size before.out.operators) (size after.out.operators))
+abbrev pub EmitsInside : Known → ℕ → Draft → Draft → ℕ → PDecls → PStmts → List PExpr → List ℕ → Type 0
+EmitsInside s level before after many ds ss es ats =
+    (sc : Place) (actuals : List Actual) → sc.segment ≡ s.segment → exprs_of actuals ≡ es → InsideFits sc s level ds ss →
+    Emits (inside_syllables s many ds ss es) before after
+    (λ formats qs target. InsideAt sc formats qs level many ds ss actuals ats (size before.out.operators) (size after.out.operators))
+
+-- .. and EXIT
+abbrev pub EndedAt : Place → List Format → List Placed → ℕ → PDecls → PStmts → List Actual → List ℕ → ℕ → ℕ → Type 0
+EndedAt sc formats ps level ds ss actuals ats f t =
+    (e : ℕ) × InsideAt sc formats ps level (variables_in ds) ds ss actuals ats f e × Has ps level e (ops.Plain kinds.Exit) t
+
+abbrev pub ended_syllables : Known → PDecls → PStmts → List PExpr → ℕ
+ended_syllables s ds ss es = inside_syllables s (variables_in ds) ds ss es + 1
+
+-- .. was added, and begins at this place
+pub record EmitsEnded (s : Known) (level : ℕ) (before after : Draft) (ds : PDecls) (ss : PStmts) (es : List PExpr) (ats : List ℕ) (begin : ℕ) : Type 0 where
+  pub place : begin ≡ size before.out.operators
+  pub within : begin < size after.out.operators
+  pub code : (sc : Place) (actuals : List Actual) → sc.segment ≡ s.segment → exprs_of actuals ≡ es → InsideFits sc s level ds ss →
+      Emits (ended_syllables s ds ss es) before after
+      (λ formats qs target. EndedAt sc formats qs level ds ss actuals ats (size before.out.operators) (size after.out.operators))
 
 -- ---- a block within another
 
@@ -103,22 +133,27 @@ EmitsInside s level before after many ds ss =
 abbrev pub BlockAt : Place → List Format → List Placed → ℕ → PDecls → PStmts → ℕ → Type 0
 BlockAt sc formats ps level ds ss at = code.InnerAt sc.scopes (context_in sc formats level) ps level ds ss at
 
-abbrev pub block_syllables : PDecls → PStmts → ℕ
-block_syllables ds ss = inside_syllables (variables_in ds) ds ss + 1
+-- the code of its actuals, the block up to its end, and EXIT
+abbrev pub block_syllables : Known → PDecls → PStmts → ℕ
+block_syllables s ds ss = routines_syllables s (celled_in s ds ss) + ended_syllables s ds ss (celled_in s ds ss)
 
--- the code of a block at a level
-abbrev pub EmitsBlock : Known → ℕ → Draft → Draft → PDecls → PStmts → Type 0
-EmitsBlock s level before after ds ss =
-    (sc : Place) → InsideFits sc s level ds ss →
-    Emits (block_syllables ds ss) before after (λ formats qs target. BlockAt sc formats qs level ds ss (size before.out.operators))
+-- the code of a block at a level, which begins at this place: the code of its actuals stands before that
+abbrev pub EmitsBlock : Known → ℕ → Draft → Draft → PDecls → PStmts → ℕ → Type 0
+EmitsBlock s level before after ds ss begin =
+    (sc : Place) → sc.segment ≡ s.segment → InsideFits sc s level ds ss →
+    Emits (block_syllables s ds ss) before after (λ formats qs target. BlockAt sc formats qs level ds ss begin)
 
--- it fits one level further in
+-- it fits in some place of the segment that is known
+abbrev pub HaveInside : Known → ℕ → PDecls → PStmts → Type 0
+HaveInside s level ds ss = (sc : Place) × (sc.segment ≡ s.segment) × InsideFits sc s level ds ss
+
+-- .. one level further in than the one that is set
 abbrev pub HaveFitInside : Known → Draft → PDecls → PStmts → Type 0
-HaveFitInside s d ds ss = (sc : Place) × InsideFits sc s (level_set d.out + 1) ds ss
+HaveFitInside s d ds ss = HaveInside s (level_set d.out + 1) ds ss
 
 -- a branch, the code of a block, and its entry
-abbrev pub inner_syllables : PDecls → PStmts → ℕ
-inner_syllables ds ss = 3 + block_syllables ds ss + 14
+abbrev pub inner_syllables : Known → PDecls → PStmts → ℕ
+inner_syllables s ds ss = 3 + block_syllables s ds ss + 14
 
 -- the code of a block one level further in, which stands before its entry
 abbrev pub InnerAt : Place → List Format → List Placed → ℕ → PDecls → PStmts → ℕ → ℕ → Type 0
@@ -128,7 +163,7 @@ InnerAt sc formats ps level ds ss f t =
 abbrev pub EmitsInner : Known → Draft → Draft → PDecls → PStmts → Type 0
 EmitsInner s before after ds ss =
     (sc : Place) → sc.segment ≡ s.segment → InsideFits sc s (level_set before.out + 1) ds ss →
-    Emits (inner_syllables ds ss) before after
+    Emits (inner_syllables s ds ss) before after
     (λ formats qs target. InnerAt sc formats qs (level_set before.out) ds ss (size before.out.operators) (size after.out.operators))
 
 -- ---- a text
@@ -156,13 +191,44 @@ abbrev pub zeros_for : Option ℕ → PDecls → ℕ
 zeros_for None ds = variables_in ds
 zeros_for (Some index) ds = 1 + variables_in ds
 
-abbrev pub text_syllables : Option ℕ → PDecls → PStmts → ℕ
-text_syllables returned ds ss = inside_syllables (zeros_for returned ds) ds ss + 3
+-- a branch over the code of its actuals, that code, the text up to its end, and the end
+abbrev pub text_syllables : Known → Option ℕ → PDecls → PStmts → ℕ
+text_syllables s returned ds ss =
+    3 + routines_syllables s (celled_in s ds ss) + inside_syllables s (zeros_for returned ds) ds ss (celled_in s ds ss) + 3
+
+-- the text up to its end, and the end
+abbrev pub TextEndAt : Place → List Format → List Placed → ℕ → Option ℕ → PDecls → PStmts → List Actual → List ℕ → ℕ → Type 0
+TextEndAt sc formats ps level returned ds ss actuals ats f =
+    (e : ℕ) × InsideAt sc formats ps level (zeros_for returned ds) ds ss actuals ats f e × EndingAt returned ps level e
+
+abbrev pub text_end_syllables : Known → Option ℕ → PDecls → PStmts → List PExpr → ℕ
+text_end_syllables s returned ds ss es = inside_syllables s (zeros_for returned ds) ds ss es + 3
+
+abbrev pub EmitsTextEnd : Known → ℕ → Draft → Draft → Option ℕ → PDecls → PStmts → List PExpr → List ℕ → Type 0
+EmitsTextEnd s level before after returned ds ss es ats =
+    (sc : Place) (actuals : List Actual) → sc.segment ≡ s.segment → exprs_of actuals ≡ es → InsideFits sc s level ds ss →
+    Emits (text_end_syllables s returned ds ss es) before after
+    (λ formats qs target. TextEndAt sc formats qs level returned ds ss actuals ats (size before.out.operators))
+
+-- .. with a branch over the code of its actuals, and that code, before it
+abbrev pub TextAt : Place → List Format → List Placed → ℕ → Option ℕ → PDecls → PStmts → ℕ → Type 0
+TextAt sc formats ps level returned ds ss f =
+    (begin : ℕ) × (ats : List ℕ) × Goes ps level f begin × RoutinesAt sc formats ps level (actuals_in_block sc.scopes ds ss) ats
+    × TextEndAt sc formats ps level returned ds ss (actuals_in_block sc.scopes ds ss) ats begin
+
+abbrev pub EmitsText : Known → ℕ → Draft → Draft → Option ℕ → PDecls → PStmts → Type 0
+EmitsText s level before after returned ds ss =
+    (sc : Place) → sc.segment ≡ s.segment → InsideFits sc s level ds ss →
+    Emits (text_syllables s returned ds ss) before after (λ formats qs target. TextAt sc formats qs level returned ds ss (size before.out.operators))
 
 -- the code of a text in a segment of its own
 pub record Stands (sc : Place) (formats : List Format) (segment : Segment) (level : ℕ) (returned : Option ℕ) (ds : PDecls) (ss : PStmts) : Type 0 where
   pub operators : List Placed
   pub spells : Spells operators segment
+  pub begin : ℕ
   pub end : ℕ
-  pub code : InsideAt sc formats operators level (zeros_for returned ds) ds ss 0 end
+  pub ats : List ℕ
+  pub over : Goes operators level 0 begin
+  pub routines : RoutinesAt sc formats operators level (actuals_in_block sc.scopes ds ss) ats
+  pub code : InsideAt sc formats operators level (zeros_for returned ds) ds ss (actuals_in_block sc.scopes ds ss) ats begin end
   pub ending : EndingAt returned operators level end

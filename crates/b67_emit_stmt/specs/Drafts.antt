@@ -10,9 +10,10 @@ use Rattle.b67_segment.specs.declared.code.Format.{Format}
 use Rattle.b67_segment.specs.Operators.{Placed, size}
 use Rattle.b67_listing.specs.Listings.{IsPhrase}
 use Rattle.b67_templates.specs.Emitting.{EmittedWithExits}
-use Rattle.b67_emitter.specs.Values.{AreNear}
+use Rattle.b67_emitter.specs.Values.{AreNear, meanings}
 use Rattle.b67_faithful.specs.Lines.{formats_for}
 use Rattle.b67_emit_stmt.specs.declared.draft.Draft.{Draft}
+use Rattle.b67_emit_stmt.specs.Actuals.{AreInner}
 
 -- the formats are the first of these
 abbrev pub IsFront : List Format → List Format → Type 0
@@ -34,10 +35,11 @@ pub record IsAt (level : ℕ) (d : Draft) : Type 0 where
   pub set : d.out.level ≡ Some level
   pub outer : OUTER_LEVEL ≤ level
 
--- A level is set, what is known of names can be spelled, and there is room for so many syllables.
+-- A level is set, what is known of names can be spelled, the code of actuals has levels, and there is room for so many syllables.
 pub record IsReady (s : Known) (d : Draft) (syllables : ℕ) : Type 0 where
   pub set : IsSome d.out.level
   pub near : AreNear s.names.now
+  pub inner : AreInner (meanings s.names.now)
   pub many : length s.procedures.now ≤ MOST_PROCEDURES
   pub segment : s.segment < 2 ^ 10
   pub few : HasFew d

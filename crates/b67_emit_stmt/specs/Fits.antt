@@ -17,7 +17,7 @@ use Rattle.b67_templates.specs.Contexts.{nothing}
 use Rattle.b67_templates.specs.Cells.{procedures}
 use Rattle.b67_templates.specs.Fitting as fitting
 use Rattle.b67_templates.specs.Fitting.{BlockFits}
-use Rattle.b67_emitter.specs.Values.{couples, lows, results}
+use Rattle.b67_emitter.specs.Values.{meanings}
 use Rattle.b67_emit_stmt.specs.declared.draft.Known.{Known}
 use Rattle.b67_emit_stmt.specs.Places.{Place}
 
@@ -47,80 +47,81 @@ AreNumbered sc s level (n ∷ ns) = IsNumbered sc s (level + 1) n × AreNumbered
 
 module _ (sc : Place) (s : Known) (level : ℕ) where
   abbrev pub ReadFits : Kind → Named → Type 0
-  ReadFits k n = fitting.ReadFits sc.scopes (couples s.names.now) (results s.names.now) (lows s.names.now) level k n
+  ReadFits k n = fitting.ReadFits sc.scopes (meanings s.names.now) level k n
 
-  abbrev pub LeftFits : Kind → Named → Type 0
-  LeftFits k n = fitting.LeftFits sc.scopes (couples s.names.now) (results s.names.now) (lows s.names.now) level k n
+  abbrev pub PlaceFits : Kind → Named → Type 0
+  PlaceFits k n = fitting.PlaceFits sc.scopes (meanings s.names.now) level k n
 
   abbrev pub ExprFits : Kind → PExpr → Type 0
-  ExprFits k e = fitting.ExprFits sc.scopes (couples s.names.now) (results s.names.now) (lows s.names.now) level k e
+  ExprFits k e = fitting.ExprFits sc.scopes (meanings s.names.now) level sc.block k e
 
   abbrev pub AssignFits : Named → PExpr → Type 0
-  AssignFits n e = fitting.AssignFits sc.scopes (couples s.names.now) (results s.names.now) (lows s.names.now) level n e
+  AssignFits n e = fitting.AssignFits sc.scopes (meanings s.names.now) level sc.block n e
 
   abbrev pub LineFits : PExprs → Type 0
-  LineFits es = fitting.LineFits sc.scopes (couples s.names.now) (results s.names.now) (lows s.names.now) level es
+  LineFits es = fitting.LineFits sc.scopes (meanings s.names.now) level sc.block es
 
   abbrev pub WriteFits : List PhraseText → PExprs → Type 0
-  WriteFits phrases es = fitting.WriteFits sc.scopes (couples s.names.now) (results s.names.now) (lows s.names.now) level phrases es
+  WriteFits phrases es = fitting.WriteFits sc.scopes (meanings s.names.now) level sc.block phrases es
 
-  -- a variable that is read and assigned
+  -- a variable or a parameter by name that is read and assigned
   abbrev pub VariableFits : Named → Type 0
-  VariableFits n = ReadFits types.Number n × LeftFits types.Number n
+  VariableFits n = ReadFits types.Number n × PlaceFits types.Number n
 
   abbrev pub ElementAssignFits : Named → PExprs → PExpr → Type 0
-  ElementAssignFits n es e = fitting.ElementAssignFits sc.scopes (couples s.names.now) (results s.names.now) (lows s.names.now) level n es e
+  ElementAssignFits n es e = fitting.ElementAssignFits sc.scopes (meanings s.names.now) level sc.block n es e
 
-  -- an assignment to a variable, a result or an element
+  -- an assignment to a variable, a result, a parameter by name or an element
   abbrev pub StoreFits : PVariable → PExpr → Type 0
   StoreFits (tree.subscripted n tree.none) e = AssignFits n e
   StoreFits (tree.subscripted n (tree.more i is)) e = ElementAssignFits n (tree.more i is) e
 
   abbrev pub BoundsFit : List PPair → Type 0
-  BoundsFit pairs = fitting.BoundsFit sc.scopes (couples s.names.now) (results s.names.now) (lows s.names.now) level pairs
+  BoundsFit pairs = fitting.BoundsFit sc.scopes (meanings s.names.now) level sc.block pairs
 
   abbrev pub DeclsFit : PDecls → Type 0
-  DeclsFit ds = fitting.DeclsFit sc.scopes (couples s.names.now) (results s.names.now) (lows s.names.now) level ds
+  DeclsFit ds = fitting.DeclsFit sc.scopes (meanings s.names.now) level sc.block ds
 
   -- the call that a statement makes
   abbrev pub CallStmtFits : Named → PExprs → Type 0
-  CallStmtFits n es = fitting.CallStmtFits sc.scopes (couples s.names.now) (results s.names.now) (lows s.names.now) level n es
+  CallStmtFits n es = fitting.CallStmtFits sc.scopes (meanings s.names.now) level sc.block n es
 
--- in the segment that is known
+-- in the segment that is known, in the text of the block with this number
 module _ (scopes : Scopes) (segment : ℕ) (s : Known) where
-  abbrev place : Place
-  place = record { scopes = scopes; segment = segment; block = 0; yields = nothing }
+  abbrev place : ℕ → Place
+  place block = record { scopes = scopes; segment = segment; block = block; yields = nothing }
 
   abbrev mutual
-    Fits : ℕ → PStmt → Type 0
-    Fits level tree.empty = Unit {0}
-    Fits level (tree.assign v e) = StoreFits place s level v e
-    Fits level (tree.call_of (tree.called n es)) = CallStmtFits place s level n es
-    Fits level (tree.block (tree.body spot tree.no_decls ss)) = AllFit level ss
-    Fits level (tree.block (tree.body spot (tree.decls d ds) ss)) =
-        BlockFits level (tree.decls d ds) × (segment ≡ s.segment) × AreNumbered scopes s (level + 1) (procedures (tree.decls d ds))
-        × DeclsFit place s (level + 1) (tree.decls d ds) × AllFit (level + 1) ss
-    Fits level (tree.if_then c x) = ExprFits place s level types.Truth c × Fits level x
-    Fits level (tree.if_else c x y) = ExprFits place s level types.Truth c × Fits level x × Fits level y
-    Fits level (tree.while c b) = ExprFits place s level types.Truth c × Fits level b
-    Fits level (tree.until b c) = Fits level b × ExprFits place s level types.Truth c
-    Fits level (tree.for v a t l b) =
-        VariableFits place s level v × ExprFits place s level types.Number a × ExprFits place s level types.Number t × ExprFits place s level types.Number l × Fits level b
-    Fits level (tree.thru e b) = ExprFits place s level types.Number e × Fits level b
-    Fits level (tree.case e ss) = ExprFits place s level types.Number e × AllFit level ss
-    Fits level (tree.write n spot phrases es) = WriteFits place s level phrases es
-    Fits level _ = ⊥
+    Fits : ℕ → ℕ → PStmt → Type 0
+    Fits level block tree.empty = Unit {0}
+    Fits level block (tree.assign v e) = StoreFits (place block) s level v e
+    Fits level block (tree.call_of (tree.called n es)) = CallStmtFits (place block) s level n es
+    Fits level block (tree.block (tree.body spot tree.no_decls ss)) = AllFit level block ss
+    Fits level block (tree.block (tree.body spot (tree.decls d ds) ss)) =
+        BlockFits scopes level (tree.decls d ds) ss × (segment ≡ s.segment) × AreNumbered scopes s (level + 1) (procedures (tree.decls d ds))
+        × DeclsFit (place (number_at scopes.blocks spot)) s (level + 1) (tree.decls d ds) × AllFit (level + 1) (number_at scopes.blocks spot) ss
+    Fits level block (tree.if_then c x) = ExprFits (place block) s level types.Truth c × Fits level block x
+    Fits level block (tree.if_else c x y) = ExprFits (place block) s level types.Truth c × Fits level block x × Fits level block y
+    Fits level block (tree.while c b) = ExprFits (place block) s level types.Truth c × Fits level block b
+    Fits level block (tree.until b c) = Fits level block b × ExprFits (place block) s level types.Truth c
+    Fits level block (tree.for v a t l b) =
+        VariableFits (place block) s level v × ExprFits (place block) s level types.Number a × ExprFits (place block) s level types.Number t
+        × ExprFits (place block) s level types.Number l × Fits level block b
+    Fits level block (tree.thru e b) = ExprFits (place block) s level types.Number e × Fits level block b
+    Fits level block (tree.case e ss) = ExprFits (place block) s level types.Number e × AllFit level block ss
+    Fits level block (tree.write n spot phrases es) = WriteFits (place block) s level phrases es
+    Fits level block _ = ⊥
 
-    AllFit : ℕ → PStmts → Type 0
-    AllFit level tree.no_stmts = Unit {0}
-    AllFit level (tree.stmts x xs) = Fits level x × AllFit level xs
+    AllFit : ℕ → ℕ → PStmts → Type 0
+    AllFit level block tree.no_stmts = Unit {0}
+    AllFit level block (tree.stmts x xs) = Fits level block x × AllFit level block xs
 
 module _ (sc : Place) (s : Known) (level : ℕ) where
   abbrev pub StmtFits : PStmt → Type 0
-  StmtFits x = Fits sc.scopes sc.segment s level x
+  StmtFits x = Fits sc.scopes sc.segment s level sc.block x
 
   abbrev pub StmtsFit : PStmts → Type 0
-  StmtsFit xs = AllFit sc.scopes sc.segment s level xs
+  StmtsFit xs = AllFit sc.scopes sc.segment s level sc.block xs
 
   -- the procedures, the arrays and the statements of a block at this level
   abbrev pub InsideFits : PDecls → PStmts → Type 0

@@ -1,6 +1,8 @@
 pub mod Texts
 pub mod Programs
 pub mod Places
+pub mod Actuals
+pub mod Lengths
 pub mod Fits
 pub mod Drafts
 pub mod Emits

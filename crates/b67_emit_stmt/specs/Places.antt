@@ -1,5 +1,5 @@
 -- Where code stands in a program, and the code of constructs that stand there.
-use Rattle.std.specs.Prelude.{ℕ, ℤ, List, None}
+use Rattle.std.specs.Prelude.{ℕ, ◌+◌, ℤ, List, ◌++◌, None}
 use Rattle.algol_tree.specs.declared.tree.Kind.{Kind}
 use Rattle.algol_tree.specs.declared.tree.Named.{Named}
 use Rattle.algol_tree.specs.declared.tree.PhraseText.{PhraseText}
@@ -11,7 +11,8 @@ use Rattle.b67_segment.specs.declared.code.Format.{Format}
 use Rattle.b67_templates.specs.Contexts.{Yields, nothing, Context}
 use Rattle.b67_templates.specs.Fragments.{procedure_controls}
 use Rattle.b67_templates.specs.Code as code
-use Rattle.b67_templates.specs.Code.{StepSign}
+use Rattle.b67_templates.specs.Code.{StepSign, routine_controls}
+use Rattle.b67_templates.specs.Cells.{Actual}
 
 -- the scopes of the program, the number of the segment, that of the block, and what the text gives
 pub record Place : Type 0 where
@@ -33,8 +34,8 @@ module _ (sc : Place) (formats : List Format) (ps : List Placed) (level : ℕ) w
   abbrev pub ReadAt : Named → Kind → ℕ → ℕ → Type 0
   ReadAt n kind f t = code.ReadAt sc.scopes (context_in sc formats level) ps level n kind f t
 
-  abbrev pub ReferenceAt : Named → Kind → ℕ → ℕ → Type 0
-  ReferenceAt n kind f t = code.ReferenceAt sc.scopes (context_in sc formats level) ps level n kind f t
+  abbrev pub PlaceAt : Named → Kind → ℕ → ℕ → Type 0
+  PlaceAt n kind f t = code.PlaceAt sc.scopes (context_in sc formats level) ps level n kind f t
 
   abbrev pub CallStmtAt : Named → PExprs → ℕ → ℕ → Type 0
   CallStmtAt n es f t = code.CallStmtAt sc.scopes (context_in sc formats level) ps level n es f t
@@ -48,7 +49,7 @@ module _ (sc : Place) (formats : List Format) (ps : List Placed) (level : ℕ) w
   abbrev pub ElementAssignAt : Named → PExprs → PExpr → ℕ → ℕ → Type 0
   ElementAssignAt n es e f t = code.ElementAssignAt sc.scopes (context_in sc formats level) ps level n es e f t
 
-  -- an assignment to a variable, a result or an element
+  -- an assignment to a variable, a result, a parameter by name or an element
   abbrev pub StoredAt : PVariable → PExpr → ℕ → ℕ → Type 0
   StoredAt (tree.subscripted n tree.none) e f t = AssignAt n e f t
   StoredAt (tree.subscripted n (tree.more i is)) e f t = ElementAssignAt n (tree.more i is) e f t
@@ -83,8 +84,14 @@ module _ (sc : Place) (formats : List Format) (ps : List Placed) (level : ℕ) w
   abbrev pub MadeAt : ℕ → ℕ → ℕ → Type 0
   MadeAt many f t = code.MadeAt sc.scopes (context_in sc formats level) ps level many f t
 
-  abbrev pub CellsAt : ℕ → List ℕ → ℕ → ℕ → Type 0
-  CellsAt many segments f t = code.CellsAt sc.scopes (context_in sc formats level) ps level many (procedure_controls level segments) f t
+  -- so many zeros, the control words of procedures in these segments, and of these actuals, whose code begins at these places
+  abbrev pub CellsAt : ℕ → List ℕ → List Actual → List ℕ → ℕ → ℕ → Type 0
+  CellsAt many segments actuals ats f t =
+      code.CellsAt sc.scopes (context_in sc formats level) ps level many (procedure_controls level segments ++ routine_controls sc.segment level actuals ats) f t
+
+  -- the code of these actuals of the block, one level further in
+  abbrev pub RoutinesAt : List Actual → List ℕ → Type 0
+  RoutinesAt actuals ats = code.RoutinesAt sc.scopes (context_in sc formats level) ps (level + 1) actuals ats
 
   abbrev pub ResultAt : List ℕ → ℕ → Type 0
   ResultAt name f = code.ResultAt sc.scopes (context_in sc formats level) ps level name f

@@ -16,11 +16,11 @@ use Rattle.b67_segment.specs.Syllables.{Spells}
 use Rattle.b67_segment.specs.declared.code.Format.{Format}
 use Rattle.b67_segment.specs.declared.code.Segment.{Segment}
 use Rattle.b67_templates.specs.Contexts.{yields_of, Context}
-use Rattle.b67_templates.specs.Fragments.{Has, procedure_controls}
-use Rattle.b67_templates.specs.Cells.{Simple, parameter_cells, variables, result_of, procedures, control_segments}
-use Rattle.b67_templates.specs.Code.{CellsAt, DeclsAt, StmtsAt, ResultAt}
+use Rattle.b67_templates.specs.Fragments.{Has, Goes}
+use Rattle.b67_templates.specs.Cells.{Simple, parameter_cells, variables, result_of, procedures, actuals_in_block}
+use Rattle.b67_templates.specs.Code.{CellsAt, DeclsAt, StmtsAt, ResultAt, RoutinesAt, control_pcws}
 use Rattle.b67_templates.specs.Fitting.{DeclsFit, StmtsFit}
-use Rattle.b67_emitter.specs.Values.{couples, lows, results}
+use Rattle.b67_emitter.specs.Values.{meanings}
 use Rattle.b67_emit_stmt.specs.Texts.{Text}
 
 -- the cells of 0 that a text begins with: its result and its simple variables
@@ -40,9 +40,9 @@ pub record IsDue (sc : Scopes) (known : Names) (number : ℕ) (t : Text) : Type 
   pub result : (block_numbered sc.blocks (block_of sc t)).result ≡ t.result
   pub parameters : length (parameter_cells sc (block_numbered sc.blocks (block_of sc t))) ≡ t.parameters
   pub level : t.level ≤ MOST_LEVEL
-  pub few : t.parameters + length (zeros_of t) + length (procedures t.decls) + length (arrays_of t.decls) ≤ MOST_BLOCK_CELLS
-  pub decls : DeclsFit sc (couples known) (results known) (lows known) t.level t.decls
-  pub fits : StmtsFit sc (couples known) (results known) (lows known) t.level t.stmts
+  pub few : t.parameters + length (zeros_of t) + length (procedures t.decls) + length (actuals_in_block sc t.decls t.stmts) + length (arrays_of t.decls) ≤ MOST_BLOCK_CELLS
+  pub decls : DeclsFit sc (meanings known) t.level (block_of sc t) t.decls
+  pub fits : StmtsFit sc (meanings known) t.level (block_of sc t) t.stmts
   pub room : 24 * t.tokens + 48 ≤ MOST_SEGMENT_SYLLABLES
 
 -- .. of each text, numbered from 0
@@ -66,11 +66,13 @@ context_of sc formats t =
       labels = λ spot. None;
     }
 
--- its cells from the start on, its arrays, its statements, whose exits go to the end, and the end
+-- The code of its actuals, one level further in, and past it its cells, its arrays, its statements, whose exits go to the end, and the end.
 abbrev pub TextAt : Scopes → List Format → List Placed → Text → Type 0
 TextAt sc formats ps t =
-    (b : ℕ) × (d : ℕ) × (e : ℕ)
-    × CellsAt sc (context_of sc formats t) ps t.level (length (zeros_of t)) (procedure_controls t.level (control_segments sc t.decls)) 0 b
+    (begin : ℕ) × (ats : List ℕ) × (b : ℕ) × (d : ℕ) × (e : ℕ) × Goes ps t.level 0 begin
+    × RoutinesAt sc (context_of sc formats t) ps (t.level + 1) (actuals_in_block sc t.decls t.stmts) ats
+    × CellsAt sc (context_of sc formats t) ps t.level (length (zeros_of t))
+    (control_pcws sc (segment_of sc.blocks (block_of sc t)) t.level t.decls (actuals_in_block sc t.decls t.stmts) ats) begin b
     × DeclsAt sc (context_of sc formats t) ps t.level t.decls b d
     × StmtsAt sc (context_of sc formats t) ps t.level t.stmts d e e
     × EndAt sc (context_of sc formats t) ps t.level t.result t.name e

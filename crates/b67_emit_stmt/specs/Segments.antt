@@ -6,8 +6,9 @@ use Rattle.b67_segment.specs.declared.TheConstants.{MOST_SEGMENT_SYLLABLES}
 use Rattle.b67_segment.specs.declared.code.Format.{Format}
 use Rattle.b67_segment.specs.declared.code.Segment.{Segment}
 use Rattle.b67_emit_stmt.specs.declared.draft.Known.{Known}
-use Rattle.b67_emit_stmt.specs.Bodies.{IsNear, IsSmall, Stands, result_index, text_syllables, zeros_for}
+use Rattle.b67_emit_stmt.specs.Bodies.{HaveInside, IsNear, IsSmall, Stands, result_index, text_syllables, zeros_for}
 use Rattle.b67_emit_stmt.specs.Fits.{InsideFits}
+use Rattle.b67_emit_stmt.specs.Lengths.{celled_in}
 use Rattle.b67_emit_stmt.specs.Places.{Place}
 use Rattle.b67_emit_stmt.specs.Texts.{Text}
 
@@ -15,8 +16,8 @@ use Rattle.b67_emit_stmt.specs.Texts.{Text}
 abbrev pub returned_in : Text → Option ℕ
 returned_in t = result_index t.result t.parameters
 
-abbrev pub code_syllables : Text → ℕ
-code_syllables t = text_syllables (returned_in t) t.decls t.stmts
+abbrev pub code_syllables : Known → Text → ℕ
+code_syllables s t = text_syllables s (returned_in t) t.decls t.stmts
 
 -- its parts fit
 abbrev pub TextFits : Place → Known → Text → Type 0
@@ -29,9 +30,9 @@ pub record CanStand (s : Known) (t : Text) : Type 0 where
   pub most : t.level ≤ MOST_LEVEL
   pub parameters : t.parameters ≤ MOST_BLOCK_CELLS
   pub cell : IsNear (returned_in t)
-  pub small : IsSmall (zeros_for (returned_in t) t.decls) t.decls
-  pub fits : (sc : Place) × TextFits sc s t
-  pub room : code_syllables t + 5 ≤ MOST_SEGMENT_SYLLABLES
+  pub small : IsSmall (zeros_for (returned_in t) t.decls) t.decls (celled_in s t.decls t.stmts)
+  pub fits : HaveInside s t.level t.decls t.stmts
+  pub room : code_syllables s t + 5 ≤ MOST_SEGMENT_SYLLABLES
 
 -- the code of a text stands in the segment
 abbrev pub HasSegment : Place → List Format → Segment → Text → Type 0

@@ -3,10 +3,10 @@
 ghost use Rattle.std.specs.Prelude.{◌≡◌, ◌+◌, ◌*◌, ◌≤◌, List, IsSome, OnOk};
 ghost use Rattle.algol_tree.specs.Image.{expr, stmts};
 ghost use Rattle.algol_tree.specs.Plain as tree;
-ghost use Rattle.b67_templates.specs.Depths.{stmt_syllables, expr_syllables};
+ghost use Rattle.b67_emit_stmt.specs.Lengths.{expr_syllables, stmt_syllables, stmts_syllables};
 ghost use Rattle.b67_faithful.specs.Lines.{stmt_lines, stmts_lines};
 ghost use Rattle.b67_emit_stmt.specs.Drafts.{Adds, IsAt, IsReady};
-ghost use Rattle.b67_emit_stmt.specs.Emits.{HasFit, HaveFit, EmitsStmt, EmitsCases, stmts_syllables};
+ghost use Rattle.b67_emit_stmt.specs.Emits.{HasFit, HaveFit, EmitsStmt, EmitsCases};
 ghost use Rattle.algol_tree.specs.declared.tree.Kind.TheVariants as types;
 ghost use Rattle.b67_emit_stmt.specs.Places.{Place};
 ghost use Rattle.b67_segment.specs.declared.TheConstants.{MOST_SEGMENT_SYLLABLES};
@@ -54,10 +54,10 @@ impl<'a, E: ExprEmitter> StmtEmitter<'a, E> {
         requires near { AreNear self.now.known.now.names.now }
         requires few { many ≤ MOST_SEGMENT_SYLLABLES }
         requires fits { (sc : Place) × ExprFits sc self.now.known.now (level_set out.old) types.Number (expr e.now) }
-        requires room { size out.old.operators + (19 + expr_syllables (expr e.now)) ≤ MOST_SEGMENT_SYLLABLES }
+        requires room { size out.old.operators + (19 + expr_syllables self.now.known.now (expr e.now)) ≤ MOST_SEGMENT_SYLLABLES }
         ensures code { OnOk result ((sc : Place) (formats : List Format) → ExprFits sc self.now.known.now (level_set out.old) types.Number (expr e.now) → Emitted out.old out.new (λ qs. SelectAt sc formats qs (level_set out.old) (expr e.now) many (size out.old.operators) (size out.new.operators))) }
         ensures level { OnOk result (out.new.level ≡ out.old.level) }
-        ensures size { OnOk result (size out.new.operators ≤ size out.old.operators + (19 + expr_syllables (expr e.now))) }
+        ensures size { OnOk result (size out.new.operators ≤ size out.old.operators + (19 + expr_syllables self.now.known.now (expr e.now))) }
     {
         append_intrinsic(out, Intrinsic::Select)?;
         self.exprs.value(e, self.known.names, out)?;
@@ -71,7 +71,7 @@ impl<'a, E: ExprEmitter> StmtEmitter<'a, E> {
     #[cycle(statements)]
     fn cases(&self, ss: &[Stmt], to: &mut Draft) -> Result<(), AllocError>
         requires level { IsAt self.now.level to.old }
-        requires ready { IsReady self.now.known.now to.old (stmts_syllables (stmts ss.now)) }
+        requires ready { IsReady self.now.known.now to.old (stmts_syllables self.now.known.now (stmts ss.now)) }
         requires fits { HaveFit self.now.known.now to.old (stmts ss.now) }
         ensures code { OnOk result (EmitsCases self.now.known.now to.old to.new (stmts ss.now)) }
         ensures lines { OnOk result (Adds to.old to.new (stmts_lines (stmts ss.now))) }
@@ -91,7 +91,7 @@ impl<'a, E: ExprEmitter> StmtEmitter<'a, E> {
     #[cycle(statements)]
     pub(crate) fn case(&self, ss: &[Stmt], e: &Expr, to: &mut Draft) -> Result<(), AllocError>
         requires level { IsAt self.now.level to.old }
-        requires ready { IsReady self.now.known.now to.old (stmt_syllables (tree.case (expr e.now) (stmts ss.now))) }
+        requires ready { IsReady self.now.known.now to.old (stmt_syllables self.now.known.now (tree.case (expr e.now) (stmts ss.now))) }
         requires fits { HasFit self.now.known.now to.old (tree.case (expr e.now) (stmts ss.now)) }
         ensures code { OnOk result (EmitsStmt self.now.known.now to.old to.new (tree.case (expr e.now) (stmts ss.now))) }
         ensures lines { OnOk result (Adds to.old to.new (stmt_lines (tree.case (expr e.now) (stmts ss.now)))) }

@@ -12,14 +12,16 @@ ghost use Rattle.b67_segment.specs.Building.{level_set};
 ghost use Rattle.b67_templates.specs.Cells as frames;
 ghost use Rattle.b67_templates.specs.Fragments.{AllAt, ControlsAt, procedure_controls};
 ghost use Rattle.b67_templates.specs.Emitting.{Emitted};
-ghost use Rattle.b67_emit_stmt.specs.Bodies.{EmitsCells, cells_syllables, numbers_of};
+ghost use Rattle.b67_emit_stmt.specs.Actuals.{images};
+ghost use Rattle.b67_emit_stmt.specs.Bodies.{EmitsCells, numbers_of};
 ghost use Rattle.b67_emit_stmt.specs.Drafts.{HasFew, IsAt};
 ghost use Rattle.b67_emit_stmt.specs.Fits.{AreNumbered};
+ghost use Rattle.b67_emit_stmt.specs.Lengths.{cells_syllables};
 ghost use Rattle.b67_emit_stmt.specs.Places.{Place};
 
 use crate::draft::{Draft, StmtEmitter};
 use crate::texts::number_of;
-use algol_tree::Decl;
+use algol_tree::{Decl, Expr};
 use b67_emitter::{ExprEmitter, append_controls, append_plain};
 use b67_ops::PlainKind;
 use b67_segment::Builder;
@@ -86,21 +88,56 @@ impl<'a, E: ExprEmitter> StmtEmitter<'a, E> {
         Ok(numbers)
     }
 
-    /// A cell of 0 for each of so many, and one for each procedure that is declared.
-    pub(crate) fn cells(&self, many: usize, ds: &[Decl], to: &mut Draft) -> Result<(), AllocError>
+    /// The control words of the procedures that are declared, and how many they are.
+    fn procedure_words(
+        &self,
+        alloc: Global,
+        ds: &[Decl],
+        out: &mut Builder,
+    ) -> Result<usize, AllocError>
+        requires set { IsSome out.old.level }
+        requires level { self.now.level ≡ level_set out.old }
+        requires many { length self.now.known.now.procedures.now ≤ MOST_PROCEDURES }
+        requires numbered { (sc : Place) × AreNumbered sc.scopes self.now.known.now self.now.level (frames.procedures (plain.decls ds.now)) }
+        requires room { size out.old.operators + 12 * length (frames.procedures (plain.decls ds.now)) ≤ MOST_SEGMENT_SYLLABLES }
+        ensures code { IfOk result (λ many. (sc : Place) → AreNumbered sc.scopes self.now.known.now self.now.level (frames.procedures (plain.decls ds.now)) →
+            Emitted out.old out.new (λ qs. ControlsAt qs self.now.level (procedure_controls self.now.level (frames.control_segments sc.scopes (plain.decls ds.now))) (size out.old.operators) (size out.new.operators))) }
+        ensures many { IfOk result (λ many. many ≡ length (frames.procedures (plain.decls ds.now))) }
+        ensures level { IfOk result (λ many. out.new.level ≡ out.old.level) }
+        ensures size { IfOk result (λ many. size out.new.operators ≤ size out.old.operators + 12 * length (frames.procedures (plain.decls ds.now))) }
+    {
+        let numbers = self.numbers(alloc, ds)?;
+        append_words(&numbers, self.level, out)?;
+        Ok(numbers.len())
+    }
+
+    /// A cell of 0 for each of so many, one for each procedure that is declared, and one for each of these actuals, whose code begins at
+    /// these places.
+    pub(crate) fn cells(
+        &self,
+        many: usize,
+        ds: &[Decl],
+        actuals: &[&Expr],
+        places: &[u16],
+        to: &mut Draft,
+    ) -> Result<(), AllocError>
         requires level { IsAt self.now.level to.old }
         requires few { HasFew to.old }
         requires many { length self.now.known.now.procedures.now ≤ MOST_PROCEDURES }
-        requires most { many + length (frames.procedures (plain.decls ds.now)) ≤ MOST_BLOCK_CELLS }
+        requires segment { self.now.known.now.segment < 2 ^ 10 }
+        requires most { many + length (frames.procedures (plain.decls ds.now)) + length actuals.now ≤ MOST_BLOCK_CELLS }
+        requires inner { 1 ≤ length actuals.now → self.now.level + 1 ≤ MOST_LEVEL }
+        requires placed { length places.now ≡ length actuals.now }
+        requires places { All (λ (at : ℕ). at < MOST_SEGMENT_SYLLABLES) places.now }
         requires numbered { (sc : Place) × AreNumbered sc.scopes self.now.known.now self.now.level (frames.procedures (plain.decls ds.now)) }
-        requires room { size to.old.out.operators + cells_syllables many (plain.decls ds.now) ≤ MOST_SEGMENT_SYLLABLES }
-        ensures code { OnOk result (EmitsCells self.now.known.now self.now.level to.old to.new many (plain.decls ds.now)) }
+        requires room { size to.old.out.operators + cells_syllables self.now.known.now many (plain.decls ds.now) (images actuals.now) ≤ MOST_SEGMENT_SYLLABLES }
+        ensures code { OnOk result (EmitsCells self.now.known.now self.now.level to.old to.new many (plain.decls ds.now) (images actuals.now) places.now) }
         ensures formats { OnOk result (to.new.formats.items ≡ to.old.formats.items) }
     {
         append_zeros(many, &mut to.out)?;
-        let numbers = self.numbers(*to.exits.allocator(), ds)?;
-        append_words(&numbers, self.level, &mut to.out)?;
-        if many + numbers.len() > 0 {
+        let procedures = self.procedure_words(*to.exits.allocator(), ds, &mut to.out)?;
+        self.routine_words(actuals, places, &mut to.out)?;
+        if many + procedures + actuals.len() > 0 {
             append_plain(&mut to.out, PlainKind::Push)?;
         }
         Ok(())

@@ -5,6 +5,7 @@
 //! where they go, so no branch leads to a branch. A loop's body goes on at the branch back to its test.
 #![tactic(auto)]
 
+mod actuals;
 mod arrays;
 mod block;
 mod case;
@@ -13,6 +14,7 @@ mod draft;
 mod line;
 mod loops;
 mod program;
+mod routines;
 mod simple;
 mod stepping;
 mod stmt;

@@ -1,9 +1,8 @@
 //! Lines: their formats, and the statement that writes one.
 
-ghost use Rattle.std.specs.Prelude.{◌≡◌, ◌+◌, ◌*◌, ◌≤◌, List, [], ◌∷◌, IsSome, IfOk, OnOk};
+ghost use Rattle.std.specs.Prelude.{◌≡◌, ◌+◌, ◌≤◌, List, [], ◌∷◌, IsSome, IfOk, OnOk};
 ghost use Rattle.algol_tree.specs.declared.TheConstants.{MOST_LINE_WIDTH};
 ghost use Rattle.algol_tree.specs.Image.{exprs};
-ghost use Rattle.algol_tree.specs.Counts.{exprs_tokens};
 ghost use Rattle.b67_emit_stmt.specs.Places.{Place, LineAt, WriteAt};
 ghost use Rattle.algol_tree.specs.Spelling.{value_of};
 ghost use Rattle.b67_segment.specs.declared.TheConstants.{MOST_SEGMENT_SYLLABLES};
@@ -16,7 +15,7 @@ ghost use Rattle.b67_emit_stmt.specs.Fits.{LineFits, WriteFits};
 ghost use Rattle.b67_templates.specs.Emitting.{Emitted};
 ghost use Rattle.b67_emitter.specs.Values.{AreNear};
 ghost use Rattle.b67_emit_stmt.specs.Drafts.{Adds, Emits, IsReady};
-ghost use Rattle.b67_emit_stmt.specs.Emits.{write_syllables};
+ghost use Rattle.b67_emit_stmt.specs.Lengths.{items_syllables, write_syllables};
 
 use crate::draft::{Draft, StmtEmitter};
 use crate::simple::append_intrinsic;
@@ -83,10 +82,10 @@ impl<'a, E: ExprEmitter> StmtEmitter<'a, E> {
         requires set { IsSome out.old.level }
         requires near { AreNear self.now.known.now.names.now }
         requires fits { (sc : Place) × LineFits sc self.now.known.now (level_set out.old) (exprs items.now) }
-        requires room { size out.old.operators + 12 * exprs_tokens (exprs items.now) ≤ MOST_SEGMENT_SYLLABLES }
+        requires room { size out.old.operators + items_syllables self.now.known.now (exprs items.now) ≤ MOST_SEGMENT_SYLLABLES }
         ensures code { OnOk result ((sc : Place) (formats : List Format) → LineFits sc self.now.known.now (level_set out.old) (exprs items.now) → Emitted out.old out.new (λ qs. LineAt sc formats qs (level_set out.old) (exprs items.now) (size out.old.operators) (size out.new.operators))) }
         ensures level { OnOk result (out.new.level ≡ out.old.level) }
-        ensures size { OnOk result (size out.new.operators ≤ size out.old.operators + 12 * exprs_tokens (exprs items.now)) }
+        ensures size { OnOk result (size out.new.operators ≤ size out.old.operators + items_syllables self.now.known.now (exprs items.now)) }
     {
         'items: for item in items {
             self.exprs.value(item, self.known.names, out)?;
@@ -101,9 +100,9 @@ impl<'a, E: ExprEmitter> StmtEmitter<'a, E> {
         items: &[Expr],
         to: &mut Draft,
     ) -> Result<(), AllocError>
-        requires ready { IsReady self.now.known.now to.old (write_syllables (exprs items.now)) }
+        requires ready { IsReady self.now.known.now to.old (write_syllables self.now.known.now (exprs items.now)) }
         requires fits { (sc : Place) × WriteFits sc self.now.known.now (level_set to.old.out) phrases.now (exprs items.now) }
-        ensures code { OnOk result ((sc : Place) → WriteFits sc self.now.known.now (level_set to.old.out) phrases.now (exprs items.now) → Emits (write_syllables (exprs items.now)) to.old to.new (λ formats qs target. WriteAt sc formats qs (level_set to.old.out) phrases.now (exprs items.now) (size to.old.out.operators) (size to.new.out.operators))) }
+        ensures code { OnOk result ((sc : Place) → WriteFits sc self.now.known.now (level_set to.old.out) phrases.now (exprs items.now) → Emits (write_syllables self.now.known.now (exprs items.now)) to.old to.new (λ formats qs target. WriteAt sc formats qs (level_set to.old.out) phrases.now (exprs items.now) (size to.old.out.operators) (size to.new.out.operators))) }
         ensures lines { OnOk result (Adds to.old to.new (phrases.now ∷ [])) }
     {
         let number = to.formats.len();

@@ -3,7 +3,7 @@
 ghost use Rattle.std.specs.Prelude.{OnOk};
 ghost use Rattle.algol_tree.specs.Image.{expr, stmt};
 ghost use Rattle.algol_tree.specs.Plain as tree;
-ghost use Rattle.b67_templates.specs.Depths.{stmt_syllables};
+ghost use Rattle.b67_emit_stmt.specs.Lengths.{stmt_syllables};
 ghost use Rattle.b67_faithful.specs.Lines.{stmt_lines};
 ghost use Rattle.b67_emit_stmt.specs.Drafts.{Adds, IsAt, IsReady};
 ghost use Rattle.b67_emit_stmt.specs.Emits.{HasFit, EmitsStmt, EmitsBody};
@@ -21,7 +21,7 @@ impl<'a, E: ExprEmitter> StmtEmitter<'a, E> {
     #[cycle(statements)]
     fn loop_body(&self, b: &Stmt, to: &mut Draft) -> Result<(), AllocError>
         requires level { IsAt self.now.level to.old }
-        requires ready { IsReady self.now.known.now to.old (stmt_syllables (stmt b.now)) }
+        requires ready { IsReady self.now.known.now to.old (stmt_syllables self.now.known.now (stmt b.now)) }
         requires fits { HasFit self.now.known.now to.old (stmt b.now) }
         ensures code { OnOk result (EmitsBody self.now.known.now to.old to.new (stmt b.now)) }
         ensures lines { OnOk result (Adds to.old to.new (stmt_lines (stmt b.now))) }
@@ -36,7 +36,7 @@ impl<'a, E: ExprEmitter> StmtEmitter<'a, E> {
     #[cycle(statements)]
     pub(crate) fn while_loop(&self, b: &Stmt, c: &Expr, to: &mut Draft) -> Result<(), AllocError>
         requires level { IsAt self.now.level to.old }
-        requires ready { IsReady self.now.known.now to.old (stmt_syllables (tree.while (expr c.now) (stmt b.now))) }
+        requires ready { IsReady self.now.known.now to.old (stmt_syllables self.now.known.now (tree.while (expr c.now) (stmt b.now))) }
         requires fits { HasFit self.now.known.now to.old (tree.while (expr c.now) (stmt b.now)) }
         ensures code { OnOk result (EmitsStmt self.now.known.now to.old to.new (tree.while (expr c.now) (stmt b.now))) }
         ensures lines { OnOk result (Adds to.old to.new (stmt_lines (tree.while (expr c.now) (stmt b.now)))) }
@@ -52,7 +52,7 @@ impl<'a, E: ExprEmitter> StmtEmitter<'a, E> {
     #[cycle(statements)]
     pub(crate) fn until_loop(&self, b: &Stmt, c: &Expr, to: &mut Draft) -> Result<(), AllocError>
         requires level { IsAt self.now.level to.old }
-        requires ready { IsReady self.now.known.now to.old (stmt_syllables (tree.until (stmt b.now) (expr c.now))) }
+        requires ready { IsReady self.now.known.now to.old (stmt_syllables self.now.known.now (tree.until (stmt b.now) (expr c.now))) }
         requires fits { HasFit self.now.known.now to.old (tree.until (stmt b.now) (expr c.now)) }
         ensures code { OnOk result (EmitsStmt self.now.known.now to.old to.new (tree.until (stmt b.now) (expr c.now))) }
         ensures lines { OnOk result (Adds to.old to.new (stmt_lines (tree.until (stmt b.now) (expr c.now)))) }
@@ -76,7 +76,7 @@ impl<'a, E: ExprEmitter> StmtEmitter<'a, E> {
         to: &mut Draft,
     ) -> Result<(), AllocError>
         requires level { IsAt self.now.level to.old }
-        requires ready { IsReady self.now.known.now to.old (stmt_syllables (tree.for v.now (expr a.now) (expr s.now) (expr l.now) (stmt b.now))) }
+        requires ready { IsReady self.now.known.now to.old (stmt_syllables self.now.known.now (tree.for v.now (expr a.now) (expr s.now) (expr l.now) (stmt b.now))) }
         requires fits { HasFit self.now.known.now to.old (tree.for v.now (expr a.now) (expr s.now) (expr l.now) (stmt b.now)) }
         ensures code { OnOk result (EmitsStmt self.now.known.now to.old to.new (tree.for v.now (expr a.now) (expr s.now) (expr l.now) (stmt b.now))) }
         ensures lines { OnOk result (Adds to.old to.new (stmt_lines (tree.for v.now (expr a.now) (expr s.now) (expr l.now) (stmt b.now)))) }
@@ -94,7 +94,7 @@ impl<'a, E: ExprEmitter> StmtEmitter<'a, E> {
     #[cycle(statements)]
     pub(crate) fn thru_loop(&self, b: &Stmt, e: &Expr, to: &mut Draft) -> Result<(), AllocError>
         requires level { IsAt self.now.level to.old }
-        requires ready { IsReady self.now.known.now to.old (stmt_syllables (tree.thru (expr e.now) (stmt b.now))) }
+        requires ready { IsReady self.now.known.now to.old (stmt_syllables self.now.known.now (tree.thru (expr e.now) (stmt b.now))) }
         requires fits { HasFit self.now.known.now to.old (tree.thru (expr e.now) (stmt b.now)) }
         ensures code { OnOk result (EmitsStmt self.now.known.now to.old to.new (tree.thru (expr e.now) (stmt b.now))) }
         ensures lines { OnOk result (Adds to.old to.new (stmt_lines (tree.thru (expr e.now) (stmt b.now)))) }

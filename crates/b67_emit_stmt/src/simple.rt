@@ -4,14 +4,14 @@ ghost use Rattle.std.specs.Prelude.{◌≡◌, ◌+◌, ◌≤◌, List, IsSome,
 ghost use Rattle.algol_tree.specs.declared.tree.Kind.{Kind};
 ghost use Rattle.algol_tree.specs.Image.{call, expr, exprs, variable};
 ghost use Rattle.algol_tree.specs.Plain as tree;
-ghost use Rattle.b67_emit_stmt.specs.Places.{Place, AssignAt, CallStmtAt, ReadAt, ReferenceAt, StoredAt};
+ghost use Rattle.b67_emit_stmt.specs.Places.{Place, AssignAt, CallStmtAt, ReadAt, PlaceAt, StoredAt};
 ghost use Rattle.b67_segment.specs.declared.TheConstants.{MOST_SEGMENT_SYLLABLES};
 ghost use Rattle.b67_segment.specs.declared.code.Format.{Format};
 ghost use Rattle.b67_segment.specs.Operators.{size};
 ghost use Rattle.b67_segment.specs.Building.{level_set};
 ghost use Rattle.b67_templates.specs.Fragments.{IntrinsicAt};
-ghost use Rattle.b67_templates.specs.Depths.{expr_syllables};
-ghost use Rattle.b67_emit_stmt.specs.Fits.{AssignFits, CallStmtFits, LeftFits, ReadFits, StoreFits};
+ghost use Rattle.b67_emit_stmt.specs.Lengths.{expr_syllables};
+ghost use Rattle.b67_emit_stmt.specs.Fits.{AssignFits, CallStmtFits, PlaceFits, ReadFits, StoreFits};
 ghost use Rattle.b67_templates.specs.Emitting.{Emitted};
 ghost use Rattle.b67_emitter.specs.Values.{AreNear, place_syllables};
 
@@ -19,7 +19,7 @@ use crate::draft::StmtEmitter;
 use algol_tree::{Call, Expr, Named, Variable};
 use b67_emitter::{
     ExprEmitter, append_dropped, append_plain, append_reading, append_reference, couple_of,
-    left_of, result_of,
+    is_name, left_of, result_of,
 };
 use b67_ops::{Intrinsic, PlainKind};
 use b67_segment::Builder;
@@ -37,17 +37,23 @@ pub(crate) fn append_intrinsic(out: &mut Builder, intrinsic: Intrinsic) -> Resul
 }
 
 impl<'a, E: ExprEmitter> StmtEmitter<'a, E> {
-    /// The reference of a variable or a result that is assigned.
+    /// What an assignment to a name by itself stores through: the reference of a variable or a result, or what EVAL makes of that of a
+    /// parameter by name.
     pub(crate) fn reference(&self, v: &Named, out: &mut Builder) -> Result<(), AllocError>
         requires set { IsSome out.old.level }
         requires near { AreNear self.now.known.now.names.now }
-        requires fits { (sc : Place) × (k : Kind) × LeftFits sc self.now.known.now (level_set out.old) k v.now }
-        requires room { size out.old.operators + 2 ≤ MOST_SEGMENT_SYLLABLES }
-        ensures code { OnOk result ((sc : Place) (k : Kind) (formats : List Format) → LeftFits sc self.now.known.now (level_set out.old) k v.now → Emitted out.old out.new (λ qs. ReferenceAt sc formats qs (level_set out.old) v.now k (size out.old.operators) (size out.new.operators))) }
+        requires fits { (sc : Place) × (k : Kind) × PlaceFits sc self.now.known.now (level_set out.old) k v.now }
+        requires room { size out.old.operators + 3 ≤ MOST_SEGMENT_SYLLABLES }
+        ensures code { OnOk result ((sc : Place) (k : Kind) (formats : List Format) → PlaceFits sc self.now.known.now (level_set out.old) k v.now → Emitted out.old out.new (λ qs. PlaceAt sc formats qs (level_set out.old) v.now k (size out.old.operators) (size out.new.operators))) }
         ensures level { OnOk result (out.new.level ≡ out.old.level) }
-        ensures size { OnOk result (size out.new.operators ≡ size out.old.operators + 2) }
+        ensures size { OnOk result (size out.new.operators ≤ size out.old.operators + 3) }
     {
-        append_reference(out, left_of(self.known.names, v))
+        append_reference(out, left_of(self.known.names, v))?;
+        if is_name(self.known.names, v) {
+            append_plain(out, PlainKind::Eval)
+        } else {
+            Ok(())
+        }
     }
 
     /// The value of a variable.
@@ -68,10 +74,10 @@ impl<'a, E: ExprEmitter> StmtEmitter<'a, E> {
         requires set { IsSome out.old.level }
         requires near { AreNear self.now.known.now.names.now }
         requires fits { (sc : Place) × AssignFits sc self.now.known.now (level_set out.old) v.now (expr e.now) }
-        requires room { size out.old.operators + (3 + expr_syllables (expr e.now)) ≤ MOST_SEGMENT_SYLLABLES }
+        requires room { size out.old.operators + (4 + expr_syllables self.now.known.now (expr e.now)) ≤ MOST_SEGMENT_SYLLABLES }
         ensures code { OnOk result ((sc : Place) (formats : List Format) → AssignFits sc self.now.known.now (level_set out.old) v.now (expr e.now) → Emitted out.old out.new (λ qs. AssignAt sc formats qs (level_set out.old) v.now (expr e.now) (size out.old.operators) (size out.new.operators))) }
         ensures level { OnOk result (out.new.level ≡ out.old.level) }
-        ensures size { OnOk result (size out.new.operators ≤ size out.old.operators + (3 + expr_syllables (expr e.now))) }
+        ensures size { OnOk result (size out.new.operators ≤ size out.old.operators + (4 + expr_syllables self.now.known.now (expr e.now))) }
     {
         self.reference(v, out)?;
         self.exprs.value(e, self.known.names, out)?;
@@ -83,9 +89,9 @@ impl<'a, E: ExprEmitter> StmtEmitter<'a, E> {
         requires set { IsSome out.old.level }
         requires near { AreNear self.now.known.now.names.now }
         requires fits { (sc : Place) × StoreFits sc self.now.known.now (level_set out.old) (variable v.now) (expr e.now) }
-        requires room { size out.old.operators + (place_syllables (variable v.now) + expr_syllables (expr e.now) + 1) ≤ MOST_SEGMENT_SYLLABLES }
+        requires room { size out.old.operators + (place_syllables self.now.known.now.names.now (variable v.now) + expr_syllables self.now.known.now (expr e.now) + 1) ≤ MOST_SEGMENT_SYLLABLES }
         ensures code { OnOk result ((sc : Place) (formats : List Format) → StoreFits sc self.now.known.now (level_set out.old) (variable v.now) (expr e.now) → Emitted out.old out.new (λ qs. StoredAt sc formats qs (level_set out.old) (variable v.now) (expr e.now) (size out.old.operators) (size out.new.operators))) }
-        ensures size { OnOk result (size out.new.operators ≤ size out.old.operators + (place_syllables (variable v.now) + expr_syllables (expr e.now) + 1)) }
+        ensures size { OnOk result (size out.new.operators ≤ size out.old.operators + (place_syllables self.now.known.now.names.now (variable v.now) + expr_syllables self.now.known.now (expr e.now) + 1)) }
     {
         self.exprs.name(v, self.known.names, out)?;
         self.exprs.value(e, self.known.names, out)?;
@@ -97,10 +103,10 @@ impl<'a, E: ExprEmitter> StmtEmitter<'a, E> {
         requires set { IsSome out.old.level }
         requires near { AreNear self.now.known.now.names.now }
         requires fits { (sc : Place) × CallStmtFits sc self.now.known.now (level_set out.old) c.now.name (exprs c.now.actuals) }
-        requires room { size out.old.operators + (expr_syllables (tree.call (call c.now)) + 1) ≤ MOST_SEGMENT_SYLLABLES }
+        requires room { size out.old.operators + (expr_syllables self.now.known.now (tree.call (call c.now)) + 1) ≤ MOST_SEGMENT_SYLLABLES }
         ensures code { OnOk result ((sc : Place) (formats : List Format) → CallStmtFits sc self.now.known.now (level_set out.old) c.now.name (exprs c.now.actuals) → Emitted out.old out.new (λ qs. CallStmtAt sc formats qs (level_set out.old) c.now.name (exprs c.now.actuals) (size out.old.operators) (size out.new.operators))) }
         ensures level { OnOk result (out.new.level ≡ out.old.level) }
-        ensures size { OnOk result (size out.new.operators ≤ size out.old.operators + (expr_syllables (tree.call (call c.now)) + 1)) }
+        ensures size { OnOk result (size out.new.operators ≤ size out.old.operators + (expr_syllables self.now.known.now (tree.call (call c.now)) + 1)) }
     {
         self.exprs.call(c, self.known.names, out)?;
         append_dropped(out, result_of(self.known.names, &c.name).is_some())

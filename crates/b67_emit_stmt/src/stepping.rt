@@ -15,7 +15,7 @@ ghost use Rattle.b67_segment.specs.Operators.{size};
 ghost use Rattle.b67_segment.specs.Building.{level_set};
 ghost use Rattle.b67_templates.specs.Fragments.{AllAt, BranchAt};
 ghost use Rattle.b67_templates.specs.Code.{StepSign, literal_of};
-ghost use Rattle.b67_templates.specs.Depths.{expr_syllables};
+ghost use Rattle.b67_emit_stmt.specs.Lengths.{expr_syllables};
 ghost use Rattle.b67_emit_stmt.specs.Fits.{ExprFits, ReadFits, VariableFits};
 ghost use Rattle.b67_templates.specs.Emitting.{Emitted};
 ghost use Rattle.b67_emitter.specs.Values.{AreNear};
@@ -106,10 +106,10 @@ impl<'a, E: ExprEmitter> StmtEmitter<'a, E> {
         requires set { IsSome out.old.level }
         requires near { AreNear self.now.known.now.names.now }
         requires fits { (sc : Place) × ReadFits sc self.now.known.now (level_set out.old) types.Number v.now × ExprFits sc self.now.known.now (level_set out.old) types.Number (expr l.now) }
-        requires room { size out.old.operators + (3 + expr_syllables (expr l.now)) ≤ MOST_SEGMENT_SYLLABLES }
+        requires room { size out.old.operators + (3 + expr_syllables self.now.known.now (expr l.now)) ≤ MOST_SEGMENT_SYLLABLES }
         ensures code { OnOk result ((sc : Place) (formats : List Format) → ReadFits sc self.now.known.now (level_set out.old) types.Number v.now → ExprFits sc self.now.known.now (level_set out.old) types.Number (expr l.now) → Emitted out.old out.new (λ qs. ExprAt sc formats qs (level_set out.old) types.Number (tree.two operators.Sub (alone v.now) (expr l.now)) (size out.old.operators) (size out.new.operators) (size out.new.operators))) }
         ensures level { OnOk result (out.new.level ≡ out.old.level) }
-        ensures size { OnOk result (size out.new.operators ≤ size out.old.operators + (3 + expr_syllables (expr l.now))) }
+        ensures size { OnOk result (size out.new.operators ≤ size out.old.operators + (3 + expr_syllables self.now.known.now (expr l.now))) }
     {
         self.read(v, out)?;
         self.exprs.value(l, self.known.names, out)?;
@@ -121,10 +121,10 @@ impl<'a, E: ExprEmitter> StmtEmitter<'a, E> {
         requires set { IsSome out.old.level }
         requires near { AreNear self.now.known.now.names.now }
         requires fits { (sc : Place) × VariableFits sc self.now.known.now (level_set out.old) v.now × ExprFits sc self.now.known.now (level_set out.old) types.Number (expr s.now) }
-        requires room { size out.old.operators + (6 + expr_syllables (expr s.now)) ≤ MOST_SEGMENT_SYLLABLES }
+        requires room { size out.old.operators + (7 + expr_syllables self.now.known.now (expr s.now)) ≤ MOST_SEGMENT_SYLLABLES }
         ensures code { OnOk result ((sc : Place) (formats : List Format) → VariableFits sc self.now.known.now (level_set out.old) v.now → ExprFits sc self.now.known.now (level_set out.old) types.Number (expr s.now) → Emitted out.old out.new (λ qs. AssignAt sc formats qs (level_set out.old) v.now (tree.two operators.Add (alone v.now) (expr s.now)) (size out.old.operators) (size out.new.operators))) }
         ensures level { OnOk result (out.new.level ≡ out.old.level) }
-        ensures size { OnOk result (size out.new.operators ≤ size out.old.operators + (6 + expr_syllables (expr s.now))) }
+        ensures size { OnOk result (size out.new.operators ≤ size out.old.operators + (7 + expr_syllables self.now.known.now (expr s.now))) }
     {
         self.reference(v, out)?;
         self.read(v, out)?;
@@ -135,9 +135,9 @@ impl<'a, E: ExprEmitter> StmtEmitter<'a, E> {
 
     /// Leaves the loop where the difference on top is past the limit. Where the step is a literal, its sign is known.
     pub(crate) fn step(&self, s: &Expr, to: &mut Draft) -> Result<(), AllocError>
-        requires ready { IsReady self.now.known.now to.old (13 + expr_syllables (expr s.now)) }
+        requires ready { IsReady self.now.known.now to.old (13 + expr_syllables self.now.known.now (expr s.now)) }
         requires fits { (sc : Place) × ExprFits sc self.now.known.now (level_set to.old.out) types.Number (expr s.now) }
-        ensures code { OnOk result ((sc : Place) → ExprFits sc self.now.known.now (level_set to.old.out) types.Number (expr s.now) → Emits (13 + expr_syllables (expr s.now)) to.old to.new (λ formats qs target. StepAt sc formats qs (level_set to.old.out) (expr s.now) (size to.old.out.operators) target (size to.new.out.operators))) }
+        ensures code { OnOk result ((sc : Place) → ExprFits sc self.now.known.now (level_set to.old.out) types.Number (expr s.now) → Emits (13 + expr_syllables self.now.known.now (expr s.now)) to.old to.new (λ formats qs target. StepAt sc formats qs (level_set to.old.out) (expr s.now) (size to.old.out.operators) target (size to.new.out.operators))) }
         ensures formats { OnOk result (to.new.formats.items ≡ to.old.formats.items) }
     {
         match literal_of(s) {

@@ -3,10 +3,10 @@
 ghost use Rattle.std.specs.Prelude.{◌+◌, OnOk};
 ghost use Rattle.algol_tree.specs.Image.{expr, stmt, stmts};
 ghost use Rattle.algol_tree.specs.Plain as tree;
-ghost use Rattle.b67_templates.specs.Depths.{stmt_syllables, expr_syllables};
+ghost use Rattle.b67_emit_stmt.specs.Lengths.{expr_syllables, stmt_syllables, stmts_syllables};
 ghost use Rattle.b67_faithful.specs.Lines.{stmt_lines, stmts_lines};
 ghost use Rattle.b67_emit_stmt.specs.Drafts.{Adds, IsAt, IsReady};
-ghost use Rattle.b67_emit_stmt.specs.Emits.{HasFit, HaveFit, EmitsStmt, EmitsStmts, EmitsThen, HasFitThen, stmts_syllables};
+ghost use Rattle.b67_emit_stmt.specs.Emits.{HasFit, HaveFit, EmitsStmt, EmitsStmts, EmitsThen, HasFitThen};
 
 use crate::draft::{Draft, StmtEmitter};
 use algol_tree::{Expr, Stmt};
@@ -19,7 +19,7 @@ impl<'a, E: ExprEmitter> StmtEmitter<'a, E> {
     #[cycle(statements)]
     fn if_then(&self, x: &Stmt, c: &Expr, to: &mut Draft) -> Result<(), AllocError>
         requires level { IsAt self.now.level to.old }
-        requires ready { IsReady self.now.known.now to.old (stmt_syllables (tree.if_then (expr c.now) (stmt x.now))) }
+        requires ready { IsReady self.now.known.now to.old (stmt_syllables self.now.known.now (tree.if_then (expr c.now) (stmt x.now))) }
         requires fits { HasFit self.now.known.now to.old (tree.if_then (expr c.now) (stmt x.now)) }
         ensures code { OnOk result (EmitsStmt self.now.known.now to.old to.new (tree.if_then (expr c.now) (stmt x.now))) }
         ensures lines { OnOk result (Adds to.old to.new (stmt_lines (tree.if_then (expr c.now) (stmt x.now)))) }
@@ -33,7 +33,7 @@ impl<'a, E: ExprEmitter> StmtEmitter<'a, E> {
     #[cycle(statements)]
     fn then_part(&self, x: &Stmt, c: &Expr, to: &mut Draft) -> Result<(), AllocError>
         requires level { IsAt self.now.level to.old }
-        requires ready { IsReady self.now.known.now to.old (expr_syllables (expr c.now) + stmt_syllables (stmt x.now) + 6) }
+        requires ready { IsReady self.now.known.now to.old (expr_syllables self.now.known.now (expr c.now) + stmt_syllables self.now.known.now (stmt x.now) + 6) }
         requires fits { HasFitThen self.now.known.now to.old (expr c.now) (stmt x.now) }
         ensures code { OnOk result (EmitsThen self.now.known.now to.old to.new (expr c.now) (stmt x.now)) }
         ensures lines { OnOk result (Adds to.old to.new (stmt_lines (stmt x.now))) }
@@ -50,7 +50,7 @@ impl<'a, E: ExprEmitter> StmtEmitter<'a, E> {
     #[cycle(statements)]
     pub fn stmt(&self, s: &Stmt, to: &mut Draft) -> Result<(), AllocError>
         requires level { IsAt self.now.level to.old }
-        requires ready { IsReady self.now.known.now to.old (stmt_syllables (stmt s.now)) }
+        requires ready { IsReady self.now.known.now to.old (stmt_syllables self.now.known.now (stmt s.now)) }
         requires fits { HasFit self.now.known.now to.old (stmt s.now) }
         ensures code { OnOk result (EmitsStmt self.now.known.now to.old to.new (stmt s.now)) }
         ensures lines { OnOk result (Adds to.old to.new (stmt_lines (stmt s.now))) }
@@ -91,7 +91,7 @@ impl<'a, E: ExprEmitter> StmtEmitter<'a, E> {
     #[cycle(statements)]
     pub fn stmts(&self, ss: &[Stmt], to: &mut Draft) -> Result<(), AllocError>
         requires level { IsAt self.now.level to.old }
-        requires ready { IsReady self.now.known.now to.old (stmts_syllables (stmts ss.now)) }
+        requires ready { IsReady self.now.known.now to.old (stmts_syllables self.now.known.now (stmts ss.now)) }
         requires fits { HaveFit self.now.known.now to.old (stmts ss.now) }
         ensures code { OnOk result (EmitsStmts self.now.known.now to.old to.new (stmts ss.now)) }
         ensures lines { OnOk result (Adds to.old to.new (stmts_lines (stmts ss.now))) }

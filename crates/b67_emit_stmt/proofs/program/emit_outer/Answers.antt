@@ -30,10 +30,10 @@ pub returns-clause-code : goal.returns-clause-code
 returns-clause-code g c =
     let b = c.args.body.now in
     IfOk-weaker c.emit_text.result _ _
-    (λ made h sc fit all front.
+    (λ made h sc same fit all front.
     segment_own (outer_text (body b)) None 2 (decls c.deref.result.now) (stmts c.deref-2.result.now) (outer_returned b) (outer_level b)
     (outer_decls b c.deref.result.now (c.deref.ensures.value ∙ c.items.ensures)) (outer_stmts b c.deref-2.result.now (c.deref-2.ensures.value ∙ c.items-2.ensures)) c.args.known.now c.requires.text
-    sc all made.0 (λ inside. h sc inside all front) fit)
+    sc all made.0 (λ inside. h sc same inside all front) fit)
     c.emit_text.ensures.code
 
 pub returns-clause-listed : goal.returns-clause-listed
@@ -49,7 +49,7 @@ returns-clause-short g c =
     IfOk-weaker c.emit_text.result _ _
     (λ made short.
     short_own (outer_text (body b)) None 2 (decls c.deref.result.now) (stmts c.deref-2.result.now) (outer_returned b) (outer_level b)
-    (outer_decls b c.deref.result.now (c.deref.ensures.value ∙ c.items.ensures)) (outer_stmts b c.deref-2.result.now (c.deref-2.ensures.value ∙ c.items-2.ensures)) (6 * length made.0.words) short)
+    (outer_decls b c.deref.result.now (c.deref.ensures.value ∙ c.items.ensures)) (outer_stmts b c.deref-2.result.now (c.deref-2.ensures.value ∙ c.items-2.ensures)) c.args.known.now (6 * length made.0.words) short)
     c.emit_text.ensures.short
 
 pub returns-clause-lines : goal.returns-clause-lines

@@ -16,6 +16,7 @@ emit_text-requires g c =
     let can = c.requires.text in
     record {
       near = c.requires.near;
+      inner = c.requires.inner;
       cell = cell_found (text_of p) returned p.level ds ss c.returned_by-returned.ensures refl c.parts.ensures.decls c.parts.ensures.stmts s can;
       many = c.requires.many;
       segment = c.requires.segment;
@@ -31,9 +32,9 @@ pub returns-clause-code : goal.returns-clause-code
 returns-clause-code g c =
     let p = c.args.procedure.now in
     IfOk-weaker c.emit_text.result _ _
-    (λ made h sc fit all front.
+    (λ made h sc same fit all front.
     segment_own (text_of p) c.returned_by-returned.result p.level (decls c.parts.result.0.now) (stmts c.parts.result.1.now) c.returned_by-returned.ensures refl c.parts.ensures.decls
-    c.parts.ensures.stmts c.args.known.now c.requires.text sc all made.0 (λ inside. h sc inside all front) fit)
+    c.parts.ensures.stmts c.args.known.now c.requires.text sc all made.0 (λ inside. h sc same inside all front) fit)
     c.emit_text.ensures.code
 
 pub returns-clause-short : goal.returns-clause-short
@@ -42,7 +43,7 @@ returns-clause-short g c =
     IfOk-weaker c.emit_text.result _ _
     (λ made short.
     short_own (text_of p) c.returned_by-returned.result p.level (decls c.parts.result.0.now) (stmts c.parts.result.1.now) c.returned_by-returned.ensures refl c.parts.ensures.decls
-    c.parts.ensures.stmts (6 * length made.0.words) short)
+    c.parts.ensures.stmts c.args.known.now (6 * length made.0.words) short)
     c.emit_text.ensures.short
 
 pub returns-clause-lines : goal.returns-clause-lines

@@ -32,7 +32,7 @@ procedures-init g c =
           first_stands sc all c.push.new.self.items c.new-segments.result.items c.in_ok-first.first (outer_text (body b)) c.new-segments.ensures.items pushed
           (stands_there sc c.args.names.now (body b) due 0 (outer_text (body b)) refl
           _ refl c.requires.places
-          c.requires.few refl all c.in_ok-first.first (λ place fit. first.code place fit all front) first.short);
+          c.requires.few refl all c.in_ok-first.first (λ place within fit. first.code place within fit all front) first.short);
     }
 
 pub emit_procedure-requires-clause-text : goal.emit_procedure-requires-clause-text
@@ -68,7 +68,7 @@ procedures-preserved g c =
           (c.procedures.invariant.stood sc due all (front_trans c.procedures.formats.items c.in_ok-segment.more.items all (formats_for (stmts_lines (text_of p).stmts), made.lines) front))
           (stands_there sc c.args.names.now (body b) due (c.procedures.procedure-index + 1) (text_of p) there
           _ refl c.requires.places
-          c.requires.few number_is all c.in_ok-segment.segment (λ place fit. made.code place fit all front) made.short);
+          c.requires.few number_is all c.in_ok-segment.segment (λ place within fit. made.code place within fit all front) made.short);
     }
 
 pub returns-clause-code : goal.returns-clause-code

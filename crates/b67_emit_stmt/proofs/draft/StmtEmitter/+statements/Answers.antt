@@ -1,6 +1,9 @@
-use Rattle.std.proofs.Common.{rules, ◌≡◌, ◌+◌, ◌∙◌, ℕ, List, [], ◌∷◌, ◌++◌, length, take, refl, sym, ap, subst, arith}
+use Rattle.std.proofs.Common.{rules, ◌≡◌, ◌+◌, ◌<◌, ◌≤◌, ◌∙◌, ℕ, List, [], ◌∷◌, ◌++◌, length, take, refl, sym, ap, subst, arith}
 use Rattle.std.proofs.lemmas.List.{take_all}
-use Rattle.std.proofs.lemmas.Result.{on_ok_weaker}
+use Rattle.std.proofs.lemmas.Result.{IfOk-weaker, on_ok_weaker}
+use Rattle.std.specs.Borrow.{Bor}
+use Rattle.std.specs.List.{All}
+use Rattle.algol_tree.specs.declared.tree.Expr.{Expr}
 use Rattle.algol_tree.specs.declared.tree.Kind.TheVariants as types
 use Rattle.algol_tree.specs.declared.tree.Body as bodies'
 use Rattle.algol_tree.specs.declared.tree.Decl as decls'
@@ -9,16 +12,20 @@ use Rattle.algol_tree.specs.declared.tree.Stmt as stmts'
 use Rattle.algol_tree.specs.Image.{call, decls, expr, exprs, stmt, stmts, variable}
 use Rattle.algol_tree.specs.Plain as tree
 use Rattle.b67_ops.specs.declared.BranchKind.TheVariants.{Brfl, Brtr, Brun}
+use Rattle.b67_ops.specs.declared.TheConstants.{MOST_LEVEL}
+use Rattle.b67_segment.specs.declared.TheConstants.{MOST_SEGMENT_SYLLABLES}
+use Rattle.b67_segment.specs.declared.code.Format.{Format}
 use Rattle.b67_segment.specs.Operators.{size}
-use Rattle.b67_segment.specs.Building.{level_set}
+use Rattle.b67_segment.specs.Building.{Built, level_set}
 use Rattle.b67_emit_stmt.specs.Places.{CasesAt}
-use Rattle.b67_templates.specs.Depths.{expr_syllables, stmt_syllables}
-use Rattle.b67_faithful.specs.Lines.{stmt_lines, stmts_lines}
+use Rattle.b67_faithful.specs.Lines.{formats_for, stmt_lines, stmts_lines}
 use Rattle.b67_emit_stmt.specs.Fits.{StmtsFit}
 use Rattle.b67_emit_stmt.specs.declared.draft.Draft.{Draft}
-use Rattle.b67_emit_stmt.specs.Bodies.{begin_syllables, inside_syllables}
+use Rattle.b67_emit_stmt.specs.Actuals.{images}
+use Rattle.b67_emit_stmt.specs.Bodies.{EmitsBlock, EmitsEnded, EmitsRoutines, inside_syllables, variables_in}
+use Rattle.b67_emit_stmt.specs.Lengths.{begin_syllables, celled_in, expr_syllables, stmt_syllables, stmts_syllables}
 use Rattle.b67_emit_stmt.specs.Drafts.{Emits}
-use Rattle.b67_emit_stmt.specs.Emits.{HaveFit, stmts_syllables}
+use Rattle.b67_emit_stmt.specs.Emits.{HaveFit}
 use Rattle.b67_emit_stmt.proofs.Added as added
 use Rattle.b67_emit_stmt.proofs.Aims.{body_closed, exits_lie, hole_as}
 use Rattle.b67_emit_stmt.proofs.Arms.{if_then_arm, then_arm, until_arm, while_arm}
@@ -53,7 +60,7 @@ if_then-stmt-requires g t c =
     let v = value_piece s a b level sc types.Truth e refl refl refl c.requires.ready.few c.in_ok-value.ensures.code c.in_ok-value.ensures.size c.requires.fits.1.0 in
     let left = branch_piece sc Brfl b d level (level_same a.out b.out c.in_ok-value.ensures.level) refl v.few c.in_ok-append_exit.ensures.code c.in_ok-append_exit.ensures.size in
     let both = emits_then v left in
-    let ready = ready_after s a (stmt_syllables (tree.if_then e x)) (stmt_syllables x) c.requires.ready both (omega arith) in
+    let ready = ready_after s a (stmt_syllables s (tree.if_then e x)) (stmt_syllables s x) c.requires.ready both (omega arith) in
     search (rules, stmts'.the_lemmas, decls'.the_lemmas, bodies'.the_lemmas, ready, fit_after s sc x both c.requires.fits.1.1, at_after both c.requires.level)
 
 pub if_then-returns-clause-code : goal.if_then-returns-clause-code
@@ -69,7 +76,7 @@ if_then-returns-clause-code g t c =
     on_ok_weaker c.stmt.result
     (λ h sc fit.
     let v = value_piece s a b level sc types.Truth e refl refl refl c.requires.ready.few c.in_ok-value.ensures.code c.in_ok-value.ensures.size fit.0 in
-    if_then_arm sc level e x a b d c.stmt.new.to v (branch_piece sc Brfl b d level q refl v.few c.in_ok-append_exit.ensures.code c.in_ok-append_exit.ensures.size)
+    if_then_arm sc level s e x a b d c.stmt.new.to v (branch_piece sc Brfl b d level q refl v.few c.in_ok-append_exit.ensures.code c.in_ok-append_exit.ensures.size)
     (stmt_piece s sc x d c.stmt.new.to level (level_same b.out d.out c.in_ok-append_exit.ensures.level ∙ q) h fit.1))
     c.stmt.ensures.code
 
@@ -86,7 +93,7 @@ then_part-stmt-requires g t c =
     let d : Draft = record a { out = c.append_branch.new.out } in
     let r = level_same b.out d.out c.in_ok-otherwise.ensures.level ∙ (level_same a.out b.out c.in_ok-value.ensures.level) in
     let v = value_piece s a b (level_set a.out) c.requires.fits.0 types.Truth e refl refl refl c.requires.ready.few c.in_ok-value.ensures.code c.in_ok-value.ensures.size c.requires.fits.1 in
-    let ready = matched.ready_behind s a d (expr_syllables e + stmt_syllables x + 6) (stmt_syllables x) c.requires.ready (c.in_ok-otherwise.ensures.level ∙ c.in_ok-value.ensures.level) refl
+    let ready = matched.ready_behind s a d (expr_syllables s e + stmt_syllables s x + 6) (stmt_syllables s x) c.requires.ready (c.in_ok-otherwise.ensures.level ∙ c.in_ok-value.ensures.level) refl
     (omega (arith, v.code.grown, c.in_ok-otherwise.ensures.size)) (omega (arith, c.in_ok-value.ensures.size, c.in_ok-otherwise.ensures.size)) in
     search (rules, stmts'.the_lemmas, decls'.the_lemmas, bodies'.the_lemmas, ready, matched.fit_at s c.requires.fits.0 x d (level_set a.out) r c.requires.fits.2, at_same a d (c.in_ok-otherwise.ensures.level ∙ c.in_ok-value.ensures.level) c.requires.level)
 
@@ -135,7 +142,7 @@ then_part-returns-clause-code g t c =
     let v = value_piece s a b level sc types.Truth p refl refl refl c.requires.ready.few c.in_ok-value.ensures.code c.in_ok-value.ensures.size condition in
     let part = stmt_piece s sc x d e level r c.in_ok-stmt.ensures.code fit in
     let out = branch_piece sc Brun e f level (level_after part ∙ r) refl part.few c.in_ok-append_exit.ensures.code c.in_ok-append_exit.ensures.size in
-    then_arm sc level p x a b d e f n (c.in_ok-otherwise.otherwise ∷ []) v
+    then_arm sc level s p x a b d e f n (c.in_ok-otherwise.otherwise ∷ []) v
     (hole_as Brfl b.out d.out level c.in_ok-otherwise.otherwise q c.in_ok-otherwise.ensures.place c.in_ok-otherwise.ensures.code)
     (omega (arith, c.in_ok-otherwise.ensures.size)) refl refl part out c.aim.ensures refl refl
 
@@ -155,7 +162,7 @@ loop_body-returns-clause-code g t c =
     let a = c.args.to.now in
     let d : Draft = record c.stmt.new.to { out = c.aim_exits.new.out; exits = c.aim_exits.new.exits } in
     let is : c.len-first.result ≡ length a.exits.items = omega (arith, c.len-first.ensures, a.exits.ok.0) in
-    λ sc fit. body_closed sc (level_set a.out) (stmt c.args.b.now) a c.stmt.new.to d c.len-first.result is (c.in_ok-stmt.ensures.code sc fit) c.aim_exits.ensures.aimed c.aim_exits.ensures.list refl
+    λ sc fit. body_closed c.args.self.now.known.now sc (level_set a.out) (stmt c.args.b.now) a c.stmt.new.to d c.len-first.result is (c.in_ok-stmt.ensures.code sc fit) c.aim_exits.ensures.aimed c.aim_exits.ensures.list refl
 
 pub loop_body-returns-clause-lines : goal.loop_body-returns-clause-lines
 loop_body-returns-clause-lines g t c = c.in_ok-stmt.ensures.lines
@@ -175,7 +182,7 @@ while_loop-loop_body-requires g t c =
     let v = value_piece s a b level sc types.Truth e refl refl refl c.requires.ready.few c.in_ok-value.ensures.code c.in_ok-value.ensures.size c.requires.fits.1.0 in
     let left = branch_piece sc Brfl b d level (level_same a.out b.out c.in_ok-value.ensures.level) refl v.few c.in_ok-append_exit.ensures.code c.in_ok-append_exit.ensures.size in
     let both = emits_then v left in
-    let ready = ready_after s a (stmt_syllables (tree.while e x)) (stmt_syllables x) c.requires.ready both (omega arith) in
+    let ready = ready_after s a (stmt_syllables s (tree.while e x)) (stmt_syllables s x) c.requires.ready both (omega arith) in
     search (rules, stmts'.the_lemmas, decls'.the_lemmas, bodies'.the_lemmas, ready, fit_after s sc x both c.requires.fits.1.1, at_after both c.requires.level)
 
 pub while_loop-append_turn-requires : goal.while_loop-append_turn-requires
@@ -211,7 +218,7 @@ while_loop-returns-clause-code g t c =
     let v = value_piece s a b level sc types.Truth p refl refl refl c.requires.ready.few c.in_ok-value.ensures.code c.in_ok-value.ensures.size fit.0 in
     let left = branch_piece sc Brfl b d level q refl v.few c.in_ok-append_exit.ensures.code c.in_ok-append_exit.ensures.size in
     let part = body_piece s sc x d e level r c.in_ok-loop_body.ensures.code fit.1 in
-    while_arm sc level p x a b d e f v left part (turn_piece sc a e f c.place-start.result level c.place-start.ensures (level_after part ∙ r) refl refl part.few h wide))
+    while_arm sc level s p x a b d e f v left part (turn_piece sc a e f c.place-start.result level c.place-start.ensures (level_after part ∙ r) refl refl part.few h wide))
     c.append_turn.ensures.code c.append_turn.ensures.size
 
 pub while_loop-returns-clause-lines : goal.while_loop-returns-clause-lines
@@ -247,7 +254,7 @@ until_loop-returns-clause-code g t c =
     let v = value_piece c.args.self.now.known.now b d level sc types.Truth p q refl refl part.few c.in_ok-value.ensures.code c.in_ok-value.ensures.size fit.1 in
     let r = level_same b.out d.out c.in_ok-value.ensures.level ∙ q in
     let left = branch_piece sc Brtr d e level r refl v.few c.in_ok-append_exit.ensures.code c.in_ok-append_exit.ensures.size in
-    until_arm sc level p (stmt c.args.b.now) a b d e f part v left
+    until_arm sc level c.args.self.now.known.now p (stmt c.args.b.now) a b d e f part v left
     (turn_piece sc a e f c.place-start.result level c.place-start.ensures (level_same d.out e.out c.in_ok-append_exit.ensures.level ∙ r) refl refl left.few h wide))
     c.append_turn.ensures.code c.append_turn.ensures.size
 
@@ -389,7 +396,7 @@ thru_loop-returns-clause-lines g t c = on_ok_weaker c.append_plain.result (λ h.
 -- ---- CASE
 
 pub case-select-requires-clause-few : goal.case-select-requires-clause-few
-case-select-requires-clause-few g t c = omega (arith, tabled.few_statements c.args.ss.now, c.requires.ready.room)
+case-select-requires-clause-few g t c = omega (arith, tabled.few_statements c.args.self.now.known.now c.args.ss.now, c.requires.ready.room)
 
 pub case-cases-requires : goal.case-cases-requires
 case-cases-requires g t c =
@@ -398,7 +405,7 @@ case-cases-requires g t c =
     let ss = stmts c.args.ss.now in
     let b : Draft = record a { out = c.select.new.out } in
     let grown = (c.in_ok-select.ensures.code c.requires.fits.0 [] c.requires.fits.1.0).grown in
-    let ready = matched.ready_behind s a b (stmt_syllables (tree.case (expr c.args.e.now) ss)) (stmts_syllables ss) c.requires.ready c.in_ok-select.ensures.level refl grown
+    let ready = matched.ready_behind s a b (stmt_syllables s (tree.case (expr c.args.e.now) ss)) (stmts_syllables s ss) c.requires.ready c.in_ok-select.ensures.level refl grown
     (omega (arith, c.in_ok-select.ensures.size)) in
     let F : ℕ → Type 0 = λ l. StmtsFit c.requires.fits.0 s l ss in
     let fit : HaveFit s b ss = (c.requires.fits.0, subst F (sym (level_same a.out b.out c.in_ok-select.ensures.level)) c.requires.fits.1.1) in
@@ -417,16 +424,16 @@ case-returns-clause-code g t c =
     on_ok_weaker c.cases.result
     (λ h sc fit.
     let F : ℕ → Type 0 = λ l. StmtsFit sc c.args.self.now.known.now l (stmts ss) in
-    let first = piece {n = 19 + expr_syllables e} {d = a} {e = b} refl refl c.requires.ready.few (λ formats. c.in_ok-select.ensures.code sc formats fit.0) c.in_ok-select.ensures.size in
+    let first = piece {n = 19 + expr_syllables c.args.self.now.known.now e} {d = a} {e = b} refl refl c.requires.ready.few (λ formats. c.in_ok-select.ensures.code sc formats fit.0) c.in_ok-select.ensures.size in
     let rest = at_level level (λ l formats qs target. CasesAt sc formats qs l (stmts ss) (size b.out.operators) target) q (h sc (subst F (sym q) fit.1)) in
-    tabled.case_arm sc level e ss a b d first rest)
+    tabled.case_arm c.args.self.now.known.now sc level e ss a b d first rest)
     c.cases.ensures.code
 
 pub case-returns-clause-lines : goal.case-returns-clause-lines
 case-returns-clause-lines g t c = c.cases.ensures.lines
 
 pub cases-append_entries-requires-clause-room : goal.cases-append_entries-requires-clause-room
-cases-append_entries-requires-clause-room g t c = omega (arith, tabled.few_statements c.args.ss.now, c.requires.ready.room)
+cases-append_entries-requires-clause-room g t c = omega (arith, tabled.few_statements c.args.self.now.known.now c.args.ss.now, c.requires.ready.room)
 
 pub cases-statements-init : goal.cases-statements-init
 cases-statements-init g t c =
@@ -434,7 +441,7 @@ cases-statements-init g t c =
     let b : Draft = record a { out = c.append_entries.new.out } in
     record {
       entry = omega (arith, c.place-entry.ensures);
-      code = λ sc fit. tabled.cases_begun sc (level_set a.out) (length c.args.ss.now) c.args.ss.now a b refl c.requires.ready.few refl refl c.in_ok-append_entries.ensures.code;
+      code = λ sc fit. tabled.cases_begun c.args.self.now.known.now sc (level_set a.out) (length c.args.ss.now) c.args.ss.now a b refl c.requires.ready.few refl refl c.in_ok-append_entries.ensures.code;
       lines = added.none_added c.args.to.now.formats.items;
     }
 
@@ -454,7 +461,7 @@ cases-stmt-requires g t c =
     let u : Draft = record a { out = c.append_entries.new.out } in
     let d : Draft = record c.statements.to { out = c.aim.new.out } in
     let needs = tabled.stmt_needs s c.requires.fits.0 (level_set a.out) ss c.statements.s-index c.s-item.result c.statements-test.true c.s-item.is a u c.statements.to c.statements.entry c.statements.invariant.entry
-    (c.statements.invariant.code c.requires.fits.0 c.requires.fits.1) d (stmts_syllables (stmts ss)) c.aim.ensures refl (omega arith) c.requires.ready refl c.requires.fits.1 c.args.self.now.level c.requires.level in
+    (c.statements.invariant.code c.requires.fits.0 c.requires.fits.1) d (stmts_syllables s (stmts ss)) c.aim.ensures refl (omega arith) c.requires.ready refl c.requires.fits.1 c.args.self.now.level c.requires.level in
     search (rules, stmts'.the_lemmas, decls'.the_lemmas, bodies'.the_lemmas, needs.0, needs.1, needs.2)
 
 pub cases-append_exit-requires : goal.cases-append_exit-requires
@@ -465,7 +472,7 @@ cases-append_exit-requires g t c =
     let u : Draft = record a { out = c.append_entries.new.out } in
     let d : Draft = record c.statements.to { out = c.aim.new.out } in
     let needs = tabled.exit_needs s c.requires.fits.0 (level_set a.out) ss c.statements.s-index c.s-item.result c.statements-test.true c.s-item.is a u c.statements.to c.statements.entry c.statements.invariant.entry
-    (c.statements.invariant.code c.requires.fits.0 c.requires.fits.1) d (stmts_syllables (stmts ss)) c.aim.ensures refl (omega arith) c.requires.ready refl c.requires.fits.1 c.stmt.new.to c.in_ok-stmt.ensures.code in
+    (c.statements.invariant.code c.requires.fits.0 c.requires.fits.1) d (stmts_syllables s (stmts ss)) c.aim.ensures refl (omega arith) c.requires.ready refl c.requires.fits.1 c.stmt.new.to c.in_ok-stmt.ensures.code in
     record { set = needs.0; room = needs.1 }
 
 pub cases-overflow_add-entry : goal.cases-overflow_add-entry
@@ -475,7 +482,7 @@ cases-overflow_add-entry g t c =
     let m = c.statements.invariant.code c.requires.fits.0 c.requires.fits.1 in
     let below = tabled.entry_below c.args.self.now.known.now c.requires.fits.0 (level_set a.out) c.args.ss.now c.statements.s-index c.s-item.result c.statements-test.true c.s-item.is a u c.statements.to c.statements.entry
     c.statements.invariant.entry m in
-    omega (arith, below, c.in_ok-append_entries.ensures.size, tabled.few_statements c.args.ss.now, c.requires.ready.room)
+    omega (arith, below, c.in_ok-append_entries.ensures.size, tabled.few_statements c.args.self.now.known.now c.args.ss.now, c.requires.ready.room)
 
 pub cases-statements-preserved : goal.cases-statements-preserved
 cases-statements-preserved g t c =
@@ -499,7 +506,7 @@ pub cases-returns-clause-code : goal.cases-returns-clause-code
 cases-returns-clause-code g t c =
     let a = c.args.to.now in
     let u : Draft = record a { out = c.append_entries.new.out } in
-    λ sc fit. tabled.cases_ended sc (level_set a.out) c.args.ss.now c.statements.s-index a u c.statements.to (take_all c.statements.s-index c.args.ss.now c.statements-test.false) c.statements-test.false (c.statements.invariant.code sc fit)
+    λ sc fit. tabled.cases_ended c.args.self.now.known.now sc (level_set a.out) c.args.ss.now c.statements.s-index a u c.statements.to (take_all c.statements.s-index c.args.ss.now c.statements-test.false) c.statements-test.false (c.statements.invariant.code sc fit)
 
 pub cases-returns-clause-lines : goal.cases-returns-clause-lines
 cases-returns-clause-lines g t c =
@@ -511,7 +518,7 @@ cases-returns-clause-lines g t c =
 pub stmts-statements-init : goal.stmts-statements-init
 stmts-statements-init g t c =
     record {
-      code = λ sc fit. together_none sc (level_set c.args.to.now.out) c.args.ss.now c.args.to.now c.requires.ready.few;
+      code = λ sc fit. together_none c.args.self.now.known.now sc (level_set c.args.to.now.out) c.args.ss.now c.args.to.now c.requires.ready.few;
       lines = added.none_added c.args.to.now.formats.items;
     }
 
@@ -535,7 +542,7 @@ stmts-stmt-requires g t c =
     let d : Draft = record b { out = c.aim_exits.new.out; exits = c.aim_exits.new.exits } in
     let is : c.len-first.result ≡ length a.exits.items = omega (arith, c.len-first.ensures, a.exits.ok.0) in
     let h = c.statements.invariant.code sc c.requires.fits.1 in
-    let ready = next_ready s sc level ss i x c.statements-test.true c.s-item.is a b d c.len-first.result is h c.aim_exits.ensures.aimed c.aim_exits.ensures.list refl (stmts_syllables (stmts ss))
+    let ready = next_ready s sc level ss i x c.statements-test.true c.s-item.is a b d c.len-first.result is h c.aim_exits.ensures.aimed c.aim_exits.ensures.list refl (stmts_syllables s (stmts ss))
     (omega arith) c.requires.ready in
     let q = done_level s sc level ss i x c.statements-test.true c.s-item.is a b d c.len-first.result is h c.aim_exits.ensures.aimed c.aim_exits.ensures.list refl in
     search (rules, stmts'.the_lemmas, decls'.the_lemmas, bodies'.the_lemmas, ready, matched.fit_at s sc (stmt x) d level q (next_fits s sc level ss i x c.statements-test.true c.s-item.is c.requires.fits.1), at_same a d (done_set s sc level ss i x c.statements-test.true c.s-item.is a b d c.len-first.result is h c.aim_exits.ensures.aimed c.aim_exits.ensures.list refl) c.requires.level)
@@ -561,7 +568,7 @@ stmts-returns-clause-code g t c =
     let a = c.args.to.now in
     let b = c.statements.to in
     λ sc fit.
-    let E : List Stmt → Type 0 = λ l. Emits (stmts_syllables (stmts l)) a b (StandTogether sc (level_set a.out) l a b) in
+    let E : List Stmt → Type 0 = λ l. Emits (stmts_syllables c.args.self.now.known.now (stmts l)) a b (StandTogether sc (level_set a.out) l a b) in
     subst E (take_all c.statements.s-index c.args.ss.now c.statements-test.false) (c.statements.invariant.code sc fit)
 
 pub stmts-returns-clause-lines : goal.stmts-returns-clause-lines
@@ -643,8 +650,18 @@ stmt-stmt-requires g t c =
     let whole = matched.ready_as s a (stmt c.args.s.now) p shape c.requires.ready in
     let fits = matched.fit_as s a (stmt c.args.s.now) p shape c.requires.fits in
     let first = c.in_ok-then_part-in-Some.ensures.code fits.0 fits.1.0 fits.1.1 in
-    let ready = ready_after s a (stmt_syllables p) (stmt_syllables (stmt y)) whole first (omega arith) in
+    let ready = ready_after s a (stmt_syllables s p) (stmt_syllables s (stmt y)) whole first (omega arith) in
     search (rules, stmts'.the_lemmas, decls'.the_lemmas, bodies'.the_lemmas, ready, fit_after s fits.0 (stmt y) first fits.1.2, at_after first c.requires.level)
+
+pub stmt-returns-in-For-clause-code : goal.stmt-returns-in-For-clause-code
+stmt-returns-in-For-clause-code g t c =
+    let w = c.in-For in
+    let p = c.deref-in-For.result.now in
+    let s = c.args.self.now.known.now in
+    let a = c.args.to.now in
+    let b = c.for_loop.new.to in
+    let shape = shaped.for_as c.args.s.now p w.v w.a w.s w.l w.b w.is c.deref-in-For.ensures in
+    on_ok_weaker c.for_loop.result (λ h. matched.emits_as s a b (stmt c.args.s.now) (tree.for w.v (expr w.a) (expr w.s) (expr w.l) (stmt p)) shape h) c.for_loop.ensures.code
 
 pub stmt-returns-in-Write-clause-code : goal.stmt-returns-in-Write-clause-code
 stmt-returns-in-Write-clause-code g t c =
@@ -674,8 +691,18 @@ inside-begin-requires g t c =
     let s = c.args.self.now.known.now in
     let many = c.args.many in
     let ds = decls c.args.ds.now in
-    let ready = matched.ready_less s c.args.to.now (inside_syllables many ds (stmts c.args.ss.now)) (begin_syllables many ds) c.requires.ready (omega arith) in
-    record { level = c.requires.level; ready = ready; few = c.requires.few; fits = (c.requires.fits.0, c.requires.fits.1.0, c.requires.fits.1.1) }
+    let es = images c.args.actuals.now in
+    let fits = c.requires.fits in
+    let ready = matched.ready_less s c.args.to.now (inside_syllables s many ds (stmts c.args.ss.now) es) (begin_syllables s many ds es) c.requires.ready (omega arith) in
+    record {
+      level = c.requires.level;
+      ready = ready;
+      few = c.requires.few;
+      inner = c.requires.inner;
+      placed = c.requires.placed;
+      places = c.requires.places;
+      fits = (fits.0, fits.1, fits.2.0, fits.2.1);
+    }
 
 pub inside-stmts-requires : goal.inside-stmts-requires
 inside-stmts-requires g t c =
@@ -683,14 +710,19 @@ inside-stmts-requires g t c =
     let level = c.args.self.now.level in
     let ds = decls c.args.ds.now in
     let ss = stmts c.args.ss.now in
-    let ready = blocks.stmts_ready s level c.args.many ds ss c.args.to.now c.begin.new.to c.requires.level c.requires.fits c.in_ok-begin.ensures.code c.requires.ready in
-    search (rules, stmts'.the_lemmas, decls'.the_lemmas, bodies'.the_lemmas, ready, blocks.stmts_fit s level c.args.many ds ss c.args.to.now c.begin.new.to c.requires.level c.requires.fits c.in_ok-begin.ensures.code, at_after (c.in_ok-begin.ensures.code c.requires.fits.0 c.requires.fits.1.0 c.requires.fits.1.1) c.requires.level)
+    let es = images c.args.actuals.now in
+    let ats = c.args.places.now in
+    let a = c.args.to.now in
+    let b = c.begin.new.to in
+    let begun = c.in_ok-begin.ensures.code in
+    let ready = blocks.stmts_ready s level c.args.many ds ss es ats a b c.requires.level c.requires.fits begun c.requires.ready in
+    search (rules, stmts'.the_lemmas, decls'.the_lemmas, bodies'.the_lemmas, ready, blocks.stmts_fit s level c.args.many ds ss es ats a b c.requires.level c.requires.fits begun, blocks.stmts_level s level c.args.many ds ss es ats a b c.requires.level c.requires.fits begun)
 
 pub inside-aim_exits-requires : goal.inside-aim_exits-requires
 inside-aim_exits-requires g t c =
     let a = c.args.to.now in
-    let lie = blocks.block_exits c.args.self.now.known.now c.args.self.now.level c.args.many (decls c.args.ds.now) (stmts c.args.ss.now) a c.begin.new.to c.requires.level c.requires.fits c.in_ok-begin.ensures.code c.stmts.new.to
-    c.len-first.result (omega (arith, c.len-first.ensures, a.exits.ok.0)) c.in_ok-stmts.ensures.code in
+    let lie = blocks.block_exits c.args.self.now.known.now c.args.self.now.level c.args.many (decls c.args.ds.now) (stmts c.args.ss.now) (images c.args.actuals.now) c.args.places.now a c.begin.new.to c.requires.level
+    c.requires.fits c.in_ok-begin.ensures.code c.stmts.new.to c.len-first.result (omega (arith, c.len-first.ensures, a.exits.ok.0)) c.in_ok-stmts.ensures.code in
     record { list = lie.0; branches = lie.1 }
 
 pub inside-returns : goal.inside-returns
@@ -700,45 +732,148 @@ inside-returns g t c =
     let a = c.args.to.now in
     let ds = decls c.args.ds.now in
     let ss = stmts c.args.ss.now in
+    let es = images c.args.actuals.now in
+    let ats = c.args.places.now in
     let d : Draft = record c.stmts.new.to { out = c.aim_exits.new.out; exits = c.aim_exits.new.exits } in
     let is : c.len-first.result ≡ length a.exits.items = omega (arith, c.len-first.ensures, a.exits.ok.0) in
     record {
-      code = blocks.inside_stands s level c.args.many ds ss a c.begin.new.to c.requires.level c.requires.fits c.in_ok-begin.ensures.code c.stmts.new.to c.len-first.result is c.in_ok-stmts.ensures.code d c.aim_exits.ensures.aimed
-          c.aim_exits.ensures.list refl;
-      exits = blocks.none_left s level c.args.many ds ss a c.begin.new.to c.requires.level c.requires.fits c.in_ok-begin.ensures.code c.stmts.new.to c.len-first.result is c.in_ok-stmts.ensures.code d c.aim_exits.ensures.aimed
-          c.aim_exits.ensures.list refl;
+      code = blocks.inside_stands s level c.args.many ds ss es ats a c.begin.new.to c.requires.level c.requires.fits c.in_ok-begin.ensures.code c.stmts.new.to c.len-first.result is c.in_ok-stmts.ensures.code d
+          c.aim_exits.ensures.aimed c.aim_exits.ensures.list refl;
+      exits = blocks.none_left s level c.args.many ds ss es ats a c.begin.new.to c.requires.level c.requires.fits c.in_ok-begin.ensures.code c.stmts.new.to c.len-first.result is c.in_ok-stmts.ensures.code d
+          c.aim_exits.ensures.aimed c.aim_exits.ensures.list refl;
       lines = added.then_added a.formats.items c.begin.new.to.formats.items c.stmts.new.to.formats.items (stmts_lines (stmts c.args.ss.now)) c.in_ok-begin.ensures.formats c.in_ok-stmts.ensures.lines;
     }
 
-pub block-append_plain-requires : goal.block-append_plain-requires
-block-append_plain-requires g t c =
+pub ended-inside-requires : goal.ended-inside-requires
+ended-inside-requires g t c =
+    let s = c.args.self.now.known.now in
+    let level = c.args.self.now.level in
+    let a = c.args.to.now in
+    let ds = decls c.args.ds.now in
+    let ss = stmts c.args.ss.now in
+    let es = images c.args.actuals.now in
+    let many = c.variables.result in
+    let ready = blocks.ended_inside s level ds ss es a many c.variables.ensures c.requires.ready in
+    let few = blocks.small_there many (variables_in ds) ds es es c.variables.ensures refl c.requires.few in
+    search (rules, stmts'.the_lemmas, decls'.the_lemmas, bodies'.the_lemmas, c.requires.level, ready, few, c.requires.inner, c.requires.placed, c.requires.places, c.requires.fits)
+
+pub ended-append_plain-requires : goal.ended-append_plain-requires
+ended-append_plain-requires g t c =
+    let s = c.args.self.now.known.now in
+    let level = c.args.self.now.level in
+    let a = c.args.to.now in
+    let ds = decls c.args.ds.now in
+    let ss = stmts c.args.ss.now in
+    let es = images c.args.actuals.now in
+    let ats = c.args.places.now in
+    let many = c.variables.result in
+    let d = c.inside.new.to in
     let inside = c.in_ok-inside.ensures.code in
     record {
-      set = blocks.exit_set c.args.self.now.known.now c.args.self.now.level (decls c.args.ds.now) (stmts c.args.ss.now) c.args.to.now c.inside.new.to c.requires.level c.variables.result c.variables.ensures inside c.requires.fits c.requires.ready.set;
-      room = blocks.exit_room c.args.self.now.known.now c.args.self.now.level (decls c.args.ds.now) (stmts c.args.ss.now) c.args.to.now c.inside.new.to c.requires.level c.variables.result c.variables.ensures inside c.requires.fits c.requires.ready;
+      set = blocks.exit_set s level ds ss es a many c.variables.ensures ats d c.requires.level c.requires.fits inside c.requires.ready.set;
+      room = blocks.exit_room s level ds ss es a many c.variables.ensures ats d c.requires.level c.requires.fits inside c.requires.ready;
     }
+
+pub ended-returns-clause-code : goal.ended-returns-clause-code
+ended-returns-clause-code g t c =
+    let s = c.args.self.now.known.now in
+    let level = c.args.self.now.level in
+    let a = c.args.to.now in
+    let ds = decls c.args.ds.now in
+    let ss = stmts c.args.ss.now in
+    let es = images c.args.actuals.now in
+    let d = c.inside.new.to in
+    let e : Draft = record d { out = c.append_plain.new.out } in
+    blocks.ended_stands s level ds ss es a c.variables.result c.variables.ensures c.args.places.now d c.requires.level c.requires.fits c.in_ok-inside.ensures.code c.place-begin.result c.place-begin.ensures e refl refl
+    c.in_ok-append_plain.ensures.code c.in_ok-append_plain.ensures.size
+
+pub ended-returns-clause-lines : goal.ended-returns-clause-lines
+ended-returns-clause-lines g t c = c.in_ok-inside.ensures.lines
+
+pub block-routines-requires : goal.block-routines-requires
+block-routines-requires g t c =
+    let s = c.args.self.now.known.now in
+    let level = c.args.self.now.level in
+    let a = c.args.to.now in
+    let ds = decls c.args.ds.now in
+    let ss = stmts c.args.ss.now in
+    let es = images c.deref.result.now in
+    let are = ap images c.deref.ensures.value ∙ c.in_ok-actuals.ensures in
+    record {
+      level = c.requires.level;
+      ready = blocks.routines_ready s c.requires.ready.inner level ds ss es a c.requires.level are c.requires.ready;
+      fits = blocks.routines_fit s c.requires.ready.inner level ds ss es a c.requires.level are c.requires.fits;
+    }
+
+pub block-ended-requires : goal.block-ended-requires
+block-ended-requires g t c =
+    let s = c.args.self.now.known.now in
+    let level = c.args.self.now.level in
+    let a = c.args.to.now in
+    let r = c.routines.new.to in
+    let ds = decls c.args.ds.now in
+    let ss = stmts c.args.ss.now in
+    let own = c.deref-2.result.now in
+    let es = images own in
+    let ats = c.deref-3.result.now in
+    let same : c.deref.result.now ≡ own = c.deref.ensures.value ∙ sym c.deref-2.ensures.value in
+    let are : es ≡ celled_in s ds ss = ap images c.deref-2.ensures.value ∙ c.in_ok-actuals.ensures in
+    let placed : ats ≡ c.in_ok-places.places.items = c.deref-3.ensures.value in
+    let E : List (Bor Expr) → List ℕ → Type 0 = λ l ps. EmitsRoutines s level a r (images l) ps in
+    let routines = subst (E own) (sym placed) (subst (λ l. E l c.in_ok-places.places.items) same c.in_ok-places.ensures.code) in
+    let inner = c.requires.ready.inner in
+    let ready = blocks.ended_ready s inner level ds ss es a c.requires.level are ats r routines c.requires.fits c.requires.ready in
+    let few = blocks.small_there (variables_in ds) (variables_in ds) ds es (celled_in s ds ss) refl are c.requires.few in
+    let deep : 1 ≤ length own → level + 1 ≤ MOST_LEVEL = λ some. blocks.own_level s inner level c.requires.fits.0 ds ss c.requires.fits.2 es are (omega (arith, some, blocks.images_long own)) in
+    let long : length ats ≡ length own = ap (λ (l : List ℕ). length l) placed ∙ c.in_ok-places.ensures.many ∙ ap (λ (l : List (Bor Expr)). length l) same in
+    let within = subst (λ l. All (λ (at : ℕ). at < MOST_SEGMENT_SYLLABLES) l) (sym placed) c.in_ok-places.ensures.places in
+    let at = blocks.ended_level s inner level ds ss es a c.requires.level are ats r routines c.requires.fits in
+    search (rules, stmts'.the_lemmas, decls'.the_lemmas, bodies'.the_lemmas, at, ready, few, deep, long, within, c.requires.fits)
 
 pub block-returns-clause-code : goal.block-returns-clause-code
 block-returns-clause-code g t c =
-    let e : Draft = record c.inside.new.to { out = c.append_plain.new.out } in
-    on_ok_two c.append_plain.result
-    (blocks.block_stands c.args.self.now.known.now c.args.self.now.level (decls c.args.ds.now) (stmts c.args.ss.now) c.args.to.now c.inside.new.to c.requires.level c.variables.result c.variables.ensures c.in_ok-inside.ensures.code e refl
-    refl)
-    c.append_plain.ensures.code c.append_plain.ensures.size
+    let s = c.args.self.now.known.now in
+    let level = c.args.self.now.level in
+    let a = c.args.to.now in
+    let r = c.routines.new.to in
+    let ds = decls c.args.ds.now in
+    let ss = stmts c.args.ss.now in
+    let own = c.deref-2.result.now in
+    let es = images own in
+    let ats = c.deref-3.result.now in
+    let same : c.deref.result.now ≡ own = c.deref.ensures.value ∙ sym c.deref-2.ensures.value in
+    let are : es ≡ celled_in s ds ss = ap images c.deref-2.ensures.value ∙ c.in_ok-actuals.ensures in
+    let placed : ats ≡ c.in_ok-places.places.items = c.deref-3.ensures.value in
+    let E : List (Bor Expr) → List ℕ → Type 0 = λ l ps. EmitsRoutines s level a r (images l) ps in
+    let routines = subst (E own) (sym placed) (subst (λ l. E l c.in_ok-places.places.items) same c.in_ok-places.ensures.code) in
+    let d = c.ended.new.to in
+    let inner = c.requires.ready.inner in
+    IfOk-weaker c.ended.result (λ begin. EmitsEnded s level r d ds ss es ats begin) (λ begin. EmitsBlock s level a d ds ss begin)
+    (λ begin h. blocks.block_stands s inner level ds ss es a c.requires.level are ats r routines d begin h) c.ended.ensures.code
+
+pub block-returns-clause-begin : goal.block-returns-clause-begin
+block-returns-clause-begin g t c =
+    let s = c.args.self.now.known.now in
+    let r = c.routines.new.to in
+    let d = c.ended.new.to in
+    let es = images c.deref-2.result.now in
+    IfOk-weaker c.ended.result (λ begin. EmitsEnded s c.args.self.now.level r d (decls c.args.ds.now) (stmts c.args.ss.now) es c.deref-3.result.now begin)
+    (λ begin. begin < size d.out.operators) (λ begin h. h.within) c.ended.ensures.code
 
 pub block-returns-clause-lines : goal.block-returns-clause-lines
-block-returns-clause-lines g t c = on_ok_weaker c.append_plain.result (λ h. c.in_ok-inside.ensures.lines) c.append_plain.ensures.size
+block-returns-clause-lines g t c =
+    on_ok_weaker c.ended.result (λ h. h ∙ ap (λ (l : List Format). l ++ formats_for (stmts_lines (stmts c.args.ss.now))) c.in_ok-places.ensures.formats) c.ended.ensures.lines
 
 pub block_inside-returns-clause-code : goal.block_inside-returns-clause-code
 block_inside-returns-clause-code g t c =
-    on_ok_weaker c.level-2.result
-    (λ o.
-    blocks.inner_coded c.args.self.now.known.now (decls c.args.ds.now) (stmts c.args.ss.now) c.args.to.now c.block.new.to c.level.new.self c.level-2.new.self c.args.self.now.level c.requires.level.set c.in_ok-level.ensures.ok o
-    c.in_ok-block.ensures.code)
-    c.level-2.ensures.ok
+    blocks.inner_coded c.args.self.now.known.now (decls c.args.ds.now) (stmts c.args.ss.now) c.args.to.now c.block.new.to c.level.new.self c.level-2.new.self c.args.self.now.level c.in_ok-begin.begin c.requires.level.set
+    c.in_ok-level.ensures.ok c.in_ok-level-2.ensures.ok c.in_ok-begin.ensures.code
+
+pub block_inside-returns-clause-begin : goal.block_inside-returns-clause-begin
+block_inside-returns-clause-begin g t c = omega (arith, c.in_ok-begin.ensures.begin, ap (λ (b : Built). size b.operators) c.in_ok-level-2.ensures.ok)
 
 pub block_inside-returns-clause-lines : goal.block_inside-returns-clause-lines
-block_inside-returns-clause-lines g t c = on_ok_weaker c.level-2.result (λ o. c.in_ok-block.ensures.lines) c.level-2.ensures.ok
+block_inside-returns-clause-lines g t c = c.in_ok-begin.ensures.lines
 
 pub inner_block-block_inside-requires : goal.inner_block-block_inside-requires
 inner_block-block_inside-requires g t c =
@@ -746,7 +881,7 @@ inner_block-block_inside-requires g t c =
     let a = c.args.to.now in
     let b : Draft = record a { out = c.append_branch.new.out } in
     let over = c.in_ok-over.ensures in
-    let ready = blocks.inside_ready s (decls c.args.ds.now) (stmts c.args.ss.now) a b over.level over.size refl c.requires.ready in
+    let ready = blocks.block_ready s (decls c.args.ds.now) (stmts c.args.ss.now) a b over.level over.size refl c.requires.ready in
     search (rules, stmts'.the_lemmas, decls'.the_lemmas, bodies'.the_lemmas, ready, blocks.inside_fit s (decls c.args.ds.now) (stmts c.args.ss.now) a b over.level over.size c.requires.fits, at_same a b over.level c.requires.level)
 
 pub inner_block-aim-requires : goal.inner_block-aim-requires
@@ -754,24 +889,28 @@ inner_block-aim-requires g t c =
     let a = c.args.to.now in
     let b : Draft = record a { out = c.append_branch.new.out } in
     let over = c.in_ok-over.ensures in
-    blocks.over_lies c.args.self.now.known.now (decls c.args.ds.now) (stmts c.args.ss.now) a b over.level over.size c.in_ok-over.over over.place over.code c.block_inside.new.to c.in_ok-block_inside.ensures.code c.requires.fits
+    blocks.over_lies c.args.self.now.known.now (decls c.args.ds.now) (stmts c.args.ss.now) a b over.level over.size c.in_ok-over.over over.place over.code c.block_inside.new.to c.in_ok-begin.begin
+    c.in_ok-begin.ensures.code c.requires.fits
 
 pub inner_block-append_entry-requires : goal.inner_block-append_entry-requires
 inner_block-append_entry-requires g t c =
     let s = c.args.self.now.known.now in
+    let ds = decls c.args.ds.now in
     let ss = stmts c.args.ss.now in
     let a = c.args.to.now in
     let b : Draft = record a { out = c.append_branch.new.out } in
-    let d : Draft = record c.block_inside.new.to { out = c.aim.new.out } in
+    let f = c.block_inside.new.to in
+    let d : Draft = record f { out = c.aim.new.out } in
     let over = c.in_ok-over.ensures in
-    let code = c.in_ok-block_inside.ensures.code in
+    let begin = c.in_ok-begin.begin in
+    let code = c.in_ok-begin.ensures.code in
     record {
-      set = set_same a.out d.out (blocks.entry_level s (decls c.args.ds.now) ss a b over.level over.size c.in_ok-over.over over.place over.code c.block_inside.new.to code d c.aim.ensures c.requires.fits) c.requires.ready.set;
-      inner = blocks.entry_inner s (decls c.args.ds.now) ss a b over.level over.size c.in_ok-over.over over.place over.code c.block_inside.new.to code d c.aim.ensures c.requires.fits c.args.self.now.level c.requires.level;
+      set = set_same a.out d.out (blocks.entry_level s ds ss a b over.level over.size c.in_ok-over.over over.place over.code f begin code d c.aim.ensures c.requires.fits) c.requires.ready.set;
+      inner = blocks.entry_inner s ds ss a b over.level over.size c.in_ok-over.over over.place over.code f begin code d c.aim.ensures c.requires.fits c.args.self.now.level c.requires.level;
       most = c.requires.inner;
       segment = c.requires.ready.segment;
-      place = omega (arith, c.place-begin.ensures, over.size, c.requires.ready.room);
-      room = blocks.entry_room s (decls c.args.ds.now) ss a b over.level over.size c.in_ok-over.over over.place over.code c.block_inside.new.to code d c.aim.ensures c.requires.fits c.requires.ready;
+      place = blocks.entry_place s ds ss a b over.level over.size c.in_ok-over.over over.place over.code f begin code d c.aim.ensures c.requires.fits c.requires.ready c.in_ok-begin.ensures.begin;
+      room = blocks.entry_room s ds ss a b over.level over.size c.in_ok-over.over over.place over.code f begin code d c.aim.ensures c.requires.fits c.requires.ready;
     }
 
 pub inner_block-returns-clause-code : goal.inner_block-returns-clause-code
@@ -782,12 +921,12 @@ inner_block-returns-clause-code g t c =
     let e : Draft = record c.block_inside.new.to { out = c.append_entry.new.out } in
     let over = c.in_ok-over.ensures in
     on_ok_two c.append_entry.result
-    (blocks.inner_stands c.args.self.now.known.now (decls c.args.ds.now) (stmts c.args.ss.now) a b over.level over.size c.in_ok-over.over over.place over.code c.block_inside.new.to c.in_ok-block_inside.ensures.code d c.aim.ensures e
-    c.place-begin.result refl refl refl refl c.place-begin.ensures refl refl)
+    (blocks.inner_stands c.args.self.now.known.now (decls c.args.ds.now) (stmts c.args.ss.now) a b over.level over.size c.in_ok-over.over over.place over.code c.block_inside.new.to c.in_ok-begin.begin
+    c.in_ok-begin.ensures.code d c.aim.ensures e refl refl refl refl refl refl)
     c.append_entry.ensures.code c.append_entry.ensures.size
 
 pub inner_block-returns-clause-lines : goal.inner_block-returns-clause-lines
-inner_block-returns-clause-lines g t c = on_ok_weaker c.append_entry.result (λ h. c.in_ok-block_inside.ensures.lines) c.append_entry.ensures.size
+inner_block-returns-clause-lines g t c = on_ok_weaker c.append_entry.result (λ h. c.in_ok-begin.ensures.lines) c.append_entry.ensures.size
 
 pub stmt-inner_block-requires : goal.stmt-inner_block-requires
 stmt-inner_block-requires g t c κs within =

@@ -7,7 +7,7 @@ use Rattle.b67_segment.specs.Operators.{size}
 use Rattle.b67_segment.specs.Building.{Built, level_set}
 use Rattle.b67_templates.specs.Code.{AreDimensions}
 use Rattle.b67_templates.specs.Emitting.{Emitted}
-use Rattle.b67_emit_stmt.specs.Bodies.{arrays_syllables}
+use Rattle.b67_emit_stmt.specs.Lengths.{arrays_syllables}
 use Rattle.b67_emit_stmt.specs.Fits.{BoundsFit}
 use Rattle.b67_emit_stmt.specs.Places.{ArraysAt}
 use Rattle.b67_emit_stmt.proofs.ArrayLists.{ArraysKept, DeclsLeft, alike_fit, arrays_more, arrays_same, decls_left, decls_more, decls_same, decls_whole, syllables_more, syllables_same}
@@ -46,7 +46,7 @@ alike-requires g c =
       few = omega (arith, many, arrays_more d (drop i ds) rest next w.field-0 w.ns w.pairs w.is, c.decls.invariant.few);
       dimensions = subst D (sym are) fit.0;
       fits = (sc, subst (λ l. F l (level_set b)) (sym are) (subst (F w.pairs) (sym (level_same a b c.decls.invariant.level_is)) fit.1));
-      room = omega (arith, ap (λ (l : List Pair). arrays_syllables (pairs l)) are, syllables_more d (drop i ds) rest next w.field-0 w.ns w.pairs w.is, c.decls.invariant.short, c.requires.room);
+      room = omega (arith, ap (λ (l : List Pair). arrays_syllables s (pairs l)) are, syllables_more d (drop i ds) rest next w.field-0 w.ns w.pairs w.is s, c.decls.invariant.short, c.requires.room);
     }
 
 pub decls-preserved : goal.decls-preserved
@@ -72,7 +72,7 @@ decls-preserved g c =
           (record {
             level_is = w.in_ok-alike.ensures.level ∙ c.decls.invariant.level_is;
             few = omega (arith, arrays_more d (drop i ds) rest next v.field-0 v.ns v.pairs v.is, c.decls.invariant.few);
-            short = omega (arith, ap (λ (l : List Pair). arrays_syllables (pairs l)) are, syllables_more d (drop i ds) rest next v.field-0 v.ns v.pairs v.is, c.decls.invariant.short, w.in_ok-alike.ensures.size);
+            short = omega (arith, ap (λ (l : List Pair). arrays_syllables s (pairs l)) are, syllables_more d (drop i ds) rest next v.field-0 v.ns v.pairs v.is s, c.decls.invariant.short, w.in_ok-alike.ensures.size);
             code = λ sc formats fit.
                 let fits = alike_fit d (drop i ds) rest next v.field-0 v.ns v.pairs v.is sc s level (decls_left sc s level i ds fit) in
                 let F : List Pair → ℕ → Type 0 = λ l k. BoundsFit sc s k (pairs l) in
@@ -89,7 +89,7 @@ decls-preserved g c =
           (record {
             level_is = c.decls.invariant.level_is;
             few = omega (arith, ap (λ l. length l) (arrays_same d (drop i ds) rest next other), c.decls.invariant.few);
-            short = omega (arith, syllables_same d (drop i ds) rest next other, c.decls.invariant.short);
+            short = omega (arith, syllables_same d (drop i ds) rest next other s, c.decls.invariant.short);
             code = λ sc formats fit. decls_same sc formats level s ds (drop i ds) d rest a b next other (decls_left sc s level i ds fit) (c.decls.invariant.code sc formats fit);
           })
     ]

@@ -9,7 +9,7 @@ use Rattle.b67_segment.specs.Operators.{size}
 use Rattle.b67_segment.specs.Building.{level_set}
 use Rattle.b67_templates.specs.Emitting.{Emitted}
 use Rattle.b67_templates.specs.Fragments.{IsWhole, NumberAt}
-use Rattle.b67_emit_stmt.specs.Bodies.{bounds_syllables}
+use Rattle.b67_emit_stmt.specs.Lengths.{bounds_syllables}
 use Rattle.b67_emit_stmt.proofs.Bounds.{BoundsLeft, bounds_more, bounds_next, bounds_whole, whole_fits}
 use Rattle.b67_emit_stmt.proofs.Drafts.{level_same}
 use Rattle.b67_emit_stmt.proofs.Parts.{code_at, emitted_none, leveled, set_same, value_at}
@@ -39,7 +39,7 @@ append_number-requires-clause-room g c =
     let i = c.pairs.pair-index in
     let p = c.pair-item.result in
     let next : drop i ps ≡ p ∷ drop (i + 1) ps = drop_more ps i p c.pairs-test.true ∙ ap (λ x. x ∷ drop (i + 1) ps) (sym c.pair-item.is) in
-    omega (arith, ap (λ (l : List Pair). bounds_syllables (pairs l)) next, c.pairs.invariant.short, c.requires.room)
+    omega (arith, ap (λ (l : List Pair). bounds_syllables c.args.self.now.known.now (pairs l)) next, c.pairs.invariant.short, c.requires.room)
 
 pub value-requires : goal.value-requires
 value-requires g c =
@@ -57,7 +57,7 @@ value-requires g c =
       near = c.requires.near;
       code = code_at s (level_set d) (level_set a) c.requires.fits.0 types.Number (expr p.high) (level_same a d same)
           (bounds_next c.requires.fits.0 s (level_set a) i ps p (drop (i + 1) ps) next c.requires.fits.1).1;
-      room = omega (arith, ap (λ (l : List Pair). bounds_syllables (pairs l)) next, c.pairs.invariant.short, c.in_ok-append_number.ensures.size, c.requires.room);
+      room = omega (arith, ap (λ (l : List Pair). bounds_syllables c.args.self.now.known.now (pairs l)) next, c.pairs.invariant.short, c.in_ok-append_number.ensures.size, c.requires.room);
     }
 
 pub pairs-preserved : goal.pairs-preserved
@@ -76,7 +76,7 @@ pairs-preserved g c =
     let whole = (bounds_next c.requires.fits.0 s level i ps p (drop (i + 1) ps) next c.requires.fits.1).0 in
     record {
       level = c.in_ok-value.ensures.level ∙ c.in_ok-append_number.ensures.level ∙ c.pairs.invariant.level;
-      short = omega (arith, ap (λ (l : List Pair). bounds_syllables (pairs l)) next, c.pairs.invariant.short, c.in_ok-append_number.ensures.size, c.in_ok-value.ensures.size);
+      short = omega (arith, ap (λ (l : List Pair). bounds_syllables c.args.self.now.known.now (pairs l)) next, c.pairs.invariant.short, c.in_ok-append_number.ensures.size, c.in_ok-value.ensures.size);
       code = λ sc formats fit.
           let N : ℤ → Type 0 = λ z. Emitted b d (λ qs. NumberAt qs level z (size b.operators) (size d.operators)) in
           bounds_more sc formats level ps (drop i ps) p (drop (i + 1) ps) a b d x next (c.pairs.invariant.code sc formats fit)

@@ -1,83 +1,104 @@
-use Rattle.std.proofs.Common.{◌≡◌, ◌≤◌, ◌<◌, ◌^◌, ◌∙◌, ℕ, List, length, ap, sym, refl, subst, arith}
+use Rattle.std.proofs.Common.{◌≡◌, ◌∙◌, ℕ, length, ap, sym, refl, subst, arith}
 use Rattle.std.specs.Prelude.{unwrap_or, Option, replicate}
-use Rattle.std.specs.List.{All}
 use Rattle.algol_tree.specs.Image.{decls}
 use Rattle.b67_ops.specs.declared.PlainKind.TheVariants as kinds
 use Rattle.b67_segment.specs.Operators.{size}
 use Rattle.b67_segment.specs.Building.{level_set}
 use Rattle.b67_templates.specs.Cells.{procedures, control_segments}
+use Rattle.b67_templates.specs.Code.{routine_controls}
 use Rattle.b67_templates.specs.Emitting.{Emitted}
-use Rattle.b67_templates.specs.Fragments.{AllAt, ControlsAt, procedure_controls}
+use Rattle.b67_templates.specs.Fragments.{AllAt, ControlsAt}
 use Rattle.b67_emit_stmt.specs.declared.draft.Draft.{Draft}
-use Rattle.b67_emit_stmt.specs.Bodies.{cells_syllables, numbers_of}
-use Rattle.b67_emit_stmt.specs.Drafts.{Emits}
-use Rattle.b67_emit_stmt.specs.Places.{CellsAt}
+use Rattle.b67_emit_stmt.specs.Actuals.{images}
+use Rattle.b67_emit_stmt.specs.Lengths.{cells_syllables}
+use Rattle.b67_emit_stmt.proofs.Blocks.{as_many, images_long}
 use Rattle.b67_emit_stmt.proofs.Drafts.{level_same}
-use Rattle.b67_emit_stmt.proofs.Numbered.{numbers_are, numbers_fit, numbers_inner, numbers_long}
+use Rattle.b67_emit_stmt.proofs.Numbered.{controls_many}
 use Rattle.b67_emit_stmt.proofs.Parts.{leveled, plain_at}
-use Rattle.b67_emit_stmt.proofs.Zeros.{cells_pushed, no_cells}
-use Rattle.b67_emit_stmt.proofs.draft.StmtEmitter.cells.Goals.{then-many-len-gt0+in_ok-append_plain, else-many-len-gt0}
+use Rattle.b67_emit_stmt.proofs.Zeros.{cells_pushed, no_cells, words_both}
 use Rattle.b67_emit_stmt.proofs.draft.StmtEmitter.cells.Goals as goal
 
-pub append_words-requires-clause-inner : goal.append_words-requires-clause-inner
-append_words-requires-clause-inner g c = λ some.
-    let s = c.args.self.now.known.now in
-    let are = c.deref.ensures.value ∙ c.in_ok-numbers.ensures in
-    let L : List ℕ → Type 0 = λ l. 1 ≤ length l in
-    numbers_inner s c.requires.numbered.0.scopes c.args.self.now.level (procedures (decls c.args.ds.now)) c.requires.numbered.1 (subst L are some)
+pub append_zeros-requires-clause-room : goal.append_zeros-requires-clause-room
+append_zeros-requires-clause-room g c = omega (arith, c.requires.room)
 
-pub append_words-requires-clause-segments : goal.append_words-requires-clause-segments
-append_words-requires-clause-segments g c =
-    let s = c.args.self.now.known.now in
-    let are = c.deref.ensures.value ∙ c.in_ok-numbers.ensures in
-    let L : List ℕ → Type 0 = λ l. All (λ (k : ℕ). k < 2 ^ 10) l in
-    subst L (sym are) (numbers_fit s c.requires.numbered.0.scopes c.args.self.now.level (procedures (decls c.args.ds.now)) c.requires.numbered.1)
+pub procedure_words-requires-clause-level : goal.procedure_words-requires-clause-level
+procedure_words-requires-clause-level g c =
+    let a = c.args.to.now in
+    let set : level_set a.out ≡ c.args.self.now.level = ap (λ (o : Option ℕ). unwrap_or o 0) c.requires.level.set in
+    sym (level_same a.out c.append_zeros.new.out c.in_ok-append_zeros.ensures.level ∙ set)
 
-pub returns-clause-code : goal.returns-clause-code
-returns-clause-code g c =
+pub procedure_words-requires-clause-room : goal.procedure_words-requires-clause-room
+procedure_words-requires-clause-room g c = omega (arith, c.in_ok-append_zeros.ensures.size, c.requires.room)
+
+pub routine_words-requires-clause-level : goal.routine_words-requires-clause-level
+routine_words-requires-clause-level g c =
+    let a = c.args.to.now in
+    let b = c.append_zeros.new.out in
+    let e = c.procedure_words.new.out in
+    let set : level_set a.out ≡ c.args.self.now.level = ap (λ (o : Option ℕ). unwrap_or o 0) c.requires.level.set in
+    sym (level_same b e c.in_ok-procedures.ensures.level ∙ level_same a.out b c.in_ok-append_zeros.ensures.level ∙ set)
+
+pub routine_words-requires-clause-room : goal.routine_words-requires-clause-room
+routine_words-requires-clause-room g c =
+    omega (arith, images_long c.args.actuals.now, c.in_ok-append_zeros.ensures.size, c.in_ok-procedures.ensures.size, c.requires.room)
+
+pub returns-in_ok-append_plain-clause-code : goal.returns-in_ok-append_plain-clause-code
+returns-in_ok-append_plain-clause-code g c =
     let s = c.args.self.now.known.now in
     let a = c.args.to.now in
     let level = c.args.self.now.level in
     let many = c.args.many in
     let ds = decls c.args.ds.now in
+    let es = images c.args.actuals.now in
+    let ats = c.args.places.now in
     let b = c.append_zeros.new.out in
-    let e = c.append_words.new.out in
-    let t = c.if-many-len-gt0.to in
+    let e = c.procedure_words.new.out in
+    let x = c.routine_words.new.out in
     let set : level_set a.out ≡ level = ap (λ (o : Option ℕ). unwrap_or o 0) c.requires.level.set in
     let q : level_set b ≡ level = level_same a.out b c.in_ok-append_zeros.ensures.level ∙ set in
-    let r : level_set e ≡ level = level_same b e c.in_ok-append_words.ensures.level ∙ q in
-    let are = c.deref.ensures.value ∙ c.in_ok-numbers.ensures in
-    let long : length (numbers_of s (procedures ds)) ≡ length (procedures ds) = numbers_long s (procedures ds) in
-    let same : length c.deref.result.now ≡ length (numbers_of s (procedures ds)) = ap length are in
-    let listed : length c.in_ok-numbers.numbers.items ≡ length (numbers_of s (procedures ds)) = ap length c.in_ok-numbers.ensures in
-    let counted = c.in_ok-numbers.numbers.ok in
-    λ sc numbered.
-    let own : c.deref.result.now ≡ control_segments sc.scopes ds = are ∙ numbers_are s sc.scopes level (procedures ds) numbered in
-    let W : List ℕ → Type 0 = λ l. Emitted b e (λ qs. ControlsAt qs level (procedure_controls level l) (size b.operators) (size e.operators)) in
+    let r : level_set e ≡ level = level_same b e c.in_ok-procedures.ensures.level ∙ q in
+    let v : level_set x ≡ level = level_same e x c.in_ok-routine_words.ensures.level ∙ r in
+    let imaged = images_long c.args.actuals.now in
+    let d : Draft = record a { out = c.append_plain.new.out } in
+    λ sc actuals segment trees numbered.
+    let segments = control_segments sc.scopes ds in
+    let R : ℕ → Type 0 = λ n. Emitted e x (λ qs. ControlsAt qs level (routine_controls n level actuals ats) (size e.operators) (size x.operators)) in
     let zeros = leveled (λ l qs. AllAt qs l (replicate many kinds.Zero) (size a.out.operators) (size b.operators)) level set c.in_ok-append_zeros.ensures.code in
-    let words = subst W own (leveled (λ l qs. ControlsAt qs l (procedure_controls l c.deref.result.now) (size b.operators) (size e.operators)) level q c.in_ok-append_words.ensures.code) in
-    let control : length (control_segments sc.scopes ds) ≡ length (numbers_of s (procedures ds)) = ap length (sym own) ∙ same in
-    let T : Draft → Type 0 = λ x. Emits (cells_syllables many ds) a x (λ formats qs target. CellsAt sc formats qs level many (control_segments sc.scopes ds) (size a.out.operators) (size x.out.operators)) in
-    elim c.if-many-len-gt0.branch [
-      | then-many-len-gt0+in_ok-append_plain w ↦
-          let d : Draft = record a { out = w.append_plain.new.out } in
-          subst T (sym w.to-is)
-          (cells_pushed sc level many (control_segments sc.scopes ds) (cells_syllables many ds) a d b e refl refl c.requires.few zeros words
-          (omega (arith, long, same, c.in_ok-append_zeros.ensures.size, c.in_ok-append_words.ensures.size, w.in_ok-append_plain.ensures.size))
-          (omega (arith, w.if-many-len-gt0.true, control, listed, c.len.ensures, counted.0)) (plain_at kinds.Push level r w.in_ok-append_plain.ensures.code))
-      | else-many-len-gt0 w ↦
-          let d : Draft = record a { out = e } in
-          subst T (sym w.to-is)
-          (no_cells sc level many (control_segments sc.scopes ds) (cells_syllables many ds) a d b e refl refl c.requires.few zeros words
-          (omega (arith, long, same, c.in_ok-append_zeros.ensures.size, c.in_ok-append_words.ensures.size))
-          (omega (arith, w.if-many-len-gt0.false, control, listed, c.len.ensures, counted.0)) refl)
-    ]
+    let first = c.in_ok-procedures.ensures.code sc numbered in
+    let second = subst R (sym segment) (c.in_ok-routine_words.ensures.code actuals trees) in
+    let words = words_both level sc.segment segments actuals ats b e x first second in
+    let control : length segments ≡ length (procedures ds) = controls_many sc.scopes ds in
+    let as_long = as_many actuals es trees in
+    let placed : length ats ≡ length actuals = omega (arith, c.requires.placed, imaged, as_long) in
+    cells_pushed sc level many segments actuals ats placed (cells_syllables s many ds es) a d b x refl refl c.requires.few zeros words
+    (omega (arith, imaged, c.in_ok-append_zeros.ensures.size, c.in_ok-procedures.ensures.size, c.in_ok-routine_words.ensures.size, c.in_ok-append_plain.ensures.size))
+    (omega (arith, c.if-many-procedures-gt0.true, control, c.in_ok-procedures.ensures.many, imaged, as_long)) (plain_at kinds.Push level v c.in_ok-append_plain.ensures.code)
 
-pub returns-clause-formats : goal.returns-clause-formats
-returns-clause-formats g c =
+pub returns-else-many-procedures-gt0-clause-code : goal.returns-else-many-procedures-gt0-clause-code
+returns-else-many-procedures-gt0-clause-code g c =
+    let s = c.args.self.now.known.now in
     let a = c.args.to.now in
-    let F : Draft → Type 0 = λ x. x.formats.items ≡ a.formats.items in
-    elim c.if-many-len-gt0.branch [
-      | then-many-len-gt0+in_ok-append_plain w ↦ subst F (sym w.to-is) refl
-      | else-many-len-gt0 w ↦ subst F (sym w.to-is) refl
-    ]
+    let level = c.args.self.now.level in
+    let many = c.args.many in
+    let ds = decls c.args.ds.now in
+    let es = images c.args.actuals.now in
+    let ats = c.args.places.now in
+    let b = c.append_zeros.new.out in
+    let e = c.procedure_words.new.out in
+    let x = c.routine_words.new.out in
+    let set : level_set a.out ≡ level = ap (λ (o : Option ℕ). unwrap_or o 0) c.requires.level.set in
+    let imaged = images_long c.args.actuals.now in
+    let d : Draft = record a { out = x } in
+    λ sc actuals segment trees numbered.
+    let segments = control_segments sc.scopes ds in
+    let R : ℕ → Type 0 = λ n. Emitted e x (λ qs. ControlsAt qs level (routine_controls n level actuals ats) (size e.operators) (size x.operators)) in
+    let zeros = leveled (λ l qs. AllAt qs l (replicate many kinds.Zero) (size a.out.operators) (size b.operators)) level set c.in_ok-append_zeros.ensures.code in
+    let first = c.in_ok-procedures.ensures.code sc numbered in
+    let second = subst R (sym segment) (c.in_ok-routine_words.ensures.code actuals trees) in
+    let words = words_both level sc.segment segments actuals ats b e x first second in
+    let control : length segments ≡ length (procedures ds) = controls_many sc.scopes ds in
+    let as_long = as_many actuals es trees in
+    let placed : length ats ≡ length actuals = omega (arith, c.requires.placed, imaged, as_long) in
+    no_cells sc level many segments actuals ats placed (cells_syllables s many ds es) a d b x refl refl c.requires.few zeros words
+    (omega (arith, imaged, c.in_ok-append_zeros.ensures.size, c.in_ok-procedures.ensures.size, c.in_ok-routine_words.ensures.size))
+    (omega (arith, c.if-many-procedures-gt0.false, control, c.in_ok-procedures.ensures.many, imaged, as_long)) refl

@@ -3,14 +3,14 @@ use Rattle.std.proofs.lemmas.List.{take_all}
 use Rattle.algol_tree.specs.declared.tree.Expr.{Expr}
 use Rattle.algol_tree.specs.declared.tree.Kind.TheVariants as types
 use Rattle.algol_tree.specs.Image.{expr, exprs}
-use Rattle.algol_tree.specs.Counts.{exprs_tokens}
 use Rattle.b67_segment.specs.Operators.{size}
 use Rattle.b67_segment.specs.Building.{level_set}
 use Rattle.b67_emit_stmt.specs.Places.{LineAt}
 use Rattle.b67_emit_stmt.specs.Fits.{LineFits}
+use Rattle.b67_emit_stmt.specs.Lengths.{items_syllables}
 use Rattle.b67_templates.specs.Emitting.{Emitted}
 use Rattle.b67_emit_stmt.proofs.Drafts.{level_same}
-use Rattle.b67_emit_stmt.proofs.Lines.{line_fits, line_part, line_tokens}
+use Rattle.b67_emit_stmt.proofs.Lines.{line_fits, line_part, line_syllables}
 use Rattle.b67_emit_stmt.proofs.Lists.{around, front_more}
 use Rattle.b67_emit_stmt.proofs.Parts.{code_at, emitted_none, set_same, value_at}
 use Rattle.b67_emit_stmt.proofs.draft.StmtEmitter.items.Goals as goal
@@ -42,8 +42,8 @@ value-requires-clause-room g c =
     let xs = c.args.items.now in
     let i = c.items.item-index in
     let x = c.item-item.result in
-    let all = ap (λ (l : List Expr). exprs_tokens (exprs l)) (around xs i x c.items-test.true c.item-item.is) in
-    omega (arith, all, line_tokens (take i xs) x (drop (i + 1) xs), c.items.invariant.short, c.requires.room)
+    let all = ap (λ (l : List Expr). items_syllables c.args.self.now.known.now (exprs l)) (around xs i x c.items-test.true c.item-item.is) in
+    omega (arith, all, line_syllables c.args.self.now.known.now (take i xs) x (drop (i + 1) xs), c.items.invariant.short, c.requires.room)
 
 pub items-preserved : goal.items-preserved
 items-preserved g c =
@@ -58,7 +58,7 @@ items-preserved g c =
     let q = level_same a b c.items.invariant.level in
     record {
       level = c.in_ok-value.ensures.level ∙ c.items.invariant.level;
-      short = omega (arith, ap (λ (l : List Expr). exprs_tokens (exprs l)) more, line_tokens (take i xs) x [], c.in_ok-value.ensures.size, c.items.invariant.short);
+      short = omega (arith, ap (λ (l : List Expr). items_syllables c.args.self.now.known.now (exprs l)) more, line_syllables c.args.self.now.known.now (take i xs) x [], c.in_ok-value.ensures.size, c.items.invariant.short);
       code = λ sc formats fit.
           let F : List Expr → Type 0 = λ l. LineFits sc s (level_set a) (exprs l) in
           line_part sc formats (level_set a) (take i xs) x (take (i + 1) xs) a b d more (c.items.invariant.code sc formats fit)
@@ -80,4 +80,4 @@ returns-clause-size g c =
     let xs = c.args.items.now in
     let i = c.items.item-index in
     let all : take i xs ≡ xs = take_all i xs c.items-test.false in
-    omega (arith, ap (λ (l : List Expr). exprs_tokens (exprs l)) all, c.items.invariant.short)
+    omega (arith, ap (λ (l : List Expr). items_syllables c.args.self.now.known.now (exprs l)) all, c.items.invariant.short)

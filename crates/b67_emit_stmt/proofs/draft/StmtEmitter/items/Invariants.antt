@@ -1,6 +1,6 @@
-use Rattle.std.proofs.Common.{◌≡◌, ◌+◌, ◌*◌, ◌≤◌, List, take}
+use Rattle.std.proofs.Common.{◌≡◌, ◌+◌, ◌≤◌, List, take}
 use Rattle.algol_tree.specs.Image.{exprs}
-use Rattle.algol_tree.specs.Counts.{exprs_tokens}
+use Rattle.b67_emit_stmt.specs.Lengths.{items_syllables}
 use Rattle.b67_emit_stmt.specs.Places.{Place, LineAt}
 use Rattle.b67_segment.specs.declared.code.Format.{Format}
 use Rattle.b67_segment.specs.Operators.{size}
@@ -12,7 +12,7 @@ use Rattle.b67_emit_stmt.proofs.draft.StmtEmitter.items.Given as goal
 abbrev pub invariant-items : goal.invariant-items
 invariant-items g l = record {
   level : l.out.level ≡ l.fn.out.level;
-  short : size l.out.operators ≤ size l.fn.out.operators + 12 * exprs_tokens (exprs (take l.item-index l.items));
+  short : size l.out.operators ≤ size l.fn.out.operators + items_syllables l.self.known.now (exprs (take l.item-index l.items));
   code : (sc : Place) (formats : List Format) → LineFits sc l.self.known.now (level_set l.fn.out) (exprs l.items) →
       Emitted l.fn.out l.out (λ qs. LineAt sc formats qs (level_set l.fn.out) (exprs (take l.item-index l.items)) (size l.fn.out.operators) (size l.out.operators));
 }

@@ -1,22 +1,28 @@
+use Rattle.std.proofs.Common.{sym, ◌∙◌}
 use Rattle.std.proofs.lemmas.Result.{on_ok_weaker}
 use Rattle.b67_segment.specs.Building.{level_set}
 use Rattle.b67_templates.specs.Fitting.{on_left}
-use Rattle.b67_emitter.specs.Values.{couples, results}
-use Rattle.b67_emit_stmt.proofs.Names.{left_near, name_seen, variable_is}
-use Rattle.b67_emit_stmt.proofs.Parts.{reference_part}
+use Rattle.b67_emitter.specs.Values.{meanings}
+use Rattle.b67_emit_stmt.proofs.Names.{left_near, name_seen, place_read}
+use Rattle.b67_emit_stmt.proofs.Stored.{own_place, resolved_place}
 use Rattle.b67_emit_stmt.proofs.draft.StmtEmitter.reference.Goals as goal
 
 pub append_reference-requires-clause-seen : goal.append_reference-requires-clause-seen
 append_reference-requires-clause-seen g c =
     let s = c.args.self.now.known.now.names.now in
-    name_seen c.requires.fits.0.scopes (on_left (results s) (couples s)) (level_set c.args.out.now) c.requires.fits.1 c.args.v.now c.left_of.result c.requires.fits.2 c.left_of.ensures
+    let fits = c.requires.fits in
+    name_seen fits.0.scopes (on_left (meanings s)) (level_set c.args.out.now) fits.1 c.args.v.now c.left_of.result
+    (place_read fits.0.scopes (meanings s) (level_set c.args.out.now) fits.1 c.args.v.now fits.2) c.left_of.ensures
     (left_near s c.args.v.now c.left_of.result c.requires.near c.left_of.ensures)
 
-pub returns-clause-code : goal.returns-clause-code
-returns-clause-code g c =
-    let s = c.args.self.now.known.now.names.now in
-    on_ok_weaker c.append_reference.result
-    (λ h sc k formats fit.
-    reference_part sc formats k c.args.v.now c.left_of.result c.args.out.now c.append_reference.new.out
-    (variable_is sc.scopes (on_left (results s) (couples s)) (level_set c.args.out.now) k c.args.v.now c.left_of.result fit c.left_of.ensures) h)
-    c.append_reference.ensures.code
+pub returns-then-is_name-clause-code : goal.returns-then-is_name-clause-code
+returns-then-is_name-clause-code g c =
+    on_ok_weaker c.append_plain.result
+    (λ h sc k formats. resolved_place c.args.self.now.known.now c.args.v.now c.left_of.result c.left_of.ensures c.args.out.now c.append_reference.new.out
+    c.in_ok-append_reference.ensures.code sc k formats (sym c.is_name.ensures ∙ c.if-is_name.true) c.append_plain.new.out c.in_ok-append_reference.ensures.level h)
+    c.append_plain.ensures.code
+
+pub returns-else-is_name-clause-code : goal.returns-else-is_name-clause-code
+returns-else-is_name-clause-code g c sc k formats =
+    own_place c.args.self.now.known.now c.args.v.now c.left_of.result c.left_of.ensures c.args.out.now c.append_reference.new.out c.in_ok-append_reference.ensures.code
+    sc k formats (sym c.is_name.ensures ∙ c.if-is_name.false)

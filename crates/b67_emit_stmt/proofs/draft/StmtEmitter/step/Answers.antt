@@ -7,7 +7,7 @@ use Rattle.algol_tree.specs.Image.{expr}
 use Rattle.b67_segment.specs.Building.{level_set}
 use Rattle.b67_segment.specs.Operators.{size}
 use Rattle.b67_emit_stmt.specs.Places.{PastAt, context_in}
-use Rattle.b67_templates.specs.Depths.{expr_syllables}
+use Rattle.b67_emit_stmt.specs.Lengths.{expr_syllables}
 use Rattle.b67_emit_stmt.specs.declared.draft.Draft.{Draft}
 use Rattle.b67_emit_stmt.proofs.Drafts.{at_level, level_same, piece}
 use Rattle.b67_emit_stmt.proofs.Parts.{value_at}
@@ -35,8 +35,8 @@ returns-in_ok-value-in-None-clause-code g c =
     let q = level_same a.out b.out c.in_ok-value-in-None.ensures.level in
     on_ok_weaker c.append_past.result
     (λ h sc fit.
-    any_part sc (level_set a.out) a b d (13 + expr_syllables (expr c.args.s.now)) (expr c.args.s.now) (omega arith)
-    (piece {n = expr_syllables (expr c.args.s.now)} {d = a} {e = b} refl refl c.requires.ready.few
+    any_part sc (level_set a.out) a b d (13 + expr_syllables c.args.self.now.known.now (expr c.args.s.now)) (expr c.args.s.now) (omega arith)
+    (piece {n = expr_syllables c.args.self.now.known.now (expr c.args.s.now)} {d = a} {e = b} refl refl c.requires.ready.few
     (λ formats. value_at c.args.self.now.known.now a.out b.out (level_set a.out) sc formats types.Number (expr c.args.s.now) refl c.in_ok-value-in-None.ensures.code fit)
     c.in_ok-value-in-None.ensures.size)
     (at_level (level_set a.out) (λ l formats qs target. PastAt sc formats qs l (size b.out.operators) target (size d.out.operators)) q (h sc)))

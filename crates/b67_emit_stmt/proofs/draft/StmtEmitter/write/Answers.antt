@@ -9,7 +9,7 @@ use Rattle.b67_emit_stmt.specs.Fits.{LineFits}
 use Rattle.b67_templates.specs.Fragments.{NumberAt}
 use Rattle.b67_templates.specs.Emitting.{Emitted}
 use Rattle.b67_emit_stmt.specs.declared.draft.Draft.{Draft}
-use Rattle.b67_emit_stmt.specs.Emits.{write_syllables}
+use Rattle.b67_emit_stmt.specs.Lengths.{write_syllables}
 use Rattle.b67_emit_stmt.proofs.Added.{format_is}
 use Rattle.b67_emit_stmt.proofs.Drafts.{level_same}
 use Rattle.b67_emit_stmt.proofs.Parts.{leveled, plain_at}
@@ -34,7 +34,7 @@ returns-clause-code g c =
     λ sc fit.
     let N : ℤ → Type 0 = λ z. Emitted b.out d.out (λ qs. NumberAt qs level z (size b.out.operators) (size d.out.operators)) in
     let F : ℕ → Type 0 = λ l. LineFits sc s l es in
-    write_part sc level c.args.phrases.now es a b d e f c.in_ok-format.format (write_syllables es) refl c.in_ok-push.ensures.items c.requires.ready.few
+    write_part sc level c.args.phrases.now es a b d e f c.in_ok-format.format (write_syllables c.args.self.now.known.now es) refl c.in_ok-push.ensures.items c.requires.ready.few
     (omega (arith, c.in_ok-append_intrinsic.ensures.size, (c.in_ok-append_number.ensures.code).grown, (c.in_ok-items.ensures.code sc a.formats.items (subst F (sym r) fit.2)).grown, c.in_ok-append_plain.ensures.size))
     (omega (arith, c.in_ok-append_intrinsic.ensures.size, c.in_ok-append_number.ensures.size, c.in_ok-items.ensures.size, c.in_ok-append_plain.ensures.size))
     c.in_ok-format.ensures fit.0 (fit.1 c.in_ok-format.format.phrases c.in_ok-format.ensures) c.in_ok-append_intrinsic.ensures.code
