@@ -1,17 +1,20 @@
 -- Where a process finds the control word of an actual's code: in the frame of one of its parts, and where that code stands.
-use Rattle.std.proofs.Common.{◌≡◌, sym, ap, ◌∙◌, subst, ℕ, suc, ◌+◌, List, ◌∷◌, ◌++◌, length, Some, arith}
+use Rattle.std.proofs.Common.{◌≡◌, refl, sym, ap, ◌∙◌, subst, ℕ, suc, ◌+◌, List, ◌∷◌, ◌++◌, length, Some, arith}
 use Rattle.std.specs.Prelude.{slice_get}
 use Rattle.b67_list.specs.Numbered.{numbered}
 use Rattle.algol_tree.specs.declared.tree.Kind.{Kind}
 use Rattle.algol_tree.specs.Blocks.{block_numbered}
 use Rattle.algol_tree.specs.Cells.{level_of}
+use Rattle.algol_tree.specs.Plain as forms
 use Rattle.algol_tree.specs.Plain.{PExpr, PProgram}
 use Rattle.algol_tree.specs.Scopes.{Scopes, scopes_of}
+use Rattle.algol_meaning.specs.Choice.{is_subscripted}
 use Rattle.algol_meaning.specs.World.{Instance, Part, Process, World, instance_at, or_no_instance}
 use Rattle.algol_paths.specs.Segments.{segment_of}
 use Rattle.b67_word.specs.declared.Place.{Place}
 use Rattle.b67_word.specs.Word.{Word}
-use Rattle.b67_control.specs.Control.{as_sirw, pcw_word}
+use Rattle.b67_control.specs.declared.Pcw.{Pcw}
+use Rattle.b67_control.specs.Control.{Fits_pcw, as_sirw, pcw_word}
 use Rattle.b67_segment.specs.declared.code.Code.{Code}
 use Rattle.b67_table.specs.Chains.{place}
 use Rattle.b67_table.specs.Image.{Image}
@@ -27,12 +30,31 @@ use Rattle.b67_fitting.specs.Nested.{AreNested}
 use Rattle.b67_pictures.specs.Arrays.{Layout, IsActual, IsOwn}
 use Rattle.b67_pictures.specs.Frames.{block_controls}
 use Rattle.b67_pictures.proofs.ArrayPlaces.{cell_read, number_within}
-use Rattle.b67_pictures.proofs.ControlWords.{block_few, RoutineThere, routine_there, get_routine}
+use Rattle.b67_pictures.proofs.ControlWords.{block_few, RoutineThere, routine_there, get_routine, routine_control, fits_there}
 use Rattle.b67_pictures.proofs.FreshCells.{words_long}
 use Rattle.b67_pictures.proofs.Lying.{Lies, lies_in, lies_low}
 use Rattle.b67_pictures.proofs.Numbers.{get_below}
 use Rattle.b67_pictures.proofs.Scene.{Scene}
 use Rattle.b67_pictures.proofs.StackWords.{get-front, get-behind}
+
+-- the control word of the code of an actual of the block with this number, where that code begins at this place
+abbrev pub routine_of : Scopes → ℕ → PExpr → ℕ → Pcw
+routine_of sc j e at = routine_at (has_place e) (segment_of sc.blocks j) at (level_of (block_numbered sc.blocks j) + 1)
+
+-- an actual has a place where it is subscripted
+pub same_place : (e : PExpr) → is_subscripted e ≡ has_place e
+same_place (forms.number z spot) = refl
+same_place (forms.truth b spot) = refl
+same_place (forms.variable (forms.subscripted n forms.none)) = refl
+same_place (forms.variable (forms.subscripted n (forms.more e es))) = refl
+same_place (forms.call c) = refl
+same_place (forms.tested test e spot) = refl
+same_place (forms.paren e spot) = refl
+same_place (forms.plus e spot) = refl
+same_place (forms.neg e spot) = refl
+same_place (forms.not e spot) = refl
+same_place (forms.two op x y) = refl
+same_place (forms.if c x y spot) = refl
 
 module _ (tree : PProgram) (code : Code) (texts : Texts) (nested : AreNested (scopes_of tree)) (w : World) (lay : Layout) (img : Image)
     (p : ℕ) (q : Process) (part : Part) (outer : List Part) (bound : ℕ) (core : Core) (s : Scene tree code texts w lay img p q part outer bound core) where
@@ -52,17 +74,16 @@ module _ (tree : PProgram) (code : Code) (texts : Texts) (nested : AreNested (sc
       pub lies : Lies tree code texts w lay p (part ∷ outer) i core.below
       pub at : ℕ
       pub code_there : RoutineAt sc (context_of code texts sc block) (text_of texts sc block) (level_of (block_numbered sc.blocks block) + 1) actual at
-      pub control_lies :
-          slice_get core.below (length lies.frame.lower + is.couple.index)
-          ≡ Some (pcw_word (routine_at (has_place e) (segment_of sc.blocks block) at (level_of (block_numbered sc.blocks block) + 1)))
+      pub fits : Fits_pcw (routine_of sc block e at)
+      pub control_lies : slice_get core.below (length lies.frame.lower + is.couple.index) ≡ Some (pcw_word (routine_of sc block e at))
       pub reads : as_sirw word ≡ Some (record { stack = p; displacement = length lies.frame.lower; index = is.couple.index })
 
     module _ (l : Lies tree code texts w lay p (part ∷ outer) i core.below) where
       abbrev here : Instance
-      here = l.frame.framed.instance
+      here = l.owned.framed.instance
 
       instance_here : instance_at w i ≡ here
-      instance_here = ap (instance_at w) (sym l.instance_is) ∙ ap or_no_instance l.frame.framed.is
+      instance_here = ap (instance_at w) (sym l.instance_is) ∙ ap or_no_instance l.owned.framed.is
 
       block_here : block ≡ here.block
       block_here = ap (λ (x : Instance). x.block) instance_here
@@ -71,7 +92,7 @@ module _ (tree : PProgram) (code : Code) (texts : Texts) (nested : AreNested (sc
       high = length l.frame.lower
 
       abbrev ats : List ℕ
-      ats = l.frame.framed.ats
+      ats = l.owned.framed.ats
 
       there : slice_get (actuals_of sc (block_numbered sc.blocks here.block)) is.stands.number ≡ Some actual
       there = ap (λ (j : ℕ). slice_get (actuals_of sc (block_numbered sc.blocks j)) is.stands.number) (sym block_here) ∙ is.stands.there
@@ -82,24 +103,24 @@ module _ (tree : PProgram) (code : Code) (texts : Texts) (nested : AreNested (sc
       r : Routine
       r =
           routine_there sc (context_of code texts sc here.block) (text_of texts sc here.block) (level_of (block_numbered sc.blocks here.block) + 1) (actuals_of sc (block_numbered sc.blocks here.block)) ats
-          l.frame.routines is.stands.number actual there
+          l.owned.routines.0 is.stands.number actual there
 
       abbrev control_of : ℕ → Word
-      control_of j = pcw_word (routine_at (has_place e) (segment_of sc.blocks j) r.at (level_of (block_numbered sc.blocks j) + 1))
+      control_of j = pcw_word (routine_of sc j e r.at)
 
       abbrev far : ℕ
       far = length (procedures (block_numbered sc.blocks here.block).decls) + is.stands.number
 
-      values_long : length l.frame.framed.values ≡ length (simple_cells sc (block_numbered sc.blocks here.block))
-      values_long = words_long (simple_cells sc (block_numbered sc.blocks here.block)) l.frame.framed.simple l.frame.framed.values l.frame.framed.simple_are
+      values_long : length l.owned.framed.values ≡ length (simple_cells sc (block_numbered sc.blocks here.block))
+      values_long = words_long (simple_cells sc (block_numbered sc.blocks here.block)) l.owned.framed.simple l.owned.framed.values l.owned.framed.simple_are
 
       -- it lies after the values and the control words of procedures
       cells_lie : slice_get l.frame.cells (length (simple_cells sc (block_numbered sc.blocks here.block)) + far) ≡ Some (control_of here.block)
       cells_lie =
-          ap (λ (ws : List Word). slice_get ws (length (simple_cells sc (block_numbered sc.blocks here.block)) + far)) l.frame.framed.cells_is
-          ∙ get-behind l.frame.framed.values (control_words (block_controls sc here.block ats) ++ l.frame.framed.descriptors) far (length (simple_cells sc (block_numbered sc.blocks here.block)) + far)
+          ap (λ (ws : List Word). slice_get ws (length (simple_cells sc (block_numbered sc.blocks here.block)) + far)) l.owned.framed.cells_is
+          ∙ get-behind l.owned.framed.values (control_words (block_controls sc here.block ats) ++ l.owned.framed.descriptors) far (length (simple_cells sc (block_numbered sc.blocks here.block)) + far)
           (omega (arith, values_long))
-          ∙ get-front (control_words (block_controls sc here.block ats)) l.frame.framed.descriptors far (control_of here.block) (get_routine sc here.block ats is.stands.number actual r.at there r.is)
+          ∙ get-front (control_words (block_controls sc here.block ats)) l.owned.framed.descriptors far (control_of here.block) (get_routine sc here.block ats is.stands.number actual r.at there r.is)
 
       index_is : is.couple.index ≡ 2 + (length (simple_cells sc (block_numbered sc.blocks here.block)) + far)
       index_is = omega (arith, is.stands.index_is, ap (λ (j : ℕ). actual_base sc (block_numbered sc.blocks j)) block_here)
@@ -114,7 +135,7 @@ module _ (tree : PProgram) (code : Code) (texts : Texts) (nested : AreNested (sc
           ∙ cells_lie)
 
       frame_is : is.frame ≡ place p high
-      frame_is = some_same (sym is.laid ∙ ap (λ (j : ℕ). numbered lay.places j) (sym l.instance_is) ∙ l.frame.framed.laid)
+      frame_is = some_same (sym is.laid ∙ ap (λ (j : ℕ). numbered lay.places j) (sym l.instance_is) ∙ l.owned.framed.laid)
 
       home_there : ActualHome
       home_there =
@@ -122,6 +143,8 @@ module _ (tree : PProgram) (code : Code) (texts : Texts) (nested : AreNested (sc
             lies = l;
             at = r.at;
             code_there = subst (λ (j : ℕ). RoutineAt sc (context_of code texts sc j) (text_of texts sc j) (level_of (block_numbered sc.blocks j) + 1) actual r.at) (sym block_here) r.code;
+            fits = subst (λ (j : ℕ). Fits_pcw (routine_of sc j e r.at)) (sym block_here)
+                (fits_there (block_controls sc here.block ats) l.owned.routines.1 far (routine_of sc here.block e r.at) (routine_control sc here.block ats is.stands.number actual r.at there r.is));
             control_lies = below_lies ∙ ap (λ (j : ℕ). Some (control_of j)) (sym block_here);
             reads =
                 ap as_sirw is.word_is
@@ -132,7 +155,7 @@ module _ (tree : PProgram) (code : Code) (texts : Texts) (nested : AreNested (sc
                   arith,
                   index_is,
                   get_below (actuals_of sc (block_numbered sc.blocks here.block)) is.stands.number actual there,
-                  block_few sc nested here.block l.frame.framed.known,
+                  block_few sc nested here.block l.owned.framed.known,
                 ));
           }
 

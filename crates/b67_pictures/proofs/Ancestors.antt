@@ -15,10 +15,10 @@ use Rattle.b67_pictures.specs.Frames.{Stands, Around}
 use Rattle.b67_pictures.proofs.Lying.{parents_in, StayBelow}
 use Rattle.b67_pictures.proofs.Numbers.{get_within}
 use Rattle.b67_pictures.proofs.Parents.{length_around, ancestor_up}
-use Rattle.b67_pictures.proofs.Staying.{wanted_in, Remains, remains}
+use Rattle.b67_pictures.proofs.Staying.{Remains, remains}
 
 module _ (tree : PProgram) (code : Code) (texts : Texts) (w w' : World) (lay lay' : Layout) (p limit : ℕ) (stay : StayBelow w w' lay lay' p limit)
-    (part : Part) (outer : List Part) (core : Core) (s : Stands tree code texts w lay p part outer core) (a : Around tree code texts w lay p outer s.frame.lower s.frame.mark s.frame.control (wanted_in tree w part))
+    (part : Part) (outer : List Part) (core : Core) (s : Stands tree code texts w lay p part outer core) (a : Around tree code texts w lay p outer s.frame.lower s.frame.mark s.frame.control s.frame.gives)
     (low : length core.below ≤ limit) (h : ℕ) (own : IsOwn (part ∷ outer) h) where
   abbrev sc : Scopes
   sc = scopes_of tree

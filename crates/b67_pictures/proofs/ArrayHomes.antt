@@ -1,17 +1,17 @@
 -- Where a process finds an array: its descriptor lies in the frame of one of its parts. A name that a block declares means one that is made;
 -- that of a parameter leads to one.
-use Rattle.std.proofs.Common.{◌≡◌, ◌⊎◌, inl, inr, refl, sym, ap, ◌∙◌, subst, ℕ, zero, suc, ◌+◌, ◌-◌, ◌<◌, ◌≤◌, ◌^◌, List, [], ◌∷◌, length, Option, Some, true, false, arith}
+use Rattle.std.proofs.Common.{◌≡◌, ◌⊎◌, inl, inr, refl, sym, ap, ◌∙◌, subst, ℕ, zero, suc, ◌+◌, ◌-◌, ◌<◌, ◌≤◌, ◌^◌, List, ◌∷◌, length, Option, Some, true, false, arith}
 use Rattle.std.proofs.lemmas.List.{length-map}
 use Rattle.algol_tree.specs.declared.tree.Named.{Named}
 use Rattle.algol_tree.specs.Blocks.{block_numbered, around}
 use Rattle.algol_tree.specs.Cells.{level_of}
-use Rattle.algol_tree.specs.Plain.{PProgram}
+use Rattle.algol_tree.specs.Plain.{PProgram, PBody}
 use Rattle.algol_tree.specs.Scopes.{Scopes, scopes_of, use_of}
 use Rattle.algol_tree.specs.Sorts.{Sort, is_variable, is_formal}
 use Rattle.algol_meaning.specs.Value.{Reference, Bounds, ArrayCell, Cell}
 use Rattle.algol_meaning.specs.Asks.{ask}
 use Rattle.algol_meaning.specs.World.{Instance, Part, Process, World, instance_at, or_no_instance, ancestor, by_cell, followed}
-use Rattle.algol_paths.specs.Arrays.{DeclaredArray, an_array, Shape, shape_of, all_to_make}
+use Rattle.algol_paths.specs.Arrays.{DeclaredArray, an_array, Shape, shape_of}
 use Rattle.algol_paths.specs.Blocks.{IsSeen, IsSeenAround, IsInner}
 use Rattle.b67_word.specs.declared.Place.{Place}
 use Rattle.b67_word.specs.Word.{Word}
@@ -34,16 +34,16 @@ use Rattle.b67_pictures.specs.Arrays.{Allotted, Layout, DescriptorIs, AreSized, 
 use Rattle.b67_pictures.specs.Frames.{IsComplete}
 use Rattle.b67_pictures.proofs.ArrayPlaces.{array_index, ArrayPlace, array_place}
 use Rattle.b67_pictures.proofs.AskedElements.{array_asked, ArraySeen, array_seen}
-use Rattle.b67_pictures.proofs.Completing.{complete_of}
 use Rattle.b67_pictures.proofs.ControlWords.{block_few}
 use Rattle.b67_pictures.proofs.FormalHomes.{FormalHome, formal_home}
-use Rattle.b67_pictures.proofs.Lying.{Lies, lies_in, IsParent, parents_in}
+use Rattle.b67_pictures.proofs.Lying.{Lies, lies_in, IsParent, parents_in, part_own}
 use Rattle.b67_pictures.proofs.MadeArrays.{low_number}
+use Rattle.b67_pictures.proofs.Narrowing.{made_or_around}
 use Rattle.b67_pictures.proofs.Numbers.{get_below}
 use Rattle.b67_pictures.proofs.OwnCells.{OwnCells, framed_cells, OwnArray, none_later, all_made, own_array}
 use Rattle.b67_pictures.proofs.Parents.{length_around}
 use Rattle.b67_pictures.proofs.Scene.{Scene}
-use Rattle.b67_pictures.proofs.Staying.{level_in}
+use Rattle.b67_pictures.proofs.Staying.{names_in}
 use Rattle.b67_pictures.proofs.Subscripts.{CountsBy, by_own, by_others}
 use Rattle.b67_pictures.proofs.Touching.{NearCell, own_cell}
 
@@ -53,7 +53,7 @@ module _ (tree : PProgram) (code : Code) (texts : Texts) (nested : AreNested (sc
   sc = scopes_of tree
 
   abbrev level : ℕ
-  level = level_in tree w part
+  level = names_in tree w part
 
   abbrev block : ℕ
   block = (instance_at w part.instance).block
@@ -95,21 +95,18 @@ module _ (tree : PProgram) (code : Code) (texts : Texts) (nested : AreNested (sc
 
   -- ---- a declared array
 
-  module _ (n : Named) (d : DeclaredArray) (couple : Couple) (is_seen : IsSeenThere n) (v : IsDeclaredArray sc level n d couple) where
+  module _ (n : Named) (d : DeclaredArray) (couple : Couple) (is_seen : IsSeenThere n) (made : IsComplete (scopes_of tree) w lay part.instance ⊎ IsSeenAround (scopes_of tree) block n) (v : IsDeclaredArray sc level n d couple) where
     abbrev up : ℕ
     up = (use_of sc n).up
 
     low : up + OUTER_LEVEL ≤ level
     low = omega (arith, length_around sc.blocks block, get_below (block ∷ around sc.blocks block) up ((use_of sc n).block) is_seen.seen)
 
-    -- all arrays of its instance are made
-    own_complete : all_to_make part.rest ≡ [] → IsComplete sc w lay part.instance
-    own_complete none = complete_of sc w lay p part.instance outer (length s.stands.frame.lower) s.stands.frame.mark s.stands.frame.control s.stands.frame.cells s.stands.frame.framed (s.stands.frame.making ∙ none)
-
-    made_there : (k : ℕ) → (all_to_make part.rest ≡ []) ⊎ (1 ≤ k) → (1 ≤ k → IsComplete sc w lay (ancestor w k part.instance)) → IsComplete sc w lay (ancestor w k part.instance)
-    made_there zero (inl none) further = own_complete none
+    -- so far up all arrays are made
+    made_there : (k : ℕ) → IsComplete sc w lay part.instance ⊎ (1 ≤ k) → (1 ≤ k → IsComplete sc w lay (ancestor w k part.instance)) → IsComplete sc w lay (ancestor w k part.instance)
+    made_there zero (inl whole) further = whole
     made_there zero (inr far) further = absurd (omega (arith, far))
-    made_there (suc k) made further = further (omega arith)
+    made_there (suc k) whole further = further (omega arith)
 
     -- the name of a declared array in a bound is one of a block around
     in_bound : (1 ≤ up) ⊎ (is_variable ((use_of sc n).sort) ≡ true) ⊎ (is_formal ((use_of sc n).sort) ≡ true) → 1 ≤ up
@@ -117,23 +114,23 @@ module _ (tree : PProgram) (code : Code) (texts : Texts) (nested : AreNested (sc
     in_bound (inr (inl is)) = absurd (let clash : false ≡ true = sym (ap is_variable v.sort_is) ∙ is in cc)
     in_bound (inr (inr is)) = absurd (let clash : false ≡ true = sym (ap is_formal v.sort_is) ∙ is in cc)
 
-    far_or_made : (all_to_make part.rest ≡ []) ⊎ IsSeenAround sc block n → (all_to_make part.rest ≡ []) ⊎ (1 ≤ up)
-    far_or_made (inl none) = inl none
+    far_or_made : IsComplete sc w lay part.instance ⊎ IsSeenAround sc block n → IsComplete sc w lay part.instance ⊎ (1 ≤ up)
+    far_or_made (inl whole) = inl whole
     far_or_made (inr around_it) = inr (in_bound around_it.1)
 
     module _ (parent : IsParent tree code texts w lay p (part ∷ outer) part.instance up ((use_of sc n).block))
         (l : Lies tree code texts w lay p (part ∷ outer) (ancestor w up part.instance) core.below) where
       abbrev here : Instance
-      here = l.frame.framed.instance
+      here = l.owned.framed.instance
 
       block_here : here.block ≡ (use_of sc n).block
-      block_here = sym (ap (λ (x : Instance). x.block) (ap (instance_at w) (sym l.instance_is) ∙ ap or_no_instance l.frame.framed.is)) ∙ parent.block
+      block_here = sym (ap (λ (x : Instance). x.block) (ap (instance_at w) (sym l.instance_is) ∙ ap or_no_instance l.owned.framed.is)) ∙ parent.block
 
       complete : IsComplete sc w lay l.part.instance
-      complete = subst (λ (i : ℕ). IsComplete sc w lay i) (sym l.instance_is) (made_there up (far_or_made is_seen.made) parent.complete)
+      complete = subst (λ (i : ℕ). IsComplete sc w lay i) (sym l.instance_is) (made_there up (far_or_made made) parent.complete)
 
       abbrev own : OwnCells sc w lay l.part.instance here
-      own = framed_cells sc w lay l.frame.framed
+      own = framed_cells sc w lay l.owned.framed
 
       there : made_from 0 (made_of (block_numbered sc.blocks here.block).decls) n.name ≡ Some (record { number = v.made.number; made = an_array d })
       there = ap (λ (j : ℕ). made_from 0 (made_of (block_numbered sc.blocks j).decls) n.name) block_here ∙ v.made.there
@@ -171,13 +168,13 @@ module _ (tree : PProgram) (code : Code) (texts : Texts) (nested : AreNested (sc
       -- a reference can hold its couple
       couple_fits : (couple.level < 32) × (couple.index < 2 ^ 14)
       couple_fits =
-          let first : Instance = s.stands.frame.framed.instance in
-          let same : level ≡ level_of (block_numbered sc.blocks first.block) = ap (λ (o : Option Instance). level_of (block_numbered sc.blocks (or_no_instance o).block)) s.stands.frame.framed.is in (
-            omega (arith, v.made.level_is, same, (nested.each first.block s.stands.frame.framed.known).low),
+          let first : Instance = s.stands.frame.instance in
+          let same : level ≡ level_of (block_numbered sc.blocks first.block) = ap (λ (o : Option Instance). level_of (block_numbered sc.blocks (or_no_instance o).block)) s.stands.frame.is in (
+            omega (arith, v.made.level_is, same, (nested.each first.block s.stands.frame.known).low),
             omega (
               arith,
               v.made.index_is,
-              block_few sc nested ((use_of sc n).block) (subst (λ (j : ℕ). j < length sc.blocks) block_here l.frame.framed.known),
+              block_few sc nested ((use_of sc n).block) (subst (λ (j : ℕ). j < length sc.blocks) block_here l.owned.framed.known),
               low_number 0 (made_of ((block_numbered sc.blocks ((use_of sc n).block)).decls)) n.name v.made.number d v.made.there,
             ),
           )
@@ -207,7 +204,7 @@ module _ (tree : PProgram) (code : Code) (texts : Texts) (nested : AreNested (sc
     declared_home : ArrayHome ((use_of sc n).sort) (named n) (shape_of d) couple
     declared_home =
         let parent : IsParent tree code texts w lay p (part ∷ outer) part.instance up ((use_of sc n).block) =
-        parents_in tree code texts w lay p part outer core s.stands s.around part.instance (inl refl) up ((use_of sc n).block) is_seen.seen in
+        parents_in tree code texts w lay p part outer core s.stands s.around part.instance (part_own tree code texts w lay p part outer core.below s.stands.frame) up ((use_of sc n).block) is_seen.seen in
         home_there parent (lies_in tree code texts w lay p part outer core s.stands s.around (ancestor w up part.instance) parent.own)
 
   -- ---- an array that a parameter stands for
@@ -246,9 +243,15 @@ module _ (tree : PProgram) (code : Code) (texts : Texts) (nested : AreNested (sc
     is_seen : IsSeenThere n
     is_seen = array_seen (IsSeen sc block) n (IsInner sc block) (IsSeenAround sc block) (λ (around_it : IsSeenAround sc block n). around_it.0) part.rest asks s.stands.frame.text
 
+    -- all is made there, or the array is one around
+    made_there_or_around : IsComplete sc w lay part.instance ⊎ IsSeenAround sc block n
+    made_there_or_around =
+        made_or_around tree code texts w lay img p q part outer bound core s is_seen.made
+        (λ text. (array_seen (IsSeenAround sc block) n (λ (b : PBody). ⊥) (IsSeenAround sc block) (λ (seen : IsSeenAround sc block n). seen) part.rest asks text).seen)
+
     pub array_home : IsArray sc level n shape couple → MeantArray n shape couple
     array_home (declared d is v) =
-        let h : ArrayHome ((use_of sc n).sort) (named n) (shape_of d) couple = declared_home n d couple is_seen v in
+        let h : ArrayHome ((use_of sc n).sort) (named n) (shape_of d) couple = declared_home n d couple is_seen made_there_or_around v in
         subst (λ (t : Shape). MeantArray n t couple) (sym is)
         (subst (λ (r : Reference). ArrayHome ((use_of sc n).sort) r (shape_of d) couple) (sym (ap (λ (c : Cell). by_cell c (named n)) h.of.is)) h)
     array_home (formal v) =

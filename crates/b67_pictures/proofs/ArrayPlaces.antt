@@ -88,13 +88,13 @@ module _ (tree : PProgram) (code : Code) (texts : Texts) (w : World) (lay : Layo
     i = l.part.instance
 
     abbrev here : Instance
-    here = l.frame.framed.instance
+    here = l.owned.framed.instance
 
     here_is : here ≡ instance_at w i
-    here_is = sym (ap or_no_instance l.frame.framed.is)
+    here_is = sym (ap or_no_instance l.owned.framed.is)
 
     abbrev own : OwnCells sc w lay i here
-    own = framed_cells sc w lay l.frame.framed
+    own = framed_cells sc w lay l.owned.framed
 
     module _ (name : List ℕ) (declared : DeclaredArray) (cell : ArrayCell) (a : Allotted) (of : IsArrayOf sc w lay i name declared cell a) where
       abbrev Known_there : Type 0
@@ -104,19 +104,19 @@ module _ (tree : PProgram) (code : Code) (texts : Texts) (w : World) (lay : Layo
       found = known_array sc w lay i here own name declared cell a of
 
       abbrev far : ℕ
-      far = length (simple_cells sc (block_numbered sc.blocks here.block)) + length (block_controls sc here.block l.frame.framed.ats) + of.number
+      far = length (simple_cells sc (block_numbered sc.blocks here.block)) + length (block_controls sc here.block l.owned.framed.ats) + of.number
 
       cells_lie : slice_get l.frame.cells far ≡ Some found.0.word
       cells_lie =
-          ap (λ (ws : List Word). slice_get ws far) l.frame.framed.cells_is
-          ∙ descriptor_lies sc w lay i here own name of.number declared found.0 (block_controls sc here.block l.frame.framed.ats)
+          ap (λ (ws : List Word). slice_get ws far) l.owned.framed.cells_is
+          ∙ descriptor_lies sc w lay i here own name of.number declared found.0 (block_controls sc here.block l.owned.framed.ats)
 
       index_is : suc (suc far) ≡ array_index i of.number
       index_is =
           omega (
             arith,
             ap (λ (x : Instance). made_base sc (block_numbered sc.blocks x.block)) here_is,
-            controls_many sc here.block l.frame.framed.ats l.frame.framed.each_has_place,
+            controls_many sc here.block l.owned.framed.ats l.owned.framed.each_has_place,
           )
 
       there : ArrayPlace i name declared cell a of
@@ -132,9 +132,9 @@ module _ (tree : PProgram) (code : Code) (texts : Texts) (w : World) (lay : Layo
             has =
                 subst (λ (b : Allotted). HasArray sc w lay i of.number declared cell b) found.2
                 (subst (λ (c : ArrayCell). HasArray sc w lay i of.number declared c found.0.allotted) found.1 found.0.has);
-            laid = l.frame.framed.laid;
+            laid = l.owned.framed.laid;
             low = omega (arith, lies_low tree code texts w lay p (part ∷ outer) j core.below l);
-            known = subst (λ (x : Instance). x.block < length sc.blocks) here_is l.frame.framed.known;
+            known = subst (λ (x : Instance). x.block < length sc.blocks) here_is l.owned.framed.known;
             lies = ap (λ (n : ℕ). word_at img.stacks (place p (length l.frame.lower + n))) (sym index_is) ∙ frame_lies l far found.0.word cells_lie;
           }
 

@@ -1,4 +1,5 @@
 -- The making of arrays: ENTR on ARRAYS, after which PUSH makes cells of the descriptors; or a fault.
+use Rattle.b67_control.specs.Display.{place_at}
 use Rattle.std.proofs.Common.{◌≡◌, ◌≢◌, ◌⊎◌, inl, inr, refl, sym, ap, ◌∙◌, subst, ℕ, ◌+◌, ◌<◌, ◌≤◌, List, [], ◌∷◌, ◌++◌, length, Option, Some, None, Ok, Bool, true, false, arith, length-append}
 use Rattle.std.specs.Prelude.{if◌then◌else◌}
 use Rattle.std.proofs.lemmas.List.{length-reverse, reverse-reverse}
@@ -48,7 +49,7 @@ use Rattle.b67_fitting.specs.Nested.{AreNested}
 use Rattle.b67_faithful.specs.Correspondence.{as_action}
 use Rattle.b67_pictures.specs.Acting.{Does, gave, failed_by, stopped}
 use Rattle.b67_pictures.specs.Arrays.{Layout}
-use Rattle.b67_pictures.specs.Frames.{most_around, IsChained, Frame}
+use Rattle.b67_pictures.specs.Frames.{most_around, IsChained, Frame, run_level}
 use Rattle.b67_pictures.specs.Pictures.{Living, Pictures, PicturesBy}
 use Rattle.b67_pictures.proofs.ArraySizes.{HasDimensions, has_dimensions, bounds_lows}
 use Rattle.b67_pictures.proofs.ArraysGiven.{arrays_given, given_lie, given_fit, given_whole}
@@ -66,7 +67,9 @@ use Rattle.b67_pictures.proofs.Numbers.{most_or_more}
 use Rattle.b67_pictures.proofs.Rows.{action_not_plain, action_is, fault_not_plain}
 use Rattle.b67_pictures.proofs.Scene.{Scene}
 use Rattle.b67_pictures.proofs.Stage.{gives_within, limit_beyond, faults_so, choice_is, goes_on, faulted}
-use Rattle.b67_pictures.proofs.Staying.{text_in, level_in, context_in, most_in}
+use Rattle.b67_pictures.proofs.Staying.{text_in, level_in, context_in, most_in, names_in}
+use Rattle.b67_templates.specs.Code.{in_routine}
+use Rattle.algol_meaning.specs.Critical.{is_evaluation}
 
 none_left : (sc : Scopes) (known : List Known) (level home base : ℕ) (ws : List Word) → SlotsAre sc known level home base [] ws → ws ≡ []
 none_left sc known level home base [] are = refl
@@ -75,9 +78,9 @@ none_left sc known level home base (w ∷ ws) are = absurd are
 module _ (tree : PProgram) (code : Code) (texts : Texts) (nested : AreNested (scopes_of tree)) (fragments : FragmentsArePerformed) (cells_made : CellsAreMade) (keeps : RestsKeepToTheirText) (order : AllIsMadeInOrder)
     (w : World) (lay : Layout) (img : Image) (p : ℕ) (q : Process) (part : Part) (outer : List Part) (bound : ℕ) (core : Core) (s : Scene tree code texts w lay img p q part outer bound core) (able_is : q.state ≡ able) (able_p : numbered img.states p ≡ Some Able)
     (kind : Kind) (ns : List Named) (pairs : List PPair) (vs : List Value) (asks : ask part.rest ≡ makes_arrays kind ns pairs vs)
-    (a : ActionAt (scopes_of tree) (context_in tree code texts w part) (text_in tree texts w part) (level_in tree w part) (most_in tree w part) (makes_arrays kind ns pairs vs) s.stands.pc s.stands.slots)
-    (answered : (r : Answer) (at : ℕ) (left : List Slot) → Acted (scopes_of tree) (context_in tree code texts w part) (text_in tree texts w part) (level_in tree w part) (most_in tree w part) (makes_arrays kind ns pairs vs) s.stands.pc s.stands.slots a r at left →
-    ComesTo (scopes_of tree) (context_in tree code texts w part) (text_in tree texts w part) (level_in tree w part) (most_in tree w part) (resume (scopes_of tree) part.rest r) at left) where
+    (a : ActionAt (scopes_of tree) (context_in tree code texts w part s.stands.frame.gives) (text_in tree texts w part) (level_in tree w part) (most_in tree w part) (makes_arrays kind ns pairs vs) s.stands.pc s.stands.slots)
+    (answered : (r : Answer) (at : ℕ) (left : List Slot) → Acted (scopes_of tree) (context_in tree code texts w part s.stands.frame.gives) (text_in tree texts w part) (level_in tree w part) (most_in tree w part) (makes_arrays kind ns pairs vs) s.stands.pc s.stands.slots a r at left →
+    ComesTo (scopes_of tree) (context_in tree code texts w part s.stands.frame.gives) (text_in tree texts w part) (level_in tree w part) (most_in tree w part) (resume (scopes_of tree) part.rest r) at left) where
   abbrev sc : Scopes
   sc = scopes_of tree
 
@@ -179,7 +182,7 @@ module _ (tree : PProgram) (code : Code) (texts : Texts) (nested : AreNested (sc
           ∙ ap (λ (b : Bool). sized b (has_no_room w bs ns)) right
           ∙ ap (sized false) room
           ∙ ap (λ (o : Option Instance). record { action = MakeArrays; world = with_process (with_instance w part.instance (record (or_no_instance o) { cells = (or_no_instance o).cells ++ new_arrays kind bs ns })) p q'; released = []; started = None })
-          s.stands.frame.framed.is
+          (frames.own_frame tree code texts nested keeps order w lay img p q part outer bound core s kind ns pairs vs asks).framed.is
 
       -- ---- the core after the entry
 
@@ -270,17 +273,19 @@ module _ (tree : PProgram) (code : Code) (texts : Texts) (nested : AreNested (sc
             frame = frame';
             around = frames.around' tree code texts nested keeps order w lay img p q part outer bound core s kind ns pairs vs asks a.1.dimensions a.1.each right room;
             counted = omega (arith, ap (λ (r : Registers). r.cells) g.registers, words_many, s.stands.counted, length-append s.stands.frame.cells descriptors, descriptors_many);
-            chained = subst (λ (d : List (Option Place)). IsChained sc w' lay' part.instance (level_in tree w' part') d) (sym (ap (λ (r : Registers). r.display) g.registers))
+            chained = subst (λ (d : List (Option Place)). IsChained sc w' lay' part.instance (names_in tree w' part') d) (sym (ap (λ (r : Registers). r.display) g.registers))
                 (subst (λ (j : ℕ). IsChained sc w' lay' part.instance (level_of (block_numbered sc.blocks j)) core.registers.display) block_is
                 (frames.chained tree code texts nested keeps order w lay img p q part outer bound core s kind ns pairs vs asks));
+            top = ap (λ (r : Registers). place_at r.display (level_in tree w' part')) g.registers
+                ∙ ap (λ (j : ℕ). place_at core.registers.display (run_level (is_evaluation part.purpose) (level_of (block_numbered sc.blocks j)))) (sym block_is) ∙ s.stands.top;
             segment_is = ap (λ (r : Registers). r.segment) g.registers ∙ s.stands.segment_is ∙ ap (λ (j : ℕ). segment_of sc.blocks j) block_is;
             pc = a.0;
             slots = [];
             known = [];
             known_are = tt;
-            at = subst (λ (j : ℕ). CoreAt sc [] code (texts.placed (segment_of sc.blocks j)) (level_of (block_numbered sc.blocks j)) a.0 [] g.core) block_is g.at;
+            at = subst (λ (j : ℕ). CoreAt sc [] code (texts.placed (segment_of sc.blocks j)) (run_level (is_evaluation part.purpose) (level_of (block_numbered sc.blocks j))) a.0 [] g.core) block_is g.at;
             held = omega arith;
-            comes = subst (λ (j : ℕ). ComesTo sc (context_of code texts sc j) (texts.placed (segment_of sc.blocks j)) (level_of (block_numbered sc.blocks j)) (most_around tree j) (resume sc part.rest done) a.0 []) block_is
+            comes = subst (λ (j : ℕ). ComesTo sc (in_routine s.stands.frame.gives (context_of code texts sc j)) (texts.placed (segment_of sc.blocks j)) (run_level (is_evaluation part.purpose) (level_of (block_numbered sc.blocks j))) (most_around tree j) (resume sc part.rest done) a.0 []) block_is
                 (answered done a.0 [] (refl, refl));
             room = subst (λ (j : ℕ). length g.core.below + most_around tree j ≤ bound') block_is (omega (arith, s.room, below_long));
             light = omega (arith, s.light, heavier);

@@ -1,5 +1,6 @@
 -- A block of a statement is entered.
-use Rattle.std.proofs.Common.{◌≡◌, inl, refl, sym, ap, ◌∙◌, subst, ℕ, ◌+◌, ◌-◌, ◌*◌, ◌≤◌, List, [], ◌∷◌, ◌++◌, length, Option, Some, None, Bool, false, not, arith, Ok}
+use Rattle.algol_meaning.specs.Critical.{is_evaluation}
+use Rattle.std.proofs.Common.{◌≡◌, refl, sym, ap, ◌∙◌, subst, ℕ, ◌+◌, ◌-◌, ◌*◌, ◌≤◌, List, [], ◌∷◌, ◌++◌, length, Option, Some, None, Bool, false, not, arith, Ok}
 use Rattle.std.specs.Prelude.{if◌then◌else◌, slice_get}
 use Rattle.b67_list.specs.Numbered.{numbered}
 use Rattle.algol_tree.specs.declared.token.Spot.{Spot}
@@ -53,7 +54,8 @@ use Rattle.b67_faithful.specs.Weight.{tokens_around}
 use Rattle.b67_fitting.specs.Nested.{LiesNested}
 use Rattle.b67_pictures.specs.Arrays.{Layout}
 use Rattle.b67_pictures.specs.Acting.{Does}
-use Rattle.b67_pictures.specs.Frames.{controls_count, most_around, IsComplete}
+use Rattle.b67_pictures.specs.Frames.{block_controls, controls_count, most_around, IsComplete, Owned, run_level}
+use Rattle.b67_pictures.proofs.ControlWords.{controls_fit}
 use Rattle.b67_pictures.proofs.AskedEntries.{blocks_seen, block_unmade}
 use Rattle.b67_pictures.proofs.Completing.{complete_of}
 use Rattle.b67_letters.specs.Letters.{called_by}
@@ -68,25 +70,26 @@ use Rattle.b67_pictures.proofs.Linked.{Linked, begins_core, own_linked, linked_l
 use Rattle.b67_pictures.proofs.Scene.{Scene, shown_frame}
 use Rattle.b67_pictures.proofs.Segmented.{inner_segment}
 use Rattle.b67_pictures.proofs.Stage.{choice_is}
-use Rattle.b67_pictures.proofs.Staying.{text_in, level_in, context_in, most_in}
+use Rattle.b67_pictures.proofs.Staying.{text_in, level_in, context_in, most_in, names_in}
 use Rattle.b67_pictures.proofs.StoreRow.{most_is}
 use Rattle.b67_pictures.proofs.Unmade.{makes, unmade}
 use Rattle.b67_table.specs.Look.{seen}
 use Rattle.b67_table.specs.References.{cell_of}
+use Rattle.b67_pictures.proofs.Lying.{part_own, owned_frame, asks_as_own, runs_at}
 
 module _ (tree : PProgram) (code : Code) (texts : Texts) (nested : LiesNested tree) (short : IsShort tree code)
     (fragments : FragmentsArePerformed) (begins_so : BlocksBegin) (starts : InnerBlocksStart) (keeps : RestsKeepToTheirText) (order : AllIsMadeInOrder)
     (w : World) (lay : Layout) (img : Image) (p : ℕ) (q : Process) (part : Part) (outer : List Part) (bound : ℕ) (core : Core)
     (s : Scene tree code texts w lay img p q part outer bound core) (able_is : q.state ≡ able) (able_p : numbered img.states p ≡ Some Able)
     (spot : Spot) (ds : PDecls) (ss : PStmts) (asks : ask part.rest ≡ enters_block (body spot ds ss))
-    (a : ActionAt (scopes_of tree) (context_in tree code texts w part) (text_in tree texts w part) (level_in tree w part) (most_in tree w part) (enters_block (body spot ds ss)) s.stands.pc s.stands.slots)
+    (a : ActionAt (scopes_of tree) (context_in tree code texts w part s.stands.frame.gives) (text_in tree texts w part) (level_in tree w part) (most_in tree w part) (enters_block (body spot ds ss)) s.stands.pc s.stands.slots)
     (waits : (to : ℕ) (after : List Slot) (wanted : Yields) →
-    Entered (scopes_of tree) (context_in tree code texts w part) (text_in tree texts w part) (level_in tree w part) (most_in tree w part) (enters_block (body spot ds ss)) s.stands.pc s.stands.slots a to after wanted →
+    Entered (scopes_of tree) (context_in tree code texts w part s.stands.frame.gives) (text_in tree texts w part) (level_in tree w part) (most_in tree w part) (enters_block (body spot ds ss)) s.stands.pc s.stands.slots a to after wanted →
     ask (resume (scopes_of tree) part.rest entered) ≡ nothing)
     (returns : (to : ℕ) (after : List Slot) (wanted : Yields) →
-    Entered (scopes_of tree) (context_in tree code texts w part) (text_in tree texts w part) (level_in tree w part) (most_in tree w part) (enters_block (body spot ds ss)) s.stands.pc s.stands.slots a to after wanted →
+    Entered (scopes_of tree) (context_in tree code texts w part s.stands.frame.gives) (text_in tree texts w part) (level_in tree w part) (most_in tree w part) (enters_block (body spot ds ss)) s.stands.pc s.stands.slots a to after wanted →
     (r : Answer) → Gives wanted r →
-    ComesTo (scopes_of tree) (context_in tree code texts w part) (text_in tree texts w part) (level_in tree w part) (most_in tree w part) (resume (scopes_of tree) (resume (scopes_of tree) part.rest entered) r) to (pushed wanted r after)) where
+    ComesTo (scopes_of tree) (context_in tree code texts w part s.stands.frame.gives) (text_in tree texts w part) (level_in tree w part) (most_in tree w part) (resume (scopes_of tree) (resume (scopes_of tree) part.rest entered) r) to (pushed wanted r after)) where
   abbrev sc : Scopes
   sc = scopes_of tree
 
@@ -102,14 +105,24 @@ module _ (tree : PProgram) (code : Code) (texts : Texts) (nested : LiesNested tr
   abbrev b : Block
   b = block_numbered sc.blocks j
 
-  abbrev at : EntersAt sc (context_in tree code texts w part) (text_in tree texts w part) level (most_in tree w part) spot ds ss s.stands.pc a.0 s.stands.slots a.1
+  abbrev at : EntersAt sc (context_in tree code texts w part s.stands.frame.gives) (text_in tree texts w part) level (most_in tree w part) spot ds ss s.stands.pc a.0 s.stands.slots a.1
   at = a.2
 
   is_inner : IsInner sc around_block (body spot ds ss)
   is_inner = blocks_seen (IsSeen sc around_block) (IsInner sc around_block) (IsSeenAround sc around_block) (body spot ds ss) part.rest asks s.stands.frame.text
 
+  -- the part has its frame's instance for its own
+  owns : is_evaluation part.purpose ≡ false
+  owns = asks_as_own tree code texts w lay p part outer core.below s.stands.frame (enters_block (body spot ds ss)) asks (λ e. e)
+
+  abbrev own_frame : Owned tree code texts w lay p part outer (length s.stands.frame.lower) s.stands.frame.mark s.stands.frame.control s.stands.frame.cells
+  own_frame = owned_frame tree code texts w lay p part outer core.below s.stands.frame owns
+
+  own_level : run_level (is_evaluation part.purpose) (names_in tree w part) ≡ names_in tree w part
+  own_level = sym (runs_at part (names_in tree w part) owns)
+
   level_new : level_of b ≡ level + 1
-  level_new = omega (arith, level_around sc.blocks j, ap length is_inner.around_is, level_around sc.blocks around_block)
+  level_new = omega (arith, own_level, level_around sc.blocks j, ap length is_inner.around_is, level_around sc.blocks around_block)
 
   same_segment : segment_of sc.blocks j ≡ segment_of sc.blocks around_block
   same_segment =
@@ -117,12 +130,16 @@ module _ (tree : PProgram) (code : Code) (texts : Texts) (nested : LiesNested tr
       ∙ ap (segment_among sc.blocks) is_inner.around_is
 
   -- what stands in the text around stands in that of the block
-  in_text : (X : Context → List Placed → ℕ → Type 0) → X (in_block j (context_in tree code texts w part)) (text_in tree texts w part) (level + 1) → X (context_of code texts sc j) (texts.placed (segment_of sc.blocks j)) (level_of b)
+  in_text : (X : Context → List Placed → ℕ → Type 0) → X (in_block j (context_in tree code texts w part s.stands.frame.gives)) (text_in tree texts w part) (level + 1) → X (context_of code texts sc j) (texts.placed (segment_of sc.blocks j)) (level_of b)
   in_text X x =
       let own : ℕ → ℕ → Yields → Context = λ k l y. record { formats = code.formats; segment = k; block = j; level = l; yields = y; labels = texts.labels } in
+      let names : ℕ = names_in tree w part in
+      let here : X (in_block j (context_in tree code texts w part s.stands.frame.gives)) (text_in tree texts w part) (names + 1) =
+      subst (λ (l : ℕ). X (in_block j (context_in tree code texts w part s.stands.frame.gives)) (text_in tree texts w part) (l + 1)) (own_level) x in
+      let further : level_of b ≡ names + 1 = omega (arith, level_new, own_level) in
       subst (λ (k : ℕ). X (own k (level_of b) (yields_of b.result)) (texts.placed k) (level_of b)) (sym same_segment)
       (subst (λ (y : Yields). X (own (segment_of sc.blocks around_block) (level_of b) y) (text_in tree texts w part) (level_of b)) (ap yields_of (sym is_inner.result))
-      (subst (λ (l : ℕ). X (own (segment_of sc.blocks around_block) l yielding.nothing) (text_in tree texts w part) l) (sym level_new) x))
+      (subst (λ (l : ℕ). X (own (segment_of sc.blocks around_block) l yielding.nothing) (text_in tree texts w part) l) (sym further) here))
 
   -- ---- the entry
 
@@ -133,7 +150,7 @@ module _ (tree : PProgram) (code : Code) (texts : Texts) (nested : LiesNested tr
   c_is = ap (λ (k : ℕ). code_at k at.begin (level + 1)) (sym same_segment) ∙ ap (code_at (segment_of sc.blocks j) at.begin) (sym level_new)
 
   linked : Linked sc w lay img.stacks p part.instance
-  linked = own_linked tree code texts w lay p img.stacks part outer core s.stands s.around (begins_core img p core s.has) part.instance (inl refl)
+  linked = own_linked tree code texts w lay p img.stacks part outer core s.stands s.around (begins_core img p core s.has) part.instance (part_own tree code texts w lay p part outer core.below s.stands.frame)
 
   home_there : level_below core.registers (level + 1) ≡ Some (place p linked.at)
   home_there =
@@ -141,7 +158,7 @@ module _ (tree : PProgram) (code : Code) (texts : Texts) (nested : LiesNested tr
       ap (λ (t : Bool). if t then display_at core.registers (level + 1 - 1) else None) (most_is 1 (level + 1) (omega arith))
       ∙ ap (λ (n : ℕ). display_at core.registers n) less
       ∙ shown_frame tree code texts w lay img p q part outer bound core s
-      ∙ sym s.stands.frame.framed.laid
+      ∙ sym own_frame.framed.laid
       ∙ linked.laid
 
   abbrev HasControl : Word → Type 0
@@ -156,8 +173,8 @@ module _ (tree : PProgram) (code : Code) (texts : Texts) (nested : LiesNested tr
   -- no arrays are still to be made
   complete : IsComplete sc w lay part.instance
   complete =
-      complete_of sc w lay p part.instance outer (length s.stands.frame.lower) s.stands.frame.mark s.stands.frame.control s.stands.frame.cells s.stands.frame.framed
-      (s.stands.frame.making ∙ block_unmade (body spot ds ss) part.rest asks)
+      complete_of sc w lay p part.instance outer (length s.stands.frame.lower) s.stands.frame.mark s.stands.frame.control s.stands.frame.cells own_frame.framed
+      (own_frame.making ∙ block_unmade (body spot ds ss) part.rest asks)
 
   abbrev calls : Calls tree code texts nested short w lay img p q part outer bound core s [] [] (control c) a.0 a.1 part.instance j at.begin
   calls =
@@ -167,12 +184,12 @@ module _ (tree : PProgram) (code : Code) (texts : Texts) (nested : LiesNested tr
         given_few = omega arith;
         marks = refl;
         stands = at.stands;
-        own_parent = inl refl;
+        own_parent = part_own tree code texts w lay p part outer core.below s.stands.frame;
         complete = complete;
         known = is_inner.known;
         around_is = is_inner.around_is;
         linked = linked;
-        low = linked_low tree code texts w lay p img.stacks part outer core s.stands s.around part.instance (inl refl) linked;
+        low = linked_low tree code texts w lay p img.stacks part outer core s.stands s.around part.instance (part_own tree code texts w lay p part outer core.below s.stands.frame) linked;
         segment = s.stands.there.segment;
         there = ap (λ (k : ℕ). slice_get code.segments k) (same_segment ∙ sym s.stands.segment_is) ∙ s.stands.there.there;
         spells = subst (λ (k : ℕ). Spells (texts.placed k) s.stands.there.segment) (sym same_segment) s.stands.there.spells;
@@ -218,19 +235,26 @@ module _ (tree : PProgram) (code : Code) (texts : Texts) (nested : LiesNested tr
   abbrev CellsThere : Context → List Placed → ℕ → ℕ → PDecls → List Actual → Type 0
   CellsThere x ps l many declarations actuals = CellsAt sc x ps l many (control_pcws sc x.segment l declarations actuals at.code.0) at.begin begun
 
+  cells_there : CellsThere (context_of code texts sc j) (texts.placed (segment_of sc.blocks j)) (level_of b) (length (zero_cells b)) b.decls (actuals_of sc b)
+  cells_there =
+      subst (λ (n : ℕ). CellsThere (context_of code texts sc j) (texts.placed (segment_of sc.blocks j)) (level_of b) n b.decls (actuals_of sc b)) zeros_many
+      (subst (λ (x : PDecls). CellsThere (context_of code texts sc j) (texts.placed (segment_of sc.blocks j)) (level_of b) (length (variables ds)) x (actuals_of sc b)) (sym is_inner.decls_are)
+      (subst (λ (as' : List Actual). CellsThere (context_of code texts sc j) (texts.placed (segment_of sc.blocks j)) (level_of b) (length (variables ds)) ds as') actuals_are
+      (in_text (λ x ps l. CellsThere x ps l (length (variables ds)) ds (actuals_in_block sc ds ss)) at.code.6)))
+
   abbrev block_body : Body tree code texts nested short fragments begins_so keeps order w lay img p q part outer bound core s able_is able_p j at.begin
   block_body =
       record {
         ready = at.begin;
         start = begun;
         ats = at.code.0;
-        routines = subst (λ (as' : List Actual). RoutinesAt sc (context_of code texts sc j) (texts.placed (segment_of sc.blocks j)) (level_of b + 1) as' at.code.0) actuals_are
-            (in_text (λ x ps l. RoutinesAt sc x ps (l + 1) (actuals_in_block sc ds ss) at.code.0) at.code.5);
+        routines = (
+          subst (λ (as' : List Actual). RoutinesAt sc (context_of code texts sc j) (texts.placed (segment_of sc.blocks j)) (level_of b + 1) as' at.code.0) actuals_are
+              (in_text (λ x ps l. RoutinesAt sc x ps (l + 1) (actuals_in_block sc ds ss) at.code.0) at.code.5),
+          controls_fit (texts.placed (segment_of sc.blocks j)) (level_of b) (block_controls sc j at.code.0) cells_there.0 cells_there.1 cells_there.3,
+        );
         over = stop;
-        cells_at = subst (λ (n : ℕ). CellsThere (context_of code texts sc j) (texts.placed (segment_of sc.blocks j)) (level_of b) n b.decls (actuals_of sc b)) zeros_many
-            (subst (λ (x : PDecls). CellsThere (context_of code texts sc j) (texts.placed (segment_of sc.blocks j)) (level_of b) (length (variables ds)) x (actuals_of sc b)) (sym is_inner.decls_are)
-            (subst (λ (as' : List Actual). CellsThere (context_of code texts sc j) (texts.placed (segment_of sc.blocks j)) (level_of b) (length (variables ds)) ds as') actuals_are
-            (in_text (λ x ps l. CellsThere x ps l (length (variables ds)) ds (actuals_in_block sc ds ss)) at.code.6)));
+        cells_at = cells_there;
         comes = subst (λ (k : List Item). ComesTo sc (context_of code texts sc j) (texts.placed (segment_of sc.blocks j)) (level_of b) (most_around tree j) (settle_items sc k) begun [])
             (sym (plain_items b is_inner.result ∙ ap (λ (x : PDecls). decls_items x ++ items b.stmts []) is_inner.decls_are ∙ ap (λ (x : PStmts). decls_items ds ++ items x []) is_inner.stmts_are))
             (starts sc (context_of code texts sc j) (texts.placed (segment_of sc.blocks j)) (level_of b) (most_around tree j) ds ss begun declared end at.code.4
@@ -246,7 +270,7 @@ module _ (tree : PProgram) (code : Code) (texts : Texts) (nested : LiesNested tr
         unmade = unmade part.rest (ap makes asks);
         waits = waits a.0 a.1 yielding.nothing (refl, refl, refl);
         returns = subst (λ (o : Option Kind). (r : Answer) → Gives (yields_of o) r →
-            ComesTo sc (context_in tree code texts w part) (text_in tree texts w part) level (most_in tree w part) (resume sc (resume sc part.rest entered) r) a.0 (pushed (yields_of o) r a.1)) (sym is_inner.result)
+            ComesTo sc (context_in tree code texts w part s.stands.frame.gives) (text_in tree texts w part) level (most_in tree w part) (resume sc (resume sc part.rest entered) r) a.0 (pushed (yields_of o) r a.1)) (sym is_inner.result)
             (λ r given. returns a.0 a.1 yielding.nothing (refl, refl, refl) r given);
       }
 

@@ -243,7 +243,7 @@ module _ (tree : PProgram) (code : Code) (texts : Texts) (w : World) (lay : Layo
 
     lower : Marked sc s.stands.held (level_in tree w part) home base core.below ((g.arguments ++ i.word ∷ k.word ∷ []) ++ k.words_below) (newest home base below)
     lower =
-        marked_at sc s.stands.held (level_in tree w part) home base core.below refl s.stands.frame.mark own_lies _ s.stands.frame.framed.mark_is below
+        marked_at sc s.stands.held (level_in tree w part) home base core.below refl s.stands.frame.mark own_lies _ s.stands.frame.mark_is below
         (g.arguments ++ i.word ∷ k.word ∷ []) k.words_below k.are (omega (arith, room))
 
     stack_is : words_of img.stacks core.registers.stack ≡ core.below ++ reverse ((g.arguments ++ i.word ∷ k.word ∷ []) ++ k.words_below)

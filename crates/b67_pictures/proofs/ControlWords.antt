@@ -8,24 +8,23 @@ use Rattle.algol_tree.specs.Cells.{level_of}
 use Rattle.algol_tree.specs.Scopes.{Scopes}
 use Rattle.algol_paths.specs.Segments.{segment_of}
 use Rattle.b67_control.specs.declared.Pcw.{Pcw}
-use Rattle.b67_control.specs.Control.{pcw_word}
+use Rattle.b67_control.specs.Control.{Fits_pcw, pcw_word}
 use Rattle.b67_segment.specs.Operators.{Placed}
-use Rattle.b67_templates.specs.Fragments.{code_at, routine_at, procedure_controls}
+use Rattle.b67_templates.specs.Fragments.{ControlsAt, code_at, routine_at, procedure_controls}
 use Rattle.b67_templates.specs.Cells.{simple_cells, procedures, control_segments, Actual, has_place, actuals_of, made_of}
 use Rattle.b67_templates.specs.Contexts.{Context}
 use Rattle.b67_templates.specs.Code.{RoutineAt, RoutinesAt, routine_controls}
 use Rattle.b67_cores.specs.Stretches.{control_words}
 use Rattle.b67_faithful.proofs.Contradictions.{some_same, none_some}
 use Rattle.b67_fitting.specs.Nested.{AreNested}
-use Rattle.b67_fitting.proofs.Unnamed.{nested_no_actuals}
-use Rattle.b67_pictures.specs.Frames.{block_controls, controls_count}
+use Rattle.b67_pictures.specs.Frames.{AllFit, block_controls, controls_count}
 use Rattle.b67_pictures.proofs.Segmented.{get_mapped, length_mapped}
 use Rattle.b67_pictures.proofs.StackWords.{get-front, get-behind}
 
 -- the cells of a block are few: simple cells, control words, and what actions make
 pub block_few : (sc : Scopes) → AreNested sc → (j : ℕ) → j < length sc.blocks →
     length (simple_cells sc (block_numbered sc.blocks j)) + controls_count sc j + length (made_of (block_numbered sc.blocks j).decls) ≤ MOST_BLOCK_CELLS
-block_few sc nested j known = omega (arith, (nested.each j known).few, ap length (nested_no_actuals sc nested (block_numbered sc.blocks j)))
+block_few sc nested j known = omega (arith, (nested.each j known).few)
 
 -- where the code of each actual stands at its place, there are as many places
 pub routines_long : (sc : Scopes) (context : Context) (ps : List Placed) (level : ℕ) (actuals : List Actual) (ats : List ℕ) → RoutinesAt sc context ps level actuals ats → length ats ≡ length actuals
@@ -95,17 +94,33 @@ routine_got segment level (b ∷ actuals) (n ∷ ats) zero a at e f =
 routine_got segment level (b ∷ actuals) (n ∷ ats) (suc k) a at e f = routine_got segment level actuals ats k a at e f
 
 -- its control word, by the number of the actual: after those of the procedures
-pub get_routine : (sc : Scopes) (j : ℕ) (ats : List ℕ) (k : ℕ) (a : Actual) (at : ℕ) → slice_get (actuals_of sc (block_numbered sc.blocks j)) k ≡ Some a → slice_get ats k ≡ Some at →
-    slice_get (control_words (block_controls sc j ats)) (length (procedures (block_numbered sc.blocks j).decls) + k)
-    ≡ Some (pcw_word (routine_at (has_place a.expr) (segment_of sc.blocks j) at (level_of (block_numbered sc.blocks j) + 1)))
-get_routine sc j ats k a at e f =
+pub routine_control : (sc : Scopes) (j : ℕ) (ats : List ℕ) (k : ℕ) (a : Actual) (at : ℕ) → slice_get (actuals_of sc (block_numbered sc.blocks j)) k ≡ Some a → slice_get ats k ≡ Some at →
+    slice_get (block_controls sc j ats) (length (procedures (block_numbered sc.blocks j).decls) + k) ≡ Some (routine_at (has_place a.expr) (segment_of sc.blocks j) at (level_of (block_numbered sc.blocks j) + 1))
+routine_control sc j ats k a at e f =
     let b : Block = block_numbered sc.blocks j in
-    let c : Pcw = routine_at (has_place a.expr) (segment_of sc.blocks j) at (level_of b + 1) in
-    get_mapped (λ (pcw : Pcw). pcw_word pcw) (block_controls sc j ats) (length (procedures b.decls) + k) c
-    (get-behind (procedure_controls (level_of b) (control_segments sc b.decls)) (routine_controls (segment_of sc.blocks j) (level_of b) (actuals_of sc b) ats) k (length (procedures b.decls) + k)
+    get-behind (procedure_controls (level_of b) (control_segments sc b.decls)) (routine_controls (segment_of sc.blocks j) (level_of b) (actuals_of sc b) ats) k (length (procedures b.decls) + k)
     (omega (
       arith,
       length_mapped (λ (segment : ℕ). code_at segment 0 (level_of b + 1)) (control_segments sc b.decls),
       length_mapped (λ (n : Named). segment_of sc.blocks (number_at sc.blocks n.spot)) (procedures b.decls),
     ))
-    ∙ routine_got (segment_of sc.blocks j) (level_of b) (actuals_of sc b) ats k a at e f)
+    ∙ routine_got (segment_of sc.blocks j) (level_of b) (actuals_of sc b) ats k a at e f
+
+pub get_routine : (sc : Scopes) (j : ℕ) (ats : List ℕ) (k : ℕ) (a : Actual) (at : ℕ) → slice_get (actuals_of sc (block_numbered sc.blocks j)) k ≡ Some a → slice_get ats k ≡ Some at →
+    slice_get (control_words (block_controls sc j ats)) (length (procedures (block_numbered sc.blocks j).decls) + k)
+    ≡ Some (pcw_word (routine_at (has_place a.expr) (segment_of sc.blocks j) at (level_of (block_numbered sc.blocks j) + 1)))
+get_routine sc j ats k a at e f =
+    get_mapped (λ (pcw : Pcw). pcw_word pcw) (block_controls sc j ats) (length (procedures (block_numbered sc.blocks j).decls) + k)
+    (routine_at (has_place a.expr) (segment_of sc.blocks j) at (level_of (block_numbered sc.blocks j) + 1)) (routine_control sc j ats k a at e f)
+
+-- ---- control words can hold where their code stands
+
+-- those that the code of a block pushes
+pub controls_fit : (ps : List Placed) (level : ℕ) (pcws : List Pcw) (from to : ℕ) → ControlsAt ps level pcws from to → AllFit pcws
+controls_fit ps level [] from to are = tt
+controls_fit ps level (c ∷ cs) from to are = (are.2, controls_fit ps level cs are.0 to are.3)
+
+pub fits_there : (pcws : List Pcw) → AllFit pcws → (k : ℕ) (c : Pcw) → slice_get pcws k ≡ Some c → Fits_pcw c
+fits_there [] all k c e = none_some e
+fits_there (d ∷ pcws) all zero c e = subst (λ (x : Pcw). Fits_pcw x) (some_same e) all.0
+fits_there (d ∷ pcws) all (suc k) c e = fits_there pcws all.1 k c e

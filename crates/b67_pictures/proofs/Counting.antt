@@ -1,11 +1,8 @@
 -- A process of a pictured image performs at most as many operators for an entry as the longest segment has syllables.
-use Rattle.std.proofs.Common.{◌≡◌, refl, ap, ◌∙◌, ℕ, ◌<◌, ◌≤◌, Bool, false, List, [], ◌∷◌, length, Option, Some, None, cond, arith}
+use Rattle.std.proofs.Common.{◌≡◌, refl, ap, ℕ, ◌≤◌, Bool, false, List, [], ◌∷◌, Option, Some, None, cond, arith}
 use Rattle.b67_list.specs.Numbered.{numbered}
-use Rattle.algol_tree.specs.Blocks.{block_numbered}
-use Rattle.algol_tree.specs.Cells.{level_of}
 use Rattle.algol_tree.specs.Plain.{PProgram}
-use Rattle.algol_tree.specs.Scopes.{Scopes, scopes_of}
-use Rattle.algol_meaning.specs.World.{Instance, Process, Part, World, or_no_instance}
+use Rattle.algol_meaning.specs.World.{Process, Part, World}
 use Rattle.b67_ops.specs.declared.TheConstants.{MOST_LEVEL}
 use Rattle.b67_segment.specs.declared.code.Code.{Code}
 use Rattle.b67_templates.specs.Programs.{Texts}
@@ -27,6 +24,7 @@ use Rattle.b67_pictures.specs.Pictures.{Living, Pictured, living, dead, Pictures
 use Rattle.b67_pictures.proofs.Numbers.{numbered_beyond}
 use Rattle.b67_pictures.proofs.Plainly.{no_operator}
 use Rattle.b67_pictures.proofs.Simulating.{gives_interrupts, faults_interrupts}
+use Rattle.b67_pictures.proofs.Lying.{runs_low}
 
 -- ---- a process that does not live performs nothing
 
@@ -45,22 +43,14 @@ none_few code p {img} gone (go {b = b} e t more) = no_operator code img b p gone
 
 -- ---- a process that lives
 
--- each block has a level that the machine has
-abbrev pub HasLowBlocks : Scopes → Type 0
-HasLowBlocks sc = (j : ℕ) → j < length sc.blocks → level_of (block_numbered sc.blocks j) ≤ MOST_LEVEL
-
-module _ (tree : PProgram) (code : Code) (texts : Texts) (low : HasLowBlocks (scopes_of tree)) (w : World) (lay : Layout) (img : Image) (by : PicturesBy tree code texts w lay img) where
+module _ (tree : PProgram) (code : Code) (texts : Texts) (w : World) (lay : Layout) (img : Image) (by : PicturesBy tree code texts w lay img) where
   -- it is at a level that the machine has
   settled_level : (p : ℕ) (q : Process) (l : Living tree code texts w lay img p q) → l.settled.registers.ll ≤ MOST_LEVEL
   settled_level p q l = by_parts q.todo l.frames
     where
       by_parts : (parts : List Part) → Frames tree code texts w lay p parts l.settled → l.settled.registers.ll ≤ MOST_LEVEL
       by_parts [] f = absurd f
-      by_parts (part ∷ outer) f =
-          let framed = f.0.frame.framed in
-          let level : l.settled.registers.ll ≡ level_of (block_numbered (scopes_of tree).blocks framed.instance.block) =
-          f.0.there.level_is ∙ ap (λ (o : Option Instance). level_of (block_numbered (scopes_of tree).blocks ((or_no_instance o).block))) framed.is in
-          omega (arith, level, low framed.instance.block framed.known)
+      by_parts (part ∷ outer) f = omega (arith, f.0.there.level_is, runs_low tree code texts w lay p part outer l.settled.below f.0.frame)
 
   living_few : (p n : ℕ) (q : Process) (new : Image) → Living tree code texts w lay img p q → Plains code p img n new → AreFew code p n new
   living_few p n q new l plains =

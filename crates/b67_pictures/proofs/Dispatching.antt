@@ -12,8 +12,8 @@ use Rattle.algol_tree.specs.Plain.{PProgram, PPair, PStmts, PBody}
 use Rattle.algol_tree.specs.Scopes.{Scopes, scopes_of, use_of}
 use Rattle.algol_tree.specs.Sorts.{same_name}
 use Rattle.algol_meaning.specs.Value.{Value, Reference}
-use Rattle.algol_meaning.specs.Rest.{own, there, element_of, Given, Answer, done, value, cell, place, entered}
-use Rattle.algol_meaning.specs.World.{Instance, Process, Part, able, World, instance_at, or_no_instance}
+use Rattle.algol_meaning.specs.Rest.{Place, own, there, element_of, Given, Answer, done, value, cell, place, entered}
+use Rattle.algol_meaning.specs.World.{Instance, Process, Part, able, World, or_no_instance}
 use Rattle.algol_meaning.specs.Asks.{Ask, nothing, reads, reads_element, indexes, asks_happened, fails, enters, passes, resolves, reads_result, leaves, stores, selects, turns, goes_to, enters_block, starts, acts, writes, makes_arrays, makes_event, ask, resume}
 use Rattle.algol_paths.specs.Laws.{RestsKeepToTheirText, AllIsMadeInOrder}
 use Rattle.b67_ops.specs.declared.Couple.{Couple}
@@ -28,14 +28,14 @@ use Rattle.b67_standing.specs.Standing.{ActionAt, Acted, Entered, Gives, pushed,
 use Rattle.b67_standing.specs.Laws.{RestsGoOn}
 use Rattle.b67_cores.specs.Cores.{Core}
 use Rattle.b67_cores.specs.Stretches.{FragmentsArePerformed}
-use Rattle.b67_fitting.specs.Nested.{AreNested}
+use Rattle.b67_fitting.specs.Nested.{AreNested, LiesNested}
 use Rattle.b67_pictures.specs.Arrays.{Layout}
 use Rattle.b67_pictures.specs.Acting.{Does}
 use Rattle.b67_pictures.proofs.Scene.{Scene}
-use Rattle.b67_pictures.proofs.Staying.{text_in, level_in, context_in, most_in}
+use Rattle.b67_pictures.proofs.Staying.{text_in, level_in, context_in, most_in, names_in}
 use Rattle.b67_pictures.proofs.Resolving.{resolving}
+use Rattle.b67_pictures.proofs.Evaluating.{ActualsAreEntered, WaitsAfter, ReturnsAfter, evaluating_value, evaluating_place}
 use Rattle.b67_pictures.proofs.StoringThere.{storing_there}
-use Rattle.b67_pictures.proofs.Yielding.{no_element}
 use Rattle.b67_pictures.proofs.Reading.{reading, reading_name}
 use Rattle.b67_pictures.proofs.ReadingResult.{reading_result}
 use Rattle.b67_pictures.proofs.Storing.{storing}
@@ -72,17 +72,17 @@ module _ (tree : PProgram) (code : Code) (texts : Texts) where
   abbrev pub GoesOnFrom : (w : World) (lay : Layout) (img : Image) (p : ℕ) (q : Process) (part : Part) (outer : List Part) (bound : ℕ) (core : Core) →
       Scene tree code texts w lay img p q part outer bound core → (k : Ask) → Type 0
   GoesOnFrom w lay img p q part outer bound core s k =
-      (a : ActionAt (scopes_of tree) (context_in tree code texts w part) (text_in tree texts w part) (level_in tree w part) (most_in tree w part) k s.stands.pc s.stands.slots) →
+      (a : ActionAt (scopes_of tree) (context_in tree code texts w part s.stands.frame.gives) (text_in tree texts w part) (level_in tree w part) (most_in tree w part) k s.stands.pc s.stands.slots) →
       ((r : Answer) (at : ℕ) (left : List Slot) →
-      Acted (scopes_of tree) (context_in tree code texts w part) (text_in tree texts w part) (level_in tree w part) (most_in tree w part) k s.stands.pc s.stands.slots a r at left →
-      ComesTo (scopes_of tree) (context_in tree code texts w part) (text_in tree texts w part) (level_in tree w part) (most_in tree w part) (resume (scopes_of tree) part.rest r) at left) →
+      Acted (scopes_of tree) (context_in tree code texts w part s.stands.frame.gives) (text_in tree texts w part) (level_in tree w part) (most_in tree w part) k s.stands.pc s.stands.slots a r at left →
+      ComesTo (scopes_of tree) (context_in tree code texts w part s.stands.frame.gives) (text_in tree texts w part) (level_in tree w part) (most_in tree w part) (resume (scopes_of tree) part.rest r) at left) →
       ((at : ℕ) (after : List Slot) (wanted : Yields) →
-      Entered (scopes_of tree) (context_in tree code texts w part) (text_in tree texts w part) (level_in tree w part) (most_in tree w part) k s.stands.pc s.stands.slots a at after wanted →
+      Entered (scopes_of tree) (context_in tree code texts w part s.stands.frame.gives) (text_in tree texts w part) (level_in tree w part) (most_in tree w part) k s.stands.pc s.stands.slots a at after wanted →
       ask (resume (scopes_of tree) part.rest entered) ≡ nothing) →
       ((at : ℕ) (after : List Slot) (wanted : Yields) →
-      Entered (scopes_of tree) (context_in tree code texts w part) (text_in tree texts w part) (level_in tree w part) (most_in tree w part) k s.stands.pc s.stands.slots a at after wanted →
+      Entered (scopes_of tree) (context_in tree code texts w part s.stands.frame.gives) (text_in tree texts w part) (level_in tree w part) (most_in tree w part) k s.stands.pc s.stands.slots a at after wanted →
       (r : Answer) → Gives wanted r →
-      ComesTo (scopes_of tree) (context_in tree code texts w part) (text_in tree texts w part) (level_in tree w part) (most_in tree w part) (resume (scopes_of tree) (resume (scopes_of tree) part.rest entered) r) at
+      ComesTo (scopes_of tree) (context_in tree code texts w part s.stands.frame.gives) (text_in tree texts w part) (level_in tree w part) (most_in tree w part) (resume (scopes_of tree) (resume (scopes_of tree) part.rest entered) r) at
       (pushed wanted r after)) →
       Does tree code texts w img p
 
@@ -92,7 +92,8 @@ module _ (tree : PProgram) (code : Code) (texts : Texts) where
       (w : World) (lay : Layout) (img : Image) (p : ℕ) (q : Process) (part : Part) (outer : List Part) (bound : ℕ) (core : Core) (s : Scene tree code texts w lay img p q part outer bound core) →
       q.state ≡ able → numbered img.states p ≡ Some Able → ask part.rest ≡ k → GoesOnFrom w lay img p q part outer bound core s k
 
-  -- a line, the choice of a statement, the entry of a block or of a procedure, what is done with arrays, the leaving of a block or a procedure, the end
+  -- a line, the choice of a statement, the entry of a block or of a procedure, what is done with arrays, the leaving of a block, of a procedure, or
+  -- of an evaluation, the end
   pub record OthersAreDone : Type 0 where
     pub writing : (phrases : List PhraseText) (vs : List Value) → IsDone (writes phrases vs)
     pub selecting : (v : Value) (ss : PStmts) → IsDone (selects v ss)
@@ -105,34 +106,43 @@ module _ (tree : PProgram) (code : Code) (texts : Texts) where
     pub making : (kind : Kind) (ns : List Named) (pairs : List PPair) (vs : List Value) → IsDone (makes_arrays kind ns pairs vs)
     pub leaving : IsDone (leaves done)
     pub returning : (v : Value) → IsDone (leaves (value v))
+    pub placing : (x : Place) → IsDone (leaves (place x))
 
-  module _ (nested : AreNested (scopes_of tree)) (fragments : FragmentsArePerformed) (keeps : RestsKeepToTheirText) (order : AllIsMadeInOrder) (rests : RestsGoOn) (others : OthersAreDone) (w : World) (lay : Layout) (img : Image)
+  module _ (lies : LiesNested tree) (actuals : ActualsAreEntered tree code texts) (fragments : FragmentsArePerformed) (keeps : RestsKeepToTheirText) (order : AllIsMadeInOrder) (rests : RestsGoOn) (others : OthersAreDone) (w : World) (lay : Layout) (img : Image)
       (p : ℕ) (q : Process) (part : Part) (outer : List Part) (bound : ℕ) (core : Core) (s : Scene tree code texts w lay img p q part outer bound core) (able_is : q.state ≡ able) (able_p : numbered img.states p ≡ Some Able) where
     abbrev IsReadThere : Named → Type 0
-    IsReadThere n = ActionAt (scopes_of tree) (context_in tree code texts w part) (text_in tree texts w part) (level_in tree w part) (most_in tree w part) (reads n) s.stands.pc s.stands.slots
+    IsReadThere n = ActionAt (scopes_of tree) (context_in tree code texts w part s.stands.frame.gives) (text_in tree texts w part) (level_in tree w part) (most_in tree w part) (reads n) s.stands.pc s.stands.slots
 
     -- the part's level is one that the machine has
-    low : level_in tree w part ≤ MOST_LEVEL
+    low : names_in tree w part ≤ MOST_LEVEL
     low =
-        let framed = s.stands.frame.framed in
-        let same : level_in tree w part ≡ level_of (block_numbered (scopes_of tree).blocks framed.instance.block) =
+        let framed = s.stands.frame in
+        let same : names_in tree w part ≡ level_of (block_numbered (scopes_of tree).blocks framed.instance.block) =
         ap (λ (o : Option Instance). level_of (block_numbered (scopes_of tree).blocks ((or_no_instance o).block))) framed.is in
-        omega (arith, same, (nested.each framed.instance.block framed.known).low)
+        omega (arith, same, (lies.nested.each framed.instance.block framed.known).low)
+
+    abbrev WaitsHere : (k : Ask) → ActionAt (scopes_of tree) (context_in tree code texts w part s.stands.frame.gives) (text_in tree texts w part) (level_in tree w part) (most_in tree w part) k s.stands.pc s.stands.slots → Type 0
+    WaitsHere k a = WaitsAfter tree code texts w lay img p q part outer bound core s k a
+
+    abbrev ReturnsHere : (k : Ask) → ActionAt (scopes_of tree) (context_in tree code texts w part s.stands.frame.gives) (text_in tree texts w part) (level_in tree w part) (most_in tree w part) k s.stands.pc s.stands.slots → Type 0
+    ReturnsHere k a = ReturnsAfter tree code texts w lay img p q part outer bound core s k a
 
     -- by what is read
     read_by : (n : Named) (e : ask part.rest ≡ reads n) (a : IsReadThere n) → ((r : Answer) (at : ℕ) (left : List Slot) →
-        Acted (scopes_of tree) (context_in tree code texts w part) (text_in tree texts w part) (level_in tree w part) (most_in tree w part) (reads n) s.stands.pc s.stands.slots a r at left →
-        ComesTo (scopes_of tree) (context_in tree code texts w part) (text_in tree texts w part) (level_in tree w part) (most_in tree w part) (resume (scopes_of tree) part.rest r) at left) →
-        IsRead (scopes_of tree) (level_in tree w part) n a.0 a.2.0 → Does tree code texts w img p
-    read_by n e a answered (of_variable v) = reading tree code texts fragments keeps order w lay img p q part outer bound core s able_is able_p n e a answered v
-    read_by n e a answered (of_formal v) = reading_name tree code texts fragments keeps order w lay img p q part outer bound core s able_is able_p n e a answered nested v
+        Acted (scopes_of tree) (context_in tree code texts w part s.stands.frame.gives) (text_in tree texts w part) (level_in tree w part) (most_in tree w part) (reads n) s.stands.pc s.stands.slots a r at left →
+        ComesTo (scopes_of tree) (context_in tree code texts w part s.stands.frame.gives) (text_in tree texts w part) (level_in tree w part) (most_in tree w part) (resume (scopes_of tree) part.rest r) at left) →
+        WaitsHere (reads n) a → ReturnsHere (reads n) a → IsRead (scopes_of tree) (names_in tree w part) n a.0 a.2.0 → Does tree code texts w img p
+    read_by n e a answered waits returns (of_variable v) = reading tree code texts fragments keeps order w lay img p q part outer bound core s able_is able_p n e a answered v
+    read_by n e a answered waits returns (of_formal v) =
+        reading_name tree code texts fragments keeps order w lay img p q part outer bound core s able_is able_p n e a answered lies.nested
+        (evaluating_value tree code texts lies actuals fragments keeps order w lay img p q part outer bound core s able_is able_p n e a waits returns) v
 
     by_ask : (k : Ask) → ask part.rest ≡ k → GoesOnFrom w lay img p q part outer bound core s k
-    by_ask (reads n) e a answered waits returns = read_by n e a answered a.2.1
+    by_ask (reads n) e a answered waits returns = read_by n e a answered waits returns a.2.1
     by_ask (fails fault) e a answered waits returns = failing tree code texts w lay img p q part outer bound core s fault e a
     by_ask (stores (own n) v) e a answered waits returns =
         storing tree code texts fragments keeps order w lay img p q part outer bound core s able_is able_p n v e a answered (omega (arith, a.2.variable.level_is, low))
-        (small_index (scopes_of tree) nested (level_in tree w part) n a.2.kind a.2.couple a.2.variable)
+        (small_index (scopes_of tree) lies.nested (names_in tree w part) n a.2.kind a.2.couple a.2.variable)
     by_ask turns e a answered waits returns = turning tree code texts fragments keeps order w lay img p q part outer bound core s able_is able_p e a answered
     by_ask (writes phrases vs) e a answered waits returns = others.writing phrases vs w lay img p q part outer bound core s able_is able_p e a answered waits returns
     by_ask (selects v ss) e a answered waits returns = others.selecting v ss w lay img p q part outer bound core s able_is able_p e a answered waits returns
@@ -140,11 +150,10 @@ module _ (tree : PProgram) (code : Code) (texts : Texts) where
     by_ask (leaves done) e a answered waits returns = others.leaving w lay img p q part outer bound core s able_is able_p e a answered waits returns
     by_ask (leaves (value v)) e a answered waits returns = others.returning v w lay img p q part outer bound core s able_is able_p e a answered waits returns
     by_ask (leaves (cell c)) e a answered waits returns = absurd a
-    by_ask (leaves (place x)) e a answered waits returns =
-        no_element (block_numbered (scopes_of tree).blocks ((instance_at w part.instance).block)).result a.0 a.2
+    by_ask (leaves (place x)) e a answered waits returns = others.placing x w lay img p q part outer bound core s able_is able_p e a answered waits returns
     by_ask (leaves entered) e a answered waits returns = absurd a
     by_ask (stores (there r) v) e a answered waits returns =
-        storing_there tree code texts nested fragments keeps order w lay img p q part outer bound core s able_is able_p r v e a answered
+        storing_there tree code texts lies.nested fragments keeps order w lay img p q part outer bound core s able_is able_p r v e a answered
     by_ask (stores (element_of r ks) v) e a answered waits returns = others.storing r ks v w lay img p q part outer bound core s able_is able_p e a answered waits returns
     by_ask nothing e a answered waits returns = absurd a
     by_ask (reads_element n ks v) e a answered waits returns = others.reading n ks v w lay img p q part outer bound core s able_is able_p e a answered waits returns
@@ -153,9 +162,10 @@ module _ (tree : PProgram) (code : Code) (texts : Texts) where
     by_ask (enters n gs) e a answered waits returns = others.calling n gs w lay img p q part outer bound core s able_is able_p e a answered waits returns
     by_ask (passes n) e a answered waits returns = others.passing n w lay img p q part outer bound core s able_is able_p e a answered waits returns
     by_ask (resolves n) e a answered waits returns =
-        resolving tree code texts nested fragments keeps order w lay img p q part outer bound core s able_is able_p n e a answered
+        resolving tree code texts lies.nested fragments keeps order w lay img p q part outer bound core s able_is able_p n e a answered
+        (evaluating_place tree code texts lies actuals fragments keeps order w lay img p q part outer bound core s able_is able_p n e a waits returns)
     by_ask (reads_result name) e a answered waits returns =
-        reading_result tree code texts nested fragments keeps order w lay img p q part outer bound core s able_is able_p name e a answered
+        reading_result tree code texts lies.nested fragments keeps order w lay img p q part outer bound core s able_is able_p name e a answered
     by_ask (goes_to n) e a answered waits returns = absurd a
     by_ask (starts n gs task) e a answered waits returns = absurd a
     by_ask (acts x n) e a answered waits returns = absurd a
@@ -165,6 +175,6 @@ module _ (tree : PProgram) (code : Code) (texts : Texts) where
     -- whatever its head asks for
     pub scene_does : Does tree code texts w img p
     scene_does =
-        let on : GoesOn (scopes_of tree) (context_in tree code texts w part) (text_in tree texts w part) (level_in tree w part) (most_in tree w part) part.rest s.stands.pc s.stands.slots =
-        rests (scopes_of tree) (context_in tree code texts w part) (text_in tree texts w part) (level_in tree w part) (most_in tree w part) part.rest s.stands.pc s.stands.slots s.stands.stands s.stands.asks in
+        let on : GoesOn (scopes_of tree) (context_in tree code texts w part s.stands.frame.gives) (text_in tree texts w part) (level_in tree w part) (most_in tree w part) part.rest s.stands.pc s.stands.slots =
+        rests (scopes_of tree) (context_in tree code texts w part s.stands.frame.gives) (text_in tree texts w part) (level_in tree w part) (most_in tree w part) part.rest s.stands.pc s.stands.slots s.stands.stands s.stands.asks in
         by_ask (ask part.rest) refl on.action on.answered on.waits on.returns

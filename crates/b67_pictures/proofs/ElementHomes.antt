@@ -62,10 +62,10 @@ module _ (tree : PProgram) (code : Code) (texts : Texts) (w : World) (lay : Layo
 
     abbrev Known_there : Type 0
     Known_there =
-        (found : OwnArray sc w lay i l.frame.framed.instance (framed_cells sc w lay l.frame.framed) r.name of_here.number e.declared) × (found.cell ≡ e.cell) × (found.allotted ≡ e.allotted)
+        (found : OwnArray sc w lay i l.owned.framed.instance (framed_cells sc w lay l.owned.framed) r.name of_here.number e.declared) × (found.cell ≡ e.cell) × (found.allotted ≡ e.allotted)
 
     known_there : Known_there
-    known_there = known_array sc w lay i l.frame.framed.instance (framed_cells sc w lay l.frame.framed) r.name e.declared e.cell e.allotted of_here
+    known_there = known_array sc w lay i l.owned.framed.instance (framed_cells sc w lay l.owned.framed) r.name e.declared e.cell e.allotted of_here
 
     home_there : ElementHome
     home_there =

@@ -1,4 +1,6 @@
 -- A store to an element.
+use Rattle.b67_table.specs.Chains.{place}
+use Rattle.b67_control.specs.Display.{place_at}
 use Rattle.std.proofs.Common.{◌≡◌, ◌≢◌, refl, sym, ap, ◌∙◌, subst, ℕ, suc, ◌+◌, ◌≤◌, List, [], ◌∷◌, ◌++◌, length, Option, Some, None, Ok, arith}
 use Rattle.b67_list.specs.Numbered.{numbered}
 use Rattle.algol_tree.specs.declared.tree.Kind.{Kind}
@@ -43,7 +45,7 @@ use Rattle.b67_faithful.specs.Correspondence.{as_action}
 use Rattle.b67_faithful.specs.Weight.{weight}
 use Rattle.b67_pictures.specs.Arrays.{Layout, AreMade, HoldElements, ArraysAre, IsElement, AreKnown, IsOwn}
 use Rattle.b67_pictures.specs.Acting.{Does, gave}
-use Rattle.b67_pictures.specs.Frames.{CellsAre, most_around, IsChained, Frame, Stands}
+use Rattle.b67_pictures.specs.Frames.{CellsAre, most_around, IsChained, Frame, Stands, run_level}
 use Rattle.b67_pictures.specs.Pictures.{Living, PicturesBy}
 use Rattle.b67_pictures.proofs.ArraysKept.{arrays_unchanged}
 use Rattle.b67_pictures.proofs.Cored.{registers_now, has_now, others_have, system_stays}
@@ -53,8 +55,9 @@ use Rattle.b67_pictures.proofs.Homes.{operator_there}
 use Rattle.b67_pictures.proofs.IndexRows.{without_two, two_seen, stored_gives, stored_raw, stored_class}
 use Rattle.b67_pictures.proofs.Kept.{AreAlike, alike_but}
 use Rattle.b67_pictures.proofs.Knowing.{KeepsArrays, known_is, known_of}
+use Rattle.b67_pictures.proofs.Expressions.{expression_resumed}
 use Rattle.b67_pictures.proofs.Landing.{living_of}
-use Rattle.b67_pictures.proofs.Lying.{StayBelow}
+use Rattle.b67_pictures.proofs.Lying.{StayBelow, shape_on}
 use Rattle.b67_pictures.proofs.MadeArrays.{IsPast, past_values}
 use Rattle.b67_faithful.proofs.Choices.{length_set_numbered}
 use Rattle.b67_pictures.proofs.Numbers.{numbered_set}
@@ -64,21 +67,24 @@ use Rattle.b67_pictures.proofs.Scene.{Scene}
 use Rattle.b67_pictures.proofs.Slotted.{Top, top_slot}
 use Rattle.b67_pictures.proofs.StackWords.{length-set}
 use Rattle.b67_pictures.proofs.Stage.{gives_within, choice_is, goes_on, weight_of}
-use Rattle.b67_pictures.proofs.Staying.{text_in, level_in, context_in, most_in, IsAsHeavy, same_weight, FrameStill, frame_still}
+use Rattle.b67_pictures.proofs.Staying.{text_in, level_in, context_in, most_in, IsAsHeavy, same_weight, FrameStill, frame_still, still_low}
 use Rattle.b67_pictures.proofs.StoredCells.{made_stays}
 use Rattle.b67_pictures.proofs.StoredElement.{element_stored, element_keeps}
 use Rattle.b67_pictures.proofs.StoringVariable.{length_cells}
 use Rattle.b67_pictures.proofs.StoringFrames.{changed, stored_world, same_of, same_ancestors, as_heavy, ChangedCells, Stored, known_stored, frame_stored}
 use Rattle.b67_pictures.proofs.Unmade.{makes, unmade}
 use Rattle.b67_pictures.proofs.Words.{value_tag}
+use Rattle.b67_templates.specs.Code.{in_routine}
+use Rattle.b67_templates.specs.Contexts.{Yields}
+use Rattle.algol_meaning.specs.Critical.{is_evaluation}
 
 module _ (tree : PProgram) (code : Code) (texts : Texts) (fragments : FragmentsArePerformed) (kept : RestsKeepToTheirText) (order : AllIsMadeInOrder) (w : World) (lay : Layout) (img : Image)
     (p : ℕ) (q : Process) (part : Part) (outer : List Part) (bound : ℕ) (core : Core) (s : Scene tree code texts w lay img p q part outer bound core)
     (able_is : q.state ≡ able) (able_p : numbered img.states p ≡ Some Able) (r : Reference) (ks : List ℕ) (v : Value) (asks : ask part.rest ≡ stores (element_of r ks) v)
-    (a : ActionAt (scopes_of tree) (context_in tree code texts w part) (text_in tree texts w part) (level_in tree w part) (most_in tree w part) (stores (element_of r ks) v) s.stands.pc s.stands.slots)
+    (a : ActionAt (scopes_of tree) (context_in tree code texts w part s.stands.frame.gives) (text_in tree texts w part) (level_in tree w part) (most_in tree w part) (stores (element_of r ks) v) s.stands.pc s.stands.slots)
     (answered : (x : Answer) (at : ℕ) (left : List Slot) →
-    Acted (scopes_of tree) (context_in tree code texts w part) (text_in tree texts w part) (level_in tree w part) (most_in tree w part) (stores (element_of r ks) v) s.stands.pc s.stands.slots a x at left →
-    ComesTo (scopes_of tree) (context_in tree code texts w part) (text_in tree texts w part) (level_in tree w part) (most_in tree w part) (resume (scopes_of tree) part.rest x) at left) where
+    Acted (scopes_of tree) (context_in tree code texts w part s.stands.frame.gives) (text_in tree texts w part) (level_in tree w part) (most_in tree w part) (stores (element_of r ks) v) s.stands.pc s.stands.slots a x at left →
+    ComesTo (scopes_of tree) (context_in tree code texts w part s.stands.frame.gives) (text_in tree texts w part) (level_in tree w part) (most_in tree w part) (resume (scopes_of tree) part.rest x) at left) where
   abbrev sc : Scopes
   sc = scopes_of tree
 
@@ -86,7 +92,7 @@ module _ (tree : PProgram) (code : Code) (texts : Texts) (fragments : FragmentsA
   b = (instance_at w part.instance).block
 
   abbrev level : ℕ
-  level = level_of (block_numbered sc.blocks b)
+  level = run_level (is_evaluation part.purpose) (level_of (block_numbered sc.blocks b))
 
   abbrev text : List Placed
   text = texts.placed (segment_of sc.blocks b)
@@ -110,13 +116,13 @@ module _ (tree : PProgram) (code : Code) (texts : Texts) (fragments : FragmentsA
     i = h.lies.part.instance
 
     abbrev instance : Instance
-    instance = h.lies.frame.framed.instance
+    instance = h.lies.owned.framed.instance
 
     instance_there : numbered w.instances i ≡ Some instance
-    instance_there = h.lies.frame.framed.is
+    instance_there = h.lies.owned.framed.is
 
     abbrev own : OwnCells sc w lay i instance
-    own = framed_cells sc w lay h.lies.frame.framed
+    own = framed_cells sc w lay h.lies.owned.framed
 
     means : cell_in instance.cells r.name ≡ array e.cell
     means = ap (λ (o : Option Instance). cell_in ((or_no_instance o).cells) r.name) (sym instance_there) ∙ h.of.is
@@ -216,18 +222,18 @@ module _ (tree : PProgram) (code : Code) (texts : Texts) (fragments : FragmentsA
         (element_keeps sc w lay img.rows s.by.arrays i instance own r.name e.declared e.cell e.allotted h.of ks e.index e.at e.number e.within e.part v x fits x_is i)
 
     abbrev AfterStore : Type 0
-    AfterStore = Stored tree code texts w lay p i instance instance_there cells' high h.lies.frame.framed.laid 0 (high + 2 + 0) refl None many (λ set. absurd set) keeps changes part outer core.below st.frame
+    AfterStore = Stored tree code texts w lay p i instance instance_there cells' high h.lies.owned.framed.laid 0 (high + 2 + 0) refl None many (λ set. absurd set) keeps changes part outer core.below st.frame
 
     frames : AfterStore
     frames =
-        frame_stored tree code texts w lay p i instance instance_there cells' high h.lies.frame.framed.laid 0 (high + 2 + 0) refl None many (λ set. absurd set) keeps changes part outer core.below st.frame s.around h.own
+        frame_stored tree code texts w lay p i instance instance_there cells' high h.lies.owned.framed.laid 0 (high + 2 + 0) refl None many (λ set. absurd set) keeps changes part outer core.below st.frame s.around h.own
 
     -- the world with the process's part gone on has the same instances
     stay : StayBelow stored w' lay lay p (suc (length frames.frame.lower))
     stay = record { instances = λ j at y e mine lies low. e; places = λ j g e. e; rows = λ j at y e mine lies low. refl }
 
     abbrev IsStill : Type 0
-    IsStill = FrameStill tree code texts stored w' lay lay p (suc (length frames.frame.lower)) stay part outer new.below frames.frame.cells
+    IsStill = FrameStill tree code texts stored w' lay lay p (suc (length frames.frame.lower)) stay part outer new.below frames.frame.cells frames.frame.gives
 
     still : IsStill
     still =
@@ -239,19 +245,26 @@ module _ (tree : PProgram) (code : Code) (texts : Texts) (fragments : FragmentsA
     abbrev frame' : Frame tree code texts w' lay p part' outer new.below
     frame' =
         record {
-          owns = still.frame.owns;
           lower = still.frame.lower;
           mark = still.frame.mark;
           control = still.frame.control;
           cells = still.frame.cells;
           words_are = still.frame.words_are;
-          framed = still.frame.framed;
-          routines = still.frame.routines;
+          instance = still.frame.instance;
+          is = still.frame.is;
+          known = still.frame.known;
+          home = still.frame.home;
+          df = still.frame.df;
+          mark_is = still.frame.mark_is;
+          back = still.frame.back;
+          control_is = still.frame.control_is;
+          level_is = still.frame.level_is;
+          gives = still.frame.gives;
           text = kept.resumed sc ((instance_at w' part.instance).block) part.rest done still.frame.text tt;
-          making = still.frame.making ∙ sym (unmade part.rest (ap makes asks)) ∙ sym (order.resumed sc ((instance_at w' part.instance).block) part.rest done still.frame.text);
+          shape = shape_on tree code texts w' lay p part outer (length still.frame.lower) still.frame.mark still.frame.control still.frame.cells still.frame.home still.frame.gives part'.rest (sym (unmade part.rest (ap makes asks)) ∙ sym (order.resumed sc ((instance_at w' part.instance).block) part.rest done still.frame.text)) (expression_resumed sc part.rest done) still.frame.shape;
         }
 
-    chained : IsChained sc w' lay part.instance level core.registers.display
+    chained : IsChained sc w' lay part.instance (level_of (block_numbered sc.blocks b)) core.registers.display
     chained up low =
         st.chained up low
         ∙ ap (λ (j : ℕ). numbered lay.places j) (same_ancestors w w' (λ j. same_of w i instance instance_there cells' (λ (z : Instance). z.parent) refl j) up part.instance)
@@ -260,7 +273,7 @@ module _ (tree : PProgram) (code : Code) (texts : Texts) (fragments : FragmentsA
     known_now : AreKnown sc w' lay (IsOwn (part' ∷ outer)) part.instance st.held
     known_now =
         known_of sc stored w' lay (part ∷ outer) (part' ∷ outer) refl (λ j own. own) part.instance st.held
-        (known_stored tree code texts w lay p i instance instance_there cells' high h.lies.frame.framed.laid 0 (high + 2 + 0) refl None many (λ set. absurd set) keeps changes (part ∷ outer) part.instance st.held st.held_are)
+        (known_stored tree code texts w lay p i instance instance_there cells' high h.lies.owned.framed.laid 0 (high + 2 + 0) refl None many (λ set. absurd set) keeps changes (part ∷ outer) part.instance st.held st.held_are)
 
     -- ---- the core after it
 
@@ -334,15 +347,19 @@ module _ (tree : PProgram) (code : Code) (texts : Texts) (fragments : FragmentsA
           around = still.around;
           counted = st.counted ∙ sym frames.cells ∙ sym (ap length still.cells_are);
           chained = subst (λ (m : ℕ). IsChained sc w' lay part.instance (level_of (block_numbered sc.blocks m)) core.registers.display) block_is chained;
+          top = ap (λ (m : ℕ). place_at core.registers.display (run_level (is_evaluation part.purpose) (level_of (block_numbered sc.blocks m)))) (sym block_is)
+              ∙ st.top
+              ∙ ap (λ (m : ℕ). Some (place p m)) (sym (still_low tree code texts stored w' lay lay p (suc (length frames.frame.lower)) stay part outer new.below frames.frame still ∙ frames.lower));
           segment_is = st.segment_is ∙ ap (λ (m : ℕ). segment_of sc.blocks m) block_is;
           pc = next;
           slots = below;
           known = st.held;
           known_are = known_now;
-          at = subst (λ (m : ℕ). CoreAt sc st.held code (texts.placed (segment_of sc.blocks m)) (level_of (block_numbered sc.blocks m)) next below new) block_is core_at;
+          at = subst (λ (m : ℕ). CoreAt sc st.held code (texts.placed (segment_of sc.blocks m)) (run_level (is_evaluation part.purpose) (level_of (block_numbered sc.blocks m))) next below new) block_is core_at;
           held = subst (λ (m : ℕ). length below ≤ most_around tree m) block_is held;
-          comes = subst (λ (m : ℕ). ComesTo sc (context_of code texts sc m) (texts.placed (segment_of sc.blocks m)) (level_of (block_numbered sc.blocks m)) (most_around tree m) (resume sc part.rest done) next below) block_is
-              (answered done next below (refl, refl));
+          comes = subst (λ (y : Yields). ComesTo sc (context_in tree code texts w' part' y) (text_in tree texts w' part') (level_in tree w' part') (most_in tree w' part') part'.rest next below) (sym (still.gives_are ∙ frames.gives))
+              (subst (λ (m : ℕ). ComesTo sc (in_routine s.stands.frame.gives (context_of code texts sc m)) (texts.placed (segment_of sc.blocks m)) (run_level (is_evaluation part.purpose) (level_of (block_numbered sc.blocks m))) (most_around tree m) (resume sc part.rest done) next below) block_is
+              (answered done next below (refl, refl)));
           room = subst (λ (m : ℕ). length new.below + most_around tree m ≤ bound) block_is (omega (arith, s.room));
           light = light';
         })
@@ -350,7 +367,7 @@ module _ (tree : PProgram) (code : Code) (texts : Texts) (fragments : FragmentsA
     -- the instances of another process are as they were
     alike : (m : ℕ) → m ≢ p → AreAlike w w' lay lay m
     alike m other =
-        alike_but w w' lay m i instance (changed w i instance instance_there cells') instance_there (λ (same : m ≡ instance.process). other (same ∙ h.lies.frame.framed.own)) refl
+        alike_but w w' lay m i instance (changed w i instance instance_there cells') instance_there (λ (same : m ≡ instance.process). other (same ∙ h.lies.owned.framed.own)) refl
 
     arrays_after : ArraysAre sc w' lay rows'
     arrays_after =

@@ -1,5 +1,5 @@
 -- The end of a process: its last part is left, and nothing else changes.
-use Rattle.std.proofs.Common.{◌≡◌, ◌≢◌, refl, sym, ap, ◌∙◌, subst, ℕ, zero, suc, ◌≤◌, List, [], ◌∷◌, ◌++◌, length, Option, Some, None, Bool, true, Ok, arith}
+use Rattle.std.proofs.Common.{◌≡◌, ◌≢◌, refl, sym, ap, ◌∙◌, subst, ℕ, zero, suc, ◌≤◌, List, [], ◌∷◌, ◌++◌, length, Option, Some, None, Bool, true, Ok, arith, false}
 use Rattle.std.specs.Prelude.{if◌then◌else◌}
 use Rattle.b67_list.specs.Numbered.{numbered}
 use Rattle.algol_tree.specs.Plain.{PProgram}
@@ -9,7 +9,7 @@ use Rattle.algol_meaning.specs.Rest.{done}
 use Rattle.algol_meaning.specs.World.{Instance, Process, Part, ended, World, instance_at, with_instance, with_process}
 use Rattle.algol_meaning.specs.Actions.{End}
 use Rattle.algol_meaning.specs.Asks.{Ask, leaves, ask}
-use Rattle.algol_meaning.specs.Critical.{some_depends}
+use Rattle.algol_meaning.specs.Critical.{some_depends, is_evaluation}
 use Rattle.algol_meaning.specs.Events.{caused_by_end}
 use Rattle.algol_meaning.specs.Instances.{leave}
 use Rattle.algol_meaning.specs.Choice.{Choice, choice, choice_of, left_with, left_or_ended, ended_releasing, fails}
@@ -45,6 +45,8 @@ use Rattle.b67_pictures.proofs.Rows.{action_not_plain}
 use Rattle.b67_pictures.proofs.Scene.{Scene, frame_is}
 use Rattle.b67_pictures.proofs.Stage.{choice_is, comes_to, gives_within}
 use Rattle.b67_pictures.proofs.Staying.{text_in, level_in, context_in, most_in}
+use Rattle.b67_pictures.proofs.Lying.{owned_frame}
+use Rattle.b67_pictures.specs.Frames.{Owned}
 
 -- a stack that is closed is no other one
 closed_other : (stacks : Stacks) (n m : ℕ) → n ≢ m → stack_at (closed_at stacks n) m ≡ stack_at stacks m
@@ -55,12 +57,16 @@ closed_other (z ∷ zs) (suc n) zero apart = refl
 closed_other (z ∷ zs) (suc n) (suc m) apart = closed_other zs n m (λ e. apart (ap suc e))
 
 module _ (tree : PProgram) (code : Code) (texts : Texts) (closing : FramesClose) (w : World) (lay : Layout) (img : Image)
-    (p : ℕ) (q : Process) (part : Part) (bound : ℕ) (core : Core) (s : Scene tree code texts w lay img p q part [] bound core) (able_p : numbered img.states p ≡ Some Able) where
+    (p : ℕ) (q : Process) (part : Part) (bound : ℕ) (core : Core) (s : Scene tree code texts w lay img p q part [] bound core) (able_p : numbered img.states p ≡ Some Able) (owns : is_evaluation part.purpose ≡ false) where
   abbrev sc : Scopes
   sc = scopes_of tree
 
   abbrev i : ℕ
   i = part.instance
+
+  -- the part has its frame's instance for its own
+  abbrev own_frame : Owned tree code texts w lay p part [] (length s.stands.frame.lower) s.stands.frame.mark s.stands.frame.control s.stands.frame.cells
+  own_frame = owned_frame tree code texts w lay p part [] core.below s.stands.frame owns
 
   abbrev left_instance : Instance
   left_instance = record (instance_at w i) { left = true }
@@ -74,7 +80,7 @@ module _ (tree : PProgram) (code : Code) (texts : Texts) (closing : FramesClose)
   -- ---- the world
 
   alike : (r : ℕ) → r ≢ p → AreAlike w w' lay lay r
-  alike r other = alike_but w w' lay r i s.stands.frame.framed.instance left_instance s.stands.frame.framed.is (λ (e : r ≡ s.stands.frame.framed.instance.process). other (e ∙ s.stands.frame.framed.own)) refl
+  alike r other = alike_but w w' lay r i own_frame.framed.instance left_instance own_frame.framed.is (λ (e : r ≡ own_frame.framed.instance.process). other (e ∙ own_frame.framed.own)) refl
 
   module _ (asks : ask part.rest ≡ leaves done) where
     chosen : choice sc w p ≡ record { action = End; world = w'; released = []; started = None }
@@ -82,13 +88,13 @@ module _ (tree : PProgram) (code : Code) (texts : Texts) (closing : FramesClose)
         choice_is sc w p q part [] s.at s.todo
         ∙ ap (λ (k : Ask). choice_of sc w p q part [] k) asks
         ∙ ap (λ (b : Bool). if b then left_with sc w p q part [] w done [] else if some_depends w.processes i then fails sc w p q part [] fault.CriticalBlockExit else left_or_ended sc w p q part [] done [])
-        s.stands.frame.owns
+        own_frame.owns
         ∙ ap (λ (b : Bool). if b then fails sc w p q part [] fault.CriticalBlockExit else left_or_ended sc w p q part [] done []) (none_dependent tree code texts w lay img s.by i)
         ∙ ap (λ (t : Option Reference). ended_releasing sc w p q part [] (caused_by_end (leave w (i ∷ [])) t)) s.without_task
 
     -- ---- the image
 
-    module _ (a : ActionAt sc (context_in tree code texts w part) (text_in tree texts w part) (level_in tree w part) (most_in tree w part) (leaves done) s.stands.pc s.stands.slots) where
+    module _ (a : ActionAt sc (context_in tree code texts w part s.stands.frame.gives) (text_in tree texts w part) (level_in tree w part) (most_in tree w part) (leaves done) s.stands.pc s.stands.slots) where
       there : operator_at code core.registers ≡ Ok (ops.Plain kinds.Exit, a.0)
       there = operator_there sc s.stands.held code (text_in tree texts w part) (level_in tree w part) s.stands.pc s.stands.slots core (ops.Plain kinds.Exit) a.0 s.stands.there a.2
 
@@ -97,7 +103,7 @@ module _ (tree : PProgram) (code : Code) (texts : Texts) (closing : FramesClose)
 
       -- the arrays of the instance are closed
       shut : IsClosed sc w lay img i s.stands.frame.cells
-      shut = closing sc w lay img s.by.arrays p i [] (length s.stands.frame.lower) s.stands.frame.mark s.stands.frame.control s.stands.frame.cells s.stands.frame.framed
+      shut = closing sc w lay img s.by.arrays p i [] (length s.stands.frame.lower) s.stands.frame.mark s.stands.frame.control s.stands.frame.cells own_frame.framed
 
       abbrev after : Image
       after = ended_at img shut.rows p left

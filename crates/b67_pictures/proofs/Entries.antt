@@ -48,7 +48,7 @@ use Rattle.b67_faithful.specs.Faithful.{IsShort}
 use Rattle.b67_fitting.specs.Nested.{AreNested, LiesNested}
 use Rattle.b67_pictures.proofs.ControlWords.{block_few, as_many_controls, controls_many}
 use Rattle.b67_pictures.specs.Arrays.{Layout, IsOwn}
-use Rattle.b67_pictures.specs.Frames.{block_controls, IsComplete, Framed}
+use Rattle.b67_pictures.specs.Frames.{block_controls, IsComplete, Framed, Frame, Shape, of_own, of_lent}
 use Rattle.b67_pictures.proofs.Completing.{made_many}
 use Rattle.b67_pictures.proofs.Displays.{shown, shown_top, linked_seen}
 use Rattle.b67_pictures.proofs.EntryRow.{Leads, Enters, lower_of, with_frame, enter_raw, enter_class, enter_action, new_is}
@@ -67,8 +67,9 @@ use Rattle.b67_pictures.proofs.Staying.{text_in, level_in, context_in, frame_low
 use Rattle.b67_pictures.proofs.Words.{mark_read}
 use Rattle.std.proofs.lemmas.Bool.Decides.{nat_tests}
 use Rattle.b67_table.specs.References.{cell_of}
+use Rattle.b67_pictures.proofs.Lying.{runs_low}
 
-home_level : (n level : ℕ) → n ≡ level → 2 ≤ n → (n + 1 == level + 1 && nat_le 2 n) ≡ true
+pub home_level : (n level : ℕ) → n ≡ level → 2 ≤ n → (n + 1 == level + 1 && nat_le 2 n) ≡ true
 home_level n level e h = grind (arith, nat_tests)
 
 -- how many cells a frame has
@@ -88,6 +89,15 @@ cells_few sc w lay p i outer at marked control cells f nested =
       length-append f.declared f.later,
       block_few sc nested f.instance.block f.known,
     )
+
+-- a frame that is lent has none
+pub frame_few : (tree : PProgram) (code : Code) (texts : Texts) (w : World) (lay : Layout) (p : ℕ) (part : Part) (outer : List Part) (words : List Word) (f : Frame tree code texts w lay p part outer words) → AreNested (scopes_of tree) →
+    length f.cells ≤ MOST_BLOCK_CELLS
+frame_few tree code texts w lay p part outer words f nested = by_shape f.shape
+  where
+    by_shape : Shape tree code texts w lay p part outer (length f.lower) f.mark f.control f.cells f.home f.gives → length f.cells ≤ MOST_BLOCK_CELLS
+    by_shape (of_own o is) = cells_few (scopes_of tree) w lay p part.instance outer (length f.lower) f.mark f.control f.cells o.framed nested
+    by_shape (of_lent l) = omega (arith, ap length l.none)
 
 module _ (tree : PProgram) (code : Code) (texts : Texts) (nested : LiesNested tree) (short : IsShort tree code)
     (w : World) (lay : Layout) (img : Image) (p : ℕ) (q : Process) (part : Part) (outer : List Part) (bound : ℕ) (core : Core)
@@ -111,7 +121,7 @@ module _ (tree : PProgram) (code : Code) (texts : Texts) (nested : LiesNested tr
   -- instance is to have that parent.
   pub record Calls (wanted : List Wanted) (gs : List Given) (slot : Slot) (next : ℕ) (waiting : List Slot) (h j begin : ℕ) : Type 0 where
     pub lies : s.stands.slots ≡ given_slots wanted gs (slot ∷ mark ∷ waiting)
-    pub fit : AreFit sc (context_in tree code texts w part) wanted gs
+    pub fit : AreFit sc (context_in tree code texts w part s.stands.frame.gives) wanted gs
     pub given_few : length gs ≤ MOST_BLOCK_CELLS
     pub marks : newest own base (slot ∷ mark ∷ waiting) ≡ base + length waiting
     pub stands : Has (text_in tree texts w part) level s.stands.pc (ops.Plain kinds.Entr) next
@@ -140,7 +150,7 @@ module _ (tree : PProgram) (code : Code) (texts : Texts) (nested : LiesNested tr
 
     pub given : Taken sc s.stands.held level own base wanted gs (slot ∷ mark ∷ waiting) core.words
     given =
-        taken_words sc s.stands.held level own base (context_in tree code texts w part) e.fit (slot ∷ mark ∷ waiting) core.words (subst (λ (l : List Slot). SlotsAre sc s.stands.held level own base l core.words) e.lies s.stands.there.words_are)
+        taken_words sc s.stands.held level own base (context_in tree code texts w part s.stands.frame.gives) e.fit (slot ∷ mark ∷ waiting) core.words (subst (λ (l : List Slot). SlotsAre sc s.stands.held level own base l core.words) e.lies s.stands.there.words_are)
 
     abbrev pub arguments : List Word
     arguments = given.arguments
@@ -236,17 +246,12 @@ module _ (tree : PProgram) (code : Code) (texts : Texts) (nested : LiesNested tr
         omega (
           arith,
           s.stands.counted,
-          cells_few sc w lay p part.instance outer (length s.stands.frame.lower) s.stands.frame.mark s.stands.frame.control s.stands.frame.cells s.stands.frame.framed nested.nested,
+          frame_few tree code texts w lay p part outer core.below s.stands.frame nested.nested,
         )
 
     -- the caller's level is one that the machine has
     level_low : level ≤ 31
-    level_low =
-        omega (
-          arith,
-          ap (λ (o : Option Instance). level_of (block_numbered sc.blocks ((or_no_instance o).block))) s.stands.frame.framed.is,
-          (nested.nested.each s.stands.frame.framed.instance.block s.stands.frame.framed.known).low,
-        )
+    level_low = omega (arith, runs_low tree code texts w lay p part outer core.below s.stands.frame)
 
     pub inner_low : inner_level ≤ 31
     inner_low = (nested.nested.each j e.known).low

@@ -3,7 +3,7 @@ use Rattle.std.proofs.Common.{◌≡◌, sym, ap, ◌∙◌, ℕ, ◌+◌, ◌<�
 use Rattle.algol_tree.specs.declared.tree.Named.{Named}
 use Rattle.algol_tree.specs.Plain.{PProgram}
 use Rattle.algol_tree.specs.Scopes.{Scopes, scopes_of}
-use Rattle.algol_meaning.specs.Value.{Reference, reference}
+use Rattle.algol_meaning.specs.Value.{Reference, Cell, reference}
 use Rattle.algol_meaning.specs.World.{Part, Process, World, instance_at, cell_at}
 use Rattle.algol_paths.specs.Arrays.{Shape}
 use Rattle.algol_paths.specs.Blocks.{IsSeen}
@@ -23,11 +23,11 @@ use Rattle.b67_templates.specs.Programs.{Texts}
 use Rattle.b67_cores.specs.Cores.{Core}
 use Rattle.b67_fitting.specs.Nested.{AreNested}
 use Rattle.b67_faithful.proofs.Contradictions.{some_same}
-use Rattle.b67_pictures.specs.Arrays.{Layout, IsOwn, LeadsTo, named_from}
+use Rattle.b67_pictures.specs.Arrays.{Layout, IsOwn, LeadsTo, Denotes, named_from}
 use Rattle.b67_pictures.proofs.ArrayPlaces.{array_index, ArrayPlace, array_place, place_read}
 use Rattle.b67_pictures.proofs.Scene.{Scene}
-use Rattle.b67_pictures.proofs.Staying.{level_in}
-use Rattle.b67_pictures.proofs.ReferenceHomes.{ReferenceHome, reference_home}
+use Rattle.b67_pictures.proofs.Staying.{names_in}
+use Rattle.b67_pictures.proofs.CellHomes.{CellHome, cell_home}
 
 -- ---- references of other parts
 
@@ -55,7 +55,7 @@ module _ (tree : PProgram) (code : Code) (texts : Texts) (nested : AreNested (sc
   sc = scopes_of tree
 
   abbrev level : ℕ
-  level = level_in tree w part
+  level = names_in tree w part
 
   -- what a name means there, where it is no reference
   abbrev named : Named → Reference
@@ -75,35 +75,43 @@ module _ (tree : PProgram) (code : Code) (texts : Texts) (nested : AreNested (sc
     pub fits : (couple.level < 32) × (couple.index < 2 ^ 14)
 
   module _ (n : Named) (shape : Shape) (couple : Couple) (seen : IsSeen sc ((instance_at w part.instance).block) n) (v : IsFormalArray sc level n shape couple) where
-    h : ReferenceHome tree code texts nested w lay img p q part outer bound core s n (wants.array shape) couple
-    h = reference_home tree code texts nested w lay img p q part outer bound core s n (wants.array shape) couple v.found tt seen v.there v.wanted_is v.level_is v.index_is
+    h : CellHome tree code texts nested w lay img p q part outer bound core s n (wants.array shape) couple
+    h = cell_home tree code texts nested w lay img p q part outer bound core s n (wants.array shape) couple v.found tt seen v.there v.wanted_is v.level_is v.index_is
 
-    abbrev IsTarget : Type 0
-    IsTarget = ArrayPlace tree code texts w lay img p q part outer bound core s h.r.instance h.r.name h.denotes.declared h.denotes.cell h.denotes.allotted h.denotes.array
+    module _ (r : Reference) (cell_is : cell_at w (named n) ≡ reference r) (leads : LeadsTo sc w lay (IsOwn (part ∷ outer)) shape r h.word) where
+      abbrev IsTarget : Type 0
+      IsTarget = ArrayPlace tree code texts w lay img p q part outer bound core s r.instance r.name leads.declared leads.cell leads.allotted leads.array
 
-    target : IsTarget
-    target = array_place tree code texts w lay img p q part outer bound core s h.r.instance h.denotes.own h.r.name h.denotes.declared h.denotes.cell h.denotes.allotted h.denotes.array
+      target : IsTarget
+      target = array_place tree code texts w lay img p q part outer bound core s r.instance leads.own r.name leads.declared leads.cell leads.allotted leads.array
 
-    abbrev far_away : ℕ
-    far_away = array_index tree code texts w lay img p q part outer bound core s h.r.instance h.denotes.array.number
+      abbrev far_away : ℕ
+      far_away = array_index tree code texts w lay img p q part outer bound core s r.instance leads.array.number
 
-    frame_is : h.denotes.frame ≡ place p target.at
-    frame_is = some_same (sym h.denotes.laid ∙ target.laid)
+      frame_is : leads.frame ≡ place p target.at
+      frame_is = some_same (sym leads.laid ∙ target.laid)
+
+      home_there : FormalHome n shape couple
+      home_there =
+          record {
+            r = r;
+            cell_is = cell_is;
+            word = h.word;
+            leads = leads;
+            target = target;
+            reads =
+                ap as_sirw leads.word_is
+                ∙ ap (λ (f : Place). as_sirw (cell_word (record { frame = f; index = far_away }))) frame_is
+                ∙ place_read tree code texts w lay img p q part outer bound core s nested r.instance r.name leads.declared leads.cell leads.allotted leads.array target;
+            at = h.at;
+            shown = h.shown;
+            lies = h.lies;
+            fits = h.fits;
+          }
 
     pub formal_home : FormalHome n shape couple
-    formal_home =
-        record {
-          r = h.r;
-          cell_is = h.cell_is;
-          word = h.word;
-          leads = h.denotes;
-          target = target;
-          reads =
-              ap as_sirw h.denotes.word_is
-              ∙ ap (λ (f : Place). as_sirw (cell_word (record { frame = f; index = far_away }))) frame_is
-              ∙ place_read tree code texts w lay img p q part outer bound core s nested h.r.instance h.r.name h.denotes.declared h.denotes.cell h.denotes.allotted h.denotes.array target;
-          at = h.at;
-          shown = h.shown;
-          lies = h.lies;
-          fits = h.fits;
-        }
+    formal_home = by_cell h.cell h.cell_is h.denotes
+      where
+        by_cell : (c : Cell) → cell_at w (named n) ≡ c → Denotes sc w lay (IsOwn (part ∷ outer)) (wants.array shape) c h.word → FormalHome n shape couple
+        by_cell (reference r) is leads = home_there r is leads
+        by_cell _ is leads = absurd leads

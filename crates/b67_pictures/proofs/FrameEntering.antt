@@ -1,5 +1,6 @@
 -- A frame is entered: the instance of a block or a procedure has it above the words of the part around, which waits.
-use Rattle.std.proofs.Common.{◌≡◌, ◌≢◌, inl, refl, sym, ap, ◌∙◌, subst, ℕ, zero, suc, ◌+◌, ◌*◌, ◌≤◌, ◌<◌, List, [], ◌∷◌, ◌++◌, length, Option, Some, None, Bool, false, arith, append_assoc, append-nil, length-append}
+use Rattle.b67_control.specs.Display.{place_at}
+use Rattle.std.proofs.Common.{◌≡◌, ◌≢◌, refl, sym, ap, ◌∙◌, subst, ℕ, zero, suc, ◌+◌, ◌*◌, ◌≤◌, ◌<◌, List, [], ◌∷◌, ◌++◌, length, Option, Some, None, Bool, false, arith, append_assoc, append-nil, length-append}
 use Rattle.std.specs.Prelude.{if◌then◌else◌, replicate, reverse, slice_get}
 use Rattle.std.proofs.lemmas.List.{length-reverse}
 use Rattle.b67_list.specs.Numbered.{numbered}
@@ -35,9 +36,9 @@ use Rattle.b67_table.specs.Image.{Image}
 use Rattle.b67_table.specs.Linkage.{entered_mark, control_word}
 use Rattle.b67_table.specs.Outcome as outcomes
 use Rattle.b67_table.specs.Table.{table}
-use Rattle.b67_templates.specs.Contexts.{yields_of}
+use Rattle.b67_templates.specs.Contexts.{yields_of, Yields}
 use Rattle.b67_templates.specs.Cells.{Wanted, parameter_cells, zero_cells, simple_cells, actuals_of, made_of}
-use Rattle.b67_templates.specs.Code.{CellsAt}
+use Rattle.b67_templates.specs.Code.{CellsAt, in_routine}
 use Rattle.b67_templates.specs.Fragments.{Goes}
 use Rattle.b67_templates.specs.Programs.{Texts, context_of}
 use Rattle.b67_standing.specs.Stepping.{Slot}
@@ -48,17 +49,18 @@ use Rattle.b67_cores.specs.Slots.{newest, SlotsAre}
 use Rattle.b67_cores.specs.Stretches.{CoreAt, Begins, BlocksBegin, FragmentsArePerformed, control_words}
 use Rattle.b67_faithful.specs.Faithful.{IsShort}
 use Rattle.b67_faithful.specs.Weight.{tokens_around, part_weight, weight, parts_weight}
-use Rattle.b67_faithful.proofs.Contradictions.{none_some, some_same}
+use Rattle.b67_faithful.proofs.Contradictions.{none_some}
 use Rattle.b67_fitting.specs.Nested.{LiesNested, IsText}
 use Rattle.b67_pictures.specs.Arrays.{Allotted, Layout, AreMade, AreKnown, IsOwn}
 use Rattle.b67_pictures.specs.Acting.{Does, gave}
-use Rattle.b67_pictures.specs.Frames.{block_controls, controls_count, most_around, CellsAre, IsChained, IsComplete, home_of, inside, Framed, RoutinesStand, Frame, Waits, Around}
+use Rattle.b67_pictures.specs.Frames.{block_controls, controls_count, most_around, CellsAre, IsChained, IsComplete, home_of, inside, Framed, RoutinesStand, Frame, Waits, Around, of_own, run_level}
 use Rattle.b67_pictures.specs.Pictures.{Living, Pictures, PicturesBy}
 use Rattle.b67_pictures.proofs.Ancestors.{same_place}
 use Rattle.b67_pictures.proofs.ArraysKept.{rows_but, rows_there, rows_other, no_elements, no_rows, arrays_joined}
 use Rattle.b67_pictures.proofs.ControlWords.{block_few, routines_long, controls_many}
 use Rattle.b67_pictures.proofs.Cored.{has_now, others_have, system_stays}
 use Rattle.b67_pictures.proofs.EntryRow.{lower_of}
+use Rattle.b67_pictures.proofs.Expressions.{expression_resumed}
 use Rattle.b67_pictures.proofs.Entries as entries
 use Rattle.b67_pictures.proofs.Entries.{Calls}
 use Rattle.b67_pictures.proofs.Formals.{LeadAll, lead_there}
@@ -69,13 +71,13 @@ use Rattle.b67_pictures.proofs.Kept.{AreAlike}
 use Rattle.b67_pictures.proofs.Knowing.{denotes_lasts, known_of}
 use Rattle.b67_pictures.proofs.Landing.{living_of}
 use Rattle.b67_pictures.proofs.Linked.{all_each, level_around, shown_chained}
-use Rattle.b67_pictures.proofs.Lying.{StayBelow}
+use Rattle.b67_pictures.proofs.Lying.{StayBelow, part_own, shape_on, runs_at}
 use Rattle.b67_pictures.proofs.Numbers.{numbered_set}
 use Rattle.b67_pictures.proofs.Scene.{Scene}
 use Rattle.b67_pictures.proofs.Segmented.{length_mapped}
 use Rattle.b67_pictures.proofs.StackWords.{length-stack}
 use Rattle.b67_pictures.proofs.Stage.{gives_within, goes_on, weight_of}
-use Rattle.b67_pictures.proofs.Staying.{text_in, level_in, context_in, most_in, wanted_in, FrameStill, frame_still, same_instance, parts_remain, known_stays, parts_weigh}
+use Rattle.b67_pictures.proofs.Staying.{text_in, level_in, context_in, most_in, FrameStill, frame_still, still_low, same_instance, parts_remain, known_stays, parts_weigh, names_in}
 use Rattle.b67_pictures.proofs.Texted.{block_keeps, block_makes}
 use Rattle.b67_pictures.proofs.Zeros.{zero_word, cells_length}
 
@@ -126,7 +128,7 @@ module _ (tree : PProgram) (code : Code) (texts : Texts) (nested : LiesNested tr
     pub unmade : all_left_to_make part.rest ≡ all_to_make part.rest
     pub waits : ask (resume sc part.rest entered) ≡ nothing
     pub returns : (a : Answer) → Gives (yields_of (block_numbered sc.blocks j).result) a →
-        ComesTo sc (context_in tree code texts w part) (text_in tree texts w part) (level_in tree w part) (most_in tree w part) (resume sc (resume sc part.rest entered) a) next (pushed (yields_of (block_numbered sc.blocks j).result) a waiting)
+        ComesTo sc (context_in tree code texts w part s.stands.frame.gives) (text_in tree texts w part) (level_in tree w part) (most_in tree w part) (resume sc (resume sc part.rest entered) a) next (pushed (yields_of (block_numbered sc.blocks j).result) a waiting)
 
   module _ (wanted : List Wanted) (gs : List Given) (slot : Slot) (next : ℕ) (waiting : List Slot) (h j begin : ℕ) (e : CallsThere wanted gs slot next waiting h j begin) (purpose : Purpose) (owns : is_evaluation purpose ≡ false) (body : Body j begin)
       (behind : GoesOnBehind next waiting j) (given : List Cell)
@@ -183,7 +185,7 @@ module _ (tree : PProgram) (code : Code) (texts : Texts) (nested : LiesNested tr
     all_many = omega (arith, simple_many sc b, taken_many)
 
     each_has_place : length body.ats ≡ length (actuals_of sc b)
-    each_has_place = routines_long sc (context_of code texts sc j) ps (inner_level + 1) (actuals_of sc b) body.ats body.routines
+    each_has_place = routines_long sc (context_of code texts sc j) ps (inner_level + 1) (actuals_of sc b) body.ats body.routines.0
 
     controls_are_many : length controls ≡ controls_count sc j
     controls_are_many = controls_many sc j body.ats each_has_place
@@ -268,19 +270,19 @@ module _ (tree : PProgram) (code : Code) (texts : Texts) (nested : LiesNested tr
     all_low : length core.below ≤ limit
     all_low = omega arith
 
-    still : FrameStill tree code texts w w' lay lay' p limit stay part outer core.below s.stands.frame.cells
+    still : FrameStill tree code texts w w' lay lay' p limit stay part outer core.below s.stands.frame.cells s.stands.frame.gives
     still =
         frame_still tree code texts w w' lay lay' p limit stay part outer core.below s.stands.frame s.around
         (omega (arith, entries.own_low tree code texts nested short w lay img p q part outer bound core s wanted gs slot next waiting h j begin e))
 
     here : instance_at w i ≡ instance_at w' i
-    here = sym (same_instance tree code texts w w' lay lay' p limit stay part outer core s.stands s.around all_low i (inl refl))
+    here = sym (same_instance tree code texts w w' lay lay' p limit stay part outer core s.stands s.around all_low i (part_own tree code texts w lay p part outer core.below s.stands.frame))
 
     parent_here : instance_at w h ≡ instance_at w' h
     parent_here = sym (same_instance tree code texts w w' lay lay' p limit stay part outer core s.stands s.around all_low h e.own_parent)
 
     same_lower : length s.stands.frame.lower ≡ length still.frame.lower
-    same_lower = ap (λ (x : Place). x.at) (some_same (sym (stay.places i (place p (length s.stands.frame.lower)) s.stands.frame.framed.laid) ∙ still.frame.framed.laid))
+    same_lower = sym (still_low tree code texts w w' lay lay' p limit stay part outer core.below s.stands.frame still)
 
     -- ---- the core in the frame
 
@@ -391,46 +393,62 @@ module _ (tree : PProgram) (code : Code) (texts : Texts) (nested : LiesNested tr
     abbrev frame_in : Frame tree code texts w' lay' p inner (part' ∷ outer) g.core.below
     frame_in =
         record {
-          owns = owns;
           lower = lower;
           mark = mark;
           control = control;
           cells = cells;
           words_are = g.below ∙ append_assoc lower (mark ∷ control ∷ taken) (zeros ++ control_words controls)
               ∙ ap (λ (ws : List Word). lower ++ mark ∷ control ∷ ws) (sym (append_assoc taken zeros (control_words controls)));
-          framed = framed;
-          routines = body.routines;
+          instance = framed.instance;
+          is = framed.is;
+          known = framed.known;
+          home = framed.home;
+          df = framed.df;
+          mark_is = framed.mark_is;
+          back = framed.back;
+          control_is = framed.control_is;
+          level_is = framed.level_is ∙ runs_at inner inner_level owns;
+          gives = yields_of b.result;
           text = subst (λ (k : ℕ). KeepsToText sc k inner.rest) (sym block_in) text_in_block;
-          making = sym (block_makes sc j order is_text);
+          shape = of_own (record { owns = owns; framed = framed; routines = body.routines; making = sym (block_makes sc j order is_text) }) refl;
         }
 
     abbrev frame_around : Frame tree code texts w' lay' p part' outer core.below
     frame_around =
         record {
-          owns = still.frame.owns;
           lower = still.frame.lower;
           mark = still.frame.mark;
           control = still.frame.control;
           cells = still.frame.cells;
           words_are = still.frame.words_are;
-          framed = still.frame.framed;
-          routines = still.frame.routines;
+          instance = still.frame.instance;
+          is = still.frame.is;
+          known = still.frame.known;
+          home = still.frame.home;
+          df = still.frame.df;
+          mark_is = still.frame.mark_is;
+          back = still.frame.back;
+          control_is = still.frame.control_is;
+          level_is = still.frame.level_is;
+          gives = still.frame.gives;
           text = keeps.resumed sc ((instance_at w' i).block) part.rest entered still.frame.text tt;
-          making = still.frame.making ∙ sym behind.unmade ∙ sym (order.resumed sc ((instance_at w' i).block) part.rest entered still.frame.text);
+          shape = shape_on tree code texts w' lay' p part outer (length still.frame.lower) still.frame.mark still.frame.control still.frame.cells still.frame.home still.frame.gives part'.rest (sym behind.unmade ∙ sym (order.resumed sc ((instance_at w' i).block) part.rest entered still.frame.text)) (expression_resumed sc part.rest entered) still.frame.shape;
         }
 
     -- ---- what waits
 
     returns_now : (a : Answer) → Gives (yields_of b.result) a →
-        ComesTo sc (context_in tree code texts w' part') (text_in tree texts w' part') (level_in tree w' part') (most_in tree w' part') (resume sc part'.rest a) next (pushed (yields_of b.result) a waiting)
+        ComesTo sc (context_in tree code texts w' part' still.frame.gives) (text_in tree texts w' part') (level_in tree w' part') (most_in tree w' part') (resume sc part'.rest a) next (pushed (yields_of b.result) a waiting)
     returns_now =
         subst (λ (x : Instance). (a : Answer) → Gives (yields_of b.result) a →
-        ComesTo sc (context_of code texts sc x.block) (texts.placed (segment_of sc.blocks x.block)) (level_of (block_numbered sc.blocks x.block)) (most_around tree x.block) (resume sc part'.rest a) next (pushed (yields_of b.result) a waiting)) here
-        behind.returns
+        ComesTo sc (in_routine still.frame.gives (context_of code texts sc x.block)) (texts.placed (segment_of sc.blocks x.block)) (run_level (is_evaluation part.purpose) (level_of (block_numbered sc.blocks x.block))) (most_around tree x.block) (resume sc part'.rest a) next
+        (pushed (yields_of b.result) a waiting)) here
+        (subst (λ (y : Yields). (a : Answer) → Gives (yields_of b.result) a →
+        ComesTo sc (context_in tree code texts w part y) (text_in tree texts w part) (level_in tree w part) (most_in tree w part) (resume sc part'.rest a) next (pushed (yields_of b.result) a waiting)) (sym still.gives_are) behind.returns)
 
     words_now : SlotsAre sc s.stands.held (level_in tree w' part') (length still.frame.lower) (length core.below) waiting more
     words_now =
-        subst (λ (x : Instance). SlotsAre sc s.stands.held (level_of (block_numbered sc.blocks x.block)) (length still.frame.lower) (length core.below) waiting more) here
+        subst (λ (x : Instance). SlotsAre sc s.stands.held (run_level (is_evaluation part.purpose) (level_of (block_numbered sc.blocks x.block))) (length still.frame.lower) (length core.below) waiting more) here
         (subst (λ (k : ℕ). SlotsAre sc s.stands.held level k (length core.below) waiting more)
         (entries.own_is tree code texts nested short w lay img p q part outer bound core s wanted gs slot next waiting h j begin e ∙ same_lower)
         (entries.second tree code texts nested short w lay img p q part outer bound core s wanted gs slot next waiting h j begin e).are)
@@ -472,13 +490,13 @@ module _ (tree : PProgram) (code : Code) (texts : Texts) (nested : LiesNested tr
           control_is = entries.control_reads tree code texts nested short w lay img p q part outer bound core s wanted gs slot next waiting h j begin e;
           segment_is = s.stands.segment_is ∙ ap (λ (x : Instance). segment_of sc.blocks x.block) here;
           place_is = omega arith;
-          level_is = s.stands.there.level_is ∙ ap (λ (x : Instance). level_of (block_numbered sc.blocks x.block)) here;
+          level_is = s.stands.there.level_is ∙ ap (λ (x : Instance). run_level (is_evaluation part.purpose) (level_of (block_numbered sc.blocks x.block))) here;
           cells_are = s.stands.counted ∙ sym (ap length still.cells_are);
           light = subst (λ (x : Instance). length core.below + most_around tree x.block + 3 ≤ parts_weight tree w' (part' ∷ outer)) here (omega (arith, s.room, s.light, weight_before));
         }
 
-    around_inner : Around tree code texts w' lay' p (part' ∷ outer) lower mark control (wanted_in tree w' inner)
-    around_inner = subst (λ (k : ℕ). Around tree code texts w' lay' p (part' ∷ outer) lower mark control (yields_of (block_numbered sc.blocks k).result)) (sym block_in) (waits_now, still.around)
+    around_inner : Around tree code texts w' lay' p (part' ∷ outer) lower mark control (yields_of b.result)
+    around_inner = (waits_now, still.around)
 
     -- ---- the new part goes on
 
@@ -546,16 +564,21 @@ module _ (tree : PProgram) (code : Code) (texts : Texts) (nested : LiesNested tr
           frame = frame_in;
           around = around_inner;
           counted = ap (λ (r : Registers). r.cells) g.registers ∙ cells_counted;
-          chained = subst (λ (d : List (Option Place)). IsChained sc w' lay' n (level_in tree w' inner) d) (sym (ap (λ (r : Registers). r.display) g.registers))
-              (shown_chained sc w' lay' n (level_in tree w' inner) (place p at) frames made_laid (ap (λ (k : ℕ). level_of (block_numbered sc.blocks k)) block_in ∙ level_is) each_now);
+          chained = subst (λ (d : List (Option Place)). IsChained sc w' lay' n (names_in tree w' inner) d) (sym (ap (λ (r : Registers). r.display) g.registers))
+              (shown_chained sc w' lay' n (names_in tree w' inner) (place p at) frames made_laid (ap (λ (k : ℕ). level_of (block_numbered sc.blocks k)) block_in ∙ level_is) each_now);
+          top = ap (λ (r : Registers). place_at r.display (level_in tree w' inner)) g.registers
+              ∙ ap (place_at new.registers.display) (sym (runs_at inner (names_in tree w' inner) owns) ∙ ap (λ (k : ℕ). level_of (block_numbered sc.blocks k)) block_in)
+              ∙ entries.shown_here tree code texts nested short w lay img p q part outer bound core s wanted gs slot next waiting h j begin e;
           segment_is = ap (λ (r : Registers). r.segment) g.registers ∙ ap (segment_of sc.blocks) (sym block_in);
           pc = body.start;
           slots = [];
           known = [];
           known_are = tt;
-          at = subst (λ (k : ℕ). CoreAt sc [] code (texts.placed (segment_of sc.blocks k)) (level_of (block_numbered sc.blocks k)) body.start [] g.core) (sym block_in) g.at;
+          at = subst (λ (x : Bool). CoreAt sc [] code (text_in tree texts w' inner) (run_level x (names_in tree w' inner)) body.start [] g.core) (sym owns)
+              (subst (λ (k : ℕ). CoreAt sc [] code (texts.placed (segment_of sc.blocks k)) (level_of (block_numbered sc.blocks k)) body.start [] g.core) (sym block_in) g.at);
           held = omega arith;
-          comes = subst (λ (k : ℕ). ComesTo sc (context_of code texts sc k) (texts.placed (segment_of sc.blocks k)) (level_of (block_numbered sc.blocks k)) (most_around tree k) inner.rest body.start []) (sym block_in) body.comes;
+          comes = subst (λ (x : Bool). ComesTo sc (context_in tree code texts w' inner (yields_of b.result)) (text_in tree texts w' inner) (run_level x (names_in tree w' inner)) (most_in tree w' inner) inner.rest body.start []) (sym owns)
+              (subst (λ (k : ℕ). ComesTo sc (in_routine (yields_of b.result) (context_of code texts sc k)) (texts.placed (segment_of sc.blocks k)) (level_of (block_numbered sc.blocks k)) (most_around tree k) inner.rest body.start []) (sym block_in) body.comes);
           room = subst (λ (k : ℕ). length g.core.below + most_around tree k ≤ bound') (sym block_in) (omega (arith, ap length frame_in.words_are, length-append lower (mark ∷ control ∷ cells), cells_many));
           light = light';
         })

@@ -1,5 +1,5 @@
 -- Where a process finds a variable: in the frame of one of its parts.
-use Rattle.std.proofs.Common.{◌≡◌, inl, refl, sym, ap, ◌∙◌, ℕ, ◌+◌, ◌-◌, ◌≤◌, List, ◌∷◌, length, Some, Ok, arith}
+use Rattle.std.proofs.Common.{◌≡◌, sym, ap, ◌∙◌, ℕ, ◌+◌, ◌-◌, ◌≤◌, List, ◌∷◌, length, Some, Ok, arith}
 use Rattle.std.specs.Prelude.{slice_get}
 use Rattle.b67_list.specs.Numbered.{numbered}
 use Rattle.algol_tree.specs.declared.tree.Kind.{Kind}
@@ -29,11 +29,11 @@ use Rattle.b67_cores.specs.Cores.{Core}
 use Rattle.b67_cores.specs.Slots.{Known}
 use Rattle.b67_cores.specs.Stretches.{CoreAt}
 use Rattle.b67_pictures.specs.Arrays.{Layout}
-use Rattle.b67_pictures.proofs.Lying.{IsParent, parents_in}
+use Rattle.b67_pictures.proofs.Lying.{IsParent, parents_in, part_own}
 use Rattle.b67_pictures.proofs.Numbers.{get_below}
 use Rattle.b67_pictures.proofs.Scene.{Scene}
 use Rattle.b67_pictures.proofs.Parents.{length_around}
-use Rattle.b67_pictures.proofs.Staying.{level_in}
+use Rattle.b67_pictures.proofs.Staying.{names_in}
 use Rattle.b67_pictures.proofs.VariableHomes.{VariableHome, variable_home}
 
 -- the operator that stands where a core stands
@@ -65,16 +65,16 @@ module _ (tree : PProgram) (code : Code) (texts : Texts) (w : World) (lay : Layo
     pub below_lies : slice_get core.below (length at.lies.frame.lower + couple.index) ≡ Some at.word
     pub shown : display_at core.registers couple.level ≡ Some (place p (length at.lies.frame.lower))
 
-  module _ (n : Named) (kind : Kind) (couple : Couple) (seen : IsSeen sc ((instance_at w part.instance).block) n) (v : IsVariable sc (level_in tree w part) n kind couple) where
+  module _ (n : Named) (kind : Kind) (couple : Couple) (seen : IsSeen sc ((instance_at w part.instance).block) n) (v : IsVariable sc (names_in tree w part) n kind couple) where
     abbrev up : ℕ
     up = (use_of sc n).up
 
-    low : up + OUTER_LEVEL ≤ level_in tree w part
+    low : up + OUTER_LEVEL ≤ names_in tree w part
     low =
         let j : ℕ = (instance_at w part.instance).block in
         omega (arith, length_around sc.blocks ((instance_at w part.instance).block), get_below ((instance_at w part.instance).block ∷ around sc.blocks ((instance_at w part.instance).block)) up ((use_of sc n).block) seen)
 
-    level_up : couple.level ≡ level_in tree w part - up
+    level_up : couple.level ≡ names_in tree w part - up
     level_up = omega (arith, v.level_is)
 
     module _ (parent : IsParent tree code texts w lay p (part ∷ outer) part.instance up ((use_of sc n).block)) where
@@ -94,7 +94,7 @@ module _ (tree : PProgram) (code : Code) (texts : Texts) (w : World) (lay : Layo
                 ap (λ (k : ℕ). display_at core.registers k) level_up
                 ∙ s.stands.chained up low
                 ∙ ap (λ (k : ℕ). numbered lay.places k) (sym h.lies.instance_is)
-                ∙ h.lies.frame.framed.laid;
+                ∙ h.lies.owned.framed.laid;
           }
 
       home_by : Home n kind couple
@@ -102,4 +102,4 @@ module _ (tree : PProgram) (code : Code) (texts : Texts) (w : World) (lay : Layo
 
     pub home : Home n kind couple
     home =
-        home_by (parents_in tree code texts w lay p part outer core s.stands s.around part.instance (inl refl) up ((use_of sc n).block) seen)
+        home_by (parents_in tree code texts w lay p part outer core s.stands s.around part.instance (part_own tree code texts w lay p part outer core.below s.stands.frame) up ((use_of sc n).block) seen)

@@ -36,15 +36,17 @@ use Rattle.b67_pictures.specs.Acting.{Does, gave, stopped}
 use Rattle.b67_pictures.specs.Frames.{IsChained, Frame}
 use Rattle.b67_pictures.specs.Pictures.{Pictures, PicturesBy}
 use Rattle.b67_pictures.proofs.ArraysKept.{arrays_unchanged}
+use Rattle.b67_pictures.proofs.Expressions.{expression_resumed}
 use Rattle.b67_pictures.proofs.Cored.{has_now, others_have, system_stays}
 use Rattle.b67_pictures.proofs.Kept.{alike_by}
 use Rattle.b67_pictures.proofs.Knowing.{known_of}
 use Rattle.b67_pictures.proofs.Landing.{steps_none, living_of}
-use Rattle.b67_pictures.proofs.Lying.{StayBelow}
+use Rattle.b67_pictures.proofs.Lying.{StayBelow, shape_on}
 use Rattle.b67_pictures.proofs.Numbers.{numbered_set, most_or_more}
 use Rattle.b67_pictures.proofs.Scene.{Scene}
 use Rattle.b67_pictures.proofs.Stage.{gives_within, limit_beyond, goes_on, weight_of}
-use Rattle.b67_pictures.proofs.Staying.{text_in, level_in, context_in, most_in, FrameStill, frame_still, frame_low, chained_stays, parts_weigh}
+use Rattle.b67_pictures.proofs.Staying.{text_in, level_in, context_in, most_in, FrameStill, frame_still, frame_low, chained_stays, top_stays, parts_weigh, names_in}
+use Rattle.b67_templates.specs.Contexts.{Yields}
 
 -- the registers but for S, F and the place
 pub record SameFrame (a b : Registers) : Type 0 where
@@ -56,7 +58,7 @@ module _ (tree : PProgram) (code : Code) (texts : Texts) (fragments : FragmentsA
     (a : Answer) (nameless : InAnswer (IsSeen (scopes_of tree) ((instance_at w part.instance).block)) a) (out : List (List ℕ)) (new : Core) (below : new.below ≡ core.below) (frame_is : SameFrame core.registers new.registers)
     (known : List Known) (known_are : AreKnown (scopes_of tree) w lay (IsOwn (part ∷ outer)) part.instance known)
     (pc : ℕ) (slots : List Slot) (there : CoreAt (scopes_of tree) known code (text_in tree texts w part) (level_in tree w part) pc slots new) (few : length slots ≤ most_in tree w part)
-    (comes : ComesTo (scopes_of tree) (context_in tree code texts w part) (text_in tree texts w part) (level_in tree w part) (most_in tree w part) (resume (scopes_of tree) part.rest a) pc slots) where
+    (comes : ComesTo (scopes_of tree) (context_in tree code texts w part s.stands.frame.gives) (text_in tree texts w part) (level_in tree w part) (most_in tree w part) (resume (scopes_of tree) part.rest a) pc slots) where
   abbrev pub part' : Part
   part' = record part { rest = resume (scopes_of tree) part.rest a }
 
@@ -86,7 +88,7 @@ module _ (tree : PProgram) (code : Code) (texts : Texts) (fragments : FragmentsA
   all_low : length core.below ≤ length core.below
   all_low = omega arith
 
-  still : FrameStill tree code texts w w' lay lay p (length core.below) stay part outer core.below s.stands.frame.cells
+  still : FrameStill tree code texts w w' lay lay p (length core.below) stay part outer core.below s.stands.frame.cells s.stands.frame.gives
   still =
       frame_still tree code texts w w' lay lay p (length core.below) stay part outer core.below s.stands.frame s.around
       (omega (arith, frame_low tree code texts w lay p part outer core.below s.stands.frame))
@@ -94,16 +96,23 @@ module _ (tree : PProgram) (code : Code) (texts : Texts) (fragments : FragmentsA
   abbrev frame' : Frame tree code texts w' lay p part' outer new.below
   frame' =
       record {
-        owns = still.frame.owns;
         lower = still.frame.lower;
         mark = still.frame.mark;
         control = still.frame.control;
         cells = still.frame.cells;
         words_are = below ∙ still.frame.words_are;
-        framed = still.frame.framed;
-        routines = still.frame.routines;
+        instance = still.frame.instance;
+        is = still.frame.is;
+        known = still.frame.known;
+        home = still.frame.home;
+        df = still.frame.df;
+        mark_is = still.frame.mark_is;
+        back = still.frame.back;
+        control_is = still.frame.control_is;
+        level_is = still.frame.level_is;
+        gives = still.frame.gives;
         text = keeps.resumed (scopes_of tree) ((instance_at w part.instance).block) part.rest a s.stands.frame.text nameless;
-        making = still.frame.making ∙ sym unmade ∙ sym (order.resumed (scopes_of tree) ((instance_at w part.instance).block) part.rest a s.stands.frame.text);
+        shape = shape_on tree code texts w' lay p part outer (length still.frame.lower) still.frame.mark still.frame.control still.frame.cells still.frame.home still.frame.gives part'.rest (sym unmade ∙ sym (order.resumed (scopes_of tree) ((instance_at w part.instance).block) part.rest a s.stands.frame.text)) (expression_resumed (scopes_of tree) part.rest a) still.frame.shape;
       }
 
   light' : bound + 3 ≤ weight tree w' p
@@ -138,8 +147,10 @@ module _ (tree : PProgram) (code : Code) (texts : Texts) (fragments : FragmentsA
         frame = frame';
         around = still.around;
         counted = ap (λ (r : Registers). r.cells) frame_is.is ∙ s.stands.counted ∙ sym (ap length still.cells_are);
-        chained = subst (λ d. IsChained (scopes_of tree) w' lay part.instance (level_in tree w part) d) (sym (ap (λ (r : Registers). r.display) frame_is.is))
+        chained = subst (λ d. IsChained (scopes_of tree) w' lay part.instance (names_in tree w part) d) (sym (ap (λ (r : Registers). r.display) frame_is.is))
             (chained_stays tree code texts w w' lay lay p (length core.below) stay part outer core s.stands s.around all_low core.registers.display s.stands.chained);
+        top = ap (λ (r : Registers). place_at r.display (level_in tree w part)) frame_is.is
+            ∙ top_stays tree code texts w w' lay lay p (length core.below) stay part outer core s.stands s.around all_low still;
         segment_is = ap (λ (r : Registers). r.segment) frame_is.is ∙ s.stands.segment_is;
         pc = pc;
         slots = slots;
@@ -147,7 +158,7 @@ module _ (tree : PProgram) (code : Code) (texts : Texts) (fragments : FragmentsA
         known_are = known_of (scopes_of tree) w w' lay (part ∷ outer) (part' ∷ outer) refl (λ j own. own) part.instance known known_are;
         at = there;
         held = few;
-        comes = comes;
+        comes = subst (λ (y : Yields). ComesTo (scopes_of tree) (context_in tree code texts w' part' y) (text_in tree texts w' part') (level_in tree w' part') (most_in tree w' part') part'.rest pc slots) (sym still.gives_are) comes;
         room = room';
         light = light';
       }))

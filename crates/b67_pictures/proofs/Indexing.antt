@@ -121,7 +121,7 @@ module _ (tree : PProgram) (code : Code) (texts : Texts) (nested : AreNested (sc
     -- one within them: the word of a descriptor comes in place of the two
     module _ (mother : Bool) (moved_subscript : ℤ) (d : Descriptor) (below : List Slot) (f : Finds tree code texts nested w lay img p q part outer bound core s mother moved_subscript d below)
         (k : ℕ) (e : subscript_place ((use_of sc n).sort) h.cell ks z ≡ Some k) (held : Held) (word : Word) (held_is : HeldIs sc w lay (IsOwn (part ∷ outer)) part.instance held word)
-        (comes : ComesTo sc (context_in tree code texts w part) text level (most_in tree w part) (resume sc part.rest (place (element_of home (ks ++ k ∷ [])))) next (descriptor held ∷ below))
+        (comes : ComesTo sc (context_in tree code texts w part s.stands.frame.gives) text level (most_in tree w part) (resume sc part.rest (place (element_of home (ks ++ k ∷ [])))) next (descriptor held ∷ below))
         (class_is : class_at op core.registers.place ≡ classes.Action) (raw_is : raw code img p ≡ effects.gives (with_core img p (with_one core word f.words next)))
         (acts : (after : Image) → as_action (letter_by (outcomes.gives after) (operator_letter op img core.registers)) ≡ Some Index) where
       abbrev new : Core
@@ -144,13 +144,13 @@ module _ (tree : PProgram) (code : Code) (texts : Texts) (nested : AreNested (sc
 
   -- ---- by what stands there
 
-  abbrev Goes_on : ActionAt sc (context_in tree code texts w part) text level (most_in tree w part) (indexes n ks v) s.stands.pc s.stands.slots → Type 0
+  abbrev Goes_on : ActionAt sc (context_in tree code texts w part s.stands.frame.gives) text level (most_in tree w part) (indexes n ks v) s.stands.pc s.stands.slots → Type 0
   Goes_on a =
-      (r : Answer) (at : ℕ) (after : List Slot) → Acted sc (context_in tree code texts w part) text level (most_in tree w part) (indexes n ks v) s.stands.pc s.stands.slots a r at after →
-      ComesTo sc (context_in tree code texts w part) text level (most_in tree w part) (resume sc part.rest r) at after
+      (r : Answer) (at : ℕ) (after : List Slot) → Acted sc (context_in tree code texts w part s.stands.frame.gives) text level (most_in tree w part) (indexes n ks v) s.stands.pc s.stands.slots a r at after →
+      ComesTo sc (context_in tree code texts w part s.stands.frame.gives) text level (most_in tree w part) (resume sc part.rest r) at after
 
   -- NXLN, which leads to a row
-  module _ (low second : ℤ) (next : ℕ) (below : List Slot) (found : RowIndexAt sc (context_in tree code texts w part) text level (most_in tree w part) n ks v low second s.stands.pc next s.stands.slots below)
+  module _ (low second : ℤ) (next : ℕ) (below : List Slot) (found : RowIndexAt sc (context_in tree code texts w part s.stands.frame.gives) text level (most_in tree w part) n ks v low second s.stands.pc next s.stands.slots below)
       (answered : Goes_on (of_row low second next below found)) where
     row_there : operator_at code core.registers ≡ Ok (ops.Plain kinds.Nxln, next)
     row_there = operator_there sc s.stands.held code text level s.stands.pc s.stands.slots core (ops.Plain kinds.Nxln) next s.stands.there found.stands
@@ -222,7 +222,7 @@ module _ (tree : PProgram) (code : Code) (texts : Texts) (nested : AreNested (sc
         row_by_index h (first_of_two tree code texts nested w lay img p q part outer bound core s n found.array found.couple h found.subscript low second below found.lows_are found.lies)
 
   -- INDX, which leads to an element
-  module _ (kind : Kind) (next : ℕ) (below : List Slot) (found : ElementIndexAt sc (context_in tree code texts w part) text level (most_in tree w part) n ks v kind s.stands.pc next s.stands.slots below)
+  module _ (kind : Kind) (next : ℕ) (below : List Slot) (found : ElementIndexAt sc (context_in tree code texts w part s.stands.frame.gives) text level (most_in tree w part) n ks v kind s.stands.pc next s.stands.slots below)
       (answered : Goes_on (of_element kind next below found)) where
     element_there : operator_at code core.registers ≡ Ok (ops.Plain kinds.Indx, next)
     element_there = operator_there sc s.stands.held code text level s.stands.pc s.stands.slots core (ops.Plain kinds.Indx) next s.stands.there found.stands
@@ -273,6 +273,6 @@ module _ (tree : PProgram) (code : Code) (texts : Texts) (nested : AreNested (sc
         let h : IsElementHome = array_home tree code texts nested w lay img p q part outer bound core s n found.array found.couple (ap array_asked asks) found.is_array in
         element_by_index h (last_index tree code texts nested w lay img p q part outer bound core s n found.array found.couple h ks found.subscript below found.lies)
 
-  pub indexing : (a : ActionAt sc (context_in tree code texts w part) text level (most_in tree w part) (indexes n ks v) s.stands.pc s.stands.slots) → Goes_on a → Does tree code texts w img p
+  pub indexing : (a : ActionAt sc (context_in tree code texts w part s.stands.frame.gives) text level (most_in tree w part) (indexes n ks v) s.stands.pc s.stands.slots) → Goes_on a → Does tree code texts w img p
   indexing (of_row low second next below found) answered = row_indexing low second next below found answered
   indexing (of_element kind next below found) answered = element_indexing kind next below found answered

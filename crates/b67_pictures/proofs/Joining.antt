@@ -1,21 +1,27 @@
 -- A code in which a program stands whose blocks lie in one another, and which is short and can be listed, is faithful to it.
-use Rattle.std.proofs.Common.{sym, ◌∙◌, ℕ, ◌≤◌, List, [], ◌∷◌, length}
+use Rattle.std.proofs.Common.{sym, ◌∙◌, ℕ, ◌≤◌, List, [], ◌∷◌, length, None}
 use Rattle.std.specs.Prelude.{All}
 use Rattle.algol_tree.specs.declared.tree.Kind.{Kind}
 use Rattle.algol_tree.specs.declared.tree.Named.{Named}
+use Rattle.algol_tree.specs.Blocks.{block_numbered}
 use Rattle.algol_tree.specs.Plain as plain
 use Rattle.algol_tree.specs.Plain.{PProgram, PPair, PBody}
 use Rattle.algol_tree.specs.Scopes.{scopes_of}
 use Rattle.algol_meaning.specs.Value.{Value, Reference}
-use Rattle.algol_meaning.specs.Rest.{element_of, Given, done, value}
+use Rattle.algol_meaning.specs.Rest.{Place, element_of, Given, done, value, place}
+use Rattle.algol_meaning.specs.World.{World, instance_at}
 use Rattle.algol_meaning.specs.Asks.{reads_element, indexes, leaves, enters, passes, stores, enters_block, makes_arrays}
 use Rattle.algol_paths.specs.Laws.{RestsKeepToTheirText, AllIsMadeInOrder}
+use Rattle.algol_texts.specs.Laws.{HasTexts}
+use Rattle.algol_standing.specs.Worlds.{IsWhole}
+use Rattle.algol_standing.specs.Fitting.{IsOk}
 use Rattle.b67_segment.specs.declared.code.Code.{Code}
 use Rattle.b67_segment.specs.declared.code.Segment.{Segment}
 use Rattle.b67_table.specs.Limits.{segment_limit}
 use Rattle.b67_templates.specs.Programs.{Texts, ProgramAt}
 use Rattle.b67_standing.specs.Laws.{RestsGoOn}
 use Rattle.b67_standing.proofs.GoingOn.{rests_go_on}
+use Rattle.b67_standing.proofs.Routines.{routines_give_values, routines_give_places}
 use Rattle.b67_standing.proofs.Starting.{blocks_start, inner_blocks_start}
 use Rattle.b67_cores.proofs.Beginnings.{blocks_begin}
 use Rattle.b67_cores.proofs.Performing.{steps_are_performed, steps_come_to_limit}
@@ -24,18 +30,23 @@ use Rattle.b67_listing.specs.Listings.{HasOperators, IsListable}
 use Rattle.b67_faithful.specs.Faithful.{HasFormats, IsShort, Faithful}
 use Rattle.b67_fitting.specs.Names.{HasNames}
 use Rattle.b67_fitting.specs.Nested.{AreNested, LiesNested}
-use Rattle.b67_pictures.proofs.Yielding.{no_value}
+use Rattle.b67_pictures.proofs.Yielding.{no_value, no_element}
+use Rattle.b67_pictures.specs.Acting.{Does}
+use Rattle.b67_pictures.specs.Frames.{Shape, of_own, of_lent}
 use Rattle.b67_pictures.specs.Programs.{NestedProgramsAreFaithful}
 use Rattle.b67_pictures.proofs.Closing.{FramesClose}
 use Rattle.b67_pictures.proofs.Dispatching.{IsDone, OthersAreDone, scene_does}
+use Rattle.b67_pictures.proofs.Evaluating.{ActualsAreEntered}
 use Rattle.b67_pictures.proofs.Writing.{writing}
 use Rattle.b67_pictures.proofs.Selecting.{selecting}
 use Rattle.b67_pictures.proofs.Ending.{ending}
 use Rattle.b67_pictures.proofs.BlockEntering.{entering_block}
 use Rattle.b67_pictures.proofs.ProcedureEntering.{entering_procedure}
+use Rattle.b67_pictures.proofs.EvaluationLeaving.{left_value, left_place}
 use Rattle.b67_pictures.proofs.Leaving.{leaving, leaving_with}
+use Rattle.b67_pictures.proofs.Lying.{asks_as_own, frame_gives}
 use Rattle.b67_pictures.proofs.Scene.{scene_of}
-use Rattle.b67_pictures.proofs.Segmenting.{block_small}
+use Rattle.b67_pictures.proofs.Segmenting.{block_small, actuals_fit}
 use Rattle.b67_pictures.proofs.Spelled.{have_texts}
 use Rattle.b67_pictures.proofs.Lasting.{acts_alone}
 use Rattle.b67_pictures.proofs.Quiet.{SettledAct}
@@ -43,6 +54,7 @@ use Rattle.b67_pictures.proofs.Simulating as simulating
 use Rattle.b67_pictures.proofs.Simulating.{StandApart}
 use Rattle.b67_pictures.proofs.Starting.{first_pictured}
 use Rattle.b67_pictures.proofs.Counting.{operators_are_few}
+use Rattle.b67_pictures.proofs.Worlds.{narrow_of}
 
 -- what is done with arrays: an element is read, indexed, or stored, a parameter is passed on, and arrays are made
 pub record ArraysAreDone (tree : PProgram) (code : Code) (texts : Texts) : Type 0 where
@@ -52,7 +64,7 @@ pub record ArraysAreDone (tree : PProgram) (code : Code) (texts : Texts) : Type 
   pub passing : (n : Named) → IsDone tree code texts (passes n)
   pub making : (kind : Kind) (ns : List Named) (pairs : List PPair) (vs : List Value) → IsDone tree code texts (makes_arrays kind ns pairs vs)
 
-module _ (keeps : RestsKeepToTheirText) (order : AllIsMadeInOrder) (closing : FramesClose) (tree : PProgram) (code : Code) (names : HasNames tree) (lies : LiesNested tree) (short : IsShort tree code)
+module _ (keeps : RestsKeepToTheirText) (order : AllIsMadeInOrder) (closing : FramesClose) (tree : PProgram) (code : Code) (names : HasNames tree) (lies : LiesNested tree) (fit : HasTexts tree) (short : IsShort tree code)
     (segments : All (λ (segment : Segment). length segment.words ≤ segment_limit) code.segments) (at : ProgramAt code tree) (apart : StandApart tree code at.texts)
     (arrays : ArraysAreDone tree code at.texts) where
   abbrev texts : Texts
@@ -60,15 +72,33 @@ module _ (keeps : RestsKeepToTheirText) (order : AllIsMadeInOrder) (closing : Fr
 
   -- a block or a procedure is left, or the process ends
   leaves_done : IsDone tree code texts (leaves done)
-  leaves_done w lay img p q part [] bound core s able_is able_p asks a answered waits returns = ending tree code texts closing w lay img p q part bound core s able_p asks a
+  leaves_done w lay img p q part [] bound core s able_is able_p asks a answered waits returns =
+      ending tree code texts closing w lay img p q part bound core s able_p (asks_as_own tree code texts w lay p part [] core.below s.stands.frame (leaves done) asks (λ e. e)) asks a
   leaves_done w lay img p q part (next ∷ parts) bound core s able_is able_p asks a answered waits returns =
-      leaving tree code texts (have_texts tree code at) fragments_are_performed keeps order closing w lay img p q part next parts bound core s able_is able_p asks a
+      leaving tree code texts (have_texts tree code at) fragments_are_performed keeps order closing w lay img p q part next parts bound core s able_is able_p
+      (asks_as_own tree code texts w lay p part (next ∷ parts) core.below s.stands.frame (leaves done) asks (λ e. e)) asks a
 
   -- of the outermost part no value is wanted
   gives_back : (v : Value) → IsDone tree code texts (leaves (value v))
   gives_back v w lay img p q part [] bound core s able_is able_p asks a answered waits returns = no_value a.0 (sym s.around.3 ∙ a.2)
   gives_back v w lay img p q part (next ∷ parts) bound core s able_is able_p asks a answered waits returns =
-      leaving_with tree code texts (have_texts tree code at) fragments_are_performed keeps order closing w lay img p q part next parts bound core s able_is able_p v asks a
+      by_shape s.stands.frame.shape
+    where
+      by_shape : Shape tree code texts w lay p part (next ∷ parts) (length s.stands.frame.lower) s.stands.frame.mark s.stands.frame.control s.stands.frame.cells s.stands.frame.home s.stands.frame.gives → Does tree code texts w img p
+      by_shape (of_own o is) =
+          leaving_with tree code texts (have_texts tree code at) fragments_are_performed keeps order closing w lay img p q part next parts bound core s able_is able_p o.owns v asks a
+      by_shape (of_lent l) = left_value tree code texts (have_texts tree code at) fragments_are_performed keeps order w lay img p q part next parts bound core s able_is able_p l v asks a
+
+  -- no block gives a place, but an evaluation does
+  gives_place : (x : Place) → IsDone tree code texts (leaves (place x))
+  gives_place x w lay img p q part [] bound core s able_is able_p asks a answered waits returns = no_element None a.0 (sym s.around.3 ∙ a.2)
+  gives_place x w lay img p q part (next ∷ parts) bound core s able_is able_p asks a answered waits returns = by_shape s.stands.frame.shape
+    where
+      by_shape : Shape tree code texts w lay p part (next ∷ parts) (length s.stands.frame.lower) s.stands.frame.mark s.stands.frame.control s.stands.frame.cells s.stands.frame.home s.stands.frame.gives → Does tree code texts w img p
+      by_shape (of_own o is) =
+          no_element (block_numbered (scopes_of tree).blocks ((instance_at w part.instance).block)).result a.0
+          (sym (frame_gives tree code texts w lay p part (next ∷ parts) core.below s.stands.frame o.owns) ∙ a.2)
+      by_shape (of_lent l) = left_place tree code texts (have_texts tree code at) fragments_are_performed keeps order w lay img p q part next parts bound core s able_is able_p l lies.nested x asks a
 
   enters_done : (b : PBody) → IsDone tree code texts (enters_block b)
   enters_done (plain.body spot ds ss) w lay img p q part outer bound core s able_is able_p asks a answered waits returns =
@@ -94,18 +124,29 @@ module _ (keeps : RestsKeepToTheirText) (order : AllIsMadeInOrder) (closing : Fr
         making = arrays.making;
         leaving = leaves_done;
         returning = gives_back;
+        placing = gives_place;
       }
 
-  settled_act : SettledAct tree code texts
-  settled_act w lay img p q by at_p able_is able_p l has =
-      let s = scene_of tree code texts w lay img p q by at_p l has in
-      scene_does tree code texts lies.nested fragments_are_performed keeps order rests_go_on others w lay img p q s.0 s.1 l.bound l.settled s.2 able_is able_p
+  -- the code of an actual is entered
+  actuals_are_entered : ActualsAreEntered tree code texts
+  actuals_are_entered =
+      record {
+        short = short;
+        stand = have_texts tree code at;
+        values = routines_give_values;
+        places = routines_give_places;
+        have_room = actuals_fit tree names lies.nested;
+      }
+
+  settled_act : (w : World) → IsOk (scopes_of tree) IsWhole w → SettledAct tree code texts w
+  settled_act w ok lay img p q by at_p able_is able_p l has =
+      let s = scene_of tree code texts w lay img p q (narrow_of tree code texts w lay img by ok p q at_p) by at_p l has in
+      scene_does tree code texts lies actuals_are_entered fragments_are_performed keeps order rests_go_on others w lay img p q s.0 s.1 l.bound l.settled s.2 able_is able_p
 
   program_is_faithful : HasFormats tree code → IsListable code → Faithful tree code
   program_is_faithful formats =
-      simulating.code_is_faithful tree code texts steps_are_performed steps_come_to_limit settled_act
-      (λ w lay img p q by at_p l. acts_alone tree code texts rests_go_on w lay img p q at_p l) apart
-      (λ w lay a by b p n plains. operators_are_few tree code texts (λ j known. (lies.nested.each j known).low) w lay a by b p n plains)
+      simulating.code_is_faithful tree code texts steps_are_performed steps_come_to_limit (λ w lay img p q by at_p l. acts_alone tree code texts rests_go_on w lay img p q at_p l) fit.texts settled_act fit.outer apart
+      (λ w lay a by b p n plains. operators_are_few tree code texts w lay a by b p n plains)
       (first_pictured tree code names lies.nested at fragments_are_performed blocks_begin blocks_start keeps order) at.many formats short
 
 -- segments that can be listed have no more words than a segment may have
@@ -119,5 +160,5 @@ ProcessesStandApart = (tree : PProgram) (code : Code) (texts : Texts) → AreNes
 -- Where the blocks of a program lie in one another, a code in which it stands is faithful to it.
 pub nested_programs_follow : RestsKeepToTheirText → AllIsMadeInOrder → FramesClose → ProcessesStandApart →
     ((tree : PProgram) (code : Code) (at : ProgramAt code tree) → LiesNested tree → IsShort tree code → ArraysAreDone tree code at.texts) → NestedProgramsAreFaithful
-nested_programs_follow keeps in_order closing apart arrays tree code lies names at formats short listable =
-    program_is_faithful keeps in_order closing tree code names lies short (within_limit code.segments listable.segments) at (apart tree code at.texts lies.nested rests_go_on) (arrays tree code at lies short) formats listable
+nested_programs_follow keeps in_order closing apart arrays tree code lies names fit at formats short listable =
+    program_is_faithful keeps in_order closing tree code names lies fit short (within_limit code.segments listable.segments) at (apart tree code at.texts lies.nested rests_go_on) (arrays tree code at lies short) formats listable

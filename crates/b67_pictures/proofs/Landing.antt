@@ -23,7 +23,7 @@ use Rattle.b67_faithful.specs.Weight.{weight}
 use Rattle.b67_pictures.specs.Arrays.{Layout, AreKnown, IsOwn}
 use Rattle.b67_pictures.specs.Frames.{IsChained, Frame, Around, Frames}
 use Rattle.b67_pictures.specs.Pictures.{innermost_most, Living}
-use Rattle.b67_pictures.proofs.Staying.{text_in, level_in, context_in, most_in, wanted_in}
+use Rattle.b67_pictures.proofs.Staying.{text_in, level_in, context_in, most_in, names_in}
 use Rattle.b67_pictures.proofs.Stuffed.{known_both, sees, stuffed_known}
 
 -- a core at a place is there, after no step, where its stack has the room of the bound
@@ -47,9 +47,10 @@ module _ (tree : PProgram) (code : Code) (texts : Texts) (w : World) (lay : Layo
     pub begun : ℕ
     pub begins : CoreSteps code bound begun first core
     pub frame : Frame tree code texts w lay p part outer core.below
-    pub around : Around tree code texts w lay p outer frame.lower frame.mark frame.control (wanted_in tree w part)
+    pub around : Around tree code texts w lay p outer frame.lower frame.mark frame.control frame.gives
     pub counted : core.registers.cells ≡ length frame.cells
-    pub chained : IsChained (scopes_of tree) w lay part.instance (level_in tree w part) core.registers.display
+    pub chained : IsChained (scopes_of tree) w lay part.instance (names_in tree w part) core.registers.display
+    pub top : place_at core.registers.display (level_in tree w part) ≡ Some (place p (length frame.lower))
     pub segment_is : core.registers.segment ≡ segment_of (scopes_of tree).blocks ((instance_at w part.instance).block)
     pub pc : ℕ
     pub slots : List Slot
@@ -57,31 +58,41 @@ module _ (tree : PProgram) (code : Code) (texts : Texts) (w : World) (lay : Layo
     pub known_are : AreKnown (scopes_of tree) w lay (IsOwn (part ∷ outer)) part.instance known
     pub at : CoreAt (scopes_of tree) known code (text_in tree texts w part) (level_in tree w part) pc slots core
     pub held : length slots ≤ most_in tree w part
-    pub comes : ComesTo (scopes_of tree) (context_in tree code texts w part) (text_in tree texts w part) (level_in tree w part) (most_in tree w part) part.rest pc slots
+    pub comes : ComesTo (scopes_of tree) (context_in tree code texts w part frame.gives) (text_in tree texts w part) (level_in tree w part) (most_in tree w part) part.rest pc slots
     pub room : length core.below + most_in tree w part ≤ bound
     pub light : bound + 3 ≤ weight tree w p
 
   pub living_of : FragmentsArePerformed → (p : ℕ) (q : Process) (part : Part) (outer : List Part) (bound : ℕ) (first core : Core) → Landed p q part outer bound first core → Living tree code texts w lay img p q
   living_of fragments p q part outer bound first core l =
-      let a : Arrives (scopes_of tree) l.known (context_in tree code texts w part) code (text_in tree texts w part) (level_in tree w part) (most_in tree w part) bound l.comes.at l.comes.with_slots core =
-      fragments.leads (scopes_of tree) l.known (context_in tree code texts w part) code (text_in tree texts w part) (level_in tree w part) (most_in tree w part) bound l.pc l.comes.at l.slots l.comes.with_slots core l.comes.leads l.at
+      let a : Arrives (scopes_of tree) l.known (context_in tree code texts w part l.frame.gives) code (text_in tree texts w part) (level_in tree w part) (most_in tree w part) bound l.comes.at l.comes.with_slots core =
+      fragments.leads (scopes_of tree) l.known (context_in tree code texts w part l.frame.gives) code (text_in tree texts w part) (level_in tree w part) (most_in tree w part) bound l.pc l.comes.at l.slots l.comes.with_slots core l.comes.leads l.at
       (sees tree code texts w lay p part outer core.below l.frame l.around core l.chained) l.held l.room in
+      let chained_there : IsChained (scopes_of tree) w lay part.instance (names_in tree w part) a.core.registers.display =
+      subst (λ d. IsChained (scopes_of tree) w lay part.instance (names_in tree w part) d) (sym (ap (λ (r : Registers). r.display) a.moved.registers)) l.chained in
       let stands : Frames tree code texts w lay p (part ∷ outer) a.core = (
         record {
           frame = record {
-            owns = l.frame.owns;
             lower = l.frame.lower;
             mark = l.frame.mark;
             control = l.frame.control;
             cells = l.frame.cells;
             words_are = a.moved.below ∙ l.frame.words_are;
-            framed = l.frame.framed;
-            routines = l.frame.routines;
+            instance = l.frame.instance;
+            is = l.frame.is;
+            known = l.frame.known;
+            home = l.frame.home;
+            df = l.frame.df;
+            mark_is = l.frame.mark_is;
+            back = l.frame.back;
+            control_is = l.frame.control_is;
+            level_is = l.frame.level_is;
             text = l.frame.text;
-            making = l.frame.making;
+            gives = l.frame.gives;
+            shape = l.frame.shape;
           };
           counted = ap (λ (r : Registers). r.cells) a.moved.registers ∙ l.counted;
-          chained = subst (λ d. IsChained (scopes_of tree) w lay part.instance (level_in tree w part) d) (sym (ap (λ (r : Registers). r.display) a.moved.registers)) l.chained;
+          chained = chained_there;
+          top = ap (λ (r : Registers). place_at r.display (level_in tree w part)) a.moved.registers ∙ l.top;
           segment_is = ap (λ (r : Registers). r.segment) a.moved.registers ∙ l.segment_is;
           asks = l.comes.asks;
           pc = l.comes.at;

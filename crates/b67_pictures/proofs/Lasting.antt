@@ -62,8 +62,8 @@ module _ (tree : PProgram) (code : Code) (texts : Texts) (rests : RestsGoOn) (w 
       by_parts [] todo f = absurd f
       by_parts (part ∷ outer) todo f =
           let s : Stands tree code texts w lay p part outer l.settled = f.0 in
-          let on = rests (scopes_of tree) (context_in tree code texts w part) _ _ (most_in tree w part) part.rest s.pc s.slots s.stands s.asks in
-          let alone : AsksAlone (ask part.rest) = asks_alone (scopes_of tree) (context_in tree code texts w part) _ _ (most_in tree w part) s.pc s.slots (ask part.rest) on.action in
+          let on = rests (scopes_of tree) (context_in tree code texts w part s.frame.gives) _ _ (most_in tree w part) part.rest s.pc s.slots s.stands s.asks in
+          let alone : AsksAlone (ask part.rest) = asks_alone (scopes_of tree) (context_in tree code texts w part s.frame.gives) _ _ (most_in tree w part) s.pc s.slots (ask part.rest) on.action in
           subst (λ (c : Choice). IsAlone w c) (sym (choice_is (scopes_of tree) w p q part outer at todo))
           (record {
             starts = stays (scopes_of tree) w p q part outer (ask part.rest) alone.0;

@@ -1,5 +1,5 @@
 -- A block or a procedure is left.
-use Rattle.std.proofs.Common.{◌≡◌, sym, subst, ℕ, List, [], ◌∷◌, length, Option, Some, None, Ok}
+use Rattle.std.proofs.Common.{◌≡◌, sym, subst, ℕ, List, [], ◌∷◌, length, Option, Some, None, false, Ok}
 use Rattle.b67_list.specs.Numbered.{numbered}
 use Rattle.algol_tree.specs.Plain.{PProgram}
 use Rattle.algol_tree.specs.Scopes.{scopes_of}
@@ -7,6 +7,7 @@ use Rattle.algol_meaning.specs.Value.{Value}
 use Rattle.algol_meaning.specs.Rest.{done, value}
 use Rattle.algol_meaning.specs.World.{Process, Part, able, World}
 use Rattle.algol_meaning.specs.Asks.{leaves, ask}
+use Rattle.algol_meaning.specs.Critical.{is_evaluation}
 use Rattle.algol_paths.specs.Laws.{RestsKeepToTheirText, AllIsMadeInOrder}
 use Rattle.b67_word.specs.declared.Place.{Place}
 use Rattle.b67_ops.specs.declared.Operator.TheVariants as ops
@@ -23,45 +24,47 @@ use Rattle.b67_standing.specs.Stepping.{operand}
 use Rattle.b67_standing.specs.Standing.{ActionAt, Gives}
 use Rattle.b67_cores.specs.Cores.{Core}
 use Rattle.b67_cores.specs.Stretches.{FragmentsArePerformed}
-use Rattle.b67_pictures.specs.Arrays.{Layout}
+use Rattle.b67_pictures.specs.Arrays.{Layout, AreKnown, IsOwn}
 use Rattle.b67_pictures.specs.Acting.{Does}
 use Rattle.b67_pictures.specs.Frames.{Waits}
 use Rattle.b67_pictures.proofs.Closing.{FramesClose}
-use Rattle.b67_pictures.proofs.FrameLeaving.{IsGiven, nothing_given, value_given, b, display, e, leaving_frame}
+use Rattle.b67_pictures.proofs.FrameLeaving.{e, leaving_frame}
 use Rattle.b67_pictures.proofs.Homes.{operator_there}
 use Rattle.b67_pictures.proofs.LeaveRow.{Leaves, leave_raw, leave_class, leave_action}
+use Rattle.b67_pictures.proofs.LeavingWords.{IsGiven, nothing_given, value_given, known_given, b, display}
 use Rattle.b67_pictures.proofs.ReturnRow.{operand_given, return_raw, return_class, return_action}
 use Rattle.b67_pictures.proofs.Rows.{action_not_plain}
 use Rattle.b67_pictures.proofs.Scene.{Scene}
 use Rattle.b67_pictures.proofs.Slotted.{Top, top_slot}
 use Rattle.b67_pictures.proofs.Spelled.{HaveTexts}
-use Rattle.b67_pictures.proofs.Staying.{text_in, level_in, context_in, most_in, wanted_in}
+use Rattle.b67_pictures.proofs.Staying.{text_in, level_in, context_in, most_in}
 use Rattle.b67_pictures.proofs.Words.{value_tag}
 
 module _ (tree : PProgram) (code : Code) (texts : Texts) (stand : HaveTexts tree code texts) (fragments : FragmentsArePerformed) (keeps : RestsKeepToTheirText) (order : AllIsMadeInOrder) (closing : FramesClose)
     (w : World) (lay : Layout) (img : Image) (p : ℕ) (q : Process) (part next : Part) (parts : List Part) (bound : ℕ) (core : Core)
-    (s : Scene tree code texts w lay img p q part (next ∷ parts) bound core) (able_is : q.state ≡ able) (able_p : numbered img.states p ≡ Some Able) where
-  abbrev around : Waits tree code texts w lay p next parts s.stands.frame.lower s.stands.frame.mark s.stands.frame.control (wanted_in tree w part)
+    (s : Scene tree code texts w lay img p q part (next ∷ parts) bound core) (able_is : q.state ≡ able) (able_p : numbered img.states p ≡ Some Able) (owns : is_evaluation part.purpose ≡ false) where
+  abbrev around : Waits tree code texts w lay p next parts s.stands.frame.lower s.stands.frame.mark s.stands.frame.control s.stands.frame.gives
   around = s.around.0
 
   abbrev below : Below
-  below = b tree code texts stand fragments keeps order closing w lay img p q part next parts bound core s able_is able_p
+  below = b tree code texts w lay img p q part next parts bound core s
 
   abbrev shown : List (Option Place)
-  shown = display tree code texts stand fragments keeps order closing w lay img p q part next parts bound core s able_is able_p
+  shown = display tree code texts w lay img p q part next parts bound core s
 
   abbrev leaves_it : Leaves img core around.below around.words s.stands.frame.mark s.stands.frame.control s.stands.frame.cells below shown
-  leaves_it = e tree code texts stand fragments keeps order closing w lay img p q part next parts bound core s able_is able_p
+  leaves_it = e tree code texts stand fragments keeps order closing w lay img p q part next parts bound core s able_is able_p owns
 
   -- with nothing: EXIT
   module _ (asks : ask part.rest ≡ leaves done)
-      (a : ActionAt (scopes_of tree) (context_in tree code texts w part) (text_in tree texts w part) (level_in tree w part) (most_in tree w part) (leaves done) s.stands.pc s.stands.slots) where
+      (a : ActionAt (scopes_of tree) (context_in tree code texts w part s.stands.frame.gives) (text_in tree texts w part) (level_in tree w part) (most_in tree w part) (leaves done) s.stands.pc s.stands.slots) where
     exits : operator_at code core.registers ≡ Ok (ops.Plain kinds.Exit, a.0)
     exits = operator_there (scopes_of tree) s.stands.held code (text_in tree texts w part) (level_in tree w part) s.stands.pc s.stands.slots core (ops.Plain kinds.Exit) a.0 s.stands.there a.2
 
     pub leaving : Does tree code texts w img p
     leaving =
-        leaving_frame tree code texts stand fragments keeps order closing w lay img p q part next parts bound core s able_is able_p done None (subst (λ (o : Yields). IsGiven o done None) (sym a.1) nothing_given) (subst (λ (o : Yields). Gives o done) (sym a.1) tt) a.0 asks
+        leaving_frame tree code texts stand fragments keeps order closing w lay img p q part next parts bound core s able_is able_p owns done None (subst (λ (o : Yields). IsGiven o done None) (sym a.1) nothing_given) (subst (λ (o : Yields). Gives o done) (sym a.1) tt)
+        (subst (λ (o : Yields). AreKnown (scopes_of tree) w lay (IsOwn (next ∷ parts)) next.instance (known_given o done None)) (sym a.1) tt) a.0 asks
         (leave_raw code img p core s.has a.0 around.below around.words s.stands.frame.mark s.stands.frame.control s.stands.frame.cells below shown leaves_it exits)
         (action_not_plain code img p core s.has (ops.Plain kinds.Exit) a.0 exits
         (leave_class code img p core s.has a.0 around.below around.words s.stands.frame.mark s.stands.frame.control s.stands.frame.cells below shown leaves_it exits))
@@ -69,7 +72,7 @@ module _ (tree : PProgram) (code : Code) (texts : Texts) (stand : HaveTexts tree
 
   -- with a value: RETN
   module _ (v : Value) (asks : ask part.rest ≡ leaves (value v))
-      (a : ActionAt (scopes_of tree) (context_in tree code texts w part) (text_in tree texts w part) (level_in tree w part) (most_in tree w part) (leaves (value v)) s.stands.pc s.stands.slots) where
+      (a : ActionAt (scopes_of tree) (context_in tree code texts w part s.stands.frame.gives) (text_in tree texts w part) (level_in tree w part) (most_in tree w part) (leaves (value v)) s.stands.pc s.stands.slots) where
     returns : operator_at code core.registers ≡ Ok (ops.Plain kinds.Retn, a.1)
     returns = operator_there (scopes_of tree) s.stands.held code (text_in tree texts w part) (level_in tree w part) s.stands.pc s.stands.slots core (ops.Plain kinds.Retn) a.1 s.stands.there a.4
 
@@ -78,9 +81,10 @@ module _ (tree : PProgram) (code : Code) (texts : Texts) (stand : HaveTexts tree
 
     pub leaving_with : Does tree code texts w img p
     leaving_with =
-        leaving_frame tree code texts stand fragments keeps order closing w lay img p q part next parts bound core s able_is able_p (value v) (Some on_top.word)
+        leaving_frame tree code texts stand fragments keeps order closing w lay img p q part next parts bound core s able_is able_p owns (value v) (Some on_top.word)
         (subst (λ (o : Yields). IsGiven o (value v) (Some on_top.word)) (sym a.2) (value_given a.0 v on_top.word on_top.slot_is))
-        (subst (λ (o : Yields). Gives o (value v)) (sym a.2) a.3) a.1 asks
+        (subst (λ (o : Yields). Gives o (value v)) (sym a.2) a.3)
+        (subst (λ (o : Yields). AreKnown (scopes_of tree) w lay (IsOwn (next ∷ parts)) next.instance (known_given o (value v) (Some on_top.word))) (sym a.2) tt) a.1 asks
         (return_raw code img p core s.has a.1 returns around.below around.words s.stands.frame.mark s.stands.frame.control s.stands.frame.cells below shown leaves_it on_top.word on_top.words_below on_top.is
         (operand_given on_top.word (value_tag v on_top.word on_top.slot_is)))
         (action_not_plain code img p core s.has (ops.Plain kinds.Retn) a.1 returns

@@ -3,6 +3,7 @@ pub mod Numbers
 pub mod Parents
 pub mod Knowing
 pub mod ArraysKept
+pub mod Expressions
 pub mod Lying
 pub mod Staying
 pub mod Asked
@@ -20,6 +21,7 @@ pub mod Kept
 pub mod Landing
 pub mod Stage
 pub mod Linked
+pub mod Hanging
 pub mod Texted
 pub mod Unmade
 pub mod Growing
@@ -36,6 +38,7 @@ pub mod ControlWords
 pub mod Zeros
 pub mod FreshCells
 pub mod Scene
+pub mod Worlds
 pub mod Ancestors
 pub mod StoringFrames
 pub mod StoringOthers
@@ -60,6 +63,7 @@ pub mod ValueRow
 pub mod TurnRow
 pub mod Breaking
 pub mod Completing
+pub mod Narrowing
 pub mod EntryRow
 pub mod EnterBlockRow
 pub mod EnterProcedureRow
@@ -70,6 +74,8 @@ pub mod FrameEntering
 pub mod BlockEntering
 pub mod ProcedureEntering
 pub mod Weighing
+pub mod ActualsWeighing
+pub mod InnerBlocks
 pub mod Segmenting
 pub mod Starting
 pub mod Closing
@@ -79,7 +85,10 @@ pub mod ReturnRow
 pub mod Independent
 pub mod Parting
 pub mod Spelled
+pub mod LeavingWords
+pub mod PartAround
 pub mod FrameLeaving
+pub mod EvaluationLeaving
 pub mod Leaving
 pub mod Ending
 pub mod Plainly
@@ -128,12 +137,12 @@ pub mod Joining
 pub mod Concluding
 pub mod AskedElements
 pub mod ArrayPlaces
-pub mod ReferenceHomes
+pub mod CellHomes
 pub mod FormalHomes
 pub mod NamedVariables
-pub mod NoNames
 pub mod NameHomes
 pub mod ActualHomes
+pub mod ActualEntries
 pub mod ArrayHomes
 pub mod Described
 pub mod IndexRows
@@ -145,4 +154,7 @@ pub mod ElementStoring
 pub mod PassRow
 pub mod Passing
 pub mod Resolving
+pub mod ActualsSeen
+pub mod EvaluationEntering
+pub mod Evaluating
 pub mod ElementActions

@@ -21,12 +21,11 @@ use Rattle.b67_table.specs.Look.{read_as}
 use Rattle.b67_cores.specs.Cores.{Core, HasCore}
 use Rattle.b67_faithful.proofs.Contradictions.{some_same, none_some}
 use Rattle.b67_pictures.specs.Arrays.{Layout, IsOwn}
-use Rattle.b67_pictures.specs.Frames.{IsChained, home_of, IsPlaced, outermost, inside, Frame, Stands, Around}
+use Rattle.b67_pictures.specs.Frames.{IsChained, home_of, IsPlaced, outermost, inside, Frame, Stands, Around, Owned}
 use Rattle.b67_pictures.proofs.Displays.{IsEntered, Links, root, onward, shown, shown_top, shown_below}
-use Rattle.b67_pictures.proofs.Lying.{Lies, lies_in, lies_low}
+use Rattle.b67_pictures.proofs.Lying.{Lies, lies_in, lies_low, owned_frame}
 use Rattle.b67_pictures.proofs.Rows.{words_are}
 use Rattle.b67_pictures.proofs.Parents.{length_around}
-use Rattle.b67_pictures.proofs.Staying.{wanted_in}
 use Rattle.b67_pictures.proofs.StackWords.{get-seam, get-front}
 
 -- the level of a block, by the blocks around it
@@ -79,9 +78,6 @@ module _ (tree : PProgram) (code : Code) (texts : Texts) (w : World) (lay : Layo
 
   -- the frame of a part
   module _ (part : Part) (outer : List Part) (words : List Word) (f : Frame tree code texts w lay p part outer words) (b : Begins_with stacks p words) where
-    abbrev x : Instance
-    x = f.framed.instance
-
     abbrev at : ℕ
     at = length f.lower
 
@@ -96,66 +92,70 @@ module _ (tree : PProgram) (code : Code) (texts : Texts) (w : World) (lay : Layo
         b (at + 1) f.control (ap (λ (ws : List Word). slice_get ws (at + 1)) (f.words_are ∙ sym (append_assoc f.lower (f.mark ∷ []) (f.control ∷ f.cells)))
         ∙ get-seam (f.lower ++ f.mark ∷ []) f.control f.cells (at + 1) (sym (length-append f.lower (f.mark ∷ []))))
 
-    pub entered_at : (home : Place) (level : ℕ) → f.framed.home ≡ home → level_of (block_numbered sc.blocks x.block) ≡ level → IsEntered stacks (place p at) home level
-    entered_at home level same is =
-        subst (λ (h : Place). IsEntered stacks (place p at) h level) same (record {
-          df = f.framed.df;
-          marked = ap (read_as as_mscw) mark_there ∙ f.framed.mark_is;
-          control = f.framed.back;
-          controlled = ap (read_as as_rcw) control_there ∙ f.framed.control_is;
-          level_is = f.framed.level_is ∙ is;
-        })
+    module _ (o : Owned tree code texts w lay p part outer (length f.lower) f.mark f.control f.cells) where
+      abbrev x : Instance
+      x = o.framed.instance
 
-    -- an outermost one is linked to the system's stack
-    from_outermost : x.parent ≡ 0 → around sc.blocks x.block ≡ [] → Linked sc w lay stacks p part.instance
-    from_outermost none alone =
-        let level : level_of (block_numbered sc.blocks x.block) ≡ 2 = level_around sc.blocks x.block ∙ ap (λ (bs : List ℕ). length bs + 2) alone in
-        let home : f.framed.home ≡ place 0 0 = some_same (sym f.framed.linked ∙ ap (home_of sc w lay) none) in
-        record {
-          instance = x;
-          is = f.framed.is;
-          at = at;
-          laid = f.framed.laid;
-          home = place 0 0;
-          more = [];
-          entered = entered_at (place 0 0) 2 home level;
-          links = root;
-          level_is = level;
-          each = λ up low. absurd (omega (arith, low));
-        }
+      pub entered_at : (home : Place) (level : ℕ) → o.framed.home ≡ home → level_of (block_numbered sc.blocks x.block) ≡ level → IsEntered stacks (place p at) home level
+      entered_at home level same is =
+          subst (λ (h : Place). IsEntered stacks (place p at) h level) same (record {
+            df = o.framed.df;
+            marked = ap (read_as as_mscw) mark_there ∙ o.framed.mark_is;
+            control = o.framed.back;
+            controlled = ap (read_as as_rcw) control_there ∙ o.framed.control_is;
+            level_is = o.framed.level_is ∙ is;
+          })
 
-    -- and another one to the frame of its parent
-    from_parent : (l : Linked sc w lay stacks p x.parent) → around sc.blocks x.block ≡ (instance_at w x.parent).block ∷ around sc.blocks (instance_at w x.parent).block → Linked sc w lay stacks p part.instance
-    from_parent l alone =
-        let block : instance_at w x.parent ≡ l.instance = ap or_no_instance l.is in
-        let parent_level : level_of (block_numbered sc.blocks ((instance_at w x.parent).block)) ≡ length l.more + 2 = ap (λ (y : Instance). level_of (block_numbered sc.blocks y.block)) block ∙ l.level_is in
-        let level : level_of (block_numbered sc.blocks x.block) ≡ suc (length l.more) + 2 =
-        level_around sc.blocks x.block ∙ ap (λ (bs : List ℕ). length bs + 2) alone ∙ omega (arith, parent_level, level_around sc.blocks ((instance_at w x.parent).block)) in
-        let home : f.framed.home ≡ place p l.at = some_same (sym f.framed.linked ∙ home_is x.parent l.laid) in
-        record {
-          instance = x;
-          is = f.framed.is;
-          at = at;
-          laid = f.framed.laid;
-          home = place p l.at;
-          more = place p l.at ∷ l.more;
-          entered = entered_at (place p l.at) (suc (length l.more) + 2) home level;
-          links = all_linked sc w lay stacks p x.parent l;
-          level_is = level;
-          each = all_each sc w lay stacks p x.parent l;
-        }
-      where
-        home_is : (k : ℕ) → numbered lay.places k ≡ Some (place p l.at) → home_of sc w lay k ≡ Some (place p l.at)
-        home_is zero e = none_some e
-        home_is (suc k) e = e
+      -- an outermost one is linked to the system's stack
+      from_outermost : x.parent ≡ 0 → around sc.blocks x.block ≡ [] → Linked sc w lay stacks p part.instance
+      from_outermost none alone =
+          let level : level_of (block_numbered sc.blocks x.block) ≡ 2 = level_around sc.blocks x.block ∙ ap (λ (bs : List ℕ). length bs + 2) alone in
+          let home : o.framed.home ≡ place 0 0 = some_same (sym o.framed.linked ∙ ap (home_of sc w lay) none) in
+          record {
+            instance = x;
+            is = o.framed.is;
+            at = at;
+            laid = o.framed.laid;
+            home = place 0 0;
+            more = [];
+            entered = entered_at (place 0 0) 2 home level;
+            links = root;
+            level_is = level;
+            each = λ up low. absurd (omega (arith, low));
+          }
 
-    -- where those of the parts around are linked
-    pub frame_linked : ((j : ℕ) → IsOwn outer j → Linked sc w lay stacks p j) → Linked sc w lay stacks p part.instance
-    frame_linked around_linked = by_place f.framed.placed
-      where
-        by_place : IsPlaced sc w lay outer x → Linked sc w lay stacks p part.instance
-        by_place (outermost none alone) = from_outermost none alone
-        by_place (inside own alone made) = from_parent (around_linked x.parent own) alone
+      -- and another one to the frame of its parent
+      from_parent : (l : Linked sc w lay stacks p x.parent) → around sc.blocks x.block ≡ (instance_at w x.parent).block ∷ around sc.blocks (instance_at w x.parent).block → Linked sc w lay stacks p part.instance
+      from_parent l alone =
+          let block : instance_at w x.parent ≡ l.instance = ap or_no_instance l.is in
+          let parent_level : level_of (block_numbered sc.blocks ((instance_at w x.parent).block)) ≡ length l.more + 2 = ap (λ (y : Instance). level_of (block_numbered sc.blocks y.block)) block ∙ l.level_is in
+          let level : level_of (block_numbered sc.blocks x.block) ≡ suc (length l.more) + 2 =
+          level_around sc.blocks x.block ∙ ap (λ (bs : List ℕ). length bs + 2) alone ∙ omega (arith, parent_level, level_around sc.blocks ((instance_at w x.parent).block)) in
+          let home : o.framed.home ≡ place p l.at = some_same (sym o.framed.linked ∙ home_is x.parent l.laid) in
+          record {
+            instance = x;
+            is = o.framed.is;
+            at = at;
+            laid = o.framed.laid;
+            home = place p l.at;
+            more = place p l.at ∷ l.more;
+            entered = entered_at (place p l.at) (suc (length l.more) + 2) home level;
+            links = all_linked sc w lay stacks p x.parent l;
+            level_is = level;
+            each = all_each sc w lay stacks p x.parent l;
+          }
+        where
+          home_is : (k : ℕ) → numbered lay.places k ≡ Some (place p l.at) → home_of sc w lay k ≡ Some (place p l.at)
+          home_is zero e = none_some e
+          home_is (suc k) e = e
+
+      -- where those of the parts around are linked
+      pub frame_linked : ((j : ℕ) → IsOwn outer j → Linked sc w lay stacks p j) → Linked sc w lay stacks p part.instance
+      frame_linked around_linked = by_place o.framed.placed
+        where
+          by_place : IsPlaced sc w lay outer x → Linked sc w lay stacks p part.instance
+          by_place (outermost none alone) = from_outermost none alone
+          by_place (inside own alone made) = from_parent (around_linked x.parent own) alone
 
   -- so stand the frames of all parts around, whose words begin the stack
   pub around_linked : (parts : List Part) (lower : List Word) (mark control : Word) (wanted : Yields) → Around tree code texts w lay p parts lower mark control wanted → Begins_with stacks p lower → (i : ℕ) → IsOwn parts i →
@@ -165,34 +165,34 @@ module _ (tree : PProgram) (code : Code) (texts : Texts) (w : World) (lay : Layo
       let b' : Begins_with stacks p a.0.below = begins_front stacks p a.0.below (reverse a.0.words) (subst (Begins_with stacks p) a.0.lower_is b) in
       let b'' : Begins_with stacks p a.0.frame.lower =
       begins_front stacks p a.0.frame.lower (a.0.frame.mark ∷ a.0.frame.control ∷ a.0.frame.cells) (subst (Begins_with stacks p) a.0.frame.words_are b') in
-      by_part b' (λ j. around_linked outer a.0.frame.lower a.0.frame.mark a.0.frame.control (wanted_in tree w part) a.1 b'' j) own
+      by_part b' (λ j. around_linked outer a.0.frame.lower a.0.frame.mark a.0.frame.control a.0.frame.gives a.1 b'' j) own
     where
       by_part : Begins_with stacks p a.0.below → ((j : ℕ) → IsOwn outer j → Linked sc w lay stacks p j) → IsOwn (part ∷ outer) i → Linked sc w lay stacks p i
-      by_part b' outer_linked (inl same) = subst (Linked sc w lay stacks p) same (frame_linked part outer a.0.below a.0.frame b' outer_linked)
+      by_part b' outer_linked (inl same) = subst (Linked sc w lay stacks p) same.1 (frame_linked part outer a.0.below a.0.frame b' (owned_frame tree code texts w lay p part outer a.0.below a.0.frame same.0) outer_linked)
       by_part b' outer_linked (inr later) = outer_linked i later
 
   -- and those of all parts
-  pub own_linked : (part : Part) (outer : List Part) (core : Core) (s : Stands tree code texts w lay p part outer core) → Around tree code texts w lay p outer s.frame.lower s.frame.mark s.frame.control (wanted_in tree w part) →
+  pub own_linked : (part : Part) (outer : List Part) (core : Core) (s : Stands tree code texts w lay p part outer core) → Around tree code texts w lay p outer s.frame.lower s.frame.mark s.frame.control s.frame.gives →
       Begins_with stacks p core.below → (i : ℕ) → IsOwn (part ∷ outer) i → Linked sc w lay stacks p i
   own_linked part outer core s a b i own = by_part own
     where
       around_it : (j : ℕ) → IsOwn outer j → Linked sc w lay stacks p j
       around_it =
-          around_linked outer s.frame.lower s.frame.mark s.frame.control (wanted_in tree w part) a
+          around_linked outer s.frame.lower s.frame.mark s.frame.control s.frame.gives a
           (begins_front stacks p s.frame.lower (s.frame.mark ∷ s.frame.control ∷ s.frame.cells) (subst (Begins_with stacks p) s.frame.words_are b))
 
       by_part : IsOwn (part ∷ outer) i → Linked sc w lay stacks p i
-      by_part (inl same) = subst (Linked sc w lay stacks p) same (frame_linked part outer core.below s.frame b around_it)
+      by_part (inl same) = subst (Linked sc w lay stacks p) same.1 (frame_linked part outer core.below s.frame b (owned_frame tree code texts w lay p part outer core.below s.frame same.0) around_it)
       by_part (inr later) = around_it i later
 
   -- the frame of each lies where its words do
-  pub linked_lies : (part : Part) (outer : List Part) (core : Core) (s : Stands tree code texts w lay p part outer core) (a : Around tree code texts w lay p outer s.frame.lower s.frame.mark s.frame.control (wanted_in tree w part))
+  pub linked_lies : (part : Part) (outer : List Part) (core : Core) (s : Stands tree code texts w lay p part outer core) (a : Around tree code texts w lay p outer s.frame.lower s.frame.mark s.frame.control s.frame.gives)
       (i : ℕ) (own : IsOwn (part ∷ outer) i) (l : Linked sc w lay stacks p i) → l.at ≡ length (lies_in tree code texts w lay p part outer core s a i own).frame.lower
   linked_lies part outer core s a i own l =
       let x : Lies tree code texts w lay p (part ∷ outer) i core.below = lies_in tree code texts w lay p part outer core s a i own in
-      ap (λ (f : Place). f.at) (some_same (sym l.laid ∙ ap (λ (k : ℕ). numbered lay.places k) (sym x.instance_is) ∙ x.frame.framed.laid))
+      ap (λ (f : Place). f.at) (some_same (sym l.laid ∙ ap (λ (k : ℕ). numbered lay.places k) (sym x.instance_is) ∙ x.owned.framed.laid))
 
-  pub linked_low : (part : Part) (outer : List Part) (core : Core) (s : Stands tree code texts w lay p part outer core) (a : Around tree code texts w lay p outer s.frame.lower s.frame.mark s.frame.control (wanted_in tree w part))
+  pub linked_low : (part : Part) (outer : List Part) (core : Core) (s : Stands tree code texts w lay p part outer core) (a : Around tree code texts w lay p outer s.frame.lower s.frame.mark s.frame.control s.frame.gives)
       (i : ℕ) (own : IsOwn (part ∷ outer) i) (l : Linked sc w lay stacks p i) → l.at + 2 ≤ length core.below
   linked_low part outer core s a i own l =
       omega (arith, linked_lies part outer core s a i own l, lies_low tree code texts w lay p (part ∷ outer) i core.below (lies_in tree code texts w lay p part outer core s a i own))

@@ -1,4 +1,5 @@
 -- The frame of a part in which arrays are made: after its cells lie their descriptors.
+use Rattle.algol_meaning.specs.Critical.{is_evaluation}
 use Rattle.std.proofs.Common.{◌≡◌, ◌≢◌, refl, sym, ap, ◌∙◌, subst, ℕ, suc, ◌+◌, ◌*◌, ◌<◌, ◌≤◌, List, [], ◌∷◌, ◌++◌, length, Option, Some, Bool, false, arith, append_assoc, length-append}
 use Rattle.std.specs.Prelude.{if◌then◌else◌}
 use Rattle.b67_list.specs.Numbered.{numbered}
@@ -30,7 +31,7 @@ use Rattle.b67_faithful.specs.Weight.{tokens_around, part_weight, weight}
 use Rattle.b67_faithful.proofs.Contradictions.{some_same}
 use Rattle.b67_fitting.specs.Nested.{AreNested, IsText}
 use Rattle.b67_pictures.specs.Arrays.{Allotted, Layout, AreMade, ArraysAre}
-use Rattle.b67_pictures.specs.Frames.{block_controls, controls_count, IsPlaced, outermost, inside, IsChained, Framed, Frame, Around}
+use Rattle.b67_pictures.specs.Frames.{block_controls, controls_count, IsPlaced, outermost, inside, IsChained, Framed, Frame, Around, Owned, of_own}
 use Rattle.b67_pictures.proofs.ArraySizes.{bounds_lows}
 use Rattle.b67_pictures.proofs.ArraysKept.{rows_but, rows_there, rows_other}
 use Rattle.b67_pictures.proofs.ArraysMade.{Makes, allotted_new, descriptors_new, rows_after, all_made, arrays_after}
@@ -39,15 +40,16 @@ use Rattle.b67_pictures.proofs.ControlWords.{block_few, as_many_controls, contro
 use Rattle.b67_pictures.proofs.FreshCells.{words_long}
 use Rattle.b67_pictures.proofs.Kept.{AreAlike}
 use Rattle.b67_pictures.proofs.Knowing.{denotes_lasts}
-use Rattle.b67_pictures.proofs.Lying.{Lies, lies_low, lies_around, StayBelow, same_instance, home_after, weight_stays, around_stays, outer_remain}
+use Rattle.b67_pictures.proofs.Lying.{Lies, lies_low, lies_around, StayBelow, same_instance, home_after, weight_stays, around_stays, outer_remain, owned_frame, asks_as_own, frame_gives, runs_at}
 use Rattle.b67_pictures.proofs.MakingAsked.{makes_first}
 use Rattle.b67_pictures.proofs.Numbers.{numbered_set}
 use Rattle.b67_pictures.proofs.Scene.{Scene}
 use Rattle.b67_pictures.proofs.Segmented.{length_mapped}
 use Rattle.b67_pictures.proofs.Stage.{weight_of}
-use Rattle.b67_pictures.proofs.Staying.{level_in, wanted_in}
+use Rattle.b67_pictures.proofs.Staying.{names_in}
 use Rattle.b67_pictures.proofs.StoringFrames.{same_ancestors, changed, stored_world, changed_at, others_at, same_of}
 use Rattle.b67_pictures.proofs.Zeros.{cells_length}
+use Rattle.algol_tree.specs.Cells.{level_of}
 
 -- there are as many arrays as names
 pub new_many : (kind : Kind) (bs : List Bounds) (ns : List Named) → length (new_arrays kind bs ns) ≡ length ns
@@ -69,8 +71,15 @@ module _ (tree : PProgram) (code : Code) (texts : Texts) (nested : AreNested (sc
   abbrev f : Frame tree code texts w lay p part outer core.below
   f = s.stands.frame
 
+  -- the part has the frame's instance for its own
+  pub owns : is_evaluation part.purpose ≡ false
+  owns = asks_as_own tree code texts w lay p part outer core.below f (makes_arrays kind ns pairs vs) asks (λ e. e)
+
+  abbrev pub own_frame : Owned tree code texts w lay p part outer (length f.lower) f.mark f.control f.cells
+  own_frame = owned_frame tree code texts w lay p part outer core.below f owns
+
   abbrev framed : Framed sc w lay p part.instance outer (length f.lower) f.mark f.control f.cells
-  framed = f.framed
+  framed = own_frame.framed
 
   abbrev x : Instance
   x = framed.instance
@@ -81,7 +90,7 @@ module _ (tree : PProgram) (code : Code) (texts : Texts) (nested : AreNested (sc
   -- ---- how many there are
 
   pub ordered : made_of b.decls ≡ framed.declared ++ (made_in kind ns pairs ++ all_left_to_make part.rest)
-  ordered = framed.order ∙ ap (λ (ds : List Made). framed.declared ++ ds) (f.making ∙ makes_first part.rest kind ns pairs vs asks)
+  ordered = framed.order ∙ ap (λ (ds : List Made). framed.declared ++ ds) (own_frame.making ∙ makes_first part.rest kind ns pairs vs asks)
 
   text : IsText sc x.block
   text = nested.each x.block framed.known
@@ -184,7 +193,7 @@ module _ (tree : PProgram) (code : Code) (texts : Texts) (nested : AreNested (sc
           let here : y ≡ x = some_same (sym e ∙ ap (λ (n : ℕ). numbered w.instances n) same ∙ framed.is) in
           other (sym mine ∙ ap (λ (z : Instance). z.process) here ∙ framed.own)
 
-  pub chained : IsChained sc w' lay' i (level_in tree w part) core.registers.display
+  pub chained : IsChained sc w' lay' i (names_in tree w part) core.registers.display
   chained up low =
       s.stands.chained up low
       ∙ ap (λ (j : ℕ). numbered lay.places j) (same_ancestors w w' (λ j. same_of w i x framed.is cells' (λ (z : Instance). z.parent) refl j) up i)
@@ -247,11 +256,11 @@ module _ (tree : PProgram) (code : Code) (texts : Texts) (nested : AreNested (sc
         again : IsPlaced sc w lay outer x → IsPlaced sc w' lay' outer later
         again (outermost none_up alone) = outermost none_up alone
         again (inside own next complete) =
-            let l : Lies tree code texts w lay p outer x.parent f.lower = lies_around tree code texts w lay p outer f.lower f.mark f.control (wanted_in tree w part) s.around x.parent own in
+            let l : Lies tree code texts w lay p outer x.parent f.lower = lies_around tree code texts w lay p outer f.lower f.mark f.control f.gives s.around x.parent own in
             let lowest : length l.frame.lower < length f.lower = omega (arith, lies_low tree code texts w lay p outer x.parent f.lower l) in
             let same : instance_at w x.parent ≡ instance_at w' x.parent =
             ap (λ (k : ℕ). instance_at w k) (sym l.instance_is)
-            ∙ same_instance tree code texts w w' lay lay' p (length f.lower) stays l.part l.outer l.front l.frame lowest
+            ∙ same_instance tree code texts w w' lay lay' p (length f.lower) stays l.part l.outer l.front l.frame l.around lowest
             ∙ ap (λ (k : ℕ). instance_at w' k) l.instance_is in
             inside own (subst (λ (y : Instance). around sc.blocks x.block ≡ y.block ∷ around sc.blocks y.block) same next)
             (subst (λ (y : Instance). length y.cells ≡ length (simple_cells sc (block_numbered sc.blocks y.block)) + length (made_of (block_numbered sc.blocks y.block).decls)) same complete)
@@ -274,7 +283,7 @@ module _ (tree : PProgram) (code : Code) (texts : Texts) (nested : AreNested (sc
                 g.1,
                 g.2,
                 g.3,
-                denotes_lasts sc w w' lay lay' outer outer (outer_remain tree code texts w w' lay lay' p (length f.lower) stays outer f.lower f.mark f.control (wanted_in tree w part) s.around (omega arith)) t.wanted
+                denotes_lasts sc w w' lay lay' outer outer (outer_remain tree code texts w w' lay lay' p (length f.lower) stays outer f.lower f.mark f.control f.gives s.around (omega arith)) t.wanted
                     g.0.cell g.1 g.4,
               );
           ats = framed.ats;
@@ -303,29 +312,34 @@ module _ (tree : PProgram) (code : Code) (texts : Texts) (nested : AreNested (sc
     abbrev pub frame' : (words : List Word) → words ≡ core.below ++ descriptors → Frame tree code texts w' lay' p part' outer words
     frame' words are =
         record {
-          owns = f.owns;
           lower = f.lower;
           mark = f.mark;
           control = f.control;
           cells = f.cells ++ descriptors;
           words_are = are ∙ ap (λ (ws : List Word). ws ++ descriptors) f.words_are ∙ append_assoc f.lower (f.mark ∷ f.control ∷ f.cells) descriptors;
-          framed = framed';
-          routines = f.routines;
+          instance = framed'.instance;
+          is = framed'.is;
+          known = framed'.known;
+          home = framed'.home;
+          df = framed'.df;
+          mark_is = framed'.mark_is;
+          back = framed'.back;
+          control_is = framed'.control_is;
+          level_is = framed'.level_is ∙ runs_at part (level_of (block_numbered sc.blocks framed'.instance.block)) own_frame.owns;
+          gives = f.gives;
           text = subst (λ (j : ℕ). KeepsToText sc j part'.rest) block_is (keeps.resumed sc ((instance_at w i).block) part.rest done f.text tt);
-          making = sym (order.resumed sc ((instance_at w i).block) part.rest done f.text);
+          shape = of_own (record { owns = own_frame.owns; framed = framed'; routines = own_frame.routines; making = sym (order.resumed sc ((instance_at w i).block) part.rest done f.text) }) (frame_gives tree code texts w lay p part outer core.below f owns ∙ ap (λ (y : Instance). yields_of (block_numbered sc.blocks y.block).result) (ap or_no_instance framed.is));
         }
 
     -- the parts around stand as they did
-    pub around' : Around tree code texts w' lay' p outer f.lower f.mark f.control (wanted_in tree w' part')
-    around' =
-        subst (λ (j : ℕ). Around tree code texts w' lay' p outer f.lower f.mark f.control (yields_of (block_numbered sc.blocks j).result)) block_is
-        (around_stays tree code texts w w' lay lay' p (length f.lower) stays outer f.lower f.mark f.control (wanted_in tree w part) (omega arith) s.around)
+    pub around' : Around tree code texts w' lay' p outer f.lower f.mark f.control f.gives
+    around' = around_stays tree code texts w w' lay lay' p (length f.lower) stays outer f.lower f.mark f.control f.gives (omega arith) s.around
 
     -- ---- weights
 
     part_heavier : part_weight tree w' part' ≡ part_weight tree w part + length ns
     part_heavier =
-        ap (λ (t : Bool). 8 + (if t then 0 else length ((instance_at w' i).cells)) + 4 * tokens_around tree ((instance_at w' i).block)) f.owns
+        ap (λ (t : Bool). 8 + (if t then 0 else length ((instance_at w' i).cells)) + 4 * tokens_around tree ((instance_at w' i).block)) own_frame.owns
         ∙ ap (λ (j : ℕ). 8 + length ((instance_at w' i).cells) + 4 * tokens_around tree j) (sym block_is)
         ∙ omega (
           arith,
@@ -333,7 +347,7 @@ module _ (tree : PProgram) (code : Code) (texts : Texts) (nested : AreNested (sc
           length-append x.cells (new_arrays kind bs ns),
           new_many kind bs ns,
           ap (λ (o : Option Instance). length ((or_no_instance o).cells)) framed.is,
-          ap (λ (t : Bool). 8 + (if t then 0 else length ((instance_at w i).cells)) + 4 * tokens_around tree ((instance_at w i).block)) f.owns,
+          ap (λ (t : Bool). 8 + (if t then 0 else length ((instance_at w i).cells)) + 4 * tokens_around tree ((instance_at w i).block)) own_frame.owns,
         )
 
     pub heavier : weight tree w' p ≡ weight tree w p + length ns
@@ -342,6 +356,6 @@ module _ (tree : PProgram) (code : Code) (texts : Texts) (nested : AreNested (sc
         ∙ omega (
           arith,
           part_heavier,
-          weight_stays tree code texts w w' lay lay' p (length f.lower) stays outer f.lower f.mark f.control (wanted_in tree w part) (omega arith) s.around,
+          weight_stays tree code texts w w' lay lay' p (length f.lower) stays outer f.lower f.mark f.control f.gives (omega arith) s.around,
           weight_of tree w p q (part ∷ outer) s.at s.todo,
         )

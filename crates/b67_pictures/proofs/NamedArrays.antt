@@ -1,5 +1,5 @@
 -- The name of a declared array that is given to a procedure leads to the cell of an array, which its instance has made.
-use Rattle.std.proofs.Common.{◌≡◌, ◌⊎◌, inl, inr, refl, sym, ap, ◌∙◌, subst, ℕ, zero, suc, ◌+◌, ◌≤◌, List, [], ◌∷◌, length, Some, true, false, arith}
+use Rattle.std.proofs.Common.{◌≡◌, ◌⊎◌, inl, inr, sym, ap, ◌∙◌, subst, ℕ, zero, suc, ◌+◌, ◌≤◌, List, [], ◌∷◌, Some, true, false, arith}
 use Rattle.std.specs.Prelude.{slice_get}
 use Rattle.algol_tree.specs.declared.tree.Named.{Named}
 use Rattle.algol_tree.specs.Blocks.{block_numbered}
@@ -8,7 +8,7 @@ use Rattle.algol_tree.specs.Scopes.{Scopes, scopes_of, use_of}
 use Rattle.algol_tree.specs.Sorts.{is_variable, is_formal}
 use Rattle.algol_meaning.specs.Rest.{Given, valued, passed, refers, names}
 use Rattle.algol_meaning.specs.World.{Instance, Part, World, instance_at, or_no_instance, ancestor, cell_in}
-use Rattle.algol_paths.specs.Arrays.{DeclaredArray, an_array, Shape, shape_of, all_to_make}
+use Rattle.algol_paths.specs.Arrays.{DeclaredArray, an_array, Shape, shape_of}
 use Rattle.algol_paths.specs.Blocks.{IsSeen, IsSeenAround}
 use Rattle.b67_word.specs.Word.{Word}
 use Rattle.b67_ops.specs.declared.Couple.{Couple}
@@ -20,32 +20,30 @@ use Rattle.b67_faithful.proofs.Contradictions.{some_same}
 use Rattle.b67_pictures.specs.Arrays.{Layout, named_from, LeadsTo, Names, an_array_named, a_variable_named, IsNamed, IsOwn}
 use Rattle.b67_pictures.specs.Frames.{IsComplete, Frame, Around}
 use Rattle.b67_pictures.proofs.AskedEntries.{InReferred}
-use Rattle.b67_pictures.proofs.Completing.{complete_of}
-use Rattle.b67_pictures.proofs.Lying.{Lies, lies_frame, IsParent, parents_of}
+use Rattle.b67_pictures.proofs.Lying.{Lies, lies_frame, IsParent, parents_of, part_own}
 use Rattle.b67_pictures.proofs.OwnCells.{OwnCells, framed_cells, OwnArray, none_later, all_made, own_array}
-use Rattle.b67_pictures.proofs.Staying.{wanted_in}
 
--- a name that is seen, where no arrays are still to be made, or as one in a bound
-abbrev pub IsSeenMade : PProgram → World → Part → Named → Type 0
-IsSeenMade tree w part n =
+-- a name that is seen, where all is made that its block declares, or as one in a bound
+abbrev pub IsSeenMade : PProgram → World → Layout → Part → Named → Type 0
+IsSeenMade tree w lay part n =
     IsSeen (scopes_of tree) ((instance_at w part.instance).block) n
-    × ((all_to_make part.rest ≡ []) ⊎ IsSeenAround (scopes_of tree) ((instance_at w part.instance).block) n)
+    × (IsComplete (scopes_of tree) w lay part.instance ⊎ IsSeenAround (scopes_of tree) ((instance_at w part.instance).block) n)
 
 -- each of those that are given is so
-pub both_seen : (tree : PProgram) (w : World) (part : Part) (gs : List Given) → InReferred (IsSeen (scopes_of tree) ((instance_at w part.instance).block)) gs →
-    (all_to_make part.rest ≡ []) ⊎ InReferred (IsSeenAround (scopes_of tree) ((instance_at w part.instance).block)) gs → InReferred (IsSeenMade tree w part) gs
-both_seen tree w part gs seen (inl none) = none_made gs seen
+pub both_seen : (tree : PProgram) (w : World) (lay : Layout) (part : Part) (gs : List Given) → InReferred (IsSeen (scopes_of tree) ((instance_at w part.instance).block)) gs →
+    IsComplete (scopes_of tree) w lay part.instance ⊎ InReferred (IsSeenAround (scopes_of tree) ((instance_at w part.instance).block)) gs → InReferred (IsSeenMade tree w lay part) gs
+both_seen tree w lay part gs seen (inl none) = none_made gs seen
   where
-    none_made : (xs : List Given) → InReferred (IsSeen (scopes_of tree) ((instance_at w part.instance).block)) xs → InReferred (IsSeenMade tree w part) xs
+    none_made : (xs : List Given) → InReferred (IsSeen (scopes_of tree) ((instance_at w part.instance).block)) xs → InReferred (IsSeenMade tree w lay part) xs
     none_made [] is = tt
     none_made (refers n ∷ xs) is = ((is.0, inl none), none_made xs is.1)
     none_made (valued v ∷ xs) is = none_made xs is
     none_made (passed c ∷ xs) is = none_made xs is
     none_made (names e ∷ xs) is = none_made xs is
-both_seen tree w part gs seen (inr around_it) = all_around gs seen around_it
+both_seen tree w lay part gs seen (inr around_it) = all_around gs seen around_it
   where
     all_around : (xs : List Given) → InReferred (IsSeen (scopes_of tree) ((instance_at w part.instance).block)) xs → InReferred (IsSeenAround (scopes_of tree) ((instance_at w part.instance).block)) xs →
-        InReferred (IsSeenMade tree w part) xs
+        InReferred (IsSeenMade tree w lay part) xs
     all_around [] is more = tt
     all_around (refers n ∷ xs) is more = ((is.0, inr more.0), all_around xs is.1 more.1)
     all_around (valued v ∷ xs) is more = all_around xs is more
@@ -53,23 +51,20 @@ both_seen tree w part gs seen (inr around_it) = all_around gs seen around_it
     all_around (names e ∷ xs) is more = all_around xs is more
 
 module _ (tree : PProgram) (code : Code) (texts : Texts) (w : World) (lay : Layout) (p : ℕ) (part : Part) (outer : List Part) (words : List Word) (f : Frame tree code texts w lay p part outer words)
-    (a : Around tree code texts w lay p outer f.lower f.mark f.control (wanted_in tree w part)) where
+    (a : Around tree code texts w lay p outer f.lower f.mark f.control f.gives) where
   abbrev sc : Scopes
   sc = scopes_of tree
 
   abbrev block : ℕ
   block = (instance_at w part.instance).block
 
-  own_complete : all_to_make part.rest ≡ [] → IsComplete sc w lay part.instance
-  own_complete none = complete_of sc w lay p part.instance outer (length f.lower) f.mark f.control f.cells f.framed (f.making ∙ none)
-
   -- so far up all arrays are made
-  pub up_complete : (k : ℕ) → (all_to_make part.rest ≡ []) ⊎ (1 ≤ k) → (1 ≤ k → IsComplete (scopes_of tree) w lay (ancestor w k part.instance)) → IsComplete (scopes_of tree) w lay (ancestor w k part.instance)
-  up_complete zero (inl none) further = own_complete none
+  pub up_complete : (k : ℕ) → IsComplete (scopes_of tree) w lay part.instance ⊎ (1 ≤ k) → (1 ≤ k → IsComplete (scopes_of tree) w lay (ancestor w k part.instance)) → IsComplete (scopes_of tree) w lay (ancestor w k part.instance)
+  up_complete zero (inl whole) further = whole
   up_complete zero (inr far) further = absurd (omega (arith, far))
   up_complete (suc k) made further = further (omega arith)
 
-  module _ (level : ℕ) (n : Named) (seen : IsSeenMade tree w part n) (shape : Shape) (d : DeclaredArray) (c : Couple) (v : IsDeclaredArray sc level n d c) (agrees : Agrees shape (shape_of d))
+  module _ (level : ℕ) (n : Named) (seen : IsSeenMade tree w lay part n) (shape : Shape) (d : DeclaredArray) (c : Couple) (v : IsDeclaredArray sc level n d c) (agrees : Agrees shape (shape_of d))
       (x : Word) (h : IsNamed sc w lay (IsOwn (part ∷ outer)) part.instance n x) where
     abbrev up : ℕ
     up = (use_of sc n).up
@@ -83,19 +78,19 @@ module _ (tree : PProgram) (code : Code) (texts : Texts) (w : World) (lay : Layo
     in_bound (inr (inl is)) = absurd (let clash : false ≡ true = sym (ap is_variable v.sort_is) ∙ is in cc)
     in_bound (inr (inr is)) = absurd (let clash : false ≡ true = sym (ap is_formal v.sort_is) ∙ is in cc)
 
-    far_or_made : (all_to_make part.rest ≡ []) ⊎ IsSeenAround sc block n → (all_to_make part.rest ≡ []) ⊎ (1 ≤ up)
-    far_or_made (inl none) = inl none
+    far_or_made : IsComplete sc w lay part.instance ⊎ IsSeenAround sc block n → IsComplete sc w lay part.instance ⊎ (1 ≤ up)
+    far_or_made (inl whole) = inl whole
     far_or_made (inr around_it) = inr (in_bound around_it.1)
 
     parent : IsParent tree code texts w lay p (part ∷ outer) part.instance up ((use_of sc n).block)
-    parent = parents_of tree code texts w lay p part outer words f a part.instance (inl refl) up ((use_of sc n).block) seen.0
+    parent = parents_of tree code texts w lay p part outer words f a part.instance (part_own tree code texts w lay p part outer words f) up ((use_of sc n).block) seen.0
 
     module _ (l : Lies tree code texts w lay p (part ∷ outer) home words) where
       abbrev here : Instance
-      here = l.frame.framed.instance
+      here = l.owned.framed.instance
 
       instance_here : instance_at w home ≡ here
-      instance_here = ap (instance_at w) (sym l.instance_is) ∙ ap or_no_instance l.frame.framed.is
+      instance_here = ap (instance_at w) (sym l.instance_is) ∙ ap or_no_instance l.owned.framed.is
 
       block_here : here.block ≡ (use_of sc n).block
       block_here = sym (ap (λ (y : Instance). y.block) instance_here) ∙ parent.block
@@ -104,7 +99,7 @@ module _ (tree : PProgram) (code : Code) (texts : Texts) (w : World) (lay : Layo
       complete = subst (λ (i : ℕ). IsComplete sc w lay i) (sym l.instance_is) (up_complete up (far_or_made seen.1) parent.complete)
 
       abbrev own : OwnCells sc w lay l.part.instance here
-      own = framed_cells sc w lay l.frame.framed
+      own = framed_cells sc w lay l.owned.framed
 
       there : made_from 0 (made_of (block_numbered sc.blocks here.block).decls) n.name ≡ Some (record { number = v.made.number; made = an_array d })
       there = ap (λ (j : ℕ). made_from 0 (made_of (block_numbered sc.blocks j).decls) n.name) block_here ∙ v.made.there

@@ -42,12 +42,12 @@ module _ (tree : PProgram) (code : Code) (texts : Texts) (nested : AreNested (sc
     names_it : VariableHome tree code texts w lay img p q part outer bound core s r kind leads.found → NamesVariable
     names_it h =
         let high : ℕ = length h.lies.frame.lower in
-        let frame_is : leads.frame ≡ place p high = some_same (sym leads.laid ∙ ap (λ (j : ℕ). numbered lay.places j) (sym h.lies.instance_is) ∙ h.lies.frame.framed.laid) in
-        let few_words : h.number < length (simple_cells sc (block_numbered sc.blocks h.lies.frame.framed.instance.block)) =
+        let frame_is : leads.frame ≡ place p high = some_same (sym leads.laid ∙ ap (λ (j : ℕ). numbered lay.places j) (sym h.lies.instance_is) ∙ h.lies.owned.framed.laid) in
+        let few_words : h.number < length (simple_cells sc (block_numbered sc.blocks h.lies.owned.framed.instance.block)) =
         omega (
           arith,
-          get_below h.lies.frame.framed.values h.number h.word h.value_lies,
-          words_long (simple_cells sc (block_numbered sc.blocks h.lies.frame.framed.instance.block)) h.lies.frame.framed.simple h.lies.frame.framed.values h.lies.frame.framed.simple_are,
+          get_below h.lies.owned.framed.values h.number h.word h.value_lies,
+          words_long (simple_cells sc (block_numbered sc.blocks h.lies.owned.framed.instance.block)) h.lies.owned.framed.simple h.lies.owned.framed.values h.lies.owned.framed.simple_are,
         ) in
         let low : high + 2 + length h.lies.frame.cells ≤ length core.below = lies_low tree code texts w lay p (part ∷ outer) r.instance core.below h.lies in
         let word_is : word ≡ cell_word (record { frame = place p high; index = 2 + h.number }) =
@@ -60,7 +60,7 @@ module _ (tree : PProgram) (code : Code) (texts : Texts) (nested : AreNested (sc
           reads =
               ap as_sirw word_is
               ∙ cell_read (record { frame = place p high; index = 2 + h.number }) (omega (arith, number_within w.processes p q s.at, s.by.few)) (omega (arith, low, s.small))
-              (omega (arith, few_words, (nested.each h.lies.frame.framed.instance.block h.lies.frame.framed.known).few));
+              (omega (arith, few_words, (nested.each h.lies.owned.framed.instance.block h.lies.owned.framed.known).few));
         }
 
     pub names_variable : NamesVariable

@@ -1,11 +1,12 @@
--- The passing of a parameter that stands for an array, or for a variable: the reference in its cell is given on.
+-- The passing of a parameter that stands for an array, for a variable or for an actual: what its cell has is given on.
 use Rattle.std.proofs.Common.{◌≡◌, inl, refl, sym, ap, ◌∙◌, subst, ℕ, ◌+◌, ◌≤◌, List, ◌∷◌, length, Some, Ok, arith}
 use Rattle.b67_list.specs.Numbered.{numbered}
 use Rattle.algol_tree.specs.declared.tree.Named.{Named}
 use Rattle.algol_tree.specs.Plain.{PProgram}
 use Rattle.algol_tree.specs.Scopes.{Scopes, scopes_of}
 use Rattle.algol_tree.specs.declared.tree.Kind.{Kind}
-use Rattle.algol_meaning.specs.Value.{Reference, Cell, reference}
+use Rattle.algol_meaning.specs.Value as cells
+use Rattle.algol_meaning.specs.Value.{Cell, reference}
 use Rattle.b67_word.specs.Word.{Word}
 use Rattle.b67_control.specs.declared.Sirw.{Sirw}
 use Rattle.b67_store.specs.Store.{word_at}
@@ -46,7 +47,7 @@ use Rattle.b67_pictures.proofs.FormalHomes.{FormalHome, formal_home, leads_so}
 use Rattle.b67_pictures.proofs.Homes.{operator_there}
 use Rattle.b67_pictures.proofs.Indexing.{more_known}
 use Rattle.b67_pictures.proofs.InFrame.{does_in_frame}
-use Rattle.b67_pictures.proofs.NameHomes.{NameHome, name_home}
+use Rattle.b67_pictures.proofs.NameHomes.{NameCellHome, NameStands, for_variable, for_actual, LeadsOn, leads_on, name_stands}
 use Rattle.b67_pictures.proofs.PassRow.{pass_raw, pass_class}
 use Rattle.b67_pictures.proofs.TopRow.{with_other}
 use Rattle.b67_pictures.proofs.Rows.{action_not_plain, action_is}
@@ -62,17 +63,17 @@ use Rattle.b67_pictures.proofs.Words.{reference_read}
 module _ (tree : PProgram) (code : Code) (texts : Texts) (nested : AreNested (scopes_of tree)) (w : World) (lay : Layout) (img : Image)
     (p : ℕ) (q : Process) (part : Part) (outer : List Part) (bound : ℕ) (core : Core) (s : Scene tree code texts w lay img p q part outer bound core)
     (n : Named) (asks : ask part.rest ≡ passes n) (wanted : Wanted) (next : ℕ) (below : List Slot)
-    (found : PassesAt (scopes_of tree) (context_in tree code texts w part) (text_in tree texts w part) (level_in tree w part) (most_in tree w part) n wanted s.stands.pc next s.stands.slots below) where
+    (found : PassesAt (scopes_of tree) (context_in tree code texts w part s.stands.frame.gives) (text_in tree texts w part) (level_in tree w part) (most_in tree w part) n wanted s.stands.pc next s.stands.slots below) where
   abbrev block : ℕ
   block = (instance_at w part.instance).block
 
-  -- The parameter's cell has a reference to what is wanted; on top lies the reference to that cell.
+  -- What the parameter's cell has stands for what is wanted; on top lies the reference to that cell.
   pub record FindsFormal : Type 0 where
-    pub r : Reference
-    pub cell_is : cell_at w (named_from (scopes_of tree) w lay part.instance n) ≡ reference r
+    pub given : Cell
+    pub cell_is : cell_at w (named_from (scopes_of tree) w lay part.instance n) ≡ given
     pub word : Word
-    pub denotes : Denotes (scopes_of tree) w lay (IsOwn (part ∷ outer)) wanted (reference r) word
-    pub may_pass : IsPassed wanted (reference r)
+    pub denotes : Denotes (scopes_of tree) w lay (IsOwn (part ∷ outer)) wanted given word
+    pub may_pass : IsPassed wanted given
     pub other : Sirw
     pub refers : as_sirw word ≡ Some other
     pub at : ℕ
@@ -95,7 +96,7 @@ module _ (tree : PProgram) (code : Code) (texts : Texts) (nested : AreNested (sc
   finds_array : (shape actual : Shape) → wanted ≡ wants.array shape → Agrees shape actual → FormalHome tree code texts nested w lay img p q part outer bound core s n actual found.couple → FindsFormal
   finds_array shape actual e agrees h =
       record {
-        r = h.r;
+        given = reference h.r;
         cell_is = h.cell_is;
         word = h.word;
         denotes = subst (λ (o : Wanted). Denotes (scopes_of tree) w lay (IsOwn (part ∷ outer)) o (reference h.r) h.word) (sym e)
@@ -110,40 +111,51 @@ module _ (tree : PProgram) (code : Code) (texts : Texts) (nested : AreNested (sc
         names = ap as_irw on_top.slot_is ∙ reference_read found.couple h.fits.0 h.fits.1;
       }
 
-  -- a variable of that kind
-  finds_name : (kind : Kind) → wanted ≡ wants.by_name kind → NameHome tree code texts nested w lay img p q part outer bound core s n kind found.couple → FindsFormal
-  finds_name kind e h =
+  -- a variable of that kind, or an actual
+  finds_so : (kind : Kind) → wanted ≡ wants.by_name kind → (home : NameCellHome tree code texts nested w lay img p q part outer bound core s n kind found.couple)
+      (given : Cell) → cell_at w (named_from (scopes_of tree) w lay part.instance n) ≡ given → Denotes (scopes_of tree) w lay (IsOwn (part ∷ outer)) (wants.by_name kind) given home.word → IsPassed (wants.by_name kind) given →
+      LeadsOn tree code texts nested w lay img p q part outer bound core s home.word → FindsFormal
+  finds_so kind e home given is denotes may on =
       record {
-        r = h.home.r;
-        cell_is = h.home.cell_is;
-        word = h.home.word;
-        denotes = subst (λ (o : Wanted). Denotes (scopes_of tree) w lay (IsOwn (part ∷ outer)) o (reference h.home.r) h.home.word) (sym e) h.home.denotes;
-        may_pass = subst (λ (o : Wanted). IsPassed o (reference h.home.r)) (sym e) tt;
-        other = record { stack = p; displacement = length h.named.home.lies.frame.lower; index = 2 + h.named.home.number };
-        refers = h.named.reads;
-        at = h.home.at;
-        shown = h.home.shown;
-        lies = h.home.lies;
+        given = given;
+        cell_is = is;
+        word = home.word;
+        denotes = subst (λ (o : Wanted). Denotes (scopes_of tree) w lay (IsOwn (part ∷ outer)) o given home.word) (sym e) denotes;
+        may_pass = subst (λ (o : Wanted). IsPassed o given) (sym e) may;
+        other = record { stack = p; displacement = on.at; index = on.index };
+        refers = on.refers;
+        at = home.at;
+        shown = home.shown;
+        lies = home.lies;
         top = on_top;
-        names = ap as_irw on_top.slot_is ∙ reference_read found.couple h.home.fits.0 h.home.fits.1;
+        names = ap as_irw on_top.slot_is ∙ reference_read found.couple home.fits.0 home.fits.1;
       }
+
+  abbrev IsNamedThere : Kind → Type 0
+  IsNamedThere kind = NameStands tree code texts nested w lay img p q part outer bound core s n kind found.couple
+
+  finds_name : (kind : Kind) → wanted ≡ wants.by_name kind → IsNamedThere kind → FindsFormal
+  finds_name kind e (for_variable h) =
+      finds_so kind e h.home (reference h.r) h.cell_is h.denotes tt (leads_on tree code texts nested w lay img p q part outer bound core s n kind found.couple (for_variable h))
+  finds_name kind e (for_actual h) =
+      finds_so kind e h.home (cells.named h.a) h.cell_is h.denotes tt (leads_on tree code texts nested w lay img p q part outer bound core s n kind found.couple (for_actual h))
 
   pub finds_formal : FindsFormal
   finds_formal = by_passable wanted found.passable refl
     where
-      by_passable : (o : Wanted) → Passable (scopes_of tree) (context_in tree code texts w part) (text_in tree texts w part) (level_in tree w part) (most_in tree w part) n found.couple o → wanted ≡ o → FindsFormal
+      by_passable : (o : Wanted) → Passable (scopes_of tree) (context_in tree code texts w part s.stands.frame.gives) (text_in tree texts w part) (level_in tree w part) (most_in tree w part) n found.couple o → wanted ≡ o → FindsFormal
       by_passable o (array_passed shape actual is agrees) e = finds_array shape actual e agrees (formal_home tree code texts nested w lay img p q part outer bound core s n actual found.couple seen is)
-      by_passable o (name_passed kind is) e = finds_name kind e (name_home tree code texts nested w lay img p q part outer bound core s n kind found.couple seen is)
+      by_passable o (name_passed kind is) e = finds_name kind e (name_stands tree code texts nested w lay img p q part outer bound core s n kind found.couple seen is)
 
 -- ---- the action
 
 module _ (tree : PProgram) (code : Code) (texts : Texts) (nested : AreNested (scopes_of tree)) (fragments : FragmentsArePerformed) (keeps : RestsKeepToTheirText) (order : AllIsMadeInOrder)
     (w : World) (lay : Layout) (img : Image) (p : ℕ) (q : Process) (part : Part) (outer : List Part) (bound : ℕ) (core : Core) (s : Scene tree code texts w lay img p q part outer bound core)
     (able_is : q.state ≡ able) (able_p : numbered img.states p ≡ Some Able) (n : Named) (asks : ask part.rest ≡ passes n)
-    (a : ActionAt (scopes_of tree) (context_in tree code texts w part) (text_in tree texts w part) (level_in tree w part) (most_in tree w part) (passes n) s.stands.pc s.stands.slots)
+    (a : ActionAt (scopes_of tree) (context_in tree code texts w part s.stands.frame.gives) (text_in tree texts w part) (level_in tree w part) (most_in tree w part) (passes n) s.stands.pc s.stands.slots)
     (answered : (r : Answer) (at : ℕ) (after : List Slot) →
-    Acted (scopes_of tree) (context_in tree code texts w part) (text_in tree texts w part) (level_in tree w part) (most_in tree w part) (passes n) s.stands.pc s.stands.slots a r at after →
-    ComesTo (scopes_of tree) (context_in tree code texts w part) (text_in tree texts w part) (level_in tree w part) (most_in tree w part) (resume (scopes_of tree) part.rest r) at after) where
+    Acted (scopes_of tree) (context_in tree code texts w part s.stands.frame.gives) (text_in tree texts w part) (level_in tree w part) (most_in tree w part) (passes n) s.stands.pc s.stands.slots a r at after →
+    ComesTo (scopes_of tree) (context_in tree code texts w part s.stands.frame.gives) (text_in tree texts w part) (level_in tree w part) (most_in tree w part) (resume (scopes_of tree) part.rest r) at after) where
   abbrev sc : Scopes
   sc = scopes_of tree
 
@@ -162,7 +174,7 @@ module _ (tree : PProgram) (code : Code) (texts : Texts) (nested : AreNested (sc
   abbrev below : List Slot
   below = a.2
 
-  abbrev found : PassesAt sc (context_in tree code texts w part) text level (most_in tree w part) n wanted s.stands.pc next s.stands.slots below
+  abbrev found : PassesAt sc (context_in tree code texts w part s.stands.frame.gives) text level (most_in tree w part) n wanted s.stands.pc next s.stands.slots below
   found = a.3
 
   there : operator_at code core.registers ≡ Ok (ops.Plain kinds.Lodt, next)
@@ -170,12 +182,12 @@ module _ (tree : PProgram) (code : Code) (texts : Texts) (nested : AreNested (sc
 
   module _ (f : FindsFormal tree code texts nested w lay img p q part outer bound core s n asks wanted next below found) where
     abbrev one : Known
-    one = record { held = passed_held wanted (reference f.r); word = f.word }
+    one = record { held = passed_held wanted f.given; word = f.word }
 
     abbrev new : Core
     new = with_other core f.word f.top.words_below next
 
-    core_at : CoreAt sc (one ∷ s.stands.held) code text level next (descriptor (passed_held wanted (reference f.r)) ∷ below) new
+    core_at : CoreAt sc (one ∷ s.stands.held) code text level next (descriptor (passed_held wanted f.given) ∷ below) new
     core_at =
         record {
           segment = s.stands.there.segment;
@@ -188,14 +200,14 @@ module _ (tree : PProgram) (code : Code) (texts : Texts) (nested : AreNested (sc
           words_are = (inl (refl, refl), more_known s.stands.held one sc level (frame core.registers) (length core.below) below f.top.words_below f.top.are);
         }
 
-    few : length (descriptor (passed_held wanted (reference f.r)) ∷ below) ≤ most_in tree w part
+    few : length (descriptor (passed_held wanted f.given) ∷ below) ≤ most_in tree w part
     few = omega (arith, ap length found.lies, s.stands.few)
 
     passing_does : Does tree code texts w img p
     passing_does =
-        does_in_frame tree code texts fragments keeps order w lay img p q part outer bound core s able_is able_p (unmade part.rest (ap makes asks)) (cell (reference f.r)) tt w.output new refl (record { is = refl })
-        (one ∷ s.stands.held) (f.denotes, s.stands.held_are) next (descriptor (passed_held wanted (reference f.r)) ∷ below) core_at few
-        (answered (cell (reference f.r)) next (descriptor (passed_held wanted (reference f.r)) ∷ below) (refl, refl, f.may_pass)) Pass
+        does_in_frame tree code texts fragments keeps order w lay img p q part outer bound core s able_is able_p (unmade part.rest (ap makes asks)) (cell f.given) tt w.output new refl (record { is = refl })
+        (one ∷ s.stands.held) (f.denotes, s.stands.held_are) next (descriptor (passed_held wanted f.given) ∷ below) core_at few
+        (answered (cell f.given) next (descriptor (passed_held wanted f.given) ∷ below) (refl, refl, f.may_pass)) Pass
         (action_not_plain code img p core s.has (ops.Plain kinds.Lodt) next there
         (pass_class code img p core s.has next there f.top.word f.top.words_below f.top.is found.couple.level found.couple.index f.names (place p f.at) f.shown f.word f.lies
         f.other f.refers))

@@ -1,10 +1,10 @@
 -- A procedure is entered.
-use Rattle.std.proofs.Common.{◌≡◌, ◌⊎◌, inl, inr, refl, sym, ap, ◌∙◌, subst, ℕ, suc, ◌+◌, ◌-◌, ◌*◌, ◌≤◌, ◌<◌, List, [], ◌∷◌, ◌++◌, length, Option, Some, None, true, false, arith}
+use Rattle.std.proofs.Common.{◌≡◌, ◌⊎◌, inl, inr, refl, sym, ap, ◌∙◌, subst, ℕ, suc, ◌+◌, ◌-◌, ◌*◌, ◌≤◌, ◌<◌, List, ◌∷◌, ◌++◌, length, Option, Some, None, true, false, arith}
 use Rattle.std.specs.Prelude.{slice_get}
 use Rattle.b67_list.specs.Numbered.{numbered}
 use Rattle.algol_tree.specs.declared.tree.Kind.{Kind}
 use Rattle.algol_tree.specs.declared.tree.Named.{Named}
-use Rattle.algol_tree.specs.Plain.{PProgram}
+use Rattle.algol_tree.specs.Plain.{PProgram, PBody}
 use Rattle.algol_tree.specs.Sorts.{Sort, is_variable, is_formal}
 use Rattle.algol_tree.specs.Blocks.{Block, block_numbered, number_at, around}
 use Rattle.algol_tree.specs.Cells.{level_of}
@@ -15,7 +15,6 @@ use Rattle.algol_meaning.specs.World.{Instance, Process, Part, procedure, able, 
 use Rattle.algol_meaning.specs.Asks.{Ask, nothing, enters, ask, resume}
 use Rattle.algol_meaning.specs.Choice.{choice_of, entered_procedure, given_cells}
 use Rattle.algol_meaning.specs.Settle.{block_of}
-use Rattle.algol_paths.specs.Arrays.{all_to_make}
 use Rattle.algol_paths.specs.Blocks.{IsSeen, IsSeenAround, IsInner}
 use Rattle.algol_paths.specs.Laws.{RestsKeepToTheirText, AllIsMadeInOrder}
 use Rattle.algol_paths.specs.Segments.{is_procedure, segment_of}
@@ -51,7 +50,7 @@ use Rattle.b67_pictures.specs.Arrays.{Layout, named_from, LeadsToVariable, IsNam
 use Rattle.b67_pictures.specs.Acting.{Does}
 use Rattle.b67_pictures.specs.Frames.{block_controls, controls_count, most_around, IsComplete}
 use Rattle.b67_pictures.proofs.AskedEntries.{InReferred, InEntry, enters_seen, entered_in_bound}
-use Rattle.b67_pictures.proofs.ControlWords.{get_control}
+use Rattle.b67_pictures.proofs.ControlWords.{get_control, controls_fit}
 use Rattle.b67_pictures.proofs.EnterProcedureRow.{procedure_leads, procedure_calls}
 use Rattle.b67_pictures.proofs.Entries.{Calls}
 use Rattle.b67_pictures.proofs.Formals.{AreGivenCells, given_are}
@@ -59,8 +58,9 @@ use Rattle.b67_pictures.proofs.FrameEntering.{AreCells, Body, GoesOnBehind, ente
 use Rattle.b67_pictures.proofs.FreshCells.{simple_many, words_long}
 use Rattle.b67_pictures.proofs.GivenWords.{AreFit, are_fit, fit_many, ActualsAre}
 use Rattle.b67_pictures.proofs.Linked.{Linked, begins_core, own_linked, linked_lies, linked_low, level_around}
-use Rattle.b67_pictures.proofs.Lying.{Lies, lies_in, IsParent, parents_in}
+use Rattle.b67_pictures.proofs.Lying.{Lies, lies_in, IsParent, parents_in, part_own}
 use Rattle.b67_pictures.proofs.NamedArrays.{IsSeenMade, both_seen, up_complete, named_leads}
+use Rattle.b67_pictures.proofs.Narrowing.{made_or_around}
 use Rattle.b67_pictures.proofs.Numbers.{get_within, get_below}
 use Rattle.b67_pictures.proofs.Scene.{Scene}
 use Rattle.b67_pictures.proofs.Segmenting.{needs}
@@ -68,7 +68,7 @@ use Rattle.b67_pictures.proofs.Segmented.{before_whole, segment_low, procedure_s
 use Rattle.b67_pictures.proofs.StackWords.{get-front, get-behind}
 use Rattle.b67_pictures.proofs.Stage.{choice_is}
 use Rattle.b67_pictures.proofs.Parents.{length_around}
-use Rattle.b67_pictures.proofs.Staying.{text_in, level_in, context_in, most_in}
+use Rattle.b67_pictures.proofs.Staying.{text_in, level_in, context_in, most_in, names_in}
 use Rattle.b67_pictures.proofs.Unmade.{makes, unmade}
 use Rattle.b67_pictures.proofs.VariablesGiven.{variable_leads}
 use Rattle.b67_pictures.proofs.Words.{reference_read}
@@ -85,14 +85,14 @@ module _ (tree : PProgram) (code : Code) (program : ProgramAt code tree) (nested
     (w : World) (lay : Layout) (img : Image) (p : ℕ) (q : Process) (part : Part) (outer : List Part) (bound : ℕ) (core : Core)
     (s : Scene tree code program.texts w lay img p q part outer bound core) (able_is : q.state ≡ able) (able_p : numbered img.states p ≡ Some Able)
     (n : Named) (gs : List Given) (asks : ask part.rest ≡ enters n gs)
-    (a : ActionAt (scopes_of tree) (context_in tree code program.texts w part) (text_in tree program.texts w part) (level_in tree w part) (most_in tree w part) (enters n gs) s.stands.pc s.stands.slots)
+    (a : ActionAt (scopes_of tree) (context_in tree code program.texts w part s.stands.frame.gives) (text_in tree program.texts w part) (level_in tree w part) (most_in tree w part) (enters n gs) s.stands.pc s.stands.slots)
     (waits : (to : ℕ) (after : List Slot) (wanted : Yields) →
-    Entered (scopes_of tree) (context_in tree code program.texts w part) (text_in tree program.texts w part) (level_in tree w part) (most_in tree w part) (enters n gs) s.stands.pc s.stands.slots a to after wanted →
+    Entered (scopes_of tree) (context_in tree code program.texts w part s.stands.frame.gives) (text_in tree program.texts w part) (level_in tree w part) (most_in tree w part) (enters n gs) s.stands.pc s.stands.slots a to after wanted →
     ask (resume (scopes_of tree) part.rest entered) ≡ nothing)
     (returns : (to : ℕ) (after : List Slot) (wanted : Yields) →
-    Entered (scopes_of tree) (context_in tree code program.texts w part) (text_in tree program.texts w part) (level_in tree w part) (most_in tree w part) (enters n gs) s.stands.pc s.stands.slots a to after wanted →
+    Entered (scopes_of tree) (context_in tree code program.texts w part s.stands.frame.gives) (text_in tree program.texts w part) (level_in tree w part) (most_in tree w part) (enters n gs) s.stands.pc s.stands.slots a to after wanted →
     (r : Answer) → Gives wanted r →
-    ComesTo (scopes_of tree) (context_in tree code program.texts w part) (text_in tree program.texts w part) (level_in tree w part) (most_in tree w part) (resume (scopes_of tree) (resume (scopes_of tree) part.rest entered) r) to (pushed wanted r after)) where
+    ComesTo (scopes_of tree) (context_in tree code program.texts w part s.stands.frame.gives) (text_in tree program.texts w part) (level_in tree w part) (most_in tree w part) (resume (scopes_of tree) (resume (scopes_of tree) part.rest entered) r) to (pushed wanted r after)) where
   abbrev sc : Scopes
   sc = scopes_of tree
 
@@ -102,8 +102,11 @@ module _ (tree : PProgram) (code : Code) (program : ProgramAt code tree) (nested
   abbrev level : ℕ
   level = level_in tree w part
 
+  abbrev names : ℕ
+  names = names_in tree w part
+
   abbrev context : Context
-  context = context_in tree code texts w part
+  context = context_in tree code texts w part s.stands.frame.gives
 
   abbrev block : ℕ
   block = (instance_at w part.instance).block
@@ -111,13 +114,13 @@ module _ (tree : PProgram) (code : Code) (program : ProgramAt code tree) (nested
   abbrev callee : ℕ
   callee = a.0
 
-  abbrev at : CallsAt sc (context_in tree code texts w part) (text_in tree texts w part) level (most_in tree w part) n gs callee s.stands.pc a.1 s.stands.slots a.2
+  abbrev at : CallsAt sc (context_in tree code texts w part s.stands.frame.gives) (text_in tree texts w part) level (most_in tree w part) n gs callee s.stands.pc a.1 s.stands.slots a.2
   at = a.3
 
   abbrev couple : Couple
   couple = at.couple
 
-  abbrev named : IsProcedure sc level n callee couple
+  abbrev named : IsProcedure sc names n callee couple
   named = at.procedure
 
   -- ---- the instance that holds the procedure
@@ -138,21 +141,25 @@ module _ (tree : PProgram) (code : Code) (program : ProgramAt code tree) (nested
   seen_there : IsSeen sc block n
   seen_there = all_seen.0
 
-  in_bound : (all_to_make part.rest ≡ []) ⊎ InEntry (IsSeenAround sc block) n gs
-  in_bound = entered_in_bound (IsSeen sc block) n gs (IsInner sc block) (IsSeenAround sc block) part.rest asks s.stands.frame.text
+  -- all is made there, or they are around
+  in_bound : IsComplete sc w lay part.instance ⊎ InEntry (IsSeenAround sc block) n gs
+  in_bound =
+      made_or_around tree code texts w lay img p q part outer bound core s
+      (entered_in_bound (IsSeen sc block) n gs (IsInner sc block) (IsSeenAround sc block) part.rest asks s.stands.frame.text)
+      (λ text. enters_seen (IsSeenAround sc block) n gs (λ (b : PBody). ⊥) (IsSeenAround sc block) (λ m (seen : IsSeenAround sc block m). seen) part.rest asks text)
 
-  arrays_seen : InReferred (IsSeenMade tree w part) gs
-  arrays_seen = both_seen tree w part gs all_seen.1 (given_in_bound in_bound)
+  arrays_seen : InReferred (IsSeenMade tree w lay part) gs
+  arrays_seen = both_seen tree w lay part gs all_seen.1 (given_in_bound in_bound)
     where
-      given_in_bound : (all_to_make part.rest ≡ []) ⊎ InEntry (IsSeenAround sc block) n gs → (all_to_make part.rest ≡ []) ⊎ InReferred (IsSeenAround sc block) gs
-      given_in_bound (inl none) = inl none
+      given_in_bound : IsComplete sc w lay part.instance ⊎ InEntry (IsSeenAround sc block) n gs → IsComplete sc w lay part.instance ⊎ InReferred (IsSeenAround sc block) gs
+      given_in_bound (inl whole) = inl whole
       given_in_bound (inr around_it) = inr around_it.1
 
-  high : up + OUTER_LEVEL ≤ level
+  high : up + OUTER_LEVEL ≤ names
   high = omega (arith, length_around sc.blocks block, get_below (block ∷ around sc.blocks block) up u seen_there)
 
   parent : IsParent tree code texts w lay p (part ∷ outer) part.instance up u
-  parent = parents_in tree code texts w lay p part outer core s.stands s.around part.instance (inl refl) up u seen_there
+  parent = parents_in tree code texts w lay p part outer core s.stands s.around part.instance (part_own tree code texts w lay p part outer core.below s.stands.frame) up u seen_there
 
   lies : Lies tree code texts w lay p (part ∷ outer) h core.below
   lies = lies_in tree code texts w lay p part outer core s.stands s.around h parent.own
@@ -161,23 +168,23 @@ module _ (tree : PProgram) (code : Code) (program : ProgramAt code tree) (nested
   linked = own_linked tree code texts w lay p img.stacks part outer core s.stands s.around (begins_core img p core s.has) h parent.own
 
   abbrev x : Instance
-  x = lies.frame.framed.instance
+  x = lies.owned.framed.instance
 
   block_is : x.block ≡ u
-  block_is = ap (λ (o : Option Instance). (or_no_instance o).block) (sym lies.frame.framed.is) ∙ ap (λ (k : ℕ). (instance_at w k).block) lies.instance_is ∙ parent.block
+  block_is = ap (λ (o : Option Instance). (or_no_instance o).block) (sym lies.owned.framed.is) ∙ ap (λ (k : ℕ). (instance_at w k).block) lies.instance_is ∙ parent.block
 
   u_known : u < length sc.blocks
-  u_known = subst (λ (k : ℕ). k < length sc.blocks) block_is lies.frame.framed.known
+  u_known = subst (λ (k : ℕ). k < length sc.blocks) block_is lies.owned.framed.known
 
   -- It has made all its arrays: no bound of an array calls a procedure of its own block.
   complete : IsComplete sc w lay h
   complete = up_complete tree code texts w lay p part outer core.below s.stands.frame s.around up (by_text in_bound) parent.complete
     where
-      by_text : (all_to_make part.rest ≡ []) ⊎ InEntry (IsSeenAround sc block) n gs → (all_to_make part.rest ≡ []) ⊎ (1 ≤ up)
-      by_text (inl none) = inl none
+      by_text : IsComplete sc w lay part.instance ⊎ InEntry (IsSeenAround sc block) n gs → IsComplete sc w lay part.instance ⊎ (1 ≤ up)
+      by_text (inl whole) = inl whole
       by_text (inr around_it) = far around_it.0.1
         where
-          far : (1 ≤ up) ⊎ (is_variable ((use_of sc n).sort) ≡ true) ⊎ (is_formal ((use_of sc n).sort) ≡ true) → (all_to_make part.rest ≡ []) ⊎ (1 ≤ up)
+          far : (1 ≤ up) ⊎ (is_variable ((use_of sc n).sort) ≡ true) ⊎ (is_formal ((use_of sc n).sort) ≡ true) → IsComplete sc w lay part.instance ⊎ (1 ≤ up)
           far (inl more) = inr more
           far (inr (inl variable)) = absurd (let clash : false ≡ true = sym (ap is_variable named.sort_is) ∙ variable in cc)
           far (inr (inr formal)) = absurd (let clash : false ≡ true = sym (ap is_formal named.sort_is) ∙ formal in cc)
@@ -226,12 +233,12 @@ module _ (tree : PProgram) (code : Code) (program : ProgramAt code tree) (nested
   far = length (simple_cells sc (block_numbered sc.blocks u)) + named.number
 
   abbrev controls_there : List Word
-  controls_there = control_words (block_controls sc x.block lies.frame.framed.ats)
+  controls_there = control_words (block_controls sc x.block lies.owned.framed.ats)
 
   control_lies : slice_get controls_there named.number ≡ Some (pcw_word c)
   control_lies =
-      ap (λ (k : ℕ). slice_get (control_words (block_controls sc k lies.frame.framed.ats)) named.number) block_is
-      ∙ get_control sc u lies.frame.framed.ats named.number
+      ap (λ (k : ℕ). slice_get (control_words (block_controls sc k lies.owned.framed.ats)) named.number) block_is
+      ∙ get_control sc u lies.owned.framed.ats named.number
       (segment_of sc.blocks (number_at sc.blocks named.declared.spot))
       (get_mapped (λ (m : Named). segment_of sc.blocks (number_at sc.blocks m.spot)) (procedures (block_numbered sc.blocks u).decls) named.number named.declared named.there)
       ∙ ap (λ (k : ℕ). Some (pcw_word (code_at (segment_of sc.blocks k) 0 (level_of (block_numbered sc.blocks u) + 1)))) named.callee_is
@@ -240,14 +247,14 @@ module _ (tree : PProgram) (code : Code) (program : ProgramAt code tree) (nested
   -- it lies after the values, before the descriptors of arrays
   cells_lie : slice_get lies.frame.cells far ≡ Some (pcw_word c)
   cells_lie =
-      ap (λ (ws : List Word). slice_get ws far) lies.frame.framed.cells_is
-      ∙ get-behind lies.frame.framed.values (controls_there ++ lies.frame.framed.descriptors) named.number far
+      ap (λ (ws : List Word). slice_get ws far) lies.owned.framed.cells_is
+      ∙ get-behind lies.owned.framed.values (controls_there ++ lies.owned.framed.descriptors) named.number far
       (omega (
         arith,
-        words_long (simple_cells sc (block_numbered sc.blocks x.block)) lies.frame.framed.simple lies.frame.framed.values lies.frame.framed.simple_are,
+        words_long (simple_cells sc (block_numbered sc.blocks x.block)) lies.owned.framed.simple lies.owned.framed.values lies.owned.framed.simple_are,
         ap (λ (k : ℕ). length (simple_cells sc (block_numbered sc.blocks k))) block_is,
       ))
-      ∙ get-front controls_there lies.frame.framed.descriptors named.number (pcw_word c) control_lies
+      ∙ get-front controls_there lies.owned.framed.descriptors named.number (pcw_word c) control_lies
 
   abbrev there : ℕ
   there = length lies.frame.lower + couple.index
@@ -269,7 +276,7 @@ module _ (tree : PProgram) (code : Code) (program : ProgramAt code tree) (nested
       ap (λ (k : ℕ). word_at img.stacks (record { stack = p; at = k + couple.index })) same_at
       ∙ begins_core img p core s.has there (pcw_word c) below_lies
 
-  level_up : couple.level ≡ level - up
+  level_up : couple.level ≡ names - up
   level_up = omega (arith, named.level_is)
 
   shown : display_at core.registers couple.level ≡ Some (place p linked.at)
@@ -277,12 +284,12 @@ module _ (tree : PProgram) (code : Code) (program : ProgramAt code tree) (nested
 
   -- ---- its reference
 
-  level_low : level ≤ 31
+  level_low : names ≤ 31
   level_low =
       omega (
         arith,
-        ap (λ (o : Option Instance). level_of (block_numbered sc.blocks ((or_no_instance o).block))) s.stands.frame.framed.is,
-        (nested.nested.each s.stands.frame.framed.instance.block s.stands.frame.framed.known).low,
+        ap (λ (o : Option Instance). level_of (block_numbered sc.blocks ((or_no_instance o).block))) s.stands.frame.is,
+        (nested.nested.each s.stands.frame.instance.block s.stands.frame.known).low,
       )
 
   abbrev IsReference : Word → Type 0
@@ -344,7 +351,10 @@ module _ (tree : PProgram) (code : Code) (program : ProgramAt code tree) (nested
         ready = code_there.begin;
         start = code_there.start;
         ats = code_there.ats;
-        routines = code_there.routines;
+        routines = (
+          code_there.routines,
+          controls_fit (texts.placed (segment_of sc.blocks callee)) (level_of b) (block_controls sc callee code_there.ats) code_there.cells.0 code_there.cells.1 code_there.cells.3,
+        );
         over = code_there.over;
         cells_at = code_there.cells;
         comes = starts sc (context_of code texts sc callee) (texts.placed (segment_of sc.blocks callee)) (level_of b) (most_around tree callee) b code_there.start code_there.items (omega (arith, room)) (omega (arith, room));
@@ -357,17 +367,17 @@ module _ (tree : PProgram) (code : Code) (program : ProgramAt code tree) (nested
   abbrev AreCellsThere : List Cell → List Word → Type 0
   AreCellsThere given ws = AreCells tree code texts nested short fragments begins_so keeps order w lay img p q part outer bound core s able_is able_p callee given ws
 
-  variables_lead : (m : Named) → IsSeenMade tree w part m → (kind : Kind) (y : Couple) → IsVariable sc level m kind y → (x : Word) → IsNamed sc w lay (IsOwn (part ∷ outer)) part.instance m x →
+  variables_lead : (m : Named) → IsSeenMade tree w lay part m → (kind : Kind) (y : Couple) → IsVariable sc names m kind y → (x : Word) → IsNamed sc w lay (IsOwn (part ∷ outer)) part.instance m x →
       LeadsToVariable sc w lay (IsOwn (part ∷ outer)) kind (named_from sc w lay part.instance m) x
-  variables_lead m seen kind y v x h = variable_leads tree code texts w lay p part outer core.below s.stands.frame s.around level m seen.0 kind y v x h
+  variables_lead m seen kind y v x h = variable_leads tree code texts w lay p part outer core.below s.stands.frame s.around names m seen.0 kind y v x h
 
   -- the cells of its parameters
   cells_there : (ws : List Word) → ActualsAre sc s.stands.held level (frame core.registers) (length core.below) (parameter_wants sc callee) gs ws → AreCellsThere (given_cells sc w p q part outer gs) ws
   cells_there ws are =
-      let g : AreGivenCells sc context w lay p q part outer level (frame core.registers) (length core.below) s.stands.held s.stands.held_are (IsSeenMade tree w part)
-      (named_leads tree code texts w lay p part outer core.below s.stands.frame s.around level) variables_lead (parameter_cells sc b) b.parameters gs ws =
-      given_are sc context w lay p q part outer level (frame core.registers) (length core.below) s.stands.held s.stands.held_are (IsSeenMade tree w part)
-      (named_leads tree code texts w lay p part outer core.below s.stands.frame s.around level) variables_lead fit (parameter_cells sc b) b.parameters parameters.told refl arrays_seen ws are in
+      let g : AreGivenCells sc context w lay p q part outer level (frame core.registers) (length core.below) s.stands.held s.stands.held_are (IsSeenMade tree w lay part)
+      (named_leads tree code texts w lay p part outer core.below s.stands.frame s.around names) variables_lead (parameter_cells sc b) b.parameters gs ws =
+      given_are sc context w lay p q part outer level (frame core.registers) (length core.below) s.stands.held s.stands.held_are (IsSeenMade tree w lay part)
+      (named_leads tree code texts w lay p part outer core.below s.stands.frame s.around names) variables_lead fit (parameter_cells sc b) b.parameters parameters.told refl arrays_seen ws are in
       record { cells = g.cells; lead = g.lead }
 
   pub entering_procedure : Does tree code texts w img p

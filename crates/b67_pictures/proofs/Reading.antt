@@ -43,10 +43,10 @@ use Rattle.b67_pictures.proofs.Rows.{action_not_plain, action_is, words_are}
 use Rattle.b67_pictures.proofs.Scene.{Scene}
 use Rattle.b67_pictures.proofs.Stage.{choice_is}
 use Rattle.b67_pictures.proofs.StackWords.{get-front}
-use Rattle.b67_pictures.proofs.Staying.{text_in, level_in, context_in, most_in}
+use Rattle.b67_pictures.proofs.Staying.{text_in, level_in, context_in, most_in, names_in}
 use Rattle.b67_cores.specs.Slots.{ValueIs}
 use Rattle.b67_fitting.specs.Nested.{AreNested}
-use Rattle.b67_pictures.proofs.NameHomes.{NameHome, name_home}
+use Rattle.b67_pictures.proofs.NameHomes.{NameHome, ActualNamed, NameStands, for_variable, for_actual, name_stands}
 use Rattle.b67_pictures.proofs.Reaching.{Reaches, reached_there, reached_through}
 use Rattle.b67_pictures.proofs.ReachingRows.{with_top, value_reached_class, value_read_raw, value_read_letter}
 use Rattle.b67_pictures.proofs.VariableHomes.{VariableHome}
@@ -59,11 +59,11 @@ module _ (tree : PProgram) (code : Code) (texts : Texts) (fragments : FragmentsA
   sc = scopes_of tree
 
   abbrev IsAction : Named → Type 0
-  IsAction n = ActionAt sc (context_in tree code texts w part) (text_in tree texts w part) (level_in tree w part) (most_in tree w part) (reads n) s.stands.pc s.stands.slots
+  IsAction n = ActionAt sc (context_in tree code texts w part s.stands.frame.gives) (text_in tree texts w part) (level_in tree w part) (most_in tree w part) (reads n) s.stands.pc s.stands.slots
 
   module _ (n : Named) (asks : ask part.rest ≡ reads n) (a : IsAction n)
-      (answered : (r : Answer) (at : ℕ) (after : List Slot) → Acted sc (context_in tree code texts w part) (text_in tree texts w part) (level_in tree w part) (most_in tree w part) (reads n) s.stands.pc s.stands.slots a r at after →
-      ComesTo sc (context_in tree code texts w part) (text_in tree texts w part) (level_in tree w part) (most_in tree w part) (resume sc part.rest r) at after) where
+      (answered : (r : Answer) (at : ℕ) (after : List Slot) → Acted sc (context_in tree code texts w part s.stands.frame.gives) (text_in tree texts w part) (level_in tree w part) (most_in tree w part) (reads n) s.stands.pc s.stands.slots a r at after →
+      ComesTo sc (context_in tree code texts w part s.stands.frame.gives) (text_in tree texts w part) (level_in tree w part) (most_in tree w part) (resume sc part.rest r) at after) where
     -- the operator
     there : operator_at code core.registers ≡ Ok (ops.Valc a.2.0, a.1)
     there = operator_there sc s.stands.held code (text_in tree texts w part) (level_in tree w part) s.stands.pc s.stands.slots core (ops.Valc a.2.0) a.1 s.stands.there a.2.2
@@ -134,18 +134,22 @@ module _ (tree : PProgram) (code : Code) (texts : Texts) (fragments : FragmentsA
         (reached_there img.stacks from f.at.word (below_there (at + a.2.0.index) f.at.word f.below_lies) (no_sirw f.at.word (value_tag f.at.value f.at.word f.at.word_is)))
         f.at.value f.at.word_is f.at.fits (ap (λ (c : Cell). read_of sc w p q part outer c) f.at.cell_is)
 
-    pub reading : IsVariable sc (level_in tree w part) n a.0 a.2.0 → Does tree code texts w img p
+    pub reading : IsVariable sc (names_in tree w part) n a.0 a.2.0 → Does tree code texts w img p
     reading v = variable_read (home tree code texts w lay img p q part outer bound core s n a.0 a.2.0 seen v)
 
-    -- ---- a parameter by name, whose cell has a reference to a variable
+    -- ---- a parameter by name
 
     module _ (nested : AreNested (scopes_of tree)) where
       abbrev IsNameHome : Type 0
       IsNameHome = NameHome tree code texts nested w lay img p q part outer bound core s n a.0 a.2.0
 
+      abbrev IsActualNamed : Type 0
+      IsActualNamed = ActualNamed tree code texts nested w lay img p q part outer bound core s n a.0 a.2.0
+
+      -- its cell has a reference to a variable
       name_read : IsNameHome → Does tree code texts w img p
       name_read f =
-          let v : VariableHome tree code texts w lay img p q part outer bound core s f.home.r a.0 f.home.denotes.found = f.named.home in
+          let v : VariableHome tree code texts w lay img p q part outer bound core s f.r a.0 f.denotes.found = f.named.home in
           let at : ℕ = length v.lies.frame.lower in
           let from : cells.Cell = record { frame = place p f.home.at; index = a.2.0.index } in
           let to : cells.Cell = record { frame = place p at; index = 2 + v.number } in
@@ -153,7 +157,12 @@ module _ (tree : PProgram) (code : Code) (texts : Texts) (fragments : FragmentsA
           (reached_through img.stacks from f.home.word (record { stack = p; displacement = at; index = 2 + v.number }) v.word f.home.lies f.named.reads (below_there (at + (2 + v.number)) v.word v.below_lies)
           (no_sirw v.word (value_tag v.value v.word v.word_is)))
           v.value v.word_is v.fits
-          (ap (λ (c : Cell). read_of sc w p q part outer c) f.home.cell_is ∙ ap (λ (c : Cell). goes sc w p q part outer Read w (value (value_in c))) v.cell_is)
+          (ap (λ (c : Cell). read_of sc w p q part outer c) f.cell_is ∙ ap (λ (c : Cell). goes sc w p q part outer Read w (value (value_in c))) v.cell_is)
 
-      pub reading_name : IsFormalName sc (level_in tree w part) n a.0 a.2.0 → Does tree code texts w img p
-      reading_name v = name_read (name_home tree code texts nested w lay img p q part outer bound core s n a.0 a.2.0 seen v)
+      -- that variable is read, or the actual is evaluated that the cell names
+      pub reading_name : (IsActualNamed → Does tree code texts w img p) → IsFormalName sc (names_in tree w part) n a.0 a.2.0 → Does tree code texts w img p
+      reading_name evaluated v = by_name (name_stands tree code texts nested w lay img p q part outer bound core s n a.0 a.2.0 seen v)
+        where
+          by_name : NameStands tree code texts nested w lay img p q part outer bound core s n a.0 a.2.0 → Does tree code texts w img p
+          by_name (for_variable f) = name_read f
+          by_name (for_actual f) = evaluated f

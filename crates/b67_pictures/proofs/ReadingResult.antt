@@ -1,4 +1,5 @@
 -- The read of a procedure's result, at its end.
+use Rattle.algol_meaning.specs.Critical.{is_evaluation}
 use Rattle.std.proofs.Common.{◌≡◌, refl, sym, ap, ◌∙◌, subst, ℕ, suc, ◌+◌, List, [], ◌∷◌, ◌++◌, length, Option, Some, None, Bool, true, false, Ok, arith}
 use Rattle.std.specs.Prelude.{if◌then◌else◌, ◌&&◌, ◌==◌, slice_get}
 use Rattle.std.proofs.lemmas.Bool.Decides.{nat_tests}
@@ -55,6 +56,8 @@ use Rattle.b67_pictures.proofs.ValueRow.{reads_value, value_raw, value_class}
 use Rattle.b67_pictures.proofs.Variables.{Cell_of, variable_cell, cell_front, Holds_value, value_of_cell}
 use Rattle.b67_pictures.proofs.Words.{value_tag, no_sirw, no_pcw}
 use Rattle.b67_pictures.proofs.Unmade.{makes, unmade}
+use Rattle.b67_pictures.proofs.Lying.{owned_frame, asks_as_own, frame_gives}
+use Rattle.b67_pictures.specs.Frames.{Owned}
 
 itself : (n : ℕ) → (n == n) ≡ true
 itself n = grind (arith, nat_tests)
@@ -87,14 +90,21 @@ result_found sc b kind apart typed =
 module _ (tree : PProgram) (code : Code) (texts : Texts) (nested : AreNested (scopes_of tree)) (fragments : FragmentsArePerformed) (keeps : RestsKeepToTheirText) (order : AllIsMadeInOrder) (w : World) (lay : Layout) (img : Image)
     (p : ℕ) (q : Process) (part : Part) (outer : List Part) (bound : ℕ) (core : Core) (s : Scene tree code texts w lay img p q part outer bound core) (able_is : q.state ≡ able) (able_p : numbered img.states p ≡ Some Able)
     (name : List ℕ) (asks : ask part.rest ≡ reads_result name)
-    (a : ActionAt (scopes_of tree) (context_in tree code texts w part) (text_in tree texts w part) (level_in tree w part) (most_in tree w part) (reads_result name) s.stands.pc s.stands.slots)
+    (a : ActionAt (scopes_of tree) (context_in tree code texts w part s.stands.frame.gives) (text_in tree texts w part) (level_in tree w part) (most_in tree w part) (reads_result name) s.stands.pc s.stands.slots)
     (answered : (r : Answer) (at : ℕ) (after : List Slot) →
-    Acted (scopes_of tree) (context_in tree code texts w part) (text_in tree texts w part) (level_in tree w part) (most_in tree w part) (reads_result name) s.stands.pc s.stands.slots a r at after →
-    ComesTo (scopes_of tree) (context_in tree code texts w part) (text_in tree texts w part) (level_in tree w part) (most_in tree w part) (resume (scopes_of tree) part.rest r) at after) where
+    Acted (scopes_of tree) (context_in tree code texts w part s.stands.frame.gives) (text_in tree texts w part) (level_in tree w part) (most_in tree w part) (reads_result name) s.stands.pc s.stands.slots a r at after →
+    ComesTo (scopes_of tree) (context_in tree code texts w part s.stands.frame.gives) (text_in tree texts w part) (level_in tree w part) (most_in tree w part) (resume (scopes_of tree) part.rest r) at after) where
   abbrev sc : Scopes
   sc = scopes_of tree
 
-  abbrev at : ResultAt sc (context_in tree code texts w part) (text_in tree texts w part) (level_in tree w part) name s.stands.pc
+  -- the part has its frame's instance for its own
+  pub owns : is_evaluation part.purpose ≡ false
+  owns = asks_as_own tree code texts w lay p part outer core.below s.stands.frame (reads_result name) asks (λ e. e)
+
+  abbrev own_frame : Owned tree code texts w lay p part outer (length s.stands.frame.lower) s.stands.frame.mark s.stands.frame.control s.stands.frame.cells
+  own_frame = owned_frame tree code texts w lay p part outer core.below s.stands.frame owns
+
+  abbrev at : ResultAt sc (context_in tree code texts w part s.stands.frame.gives) (text_in tree texts w part) (level_in tree w part) name s.stands.pc
   at = a.0
 
   abbrev next : ℕ
@@ -106,22 +116,22 @@ module _ (tree : PProgram) (code : Code) (texts : Texts) (nested : AreNested (sc
   -- ---- its cell
 
   abbrev own : Instance
-  own = s.stands.frame.framed.instance
+  own = own_frame.framed.instance
 
   own_is : instance_at w part.instance ≡ own
-  own_is = ap or_no_instance s.stands.frame.framed.is
+  own_is = ap or_no_instance own_frame.framed.is
 
   abbrev b : Block
   b = block_numbered sc.blocks own.block
 
   typed : b.result ≡ Some at.kind
-  typed = result_given b.result at.kind (subst (λ (x : Instance). yields_of (block_numbered sc.blocks x.block).result ≡ yielding.value at.kind) own_is at.is)
+  typed = result_given b.result at.kind (subst (λ (x : Instance). yields_of (block_numbered sc.blocks x.block).result ≡ yielding.value at.kind) own_is (sym (frame_gives tree code texts w lay p part outer core.below s.stands.frame owns) ∙ at.is))
 
   named : b.name ≡ name
   named = subst (λ (x : Instance). (block_numbered sc.blocks x.block).name ≡ name) own_is at.named
 
   apart : found_from 0 (parameter_cells sc b) b.name ≡ None
-  apart = (nested.each own.block s.stands.frame.framed.known).parameters.apart at.kind typed
+  apart = (nested.each own.block own_frame.framed.known).parameters.apart at.kind typed
 
   index_is : at.couple.index ≡ 2 + length (parameter_cells sc b)
   index_is = at.index_is ∙ ap (λ (x : Instance). 2 + length (parameter_cells sc (block_numbered sc.blocks x.block))) own_is
@@ -130,13 +140,13 @@ module _ (tree : PProgram) (code : Code) (texts : Texts) (nested : AreNested (sc
   found = record { number = length (parameter_cells sc b); cell = record { name = b.name; wanted = wants.value at.kind } }
 
   abbrev first_cells : List NamedCell
-  first_cells = s.stands.frame.framed.simple
+  first_cells = own_frame.framed.simple
 
   abbrev Cell_there : Type 0
-  Cell_there = Cell_of found 0 b.name first_cells s.stands.frame.framed.values
+  Cell_there = Cell_of found 0 b.name first_cells own_frame.framed.values
 
   c : Cell_there
-  c = variable_cell (simple_cells sc b) first_cells s.stands.frame.framed.values 0 b.name found s.stands.frame.framed.simple_are (result_found sc b at.kind apart typed)
+  c = variable_cell (simple_cells sc b) first_cells own_frame.framed.values 0 b.name found own_frame.framed.simple_are (result_found sc b at.kind apart typed)
 
   module _ (c : Cell_there) where
     held : Holds_value at.kind (cell_in first_cells b.name) c.word
@@ -150,7 +160,7 @@ module _ (tree : PProgram) (code : Code) (texts : Texts) (nested : AreNested (sc
       base = length s.stands.frame.lower
 
       cells_lie : slice_get s.stands.frame.cells c.far ≡ Some c.word
-      cells_lie = ap (λ (ws : List Word). slice_get ws c.far) s.stands.frame.framed.cells_is ∙ get-front s.stands.frame.framed.values _ c.far c.word c.lies
+      cells_lie = ap (λ (ws : List Word). slice_get ws c.far) own_frame.framed.cells_is ∙ get-front own_frame.framed.values _ c.far c.word c.lies
 
       below_lies : slice_get core.below (base + at.couple.index) ≡ Some c.word
       below_lies =
@@ -186,8 +196,8 @@ module _ (tree : PProgram) (code : Code) (texts : Texts) (nested : AreNested (sc
       -- it lies before the arrays
       cell_here : cell_in own.cells b.name ≡ cell_in first_cells b.name
       cell_here =
-          ap (λ (cells : List NamedCell). cell_in cells b.name) s.stands.frame.framed.has
-          ∙ cell_front (simple_cells sc b) first_cells s.stands.frame.framed.arrays s.stands.frame.framed.values 0 b.name found s.stands.frame.framed.simple_are (result_found sc b at.kind apart typed)
+          ap (λ (cells : List NamedCell). cell_in cells b.name) own_frame.framed.has
+          ∙ cell_front (simple_cells sc b) first_cells own_frame.framed.arrays own_frame.framed.values 0 b.name found own_frame.framed.simple_are (result_found sc b at.kind apart typed)
 
       cell_is : cell_at w (record { instance = part.instance; name = name }) ≡ simple held.value
       cell_is = ap (λ (x : Instance). cell_in x.cells name) own_is ∙ ap (cell_in own.cells) (sym named) ∙ cell_here ∙ held.is

@@ -1,6 +1,7 @@
--- A parameter by name is resolved that stands for a variable: the reference to the variable's cell comes in place of that to the parameter's.
-use Rattle.std.proofs.Common.{◌≡◌, inl, refl, sym, ap, ◌∙◌, subst, ℕ, ◌+◌, ◌≤◌, List, ◌∷◌, length, Option, Some, Ok, arith}
-use Rattle.std.specs.Prelude.{slice_get}
+-- A parameter by name is resolved. Of one that stands for a variable, the reference to the variable's cell comes in place of that to the parameter's.
+-- An actual that is not subscripted has no place: that is a fault.
+use Rattle.std.proofs.Common.{◌≡◌, inl, refl, sym, ap, ◌∙◌, subst, ℕ, ◌+◌, ◌≤◌, List, [], ◌∷◌, length, Option, Some, None, Bool, true, false, Ok, arith}
+use Rattle.std.specs.Prelude.{if◌then◌else◌}
 use Rattle.b67_list.specs.Numbered.{numbered}
 use Rattle.algol_tree.specs.declared.tree.Kind.{Kind}
 use Rattle.algol_tree.specs.declared.tree.Named.{Named}
@@ -9,16 +10,20 @@ use Rattle.algol_tree.specs.Scopes.{Scopes, scopes_of}
 use Rattle.algol_meaning.specs.Value.{Cell}
 use Rattle.algol_meaning.specs.Rest as rests
 use Rattle.algol_meaning.specs.Rest.{Answer, place as given_place}
-use Rattle.algol_meaning.specs.World.{Process, Part, able, World, instance_at}
-use Rattle.algol_meaning.specs.Actions.{Resolve}
-use Rattle.algol_meaning.specs.Asks.{Ask, resolves, ask, resume}
-use Rattle.algol_meaning.specs.Choice.{choice_of, resolved_of}
+use Rattle.algol_meaning.specs.World.{Process, Part, able, name_place, World, instance_at}
+use Rattle.algol_meaning.specs.Actions.{Resolve, Fault}
+use Rattle.algol_meaning.specs.Asks.{Ask, resolves, ask, resume, located_of}
+use Rattle.algol_meaning.specs.Settle.{settle_actual_place}
+use Rattle.algol_meaning.specs.Choice.{Choice, choice, choice_of, resolved_of, is_subscripted, opens, fails}
 use Rattle.algol_paths.specs.Blocks.{IsSeen, IsSeenAround, IsInner}
 use Rattle.algol_paths.specs.Laws.{RestsKeepToTheirText, AllIsMadeInOrder}
+use Rattle.b67_num.specs.declared.FaultKind.TheVariants.{NotAVariable}
 use Rattle.b67_word.specs.declared.Place.{Place}
 use Rattle.b67_word.specs.Word.{Word}
 use Rattle.b67_control.specs.declared.Irw.{Irw}
-use Rattle.b67_control.specs.Control.{as_irw, as_sirw}
+use Rattle.b67_control.specs.declared.Pcw.{Pcw}
+use Rattle.b67_control.specs.Control.{as_irw, as_sirw, pcw_word}
+use Rattle.b67_control.proofs.ControlLaws.{as_pcw-pcw_word}
 use Rattle.b67_ops.specs.declared.Couple.{Couple}
 use Rattle.b67_ops.specs.declared.Operator.TheVariants as ops
 use Rattle.b67_ops.specs.declared.PlainKind.TheVariants as kinds
@@ -31,9 +36,10 @@ use Rattle.b67_table.specs.declared.ProcessState.TheVariants.{Able}
 use Rattle.b67_table.specs.Effect as effects
 use Rattle.b67_table.specs.Image.{Image}
 use Rattle.b67_table.specs.Outcome as outcomes
-use Rattle.b67_table.specs.Private.{frame}
+use Rattle.b67_table.specs.Private.{frame, display_at}
 use Rattle.b67_table.specs.References.{cell_in, cell_word, irw_or_sirw, cell_of}
-use Rattle.b67_table.specs.Table.{operator_at}
+use Rattle.b67_table.specs.Ending.{failed}
+use Rattle.b67_table.specs.Table.{table, operator_at}
 use Rattle.b67_templates.specs.Programs.{Texts}
 use Rattle.b67_standing.specs.Stepping.{Slot, reference as reference_slot, descriptor, variable}
 use Rattle.b67_standing.specs.Standing.{ActionAt, Acted, ComesTo, ResolvesAt}
@@ -43,59 +49,63 @@ use Rattle.b67_cores.specs.Stretches.{CoreAt, FragmentsArePerformed}
 use Rattle.b67_faithful.specs.Correspondence.{as_action}
 use Rattle.b67_fitting.specs.Nested.{AreNested}
 use Rattle.b67_pictures.specs.Arrays.{Layout, LeadsToVariable, IsOwn}
-use Rattle.b67_pictures.specs.Acting.{Does}
+use Rattle.b67_pictures.specs.Acting.{Does, failed_by}
+use Rattle.b67_pictures.specs.Pictures.{Pictures}
 use Rattle.b67_pictures.proofs.AskedElements.{array_asked, array_seen}
 use Rattle.b67_pictures.proofs.Homes.{operator_there}
 use Rattle.b67_pictures.proofs.Indexing.{more_known}
 use Rattle.b67_pictures.proofs.InFrame.{does_in_frame}
-use Rattle.b67_pictures.proofs.NameHomes.{NameHome, name_home}
-use Rattle.b67_pictures.proofs.PlaceRow.{place_reached_class, place_left_raw, place_left_letter}
+use Rattle.b67_pictures.proofs.Linked.{begins_core}
+use Rattle.b67_pictures.proofs.NameHomes.{NameCellHome, NameHome, ActualNamed, NameStands, for_variable, for_actual, name_stands}
+use Rattle.b67_pictures.proofs.ActualHomes.{routine_of, same_place}
+use Rattle.b67_pictures.proofs.PlaceRow.{place_reached_class, place_left_raw, place_left_letter, no_place_raw}
 use Rattle.b67_pictures.proofs.Reaching.{Reaches, reached_through}
-use Rattle.b67_pictures.proofs.Rows.{action_not_plain, action_is, words_are}
+use Rattle.b67_pictures.proofs.Rows.{action_not_plain, fault_not_plain, action_is}
 use Rattle.b67_pictures.proofs.Scene.{Scene}
 use Rattle.b67_pictures.proofs.Slotted.{Top, top_slot}
-use Rattle.b67_pictures.proofs.StackWords.{get-front}
-use Rattle.b67_pictures.proofs.Stage.{choice_is}
+use Rattle.b67_pictures.proofs.Stage.{faults_so, choice_is, faulted}
 use Rattle.b67_pictures.proofs.Staying.{text_in, level_in, context_in, most_in}
 use Rattle.b67_pictures.proofs.TopRow.{with_other}
 use Rattle.b67_pictures.proofs.Unmade.{makes, unmade}
 use Rattle.b67_pictures.proofs.VariableHomes.{VariableHome}
-use Rattle.b67_pictures.proofs.Words.{value_tag, no_sirw, no_pcw, reference_read}
+use Rattle.b67_pictures.proofs.Words.{value_tag, no_sirw, no_pcw, pcw_refers_nothing, reference_read}
 
 -- ---- what a process finds that stands at EVAL
 
 module _ (tree : PProgram) (code : Code) (texts : Texts) (nested : AreNested (scopes_of tree)) (w : World) (lay : Layout) (img : Image)
     (p : ℕ) (q : Process) (part : Part) (outer : List Part) (bound : ℕ) (core : Core) (s : Scene tree code texts w lay img p q part outer bound core)
     (n : Named) (asks : ask part.rest ≡ resolves n) (kind : Kind) (next : ℕ) (below : List Slot)
-    (found : ResolvesAt (scopes_of tree) (context_in tree code texts w part) (text_in tree texts w part) (level_in tree w part) (most_in tree w part) n kind s.stands.pc next s.stands.slots below) where
+    (found : ResolvesAt (scopes_of tree) (context_in tree code texts w part s.stands.frame.gives) (text_in tree texts w part) (level_in tree w part) (most_in tree w part) n kind s.stands.pc next s.stands.slots below) where
   abbrev block : ℕ
   block = (instance_at w part.instance).block
 
-  -- on top the reference to the cell of the parameter
+  -- what the parameter stands for
+  pub resolved_name : NameStands tree code texts nested w lay img p q part outer bound core s n kind found.couple
+  resolved_name =
+      let sc : Scopes = scopes_of tree in
+      let seen : IsSeen sc block n = (array_seen (IsSeen sc block) n (IsInner sc block) (IsSeenAround sc block) (λ (around_it : IsSeenAround sc block n). around_it.0) part.rest (ap array_asked asks) s.stands.frame.text).seen in
+      name_stands tree code texts nested w lay img p q part outer bound core s n kind found.couple seen found.is_formal
+
+  -- on top the reference to its cell
   pub record FindsName : Type 0 where
-    pub home : NameHome tree code texts nested w lay img p q part outer bound core s n kind found.couple
     pub top : Top (scopes_of tree) s.stands.held (level_in tree w part) (frame core.registers) (length core.below) (reference_slot found.couple) below core.words
     pub names : as_irw top.word ≡ Some (record { level = found.couple.level; index = found.couple.index })
 
-  pub finds_name : FindsName
-  finds_name =
-      let sc : Scopes = scopes_of tree in
-      let seen : IsSeen sc block n = (array_seen (IsSeen sc block) n (IsInner sc block) (IsSeenAround sc block) (λ (around_it : IsSeenAround sc block n). around_it.0) part.rest (ap array_asked asks) s.stands.frame.text).seen in
-      let h : NameHome tree code texts nested w lay img p q part outer bound core s n kind found.couple =
-      name_home tree code texts nested w lay img p q part outer bound core s n kind found.couple seen found.is_formal in
-      let t : Top sc s.stands.held (level_in tree w part) (frame core.registers) (length core.below) (reference_slot found.couple) below core.words =
-      top_slot sc s.stands.held (level_in tree w part) (frame core.registers) (length core.below) s.stands.slots (reference_slot found.couple) below core.words s.stands.there.words_are found.lies in
-      record { home = h; top = t; names = ap as_irw t.slot_is ∙ reference_read found.couple h.home.fits.0 h.home.fits.1 }
+  pub finds_name : NameCellHome tree code texts nested w lay img p q part outer bound core s n kind found.couple → FindsName
+  finds_name home =
+      let t : Top (scopes_of tree) s.stands.held (level_in tree w part) (frame core.registers) (length core.below) (reference_slot found.couple) below core.words =
+      top_slot (scopes_of tree) s.stands.held (level_in tree w part) (frame core.registers) (length core.below) s.stands.slots (reference_slot found.couple) below core.words s.stands.there.words_are found.lies in
+      record { top = t; names = ap as_irw t.slot_is ∙ reference_read found.couple home.fits.0 home.fits.1 }
 
 -- ---- the action
 
 module _ (tree : PProgram) (code : Code) (texts : Texts) (nested : AreNested (scopes_of tree)) (fragments : FragmentsArePerformed) (keeps : RestsKeepToTheirText) (order : AllIsMadeInOrder)
     (w : World) (lay : Layout) (img : Image) (p : ℕ) (q : Process) (part : Part) (outer : List Part) (bound : ℕ) (core : Core) (s : Scene tree code texts w lay img p q part outer bound core)
     (able_is : q.state ≡ able) (able_p : numbered img.states p ≡ Some Able) (n : Named) (asks : ask part.rest ≡ resolves n)
-    (a : ActionAt (scopes_of tree) (context_in tree code texts w part) (text_in tree texts w part) (level_in tree w part) (most_in tree w part) (resolves n) s.stands.pc s.stands.slots)
+    (a : ActionAt (scopes_of tree) (context_in tree code texts w part s.stands.frame.gives) (text_in tree texts w part) (level_in tree w part) (most_in tree w part) (resolves n) s.stands.pc s.stands.slots)
     (answered : (r : Answer) (at : ℕ) (after : List Slot) →
-    Acted (scopes_of tree) (context_in tree code texts w part) (text_in tree texts w part) (level_in tree w part) (most_in tree w part) (resolves n) s.stands.pc s.stands.slots a r at after →
-    ComesTo (scopes_of tree) (context_in tree code texts w part) (text_in tree texts w part) (level_in tree w part) (most_in tree w part) (resume (scopes_of tree) part.rest r) at after) where
+    Acted (scopes_of tree) (context_in tree code texts w part s.stands.frame.gives) (text_in tree texts w part) (level_in tree w part) (most_in tree w part) (resolves n) s.stands.pc s.stands.slots a r at after →
+    ComesTo (scopes_of tree) (context_in tree code texts w part s.stands.frame.gives) (text_in tree texts w part) (level_in tree w part) (most_in tree w part) (resume (scopes_of tree) part.rest r) at after) where
   abbrev sc : Scopes
   sc = scopes_of tree
 
@@ -120,11 +130,19 @@ module _ (tree : PProgram) (code : Code) (texts : Texts) (nested : AreNested (sc
   there : operator_at code core.registers ≡ Ok (ops.Plain kinds.Eval, next)
   there = operator_there sc s.stands.held code text level s.stands.pc s.stands.slots core (ops.Plain kinds.Eval) next s.stands.there a.3.stands
 
-  module _ (f : FindsName tree code texts nested w lay img p q part outer bound core s n asks kind next below a.3) where
-    abbrev h : NameHome tree code texts nested w lay img p q part outer bound core s n kind couple
-    h = f.home
+  abbrev Finds : Type 0
+  Finds = FindsName tree code texts nested w lay img p q part outer bound core s n asks kind next below a.3
 
-    abbrev v : VariableHome tree code texts w lay img p q part outer bound core s h.home.r kind h.home.denotes.found
+  -- the cell that the reference on top names
+  named_on_top : (f : Finds) (at : ℕ) → display_at core.registers couple.level ≡ Some (place p at) → cell_of core.registers f.top.word ≡ Some (record { frame = place p at; index = couple.index })
+  named_on_top f at shown =
+      ap (λ (o : Option Irw). irw_or_sirw core.registers o (as_sirw f.top.word)) f.names
+      ∙ ap (λ (o : Option Place). cell_in o couple.index) shown
+
+  -- ---- of a variable
+
+  module _ (h : NameHome tree code texts nested w lay img p q part outer bound core s n kind couple) (f : Finds) where
+    abbrev v : VariableHome tree code texts w lay img p q part outer bound core s h.r kind h.denotes.found
     v = h.named.home
 
     abbrev at : ℕ
@@ -137,15 +155,10 @@ module _ (tree : PProgram) (code : Code) (texts : Texts) (nested : AreNested (sc
     to = record { frame = place p at; index = 2 + v.number }
 
     named : cell_of core.registers f.top.word ≡ Some from
-    named =
-        ap (λ (o : Option Irw). irw_or_sirw core.registers o (as_sirw f.top.word)) f.names
-        ∙ ap (λ (o : Option Place). cell_in o couple.index) h.home.shown
+    named = named_on_top f h.home.at h.home.shown
 
     lies : word_at img.stacks (place p (at + (2 + v.number))) ≡ Some v.word
-    lies =
-        ap (λ (k : ℕ). word_at img.stacks (place k (at + (2 + v.number)))) (sym s.has.own)
-        ∙ ap (λ (ws : List Word). slice_get ws (at + (2 + v.number))) (words_are img p core s.has)
-        ∙ get-front core.below _ (at + (2 + v.number)) v.word v.below_lies
+    lies = begins_core img p core s.has (at + (2 + v.number)) v.word v.below_lies
 
     tag : v.word.tag ≡ 0
     tag = value_tag v.value v.word v.word_is
@@ -154,16 +167,16 @@ module _ (tree : PProgram) (code : Code) (texts : Texts) (nested : AreNested (sc
     reaches =
         reached_through img.stacks from h.home.word (record { stack = p; displacement = at; index = 2 + v.number }) v.word h.home.lies h.named.reads lies (no_sirw v.word tag)
 
-    leads : LeadsToVariable sc w lay (IsOwn (part ∷ outer)) kind h.home.r (cell_word to)
-    leads = subst (λ (x : Word). LeadsToVariable sc w lay (IsOwn (part ∷ outer)) kind h.home.r x) h.named.word_is h.home.denotes
+    leads : LeadsToVariable sc w lay (IsOwn (part ∷ outer)) kind h.r (cell_word to)
+    leads = subst (λ (x : Word). LeadsToVariable sc w lay (IsOwn (part ∷ outer)) kind h.r x) h.named.word_is h.denotes
 
     abbrev one : Known
-    one = record { held = variable h.home.r kind; word = cell_word to }
+    one = record { held = variable h.r kind; word = cell_word to }
 
     abbrev new : Core
     new = with_other core (cell_word to) f.top.words_below next
 
-    core_at : CoreAt sc (one ∷ s.stands.held) code text level next (descriptor (variable h.home.r kind) ∷ below) new
+    core_at : CoreAt sc (one ∷ s.stands.held) code text level next (descriptor (variable h.r kind) ∷ below) new
     core_at =
         record {
           segment = s.stands.there.segment;
@@ -176,23 +189,82 @@ module _ (tree : PProgram) (code : Code) (texts : Texts) (nested : AreNested (sc
           words_are = (inl (refl, refl), more_known s.stands.held one sc level (frame core.registers) (length core.below) below f.top.words_below f.top.are);
         }
 
-    few : length (descriptor (variable h.home.r kind) ∷ below) ≤ most_in tree w part
+    few : length (descriptor (variable h.r kind) ∷ below) ≤ most_in tree w part
     few = omega (arith, ap length a.3.lies, s.stands.few)
 
     resolving_does : Does tree code texts w img p
     resolving_does =
-        does_in_frame tree code texts fragments keeps order w lay img p q part outer bound core s able_is able_p (unmade part.rest (ap makes asks)) (given_place (rests.there h.home.r)) tt w.output new refl (record { is = refl })
-        (one ∷ s.stands.held) (leads, s.stands.held_are) next (descriptor (variable h.home.r kind) ∷ below) core_at few
-        (answered (given_place (rests.there h.home.r)) next (descriptor (variable h.home.r kind) ∷ below) (refl, refl)) Resolve
+        does_in_frame tree code texts fragments keeps order w lay img p q part outer bound core s able_is able_p (unmade part.rest (ap makes asks)) (given_place (rests.there h.r)) tt w.output new refl (record { is = refl })
+        (one ∷ s.stands.held) (leads, s.stands.held_are) next (descriptor (variable h.r kind) ∷ below) core_at few
+        (answered (given_place (rests.there h.r)) next (descriptor (variable h.r kind) ∷ below) (refl, refl)) Resolve
         (action_not_plain code img p core s.has (ops.Plain kinds.Eval) next there
         (place_reached_class code img p core s.has next there f.top.word f.top.words_below f.top.is from to named v.word reaches))
         (place_left_raw code img p core s.has next there f.top.word f.top.words_below f.top.is from to named v.word reaches tag (no_pcw v.word tag)
         ∙ ap (λ (o : List (List ℕ)). effects.gives (record (with_core img p new) { output = o })) s.by.output)
         (choice_is sc w p q part outer s.at s.todo
         ∙ ap (λ (k : Ask). choice_of sc w p q part outer k) asks
-        ∙ ap (λ (c : Cell). resolved_of sc w p q part outer n c) h.home.cell_is)
+        ∙ ap (λ (c : Cell). resolved_of sc w p q part outer n c) h.cell_is)
         (λ t. action_is code img p core s.has (ops.Plain kinds.Eval) next there (outcomes.gives (record (with_core img p new) { output = w.output })) t
         ∙ ap as_action (place_left_letter code img p core s.has next there f.top.word f.top.words_below f.top.is from to named v.word reaches (no_pcw v.word tag)))
 
-  pub resolving : Does tree code texts w img p
-  resolving = resolving_does (finds_name tree code texts nested w lay img p q part outer bound core s n asks kind next below a.3)
+  -- ---- of an actual
+
+  abbrev IsActualNamed : Type 0
+  IsActualNamed = ActualNamed tree code texts nested w lay img p q part outer bound core s n kind couple
+
+  module _ (h : IsActualNamed) (f : Finds) (no_place : is_subscripted h.a.actual ≡ false) where
+    abbrev high : ℕ
+    high = length h.actual.lies.frame.lower
+
+    abbrev control : Pcw
+    control = routine_of sc ((instance_at w h.a.instance).block) h.a.actual h.actual.at
+
+    abbrev first : cells.Cell
+    first = record { frame = place p h.home.at; index = couple.index }
+
+    abbrev second : cells.Cell
+    second = record { frame = place p high; index = h.denotes.couple.index }
+
+    control_lies : word_at img.stacks (place p (high + h.denotes.couple.index)) ≡ Some (pcw_word control)
+    control_lies = begins_core img p core s.has (high + h.denotes.couple.index) (pcw_word control) h.actual.control_lies
+
+    control_reached : Reaches img.stacks first (pcw_word control) second
+    control_reached =
+        reached_through img.stacks first h.home.word (record { stack = p; displacement = high; index = h.denotes.couple.index }) (pcw_word control) h.home.lies h.actual.reads control_lies
+        (pcw_refers_nothing control)
+
+    table_is : table code img p ≡ outcomes.faults NotAVariable
+    table_is =
+        faults_so code img p NotAVariable
+        (no_place_raw code img p core s.has next there f.top.word f.top.words_below f.top.is first second (named_on_top f h.home.at h.home.shown) (pcw_word control) control_reached control
+        (as_pcw-pcw_word control h.actual.fits) (sym (same_place h.a.actual) ∙ no_place))
+
+    abbrev failed_world : World
+    failed_world = record w { fault = Some (record { kind = NotAVariable; process = p }) }
+
+    chosen : choice sc w p ≡ record { action = Fault; world = failed_world; released = []; started = None }
+    chosen =
+        choice_is sc w p q part outer s.at s.todo
+        ∙ ap (λ (k : Ask). choice_of sc w p q part outer k) asks
+        ∙ ap (λ (c : Cell). resolved_of sc w p q part outer n c) h.cell_is
+        ∙ ap
+        (λ (t : Bool). if t then opens sc w p q part outer w (record { instance = h.a.instance; purpose = name_place; rest = located_of (settle_actual_place sc h.a.actual) })
+        else fails sc w p q part outer NotAVariable) no_place
+
+    no_variable : Does tree code texts w img p
+    no_variable =
+        failed_by NotAVariable (fault_not_plain code img p core s.has (ops.Plain kinds.Eval) next there NotAVariable table_is) table_is
+        (action_is code img p core s.has (ops.Plain kinds.Eval) next there (outcomes.faults NotAVariable) table_is ∙ ap (λ (c : Choice). Some c.action) (sym chosen))
+        (subst (λ (c : Choice). Pictures tree code texts c.world (failed img p NotAVariable)) (sym chosen) (lay, faulted tree code texts w lay img s.by p q s.at NotAVariable))
+
+  -- a variable's cell is found, or an element's by the code of the actual, where that is subscripted
+  pub resolving : ((h : IsActualNamed) → is_subscripted h.a.actual ≡ true → Does tree code texts w img p) → Does tree code texts w img p
+  resolving evaluated = by_name (resolved_name tree code texts nested w lay img p q part outer bound core s n asks kind next below a.3)
+    where
+      by_place : (h : IsActualNamed) (t : Bool) → is_subscripted h.a.actual ≡ t → Does tree code texts w img p
+      by_place h true e = evaluated h e
+      by_place h false e = no_variable h (finds_name tree code texts nested w lay img p q part outer bound core s n asks kind next below a.3 h.home) e
+
+      by_name : NameStands tree code texts nested w lay img p q part outer bound core s n kind couple → Does tree code texts w img p
+      by_name (for_variable h) = resolving_does h (finds_name tree code texts nested w lay img p q part outer bound core s n asks kind next below a.3 h.home)
+      by_name (for_actual h) = by_place h (is_subscripted h.a.actual) refl

@@ -1,5 +1,5 @@
 -- The arrays and the statements of the program's outer block, and those of each procedure, need no more words than four for each token of
--- their segment.
+-- their segment. So the code of each actual has room, also where it stands in an inner block.
 use Rattle.std.proofs.Common.{◌≡◌, ◌⊎◌, inl, inr, refl, sym, ap, ◌∙◌, subst, ℕ, zero, suc, ◌+◌, ◌*◌, ◌<◌, ◌≤◌, Bool, true, false, List, [], ◌∷◌, ◌++◌, length, take, filter, Option, Some, arith, add-one, append-nil}
 use Rattle.std.specs.Prelude.{if◌then◌else◌, not, slice_get}
 use Rattle.std.specs.List.{flat_map}
@@ -21,10 +21,15 @@ use Rattle.algol_tree.specs.Sorts.{Declared}
 use Rattle.algol_tree.specs.Surroundings.{Surroundings, outermost, formals_at, knowing, knowing_all, inside, inside_procedure}
 use Rattle.algol_paths.specs.Segments.{is_procedure, procedures_before, segment_among, tokens_or_none, segment_tokens}
 use Rattle.b67_templates.specs.Arguments.{arguments_in_decls, arguments_in_stmts}
-use Rattle.b67_templates.specs.Cells.{procedures}
-use Rattle.b67_templates.specs.Depths.{decls_depth, stmts_depth}
+use Rattle.b67_templates.specs.Cells.{procedures, Actual, actuals_of}
+use Rattle.b67_templates.specs.Depths.{decls_depth, stmts_depth, depth}
 use Rattle.b67_faithful.specs.Weight.{tokens_around}
 use Rattle.b67_fitting.specs.Names.{DeclsNamed, StmtNamed, StmtsNamed, HasNames}
+use Rattle.b67_fitting.specs.Nested.{AreNested}
+use Rattle.b67_templates.proofs.Few.{actuals_are_few}
+use Rattle.b67_pictures.specs.Frames.{most_around}
+use Rattle.b67_pictures.proofs.ActualsWeighing.{actual_small}
+use Rattle.b67_pictures.proofs.InnerBlocks.{own_tokens, block_there, Inside, blocks_inside}
 use Rattle.b67_pictures.proofs.Weighing.{decls_small, stmt_small, stmts_small}
 
 -- the segments that begin at these places of the text
@@ -35,10 +40,10 @@ segs xs = flat_map (λ (x : Site). segments_of_part x.part) xs
 abbrev pub needs : Block → ℕ
 needs b = decls_depth b.decls + stmts_depth b.stmts + length (procedures b.decls) + (arguments_in_decls b.decls + arguments_in_stmts b.stmts) + 1
 
--- each block has room in its segment
+-- each block has room in its segment, and its tokens are among those of the segment
 abbrev Pairs : List Block → List Segment → Type 0
 Pairs [] [] = Unit {0}
-Pairs (b ∷ bs) (s ∷ ss) = (needs b ≤ 4 * s.tokens) × Pairs bs ss
+Pairs (b ∷ bs) (s ∷ ss) = ((needs b ≤ 4 * s.tokens) × (own_tokens b ≤ s.tokens)) × Pairs bs ss
 Pairs _ _ = ⊥
 
 -- so has each procedure's among these, where the segments begin at these places
@@ -143,6 +148,24 @@ head_small h (tree.process c task) outer = omega (arith, stmt_small (tree.proces
 head_small h (tree.event act e) outer = omega (arith, stmt_small (tree.event act e))
 head_small h (tree.write n spot phrases es) outer = omega (arith, stmt_small (tree.write n spot phrases es))
 
+head_tokens : (h : Heading) (s : PStmt) (outer : List Spot) → own_tokens (procedure_block h s outer) ≤ heading_tokens h + stmt_tokens s
+head_tokens h tree.empty outer = omega arith
+head_tokens h (tree.label n s) outer = omega arith
+head_tokens h (tree.assign v e) outer = omega arith
+head_tokens h (tree.call_of c) outer = omega arith
+head_tokens h (tree.go_to n) outer = omega arith
+head_tokens h (tree.block (tree.body spot ds ss)) outer = omega arith
+head_tokens h (tree.if_then c x) outer = omega arith
+head_tokens h (tree.if_else c x y) outer = omega arith
+head_tokens h (tree.while c b) outer = omega arith
+head_tokens h (tree.until b c) outer = omega arith
+head_tokens h (tree.for v a s l b) outer = omega arith
+head_tokens h (tree.thru e b) outer = omega arith
+head_tokens h (tree.case e ss) outer = omega arith
+head_tokens h (tree.process c task) outer = omega arith
+head_tokens h (tree.event act e) outer = omega arith
+head_tokens h (tree.write n spot phrases es) outer = omega arith
+
 module _ (blocks : List Block) where
   -- a statement, and what stands in it
   abbrev under : PStmt → Surroundings → List Site
@@ -218,14 +241,20 @@ module _ (blocks : List Block) where
         (stmt_match s of_procedure false (inside_procedure blocks h k) (h.name.spot ∷ outer) named.0.1) (decls_match ds k first outer named.1) in
         subst (λ (b : Bool). Pairs (if b then procedure_block h s outer ∷ filter is_procedure later else filter is_procedure later)
         (record { spot = h.name.spot; tokens = heading_tokens h + stmt_tokens s } ∷ segs (inner ++ sites_in_decls blocks ds k first))) (sym own)
-        (head_small h s outer, rest)
+        ((head_small h s outer, head_tokens h s outer), rest)
+
+-- the code of each actual has room above the cells of its block
+abbrev pub ActualsHaveRoom : PProgram → Type 0
+ActualsHaveRoom p =
+    (j : ℕ) → j < length (scopes_of p).blocks → (n : ℕ) (a : Actual) → slice_get (actuals_of (scopes_of p) (block_numbered (scopes_of p).blocks j)) n ≡ Some a → depth a.expr ≤ most_around p j
 
 -- ---- by their numbers
 
-picked : (bs : List Block) (ss : List Segment) (k : ℕ) (b : Block) → Pairs bs ss → slice_get bs k ≡ Some b → needs b ≤ 4 * tokens_or_none (slice_get ss k)
+picked : (bs : List Block) (ss : List Segment) (k : ℕ) (b : Block) → Pairs bs ss → slice_get bs k ≡ Some b →
+    (needs b ≤ 4 * tokens_or_none (slice_get ss k)) × (own_tokens b ≤ tokens_or_none (slice_get ss k))
 picked [] ss k b h e = cc
 picked (c ∷ bs) [] k b h e = absurd h
-picked (c ∷ bs) (s ∷ ss) zero b h e = let same : c ≡ b = cc in subst (λ (x : Block). needs x ≤ 4 * s.tokens) same h.0
+picked (c ∷ bs) (s ∷ ss) zero b h e = let same : c ≡ b = cc in subst (λ (x : Block). (needs x ≤ 4 * s.tokens) × (own_tokens x ≤ s.tokens)) same h.0
 picked (c ∷ bs) (s ∷ ss) (suc k) b h e = picked bs ss k b h.1 e
 
 -- a procedure's block is the one after as many as stand before it
@@ -242,13 +271,15 @@ numbered_procedure (c ∷ bs) (suc j) b e own = by (is_procedure c) (numbered_pr
     by false h = h
 
 -- of the outer block, and of those of procedures
-pub block_small : (p : PProgram) → HasNames p → (j : ℕ) → j < length (scopes_of p).blocks → (j ≡ 0) ⊎ (is_procedure (block_numbered (scopes_of p).blocks j) ≡ true) →
-    needs (block_numbered (scopes_of p).blocks j) ≤ 4 * tokens_around p j
+block_fits : (p : PProgram) → HasNames p → (j : ℕ) → j < length (scopes_of p).blocks → (j ≡ 0) ⊎ (is_procedure (block_numbered (scopes_of p).blocks j) ≡ true) →
+    (needs (block_numbered (scopes_of p).blocks j) ≤ 4 * tokens_around p j) × (own_tokens (block_numbered (scopes_of p).blocks j) ≤ tokens_around p j)
 unfolding scopes_of blocks_of_program
-block_small (tree.program (tree.body spot ds ss)) named j known (inl first) =
-    subst (λ (k : ℕ). needs (block_numbered (scopes_of (tree.program (tree.body spot ds ss))).blocks k) ≤ 4 * tokens_around (tree.program (tree.body spot ds ss)) k) (sym first)
-    (omega (arith, decls_small ds, stmts_small ss))
-block_small (tree.program (tree.body spot ds ss)) named j known (inr own) =
+block_fits (tree.program (tree.body spot ds ss)) named j known (inl first) =
+    subst
+    (λ (k : ℕ). (needs (block_numbered (scopes_of (tree.program (tree.body spot ds ss))).blocks k) ≤ 4 * tokens_around (tree.program (tree.body spot ds ss)) k)
+    × (own_tokens (block_numbered (scopes_of (tree.program (tree.body spot ds ss))).blocks k) ≤ tokens_around (tree.program (tree.body spot ds ss)) k)) (sym first)
+    (omega (arith, decls_small ds, stmts_small ss), omega arith)
+block_fits (tree.program (tree.body spot ds ss)) named j known (inr own) =
     let p : PProgram = tree.program (tree.body spot ds ss) in
     let bs : List Block = blocks_of_program p in
     let all : Match bs (sites_of p) =
@@ -259,9 +290,48 @@ block_small (tree.program (tree.body spot ds ss)) named j known (inr own) =
     let segment : segment_tokens p (if is_procedure (block_numbered bs j) then procedures_before bs j + 1 else segment_among bs (around bs j)) ≡ tokens_or_none (slice_get (segs (sites_of p)) (procedures_before bs j)) =
     ap (λ (t : Bool). segment_tokens p (if t then procedures_before bs j + 1 else segment_among bs (around bs j))) own
     ∙ ap (λ (k : ℕ). segment_tokens p k) (add-one (procedures_before bs j)) in
-    subst (λ (n : ℕ). needs (block_numbered bs j) ≤ 4 * n) (sym segment) (picked (filter is_procedure bs) (segs (sites_of p)) (procedures_before bs j) (block_numbered bs j) all number)
-  where
-    block_there : (cs : List Block) (k : ℕ) → k < length cs → slice_get cs k ≡ Some (block_numbered cs k)
-    block_there [] k h = absurd (omega (arith, h))
-    block_there (c ∷ cs) zero h = refl
-    block_there (c ∷ cs) (suc k) h = block_there cs k (omega (arith, h))
+    subst (λ (n : ℕ). (needs (block_numbered bs j) ≤ 4 * n) × (own_tokens (block_numbered bs j) ≤ n)) (sym segment) (picked (filter is_procedure bs) (segs (sites_of p)) (procedures_before bs j) (block_numbered bs j) all number)
+
+pub block_small : (p : PProgram) → HasNames p → (j : ℕ) → j < length (scopes_of p).blocks → (j ≡ 0) ⊎ (is_procedure (block_numbered (scopes_of p).blocks j) ≡ true) →
+    needs (block_numbered (scopes_of p).blocks j) ≤ 4 * tokens_around p j
+block_small p named j known own = (block_fits p named j known own).0
+
+-- ---- of each block
+
+-- a block that is no procedure's lies in the segment of the one around it
+same_tokens : (p : PProgram) (j k : ℕ) → is_procedure (block_numbered (scopes_of p).blocks j) ≡ false → around (scopes_of p).blocks j ≡ k ∷ around (scopes_of p).blocks k → tokens_around p j ≡ tokens_around p k
+same_tokens p j k none around_is =
+    let bs : List Block = (scopes_of p).blocks in
+    ap (λ (t : Bool). segment_tokens p (if t then procedures_before bs j + 1 else segment_among bs (around bs j))) none ∙ ap (λ (js : List ℕ). segment_tokens p (segment_among bs js)) around_is
+
+program_inside : (p : PProgram) → HasNames p → AreNested (scopes_of p) → (k : ℕ) → suc k < length (scopes_of p).blocks → is_procedure (block_numbered (scopes_of p).blocks (suc k)) ≡ false →
+    Inside (scopes_of p).blocks (suc k)
+unfolding scopes_of blocks_of_program
+program_inside (tree.program b) named nested k known none = blocks_inside (scopes_of (tree.program b)) nested b refl named k known none
+
+module _ (p : PProgram) (named : HasNames p) (nested : AreNested (scopes_of p)) where
+  abbrev bs : List Block
+  bs = (scopes_of p).blocks
+
+  -- so its tokens are among those of its segment
+  fits_below : (m j : ℕ) → j < m → j < length bs → own_tokens (block_numbered bs j) ≤ tokens_around p j
+  fits_below zero j low known = absurd (omega (arith, low))
+  fits_below (suc m) zero low known = (block_fits p named zero known (inl refl)).1
+  fits_below (suc m) (suc k) low known = by (fits_below m) (is_procedure (block_numbered bs (suc k))) refl
+    where
+      by : ((j : ℕ) → j < m → j < length bs → own_tokens (block_numbered bs j) ≤ tokens_around p j) → (t : Bool) → is_procedure (block_numbered bs (suc k)) ≡ t →
+          own_tokens (block_numbered bs (suc k)) ≤ tokens_around p (suc k)
+      by before true own = (block_fits p named (suc k) known (inr own)).1
+      by before false none =
+          let i : Inside bs (suc k) = program_inside p named nested k known none in
+          omega (arith, i.fewer, before i.outer (omega (arith, low, i.before)) (omega (arith, known, i.before)), same_tokens p (suc k) i.outer none i.around_is)
+
+  -- the code of each of its actuals has room above its cells
+  pub actuals_fit : ActualsHaveRoom p
+  actuals_fit j known n a there =
+      omega (
+        arith,
+        actual_small (scopes_of p) (block_numbered bs j) n a there,
+        actuals_are_few (scopes_of p) (block_numbered bs j),
+        fits_below (suc j) j (omega arith) known,
+      )

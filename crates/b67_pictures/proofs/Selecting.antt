@@ -138,9 +138,9 @@ number_is (truth b) z fits e = absurd fits
 module _ (tree : PProgram) (code : Code) (texts : Texts) (fragments : FragmentsArePerformed) (keeps : RestsKeepToTheirText) (order : AllIsMadeInOrder)
     (short : All (λ (o : Segment). length o.words ≤ segment_limit) code.segments) (w : World) (lay : Layout) (img : Image)
     (p : ℕ) (q : Process) (part : Part) (outer : List Part) (bound : ℕ) (core : Core) (s : Scene tree code texts w lay img p q part outer bound core) (able_is : q.state ≡ able) (able_p : numbered img.states p ≡ Some Able)
-    (v : Value) (ss : PStmts) (asks : ask part.rest ≡ selects v ss) (a : ActionAt (scopes_of tree) (context_in tree code texts w part) (text_in tree texts w part) (level_in tree w part) (most_in tree w part) (selects v ss) s.stands.pc s.stands.slots)
-    (answered : (r : Answer) (at : ℕ) (left : List Slot) → Acted (scopes_of tree) (context_in tree code texts w part) (text_in tree texts w part) (level_in tree w part) (most_in tree w part) (selects v ss) s.stands.pc s.stands.slots a r at left →
-    ComesTo (scopes_of tree) (context_in tree code texts w part) (text_in tree texts w part) (level_in tree w part) (most_in tree w part) (resume (scopes_of tree) part.rest r) at left) where
+    (v : Value) (ss : PStmts) (asks : ask part.rest ≡ selects v ss) (a : ActionAt (scopes_of tree) (context_in tree code texts w part s.stands.frame.gives) (text_in tree texts w part) (level_in tree w part) (most_in tree w part) (selects v ss) s.stands.pc s.stands.slots)
+    (answered : (r : Answer) (at : ℕ) (left : List Slot) → Acted (scopes_of tree) (context_in tree code texts w part s.stands.frame.gives) (text_in tree texts w part) (level_in tree w part) (most_in tree w part) (selects v ss) s.stands.pc s.stands.slots a r at left →
+    ComesTo (scopes_of tree) (context_in tree code texts w part s.stands.frame.gives) (text_in tree texts w part) (level_in tree w part) (most_in tree w part) (resume (scopes_of tree) part.rest r) at left) where
   abbrev sc : Scopes
   sc = scopes_of tree
 

@@ -1,5 +1,5 @@
 -- Images that picture worlds go with the source through every operator.
-use Rattle.std.proofs.Common.{◌≡◌, ◌⊎◌, inl, inr, refl, sym, ap, ◌∙◌, subst, ℕ, ◌<◌, ◌≤◌, [], length, Option, Some, None, false, arith}
+use Rattle.std.proofs.Common.{◌≡◌, ◌⊎◌, inl, inr, refl, sym, ap, ◌∙◌, subst, ℕ, ◌<◌, ◌≤◌, [], length, Option, Some, None, false, arith, true}
 use Rattle.b67_list.specs.Numbered.{numbered}
 use Rattle.b67_num.specs.declared.FaultKind.{FaultKind}
 use Rattle.algol_tree.specs.Plain.{PProgram}
@@ -8,6 +8,10 @@ use Rattle.algol_meaning.specs.World.{Process, World}
 use Rattle.algol_meaning.specs.Actions.{Action}
 use Rattle.algol_meaning.specs.Choice.{choice}
 use Rattle.algol_meaning.specs.Run.{start}
+use Rattle.algol_texts.specs.Texts.{AreTexts, HasOuterBlock}
+use Rattle.algol_standing.specs.Worlds.{IsWhole}
+use Rattle.algol_standing.specs.Fitting.{IsOk}
+use Rattle.algol_standing.proofs.Worlds.{first_world_stands, choices_keep_worlds}
 use Rattle.b67_word.specs.declared.Place.{Place}
 use Rattle.b67_control.specs.declared.Registers.{Registers}
 use Rattle.b67_segment.specs.declared.code.Code.{Code}
@@ -18,7 +22,7 @@ use Rattle.b67_table.specs.Image.{Image, is_live}
 use Rattle.b67_store.specs.Store.{stack_limit}
 use Rattle.b67_table.specs.Table.{table}
 use Rattle.b67_table.specs.Beginning.{first_image}
-use Rattle.b67_table.specs.Ending.{failed}
+use Rattle.b67_table.specs.Ending.{failed, may_act}
 use Rattle.b67_table.specs.Runs.{Plains, Acts}
 use Rattle.b67_table.specs.Runs as runs
 use Rattle.b67_table.specs.Touches.{IsPrivate}
@@ -33,11 +37,13 @@ use Rattle.b67_letters.specs.Laws.{may_release}
 use Rattle.b67_letters.proofs.Mute.{few_operators_release}
 use Rattle.b67_faithful.specs.Correspondence.{action_of, as_action, operator_action}
 use Rattle.b67_faithful.proofs.Choices.{is_releasing, ReleasesNone}
+use Rattle.b67_faithful.specs.Agreement.{Shows}
 use Rattle.b67_faithful.specs.Faithful.{HasFormats, HasSegments, IsShort, Faithful}
 use Rattle.b67_faithful.specs.Weight.{weight}
 use Rattle.b67_faithful.specs.Simulation.{AreFew, Acted, Comes, acts, stops, Simulates}
 use Rattle.b67_faithful.proofs.Contradictions.{true_false, some_same, gives_same, faults_same, gives_faults}
 use Rattle.b67_faithful.proofs.Counting.{simulations_are_faithful}
+use Rattle.b67_faithful.proofs.Ways.{may_lead}
 use Rattle.b67_pictures.specs.Arrays.{Layout}
 use Rattle.b67_pictures.specs.Acting.{Does, gave, failed_by, stopped}
 use Rattle.b67_pictures.specs.Pictures.{Living, Pictured, living, dead, PicturesBy, Pictures}
@@ -63,14 +69,14 @@ limit_interrupts x y = cc
 pub faults_limit : {A B : Type 0} {j : FaultKind} {e : Outcome A} → e ≡ faults j → e ≡ limit → B
 faults_limit x y = cc
 
--- an image pictures a world in which there is a process 1
+-- an image pictures a world in which there is a process 1, and which is as worlds are
 abbrev pub PicturesSome : PProgram → Code → Texts → World → Image → Type 0
-PicturesSome tree code texts w img = Pictures tree code texts w img × (1 ≤ length w.processes)
+PicturesSome tree code texts w img = Pictures tree code texts w img × (1 ≤ length w.processes) × IsOk (scopes_of tree) IsWhole w
 
 -- what no operator of a pictured image touches: a word in another process's private part
 abbrev pub StandApart : PProgram → Code → Texts → Type 0
 StandApart tree code texts =
-    (w : World) (lay : Layout) (a : Image) → PicturesBy tree code texts w lay a → (p q : ℕ) (x : Place) (r : Registers) → OperatorTouches code a p x → Lives a q r → IsPrivate r x → p ≡ q
+    (w : World) (lay : Layout) (a : Image) → PicturesBy tree code texts w lay a → IsOk (scopes_of tree) IsWhole w → (p q : ℕ) (x : Place) (r : Registers) → OperatorTouches code a p x → Lives a q r → IsPrivate r x → p ≡ q
 
 -- the plain operators of a process of a pictured image are few
 abbrev pub OperatorsAreFew : PProgram → Code → Texts → Type 0
@@ -127,42 +133,44 @@ released_none code img p r has idle x is calm = by_letter (letter code img p) re
 fault_releases : (code : Code) (img : Image) (p : ℕ) (kind : FaultKind) → table code img p ≡ faults kind → releases code img p ≡ []
 fault_releases code img p kind t = ap (λ (o : Outcome Image). released_by o (registers_releases code img p (numbered img.regs p))) t
 
-module _ (tree : PProgram) (code : Code) (texts : Texts) (performed : StepsArePerformed) (limits : StepsComeToLimit) (settled_does : SettledAct tree code texts) (alone : ActsAlone tree code texts) where
+module _ (tree : PProgram) (code : Code) (texts : Texts) (performed : StepsArePerformed) (limits : StepsComeToLimit) (alone : ActsAlone tree code texts)
+    (fit : AreTexts (scopes_of tree)) (settled_does : (w : World) → IsOk (scopes_of tree) IsWhole w → SettledAct tree code texts w) where
   abbrev Pic : World → Image → Type 0
   Pic w img = PicturesSome tree code texts w img
 
   abbrev Operator : World → Layout → Image → ℕ → Type 0
-  Operator w lay img p = Operates tree code texts performed limits settled_does w lay img p
+  Operator w lay img p = Operates tree code texts w lay img p
 
   -- ---- an able process
 
-  module _ (w : World) (lay : Layout) (a : Image) (by : PicturesBy tree code texts w lay a) (p : ℕ) where
+  module _ (w : World) (ok : IsOk (scopes_of tree) IsWhole w) (lay : Layout) (a : Image) (by : PicturesBy tree code texts w lay a) (p : ℕ) where
     operator_of : IsAble tree code texts w lay a by p → Operator w lay a p
-    operator_of one = operates tree code texts performed limits settled_does w lay p one.process one.at one.able_is a by one.able_p one.lives_so
+    operator_of one = operates tree code texts performed limits w (settled_does w ok) lay p one.process one.at one.able_is a by one.able_p one.lives_so
 
     -- the processes of a world are some
     some_after : 1 ≤ length w.processes → IsAlone w (choice (scopes_of tree) w p) → 1 ≤ length (choice (scopes_of tree) w p).world.processes
     some_after some one = omega (arith, some, one.starts.same)
 
-    acted : {b : Image} → 1 ≤ length (choice (scopes_of tree) w p).world.processes → (one : IsAble tree code texts w lay a by p) → ReleasesNone (choice (scopes_of tree) w p) → Acts code p a b → Operator w lay a p →
+    -- and the world is as worlds are
+    acted : {b : Image} → 1 ≤ length (choice (scopes_of tree) w p).world.processes → IsOk (scopes_of tree) IsWhole ((choice (scopes_of tree) w p).world) → (one : IsAble tree code texts w lay a by p) → ReleasesNone (choice (scopes_of tree) w p) → Acts code p a b → Operator w lay a p →
         Acted tree code Pic w p a b
-    acted some one none (runs.acts np t) (plainly after e t') = true_false e np
-    acted {b} some one none (runs.acts np t) (acting (gave after np' t' action by')) =
+    acted some ok_after one none (runs.acts np t) (plainly after e t') = true_false e np
+    acted {b} some ok_after one none (runs.acts np t) (acting (gave after np' t' action by')) =
         record {
           action = action;
           released = released_none code a p one.lives_so.core.registers one.lives_so.has.registers one.lives_so.idle ((choice (scopes_of tree) w p).action) action none.calm ∙ sym none.none;
-          pictures = (subst (λ (i : Image). Pictures tree code texts ((choice (scopes_of tree) w p).world) i) (gives_same t' t) by', some);
+          pictures = (subst (λ (i : Image). Pictures tree code texts ((choice (scopes_of tree) w p).world) i) (gives_same t' t) by', some, ok_after);
         }
-    acted some one none (runs.acts np t) (acting (failed_by kind np' t' action by')) = gives_faults t t'
-    acted some one none (runs.acts np t) (acting (stopped np' t' heavy)) = gives_limit t t'
-    acted some one none (runs.fails kind t) (plainly after e t') = gives_faults t' t
-    acted some one none (runs.fails kind t) (acting (stopped np' t' heavy)) = faults_limit t t'
-    acted some one none (runs.fails kind t) (acting (gave after np' t' action by')) = gives_faults t' t
-    acted some one none (runs.fails kind t) (acting (failed_by kind' np' t' action by')) =
+    acted some ok_after one none (runs.acts np t) (acting (failed_by kind np' t' action by')) = gives_faults t t'
+    acted some ok_after one none (runs.acts np t) (acting (stopped np' t' heavy)) = gives_limit t t'
+    acted some ok_after one none (runs.fails kind t) (plainly after e t') = gives_faults t' t
+    acted some ok_after one none (runs.fails kind t) (acting (stopped np' t' heavy)) = faults_limit t t'
+    acted some ok_after one none (runs.fails kind t) (acting (gave after np' t' action by')) = gives_faults t' t
+    acted some ok_after one none (runs.fails kind t) (acting (failed_by kind' np' t' action by')) =
         record {
           action = action;
           released = fault_releases code a p kind t ∙ sym none.none;
-          pictures = (subst (λ (k : FaultKind). Pictures tree code texts ((choice (scopes_of tree) w p).world) (failed a p k)) (faults_same t' t) by', some);
+          pictures = (subst (λ (k : FaultKind). Pictures tree code texts ((choice (scopes_of tree) w p).world) (failed a p k)) (faults_same t' t) by', some, ok_after);
         }
 
     not_tagged : (kind : InterruptKind) → Operator w lay a p → table code a p ≡ interrupts kind → ⊥
@@ -183,7 +191,7 @@ module _ (tree : PProgram) (code : Code) (texts : Texts) (performed : StepsArePe
     limit_is_heavy t = found (numbered w.processes p) refl
       where
         by_picture : (q : Process) → numbered w.processes p ≡ Some q → Pictured tree code texts w lay a p q → stack_limit < weight tree w p
-        by_picture q at (living able_is s l) = heavy_one (operates tree code texts performed limits settled_does w lay p q at able_is a by s l) t
+        by_picture q at (living able_is s l) = heavy_one (operates tree code texts performed limits w (settled_does w ok) lay p q at able_is a by s l) t
         by_picture q at (dead e s) = no_limit code a p (ap is_live s) t
 
         found : (o : Option Process) → numbered w.processes p ≡ o → stack_limit < weight tree w p
@@ -197,41 +205,49 @@ module _ (tree : PProgram) (code : Code) (texts : Texts) (performed : StepsArePe
 
     comes : IsAble tree code texts w lay a by p → Comes tree code Pic p a
     comes one =
-        let s : Settles tree code texts performed limits settled_does w lay a p = settles tree code texts performed limits settled_does w lay p one.process one.at one.able_is a by one.able_p one.lives_so in
+        let s : Settles tree code texts w lay a p = settles tree code texts performed limits w (settled_does w ok) lay p one.process one.at one.able_is a by one.able_p one.lives_so in
         comes_to s.plains s.does
 
   -- ---- all of it
 
-  module _ (apart : StandApart tree code texts) (few_operators : OperatorsAreFew tree code texts) (first : Pictures tree code texts (start (scopes_of tree)) first_image) where
+  module _ (outer : HasOuterBlock (scopes_of tree)) (apart : StandApart tree code texts) (few_operators : OperatorsAreFew tree code texts) (first : Pictures tree code texts (start (scopes_of tree)) first_image) where
     some_first : 1 ≤ length (start (scopes_of tree)).processes
     unfolding start
     some_first = omega arith
 
+    -- such an image shows its world
+    shows_world : (w : World) (a : Image) → Pic w a → Shows code w a
+    shows_world w a pic =
+        record {
+          output = pic.0.1.output;
+          ends = ends_alike tree code texts w pic.0.0 a pic.0.1 pic.1;
+          started = pic.0.1.started;
+          able = able_alike tree code texts w pic.0.0 a pic.0.1;
+          tagged = λ p kind goes able_now ill. not_tagged w pic.2 pic.0.0 a pic.0.1 p kind (operator_of w pic.2 pic.0.0 a pic.0.1 p (able_one tree code texts w pic.0.0 a pic.0.1 p able_now)) ill;
+        }
+
+    -- the world stays as worlds are
+    ok_then : (w : World) (a : Image) (p : ℕ) → Pic w a → may_act a p ≡ true → IsOk (scopes_of tree) IsWhole ((choice (scopes_of tree) w p).world)
+    ok_then w a p pic may = choices_keep_worlds (scopes_of tree) w p fit pic.2 (may_lead code w a (shows_world w a pic) p may)
+
     pub simulation : Simulates tree code (PicturesSome tree code texts)
     simulation =
         record {
-          first = (first, some_first);
-          plain = λ w a b p pic e t. ((pic.0.0, through_plain tree code texts performed limits settled_does w pic.0.0 a b p pic.0.1 e t), pic.1);
+          first = (first, some_first, first_world_stands (scopes_of tree) outer);
+          plain = λ w a b p pic e t. ((pic.0.0, through_plain tree code texts performed limits w (settled_does w pic.2) pic.0.0 a b p pic.0.1 e t), pic.1, pic.2);
           act = λ w a b p pic may x.
               let one : IsAble tree code texts w pic.0.0 a pic.0.1 p = able_one tree code texts w pic.0.0 a pic.0.1 p (able_acts a p may) in
               let none : IsAlone w (choice (scopes_of tree) w p) = alone w pic.0.0 a p one.process pic.0.1 one.at one.lives_so in
-              acted w pic.0.0 a pic.0.1 p (some_after w pic.0.0 a pic.0.1 p pic.1 none) one none.releases x (operator_of w pic.0.0 a pic.0.1 p one);
-          come = λ w a p pic may. comes w pic.0.0 a pic.0.1 p (able_one tree code texts w pic.0.0 a pic.0.1 p (able_acts a p may));
+              acted w pic.2 pic.0.0 a pic.0.1 p (some_after w pic.2 pic.0.0 a pic.0.1 p pic.1 none) (ok_then w a p pic may) one none.releases x (operator_of w pic.2 pic.0.0 a pic.0.1 p one);
+          come = λ w a p pic may. comes w pic.2 pic.0.0 a pic.0.1 p (able_one tree code texts w pic.0.0 a pic.0.1 p (able_acts a p may));
           few = λ w a b p n pic plains. few_operators w pic.0.0 a pic.0.1 b p n plains;
-          shows = λ w a pic.
-              record {
-                output = pic.0.1.output;
-                ends = ends_alike tree code texts w pic.0.0 a pic.0.1 pic.1;
-                started = pic.0.1.started;
-                able = able_alike tree code texts w pic.0.0 a pic.0.1;
-                tagged = λ p kind goes able_now ill. not_tagged w pic.0.0 a pic.0.1 p kind (operator_of w pic.0.0 a pic.0.1 p (able_one tree code texts w pic.0.0 a pic.0.1 p able_now)) ill;
-              };
+          shows = shows_world;
           fits = λ w a pic.
               record {
                 light = is_light tree code texts w pic.0.0 a pic.0.1;
-                heavy = λ p t. limit_is_heavy w pic.0.0 a pic.0.1 p t;
+                heavy = λ p t. limit_is_heavy w pic.2 pic.0.0 a pic.0.1 p t;
               };
-          apart = λ w a pic p q x r touches lives private. apart w pic.0.0 a pic.0.1 p q x r touches lives private;
+          apart = λ w a pic p q x r touches lives private. apart w pic.0.0 a pic.0.1 pic.2 p q x r touches lives private;
         }
 
     -- so the code is faithful to the source

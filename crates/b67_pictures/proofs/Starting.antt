@@ -47,9 +47,9 @@ use Rattle.b67_faithful.specs.Weight.{tokens_around, weight}
 use Rattle.b67_faithful.proofs.Contradictions.{some_same, none_some}
 use Rattle.b67_fitting.specs.Names.{HasNames}
 use Rattle.b67_fitting.specs.Nested.{AreTold, AreNested}
-use Rattle.b67_pictures.proofs.ControlWords.{block_few, routines_long, controls_many}
+use Rattle.b67_pictures.proofs.ControlWords.{block_few, routines_long, controls_many, controls_fit}
 use Rattle.b67_pictures.specs.Arrays.{Allotted, Layout, rows_of_cells, HasArray, ArraysAre}
-use Rattle.b67_pictures.specs.Frames.{block_controls, controls_count, most_around, CellsAre, IsChained, Framed, outermost}
+use Rattle.b67_pictures.specs.Frames.{block_controls, controls_count, most_around, CellsAre, IsChained, Framed, outermost, of_own}
 use Rattle.b67_pictures.specs.Pictures.{Pictured, living, Pictures}
 use Rattle.b67_pictures.proofs.ArraysKept.{no_elements, no_rows}
 use Rattle.b67_pictures.proofs.Landing.{Landed, living_of}
@@ -190,6 +190,9 @@ module _ (tree : PProgram) (code : Code) (names : HasNames tree) (nested : AreNe
   chained zero low = ap (λ (l : ℕ). place_at first_registers.display (l - 0)) outer
   chained (suc up) low = absurd (omega (arith, named_so (suc up) low))
 
+  first_top : place_at first_registers.display level ≡ Some (place 1 0)
+  first_top = ap (place_at first_registers.display) outer
+
   zeros : CellsAre (simple_cells sc block) (fresh_cells block []) (replicate many zero_word)
   zeros = fresh_are sc block [] [] (none_are sc block no_cells plain)
 
@@ -263,20 +266,28 @@ module _ (tree : PProgram) (code : Code) (names : HasNames tree) (nested : AreNe
         begun = begun.count;
         begins = begun.steps;
         frame = record {
-          owns = refl;
           lower = [];
           mark = base_mark;
           control = base_control OUTER_LEVEL;
           cells = cells;
           words_are = begun.below;
-          framed = framed;
-          routines = body.routines;
+          instance = framed.instance;
+          is = framed.is;
+          known = framed.known;
+          home = framed.home;
+          df = framed.df;
+          mark_is = framed.mark_is;
+          back = framed.back;
+          control_is = framed.control_is;
+          level_is = framed.level_is;
+          gives = yields_of block.result;
           text = block_keeps sc 0 keeps (nested.each 0 nested.some);
-          making = sym (block_makes sc 0 order (nested.each 0 nested.some));
+          shape = of_own (record { owns = refl; framed = framed; routines = (body.routines, controls_fit text level controls body.cells.0 body.cells.1 body.cells.3); making = sym (block_makes sc 0 order (nested.each 0 nested.some)) }) refl;
         };
         around = (refl, refl, refl, ap yields_of nested.untyped);
         counted = omega (arith, ap (λ (r : Registers). r.cells) begun.registers, length_cells);
         chained = subst (λ d. IsChained sc w first_lay 1 level d) (sym (ap (λ (r : Registers). r.display) begun.registers)) chained;
+        top = ap (λ (r : Registers). place_at r.display level) begun.registers ∙ first_top;
         segment_is = ap (λ (r : Registers). r.segment) begun.registers ∙ sym segment_first;
         pc = body.start;
         slots = [];

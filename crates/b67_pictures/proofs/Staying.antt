@@ -11,10 +11,12 @@ use Rattle.algol_meaning.specs.Critical.{is_evaluation}
 use Rattle.algol_paths.specs.Segments.{segment_of}
 use Rattle.b67_word.specs.declared.Place.{Place}
 use Rattle.b67_word.specs.Word.{Word}
+use Rattle.b67_control.specs.Display.{place_at}
 use Rattle.b67_ops.specs.declared.TheConstants.{OUTER_LEVEL}
 use Rattle.b67_segment.specs.Operators.{Placed}
 use Rattle.b67_segment.specs.declared.code.Code.{Code}
-use Rattle.b67_templates.specs.Contexts.{Yields, yields_of, Context}
+use Rattle.b67_table.specs.Chains.{place}
+use Rattle.b67_templates.specs.Contexts.{Yields, Context}
 use Rattle.b67_templates.specs.Programs.{Texts, context_of}
 use Rattle.b67_standing.specs.Standing.{StandsFor}
 use Rattle.b67_cores.specs.Cores.{Core}
@@ -22,30 +24,31 @@ use Rattle.b67_cores.specs.Slots.{Known}
 use Rattle.b67_cores.specs.Stretches.{CoreAt}
 use Rattle.b67_faithful.specs.Weight.{parts_weight, tokens_around}
 use Rattle.b67_pictures.specs.Arrays.{Layout, IsOwn, AreKnown}
-use Rattle.b67_pictures.specs.Frames.{most_around, IsChained, Frame, Stands, Around, Frames}
+use Rattle.b67_pictures.specs.Frames.{most_around, IsChained, Frame, Stands, Around, Frames, run_level}
 use Rattle.b67_pictures.specs.Pictures.{innermost_most}
 use Rattle.b67_pictures.proofs.Knowing.{Remain, keeps_same}
-use Rattle.b67_pictures.proofs.Lying.{Lies, lies_in, parents_in, StayBelow, known_after, around_stays, Stayed, frame_stays}
-use Rattle.b67_pictures.proofs.Lying.{same_instance as same_before}
+use Rattle.b67_pictures.proofs.Lying.{Lies, lies_in, parents_in, StayBelow, known_after, around_stays, Stayed, frame_stays, part_own, parts_own, IsOfPart}
 use Rattle.b67_pictures.proofs.Numbers.{get_within}
 use Rattle.b67_pictures.proofs.Parents.{ancestor_up, length_around}
+use Rattle.b67_templates.specs.Code.{in_routine}
 
--- the operators of the segment in which the text of a part stands, and its level
+-- the operators of the segment in which the text of a part stands, the level of its names, and that at which its code runs
 abbrev pub text_in : PProgram → Texts → World → Part → List Placed
 text_in tree texts w part = texts.placed (segment_of (scopes_of tree).blocks ((instance_at w part.instance).block))
 
+abbrev pub names_in : PProgram → World → Part → ℕ
+names_in tree w part = level_of (block_numbered (scopes_of tree).blocks ((instance_at w part.instance).block))
+
 abbrev pub level_in : PProgram → World → Part → ℕ
-level_in tree w part = level_of (block_numbered (scopes_of tree).blocks ((instance_at w part.instance).block))
+level_in tree w part = run_level (is_evaluation part.purpose) (names_in tree w part)
 
-abbrev pub context_in : PProgram → Code → Texts → World → Part → Context
-context_in tree code texts w part = context_of code texts (scopes_of tree) ((instance_at w part.instance).block)
+-- what surrounds what it has to do, where it gives this when it leaves
+abbrev pub context_in : PProgram → Code → Texts → World → Part → Yields → Context
+context_in tree code texts w part gives = in_routine gives (context_of code texts (scopes_of tree) ((instance_at w part.instance).block))
 
--- how many words may lie above the cells of its frame, and what it gives when it leaves
+-- how many words may lie above the cells of its frame
 abbrev pub most_in : PProgram → World → Part → ℕ
 most_in tree w part = most_around tree ((instance_at w part.instance).block)
-
-abbrev pub wanted_in : PProgram → World → Part → Yields
-wanted_in tree w part = yields_of (block_numbered (scopes_of tree).blocks ((instance_at w part.instance).block)).result
 
 -- ---- weights
 
@@ -54,7 +57,7 @@ pub record IsAsHeavy (w w' : World) (i : ℕ) : Type 0 where
   pub block : (instance_at w' i).block ≡ (instance_at w i).block
   pub cells : length ((instance_at w' i).cells) ≡ length ((instance_at w i).cells)
 
-pub same_weight : (tree : PProgram) (w w' : World) (parts : List Part) → ((i : ℕ) → IsOwn parts i → IsAsHeavy w w' i) → parts_weight tree w' parts ≡ parts_weight tree w parts
+pub same_weight : (tree : PProgram) (w w' : World) (parts : List Part) → ((i : ℕ) → IsOfPart parts i → IsAsHeavy w w' i) → parts_weight tree w' parts ≡ parts_weight tree w parts
 same_weight tree w w' [] each = refl
 same_weight tree w w' (part ∷ parts) each =
     let x : IsAsHeavy w w' part.instance = each part.instance (inl refl) in
@@ -84,25 +87,31 @@ module _ (tree : PProgram) (code : Code) (texts : Texts) (w w' : World) (lay lay
   sc = scopes_of tree
 
   -- the frame of a part whose mark lies below, with the parts around
-  pub record FrameStill (part : Part) (outer : List Part) (words : List Word) (cells : List Word) : Type 0 where
+  pub record FrameStill (part : Part) (outer : List Part) (words : List Word) (cells : List Word) (gives : Yields) : Type 0 where
     pub frame : Frame tree code texts w' lay' p part outer words
-    pub around : Around tree code texts w' lay' p outer frame.lower frame.mark frame.control (wanted_in tree w' part)
+    pub around : Around tree code texts w' lay' p outer frame.lower frame.mark frame.control frame.gives
     pub cells_are : frame.cells ≡ cells
+    pub gives_are : frame.gives ≡ gives
 
   pub frame_still : (part : Part) (outer : List Part) (words : List Word) (f : Frame tree code texts w lay p part outer words) →
-      Around tree code texts w lay p outer f.lower f.mark f.control (wanted_in tree w part) → length f.lower < limit → FrameStill part outer words f.cells
+      Around tree code texts w lay p outer f.lower f.mark f.control f.gives → length f.lower < limit → FrameStill part outer words f.cells f.gives
   frame_still part outer words f a low =
       let t : Stayed tree code texts w w' lay lay' p limit stay part outer words f = frame_stays tree code texts w w' lay lay' p limit stay part outer words f a low in
       record {
         frame = t.frame;
-        around = subst (λ (x : Instance). Around tree code texts w' lay' p outer t.frame.lower t.frame.mark t.frame.control (yields_of (block_numbered sc.blocks x.block).result))
-            (same_before tree code texts w w' lay lay' p limit stay part outer words f low)
-            (around_at tree code texts w' lay' p outer f.lower t.frame.lower f.mark t.frame.mark f.control t.frame.control (wanted_in tree w part) (sym t.lower) (sym t.mark) (sym t.control)
-            (around_stays tree code texts w w' lay lay' p limit stay outer f.lower f.mark f.control (wanted_in tree w part) (omega (arith, low)) a));
+        around = subst (λ (y : Yields). Around tree code texts w' lay' p outer t.frame.lower t.frame.mark t.frame.control y) (sym t.gives)
+            (around_at tree code texts w' lay' p outer f.lower t.frame.lower f.mark t.frame.mark f.control t.frame.control f.gives (sym t.lower) (sym t.mark) (sym t.control)
+            (around_stays tree code texts w w' lay lay' p limit stay outer f.lower f.mark f.control f.gives (omega (arith, low)) a));
         cells_are = t.cells;
+        gives_are = t.gives;
       }
 
-  module _ (part : Part) (outer : List Part) (core : Core) (s : Stands tree code texts w lay p part outer core) (a : Around tree code texts w lay p outer s.frame.lower s.frame.mark s.frame.control (wanted_in tree w part))
+  -- it lies as high
+  pub still_low : (part : Part) (outer : List Part) (words : List Word) (f : Frame tree code texts w lay p part outer words) (t : FrameStill part outer words f.cells f.gives) → length t.frame.lower ≡ length f.lower
+  still_low part outer words f t =
+      omega (arith, frame_low tree code texts w' lay' p part outer words t.frame, frame_low tree code texts w lay p part outer words f, ap length t.cells_are)
+
+  module _ (part : Part) (outer : List Part) (core : Core) (s : Stands tree code texts w lay p part outer core) (a : Around tree code texts w lay p outer s.frame.lower s.frame.mark s.frame.control s.frame.gives)
       (low : length core.below ≤ limit) where
     abbrev i : ℕ
     i = part.instance
@@ -121,32 +130,32 @@ module _ (tree : PProgram) (code : Code) (texts : Texts) (w w' : World) (lay lay
         let under : length l.frame.lower < limit =
         omega (arith, low, ap length l.words_are, length-append l.front l.rest, frame_low tree code texts w lay p l.part l.outer l.front l.frame) in
         subst (λ (n : ℕ). Remains n) l.instance_is (record {
-          instance = l.frame.framed.instance;
-          is = l.frame.framed.is;
-          still = stay.instances l.part.instance (length l.frame.lower) l.frame.framed.instance l.frame.framed.is l.frame.framed.own l.frame.framed.laid under;
-          place = stay.places l.part.instance _ l.frame.framed.laid ∙ sym l.frame.framed.laid;
-          rows = stay.rows l.part.instance (length l.frame.lower) l.frame.framed.instance l.frame.framed.is l.frame.framed.own l.frame.framed.laid under;
+          instance = l.owned.framed.instance;
+          is = l.owned.framed.is;
+          still = stay.instances l.part.instance (length l.frame.lower) l.owned.framed.instance l.owned.framed.is l.owned.framed.own l.owned.framed.laid under;
+          place = stay.places l.part.instance _ l.owned.framed.laid ∙ sym l.owned.framed.laid;
+          rows = stay.rows l.part.instance (length l.frame.lower) l.owned.framed.instance l.owned.framed.is l.owned.framed.own l.owned.framed.laid under;
         })
 
     -- so far up there are parents
-    pub parent_own : (up : ℕ) → up + OUTER_LEVEL ≤ level_in tree w part → IsOwn (part ∷ outer) (ancestor w up i)
+    pub parent_own : (up : ℕ) → up + OUTER_LEVEL ≤ names_in tree w part → IsOwn (part ∷ outer) (ancestor w up i)
     parent_own up h =
         let j : ℕ = (instance_at w i).block in
         let there = get_within (j ∷ around sc.blocks j) up (omega (arith, h, length_around sc.blocks j)) in
-        (parents_in tree code texts w lay p part outer core s a i (inl refl) up there.0 there.1).own
+        (parents_in tree code texts w lay p part outer core s a i (part_own tree code texts w lay p part outer core.below s.frame) up there.0 there.1).own
 
     -- and they are the same
-    pub same_parent : (up : ℕ) → up + OUTER_LEVEL ≤ level_in tree w part → ancestor w' up i ≡ ancestor w up i
+    pub same_parent : (up : ℕ) → up + OUTER_LEVEL ≤ names_in tree w part → ancestor w' up i ≡ ancestor w up i
     same_parent zero h = refl
     same_parent (suc up) h =
-        let lower : up + OUTER_LEVEL ≤ level_in tree w part = omega (arith, h) in
+        let lower : up + OUTER_LEVEL ≤ names_in tree w part = omega (arith, h) in
         let r : Remains (ancestor w up i) = remains (ancestor w up i) (parent_own up lower) in
         ancestor_up w' up i
         ∙ ap (λ (j : ℕ). (instance_at w' j).parent) (same_parent up lower)
         ∙ ap (λ (o : Option Instance). (or_no_instance o).parent) (r.still ∙ sym r.is)
         ∙ sym (ancestor_up w up i)
 
-    pub chained_stays : (display : List (Option Place)) → IsChained sc w lay i (level_in tree w part) display → IsChained sc w' lay' i (level_in tree w part) display
+    pub chained_stays : (display : List (Option Place)) → IsChained sc w lay i (names_in tree w part) display → IsChained sc w' lay' i (names_in tree w part) display
     chained_stays display chained up h =
         chained up h ∙ sym (remains (ancestor w up i) (parent_own up h)).place ∙ ap (λ (j : ℕ). numbered lay'.places j) (sym (same_parent up h))
 
@@ -157,12 +166,14 @@ module _ (tree : PProgram) (code : Code) (texts : Texts) (w w' : World) (lay lay
     pub parts_weigh : parts_weight tree w' (part ∷ outer) ≡ parts_weight tree w (part ∷ outer)
     parts_weigh =
         same_weight tree w w' (part ∷ outer)
-        (λ j own. record { block = ap (λ (x : Instance). x.block) (same_instance j own); cells = ap (λ (x : Instance). length x.cells) (same_instance j own) })
+        (λ j one.
+        let same : instance_at w' j ≡ instance_at w j = same_instance j (parts_own tree code texts w lay p part outer core.below s.frame a j one) in
+        record { block = ap (λ (x : Instance). x.block) same; cells = ap (λ (x : Instance). length x.cells) same })
 
     frame_below : length s.frame.lower < limit
     frame_below = omega (arith, low, frame_low tree code texts w lay p part outer core.below s.frame)
 
-    still : FrameStill part outer core.below s.frame.cells
+    still : FrameStill part outer core.below s.frame.cells s.frame.gives
     still = frame_still part outer core.below s.frame a frame_below
 
     -- they keep their arrays and their frames
@@ -179,23 +190,35 @@ module _ (tree : PProgram) (code : Code) (texts : Texts) (w w' : World) (lay lay
     known_stays = known_after tree code texts w w' lay lay' p limit stay part outer core.below s.frame a frame_below
 
     here : instance_at w i ≡ instance_at w' i
-    here = sym (same_instance i (inl refl))
+    here = sym (same_instance i (part_own tree code texts w lay p part outer core.below s.frame))
+
+    chained_now : IsChained sc w' lay' i (names_in tree w' part) core.registers.display
+    chained_now = subst (λ (x : Instance). IsChained sc w' lay' i (level_of (block_numbered sc.blocks x.block)) core.registers.display) here (chained_stays core.registers.display s.chained)
+
+    -- the display names it at the level at which the code of the part runs
+    pub top_stays : (t : FrameStill part outer core.below s.frame.cells s.frame.gives) → place_at core.registers.display (level_in tree w' part) ≡ Some (place p (length t.frame.lower))
+    top_stays t =
+        ap (λ (x : Instance). place_at core.registers.display (run_level (is_evaluation part.purpose) (level_of (block_numbered sc.blocks x.block)))) (sym here)
+        ∙ s.top
+        ∙ ap (λ (n : ℕ). Some (place p n)) (sym (still_low part outer core.below s.frame t))
 
     pub part_stays : Frames tree code texts w' lay' p (part ∷ outer) core
     part_stays = (
       record {
         frame = still.frame;
         counted = s.counted ∙ sym (ap length still.cells_are);
-        chained = subst (λ (x : Instance). IsChained sc w' lay' i (level_of (block_numbered sc.blocks x.block)) core.registers.display) here (chained_stays core.registers.display s.chained);
+        chained = chained_now;
+        top = top_stays still;
         segment_is = s.segment_is ∙ ap (λ (x : Instance). segment_of sc.blocks x.block) here;
         asks = s.asks;
         pc = s.pc;
         slots = s.slots;
-        stands = subst (λ (x : Instance). StandsFor sc (context_of code texts sc x.block) (texts.placed (segment_of sc.blocks x.block)) (level_of (block_numbered sc.blocks x.block)) (most_around tree x.block) part.rest s.pc s.slots) here
-            s.stands;
+        stands = subst (λ (y : Yields). StandsFor sc (context_in tree code texts w' part y) (text_in tree texts w' part) (level_in tree w' part) (most_in tree w' part) part.rest s.pc s.slots) (sym still.gives_are)
+            (subst (λ (x : Instance). StandsFor sc (in_routine s.frame.gives (context_of code texts sc x.block)) (texts.placed (segment_of sc.blocks x.block)) (run_level (is_evaluation part.purpose) (level_of (block_numbered sc.blocks x.block))) (most_around tree x.block) part.rest s.pc s.slots) here
+            s.stands);
         held = s.held;
         held_are = known_stays s.held s.held_are;
-        there = subst (λ (x : Instance). CoreAt sc s.held code (texts.placed (segment_of sc.blocks x.block)) (level_of (block_numbered sc.blocks x.block)) s.pc s.slots core) here s.there;
+        there = subst (λ (x : Instance). CoreAt sc s.held code (texts.placed (segment_of sc.blocks x.block)) (run_level (is_evaluation part.purpose) (level_of (block_numbered sc.blocks x.block))) s.pc s.slots core) here s.there;
         few = subst (λ (x : Instance). length s.slots ≤ most_around tree x.block) here s.few;
       },
       still.around,
@@ -213,4 +236,4 @@ module _ (tree : PProgram) (code : Code) (texts : Texts) (w w' : World) (lay lay
   -- the innermost part has as much room
   pub frames_most : (parts : List Part) (core : Core) → length core.below ≤ limit → Frames tree code texts w lay p parts core → innermost_most tree w' parts ≡ innermost_most tree w parts
   frames_most [] core low f = absurd f
-  frames_most (part ∷ outer) core low f = ap (λ (x : Instance). most_around tree x.block) (same_instance part outer core f.0 f.1 low part.instance (inl refl))
+  frames_most (part ∷ outer) core low f = ap (λ (x : Instance). most_around tree x.block) (same_instance part outer core f.0 f.1 low part.instance (part_own tree code texts w lay p part outer core.below f.0.frame))

@@ -1,4 +1,6 @@
 -- An operator that stores into a cell of a frame of another process: the image after it pictures the world after it.
+use Rattle.algol_standing.specs.Worlds.{IsWhole}
+use Rattle.algol_standing.specs.Fitting.{IsOk}
 use Rattle.std.proofs.Common.{◌≡◌, ◌≢◌, sym, ◌∙◌, ℕ, ◌+◌, ◌<◌, List, ◌++◌, length, Some, Ok}
 use Rattle.std.specs.Prelude.{slice_set}
 use Rattle.b67_list.specs.Numbered.{numbered}
@@ -32,7 +34,7 @@ use Rattle.b67_pictures.proofs.StoringFrames.{stored_world, ChangedCells}
 use Rattle.b67_pictures.proofs.StoringOthers.{stored_pictured}
 use Rattle.b67_pictures.proofs.TouchingCores.{core_stays, core_holds}
 
-module _ (tree : PProgram) (code : Code) (texts : Texts) (nested : AreNested (scopes_of tree)) (rests : RestsGoOn) (w : World) (lay : Layout) (img new : Image) (by : PicturesBy tree code texts w lay img)
+module _ (tree : PProgram) (code : Code) (texts : Texts) (nested : AreNested (scopes_of tree)) (rests : RestsGoOn) (w : World) (lay : Layout) (img new : Image) (by : PicturesBy tree code texts w lay img) (ok : IsOk (scopes_of tree) IsWhole w)
     (a : ℕ) (r : Registers) (op : Operator) (next : ℕ) (lives : Lives img a r) (stands : operator_at code r ≡ Ok (op, next)) (given : raw code img a ≡ gives new) where
   -- Process a stores the word at the place k of the stack of process p, so far above the two words of the frame of an instance, and nowhere else.
   module _ (p : ℕ) (other : a ≢ p) (i : ℕ) (x : Instance) (at : numbered w.instances i ≡ Some x) (mine : x.process ≡ p) (with_cells : List NamedCell) (high : ℕ) (laid : numbered lay.places i ≡ Some (place p high))
@@ -49,7 +51,7 @@ module _ (tree : PProgram) (code : Code) (texts : Texts) (nested : AreNested (sc
     stored_elsewhere q q' at_a arrays output fault started states system own =
         stored_pictured tree code texts w lay p i x at with_cells high laid far k place_is (Some word) many (λ set. short) keeps changes a q' img new mine owns (λ core has set. low core has)
         (λ core has.
-        core_holds tree code texts nested rests w lay img new by a r op next lives stands given p other core has k word (λ y e names. (only y names).1) (low core has) there)
+        core_holds tree code texts nested rests w lay img new by ok a r op next lives stands given p other core has k word (λ y e names. (only y names).1) (low core has) there)
         (λ m core apart elsewhere has.
-        core_stays tree code texts nested rests w lay img new by a r op next lives stands given m (λ e. apart (sym e)) core has (λ y e names. elsewhere (sym e ∙ (only y names).0)))
+        core_stays tree code texts nested rests w lay img new by ok a r op next lives stands given m (λ e. apart (sym e)) core has (λ y e names. elsewhere (sym e ∙ (only y names).0)))
         states by q at_a arrays output fault started system own

@@ -38,7 +38,7 @@ use Rattle.b67_cores.specs.Slots.{ValueIs, SlotsAre}
 use Rattle.b67_cores.specs.Stretches.{FragmentsArePerformed}
 use Rattle.b67_pictures.specs.Arrays.{Layout}
 use Rattle.b67_pictures.specs.Acting.{Does}
-use Rattle.b67_pictures.specs.Frames.{Stands}
+use Rattle.b67_pictures.specs.Frames.{Stands, run_level}
 use Rattle.b67_pictures.proofs.Asked.{stores_seen}
 use Rattle.b67_pictures.proofs.Homes.{operator_there, Home, home}
 use Rattle.b67_pictures.proofs.Scene.{Scene}
@@ -46,6 +46,7 @@ use Rattle.b67_pictures.proofs.Slotted.{Top, top_slot}
 use Rattle.b67_pictures.proofs.Staying.{text_in, level_in, context_in, most_in}
 use Rattle.b67_pictures.proofs.Words.{reference_read, reference_unindexed}
 use Rattle.b67_pictures.proofs.StoringVariable.{variable_stored}
+use Rattle.algol_meaning.specs.Critical.{is_evaluation}
 
 -- the two topmost words, one after another
 pub two_words : (words left : List Word) (x y : Word) (rest : List Word) → words ≡ x ∷ left → left ≡ y ∷ rest → words ≡ x ∷ y ∷ rest
@@ -54,10 +55,10 @@ two_words words left x y rest e f = e ∙ ap (λ (ws : List Word). x ∷ ws) f
 module _ (tree : PProgram) (code : Code) (texts : Texts) (fragments : FragmentsArePerformed) (kept : RestsKeepToTheirText) (order : AllIsMadeInOrder) (w : World) (lay : Layout) (img : Image)
     (p : ℕ) (q : Process) (part : Part) (outer : List Part) (bound : ℕ) (core : Core) (s : Scene tree code texts w lay img p q part outer bound core)
     (able_is : q.state ≡ able) (able_p : numbered img.states p ≡ Some Able) (n : Named) (v : Value) (asks : ask part.rest ≡ stores (own n) v)
-    (a : ActionAt (scopes_of tree) (context_in tree code texts w part) (text_in tree texts w part) (level_in tree w part) (most_in tree w part) (stores (own n) v) s.stands.pc s.stands.slots)
+    (a : ActionAt (scopes_of tree) (context_in tree code texts w part s.stands.frame.gives) (text_in tree texts w part) (level_in tree w part) (most_in tree w part) (stores (own n) v) s.stands.pc s.stands.slots)
     (answered : (r : Answer) (at : ℕ) (left : List Slot) →
-    Acted (scopes_of tree) (context_in tree code texts w part) (text_in tree texts w part) (level_in tree w part) (most_in tree w part) (stores (own n) v) s.stands.pc s.stands.slots a r at left →
-    ComesTo (scopes_of tree) (context_in tree code texts w part) (text_in tree texts w part) (level_in tree w part) (most_in tree w part) (resume (scopes_of tree) part.rest r) at left) where
+    Acted (scopes_of tree) (context_in tree code texts w part s.stands.frame.gives) (text_in tree texts w part) (level_in tree w part) (most_in tree w part) (stores (own n) v) s.stands.pc s.stands.slots a r at left →
+    ComesTo (scopes_of tree) (context_in tree code texts w part s.stands.frame.gives) (text_in tree texts w part) (level_in tree w part) (most_in tree w part) (resume (scopes_of tree) part.rest r) at left) where
   abbrev sc : Scopes
   sc = scopes_of tree
 
@@ -65,7 +66,7 @@ module _ (tree : PProgram) (code : Code) (texts : Texts) (fragments : FragmentsA
   b = (instance_at w part.instance).block
 
   abbrev level : ℕ
-  level = level_of (block_numbered sc.blocks b)
+  level = run_level (is_evaluation part.purpose) (level_of (block_numbered sc.blocks b))
 
   abbrev text : List Placed
   text = texts.placed (segment_of sc.blocks b)

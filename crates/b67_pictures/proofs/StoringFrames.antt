@@ -27,14 +27,16 @@ use Rattle.b67_cores.specs.Stretches.{control_words}
 use Rattle.b67_faithful.specs.Weight.{parts_weight}
 use Rattle.b67_faithful.proofs.Contradictions.{some_same}
 use Rattle.b67_pictures.specs.Arrays.{Allotted, Layout, AreMade, AreKnown, IsOwn}
-use Rattle.b67_pictures.specs.Frames.{CellsAre, block_controls, most_around, IsComplete, IsPlaced, outermost, inside, home_of, Framed, RoutinesStand, Frame, Waits, Around}
+use Rattle.b67_pictures.specs.Frames.{CellsAre, block_controls, most_around, IsComplete, IsPlaced, outermost, inside, home_of, Framed, RoutinesStand, Frame, Waits, Around, Owned, Shape, of_own, of_lent, context_at, text_of, level_at, most_of, run_level}
 use Rattle.b67_pictures.proofs.FreshCells.{words_long}
 use Rattle.b67_pictures.proofs.Knowing.{KeepsArrays, Remain, keeps_same, HasReferred, has_reference, has_actual, referred_denoted, denotes_lasts, known_lasts, climbs_all}
 use Rattle.b67_pictures.proofs.Numbers.{same_or_not, numbered_set, numbered_other}
 use Rattle.b67_pictures.proofs.StackWords.{length-set}
-use Rattle.b67_pictures.proofs.Staying.{most_in, wanted_in, IsAsHeavy, same_weight}
+use Rattle.b67_pictures.proofs.Staying.{most_in, IsAsHeavy, same_weight}
 use Rattle.b67_pictures.proofs.Variables.{HasNoValue, ReferencesStay}
-use Rattle.b67_pictures.proofs.Lying.{below_frame, Lies, lies_low, lies_around, StayBelow, home_after, around_stays}
+use Rattle.b67_pictures.proofs.Lying.{below_frame, Lies, lies_low, lies_around, StayBelow, home_after, around_stays, owned_frame, frame_gives, runs_at}
+use Rattle.b67_templates.specs.Code.{in_routine}
+use Rattle.algol_meaning.specs.Critical.{is_evaluation}
 
 -- ---- lists
 
@@ -154,28 +156,36 @@ module _ (tree : PProgram) (code : Code) (texts : Texts) (w : World) (lay : Layo
   same_height : (m n : ℕ) → Some (place p m) ≡ Some (place p n) → m ≡ n
   same_height m n e = ap (λ (f : Place). f.at) (some_same e)
 
+  abbrev OwnedBefore : Part → List Part → ℕ → Word → Word → List Word → Type 0
+  OwnedBefore part outer low m c cells = Owned tree code texts w lay p part outer low m c cells
+
   -- a frame of the instance lies there
-  frame_high : (part : Part) (outer : List Part) (words : List Word) (f : Before part outer words) → part.instance ≡ i → length f.lower ≡ high
-  frame_high part outer words f e = same_height (length f.lower) high (sym f.framed.laid ∙ ap (λ (j : ℕ). numbered lay.places j) e ∙ laid)
+  frame_high : (part : Part) (outer : List Part) (low : ℕ) (m c : Word) (cells : List Word) (o : OwnedBefore part outer low m c cells) → part.instance ≡ i → low ≡ high
+  frame_high part outer low m c cells o e = same_height low high (sym o.framed.laid ∙ ap (λ (j : ℕ). numbered lay.places j) e ∙ laid)
 
-  frame_is : (part : Part) (outer : List Part) (words : List Word) (f : Before part outer words) → part.instance ≡ i → f.framed.instance ≡ x
-  frame_is part outer words f e = some_same (sym f.framed.is ∙ ap (λ (j : ℕ). numbered w.instances j) e ∙ at)
+  frame_is : (part : Part) (outer : List Part) (low : ℕ) (m c : Word) (cells : List Word) (o : OwnedBefore part outer low m c cells) → part.instance ≡ i → o.framed.instance ≡ x
+  frame_is part outer low m c cells o e = some_same (sym o.framed.is ∙ ap (λ (j : ℕ). numbered w.instances j) e ∙ at)
 
-  frame_values : (part : Part) (outer : List Part) (words : List Word) (f : Before part outer words) → part.instance ≡ i → length f.framed.values ≡ length ss
-  frame_values part outer words f e =
-      words_long (simple_cells sc (block_numbered sc.blocks f.framed.instance.block)) f.framed.simple f.framed.values f.framed.simple_are
-      ∙ ap (λ (y : Instance). length (simple_cells sc (block_numbered sc.blocks y.block))) (frame_is part outer words f e)
+  frame_values : (part : Part) (outer : List Part) (low : ℕ) (m c : Word) (cells : List Word) (o : OwnedBefore part outer low m c cells) → part.instance ≡ i → length o.framed.values ≡ length ss
+  frame_values part outer low m c cells o e =
+      words_long (simple_cells sc (block_numbered sc.blocks o.framed.instance.block)) o.framed.simple o.framed.values o.framed.simple_are
+      ∙ ap (λ (y : Instance). length (simple_cells sc (block_numbered sc.blocks y.block))) (frame_is part outer low m c cells o e)
 
-  frame_cells : (part : Part) (outer : List Part) (words : List Word) (f : Before part outer words) → part.instance ≡ i → length ss ≤ length f.cells
-  frame_cells part outer words f e =
-      omega (arith, frame_values part outer words f e, ap length f.framed.cells_is, length-append f.framed.values (control_words (block_controls sc f.framed.instance.block f.framed.ats) ++ f.framed.descriptors))
+  frame_cells : (part : Part) (outer : List Part) (low : ℕ) (m c : Word) (cells : List Word) (o : OwnedBefore part outer low m c cells) → part.instance ≡ i → length ss ≤ length cells
+  frame_cells part outer low m c cells o e =
+      omega (
+        arith,
+        frame_values part outer low m c cells o e,
+        ap length o.framed.cells_is,
+        length-append o.framed.values (control_words (block_controls sc o.framed.instance.block o.framed.ats) ++ o.framed.descriptors),
+      )
 
   -- so the cell lies among the words of the parts
   cell_low : (parts : List Part) (words : List Word) → Lies tree code texts w lay p parts i words → (IsStored word → k < length words) × (high + 2 ≤ length words)
   cell_low parts words l =
       let lies : length l.frame.lower + 2 + length l.frame.cells ≤ length words = lies_low tree code texts w lay p parts i words l in
-      let height : length l.frame.lower ≡ high = frame_high l.part l.outer l.front l.frame l.instance_is in
-      let as_many : length ss ≤ length l.frame.cells = frame_cells l.part l.outer l.front l.frame l.instance_is in
+      let height : length l.frame.lower ≡ high = frame_high l.part l.outer (length l.frame.lower) l.frame.mark l.frame.control l.frame.cells l.owned l.instance_is in
+      let as_many : length ss ≤ length l.frame.cells = frame_cells l.part l.outer (length l.frame.lower) l.frame.mark l.frame.control l.frame.cells l.owned l.instance_is in
       (λ set. omega (arith, lies, height, as_many, short set, place_is), omega (arith, lies, height))
 
   stays : StayBelow w w' lay lay p high
@@ -208,13 +218,8 @@ module _ (tree : PProgram) (code : Code) (texts : Texts) (w : World) (lay : Layo
     pub mark : frame.mark ≡ f.mark
     pub control : frame.control ≡ f.control
     pub cells : length frame.cells ≡ length f.cells
-    pub around : Around tree code texts (stored_world w i x at with_cells) lay p outer frame.lower frame.mark frame.control (wanted_in tree (stored_world w i x at with_cells) part)
-
-  -- the kind of the value that it gives is the same
-  wanted_so : (part : Part) (outer : List Part) (lower : List Word) (mark control : Word) → Around tree code texts w' lay p outer lower mark control (wanted_in tree w part) →
-      Around tree code texts w' lay p outer lower mark control (wanted_in tree w' part)
-  wanted_so part outer lower mark control a =
-      subst (λ (b : ℕ). Around tree code texts w' lay p outer lower mark control (yields_of (block_numbered sc.blocks b).result)) (same_of w i x at with_cells (λ (y : Instance). y.block) refl part.instance) a
+    pub gives : frame.gives ≡ f.gives
+    pub around : Around tree code texts (stored_world w i x at with_cells) lay p outer frame.lower frame.mark frame.control frame.gives
 
   text_so : (part : Part) (outer : List Part) (words : List Word) (f : Before part outer words) → KeepsToText sc ((instance_at w' part.instance).block) part.rest
   text_so part outer words f = subst (λ (b : ℕ). KeepsToText sc b part.rest) (same_of w i x at with_cells (λ (y : Instance). y.block) refl part.instance) f.text
@@ -236,102 +241,127 @@ module _ (tree : PProgram) (code : Code) (texts : Texts) (w : World) (lay : Layo
   known_stored parts j = known_lasts sc w w' lay lay parts parts (all_remain parts) j (climbs_all sc w w' lay lay each_keeps j)
 
   -- the frame of the instance
-  module _ (part : Part) (outer : List Part) (words : List Word) (f : Before part outer words) (e : part.instance ≡ i) where
-    is_x : f.framed.instance ≡ x
-    is_x = frame_is part outer words f e
+  module _ (part : Part) (outer : List Part) (lower : List Word) (m k' : Word) (cells : List Word) (o : OwnedBefore part outer (length lower) m k' cells) (e : part.instance ≡ i) where
+    is_x : o.framed.instance ≡ x
+    is_x = frame_is part outer (length lower) m k' cells o e
 
     abbrev Changed_cells : Type 0
-    Changed_cells = ChangedCells ss (lay.rows i) with_cells f.framed.simple f.framed.values (put word f.framed.values far) f.framed.declared f.framed.descriptors
+    Changed_cells = ChangedCells ss (lay.rows i) with_cells o.framed.simple o.framed.values (put word o.framed.values far) o.framed.declared o.framed.descriptors
 
     own_cells : Changed_cells
     own_cells =
-        changes f.framed.simple f.framed.values f.framed.arrays f.framed.declared f.framed.descriptors
-        (subst (λ (y : Instance). CellsAre (simple_cells sc (block_numbered sc.blocks y.block)) f.framed.simple f.framed.values) is_x f.framed.simple_are)
-        (subst (λ (j : ℕ). AreMade f.framed.declared f.framed.arrays (lay.rows j) f.framed.descriptors) e f.framed.made)
-        (subst (λ (y : Instance). y.cells ≡ f.framed.simple ++ f.framed.arrays) is_x f.framed.has)
+        changes o.framed.simple o.framed.values o.framed.arrays o.framed.declared o.framed.descriptors
+        (subst (λ (y : Instance). CellsAre (simple_cells sc (block_numbered sc.blocks y.block)) o.framed.simple o.framed.values) is_x o.framed.simple_are)
+        (subst (λ (j : ℕ). AreMade o.framed.declared o.framed.arrays (lay.rows j) o.framed.descriptors) e o.framed.made)
+        (subst (λ (y : Instance). y.cells ≡ o.framed.simple ++ o.framed.arrays) is_x o.framed.has)
 
-    abbrev own_framed : Changed_cells → Framed sc w' lay p part.instance outer (length f.lower) f.mark f.control (put word f.cells far)
+    abbrev own_framed : Changed_cells → Framed sc w' lay p part.instance outer (length lower) m k' (put word cells far)
     own_framed c =
         record {
           instance = changed w i x at with_cells;
           is = ap (λ (j : ℕ). numbered w'.instances j) e ∙ changed_at w i x at with_cells;
-          own = ap (λ (y : Instance). y.process) (sym is_x) ∙ f.framed.own;
-          known = subst (λ (y : Instance). y.block < length sc.blocks) is_x f.framed.known;
-          stands = ap (λ (y : Instance). y.left) (sym is_x) ∙ f.framed.stands;
-          laid = f.framed.laid;
+          own = ap (λ (y : Instance). y.process) (sym is_x) ∙ o.framed.own;
+          known = subst (λ (y : Instance). y.block < length sc.blocks) is_x o.framed.known;
+          stands = ap (λ (y : Instance). y.left) (sym is_x) ∙ o.framed.stands;
+          laid = o.framed.laid;
           simple = c.simple;
-          values = put word f.framed.values far;
+          values = put word o.framed.values far;
           simple_are = c.simple_are;
           formals = λ n t there refers.
-              let g = f.framed.formals n t (ap (λ (y : Instance). slice_get (simple_cells sc (block_numbered sc.blocks y.block)) n) is_x ∙ there) refers in
+              let g = o.framed.formals n t (ap (λ (y : Instance). slice_get (simple_cells sc (block_numbered sc.blocks y.block)) n) is_x ∙ there) refers in
               let stay = c.references n g.0 g.1 g.2 g.3 (no_value (referred_denoted sc w lay outer t.wanted g.0.cell g.1 g.4)) in
               (g.0, g.1, stay.0, stay.1, denotes_lasts sc w w' lay lay outer outer (all_remain outer) t.wanted g.0.cell g.1 g.4);
-          ats = f.framed.ats;
-          each_has_place = subst (λ (y : Instance). length f.framed.ats ≡ length (actuals_of sc (block_numbered sc.blocks y.block))) is_x f.framed.each_has_place;
+          ats = o.framed.ats;
+          each_has_place = subst (λ (y : Instance). length o.framed.ats ≡ length (actuals_of sc (block_numbered sc.blocks y.block))) is_x o.framed.each_has_place;
           arrays = c.arrays;
-          declared = f.framed.declared;
-          later = f.framed.later;
-          order = subst (λ (y : Instance). made_of (block_numbered sc.blocks y.block).decls ≡ f.framed.declared ++ f.framed.later) is_x f.framed.order;
-          descriptors = f.framed.descriptors;
-          made = subst (λ (j : ℕ). AreMade f.framed.declared c.arrays (lay.rows j) f.framed.descriptors) (sym e) c.made;
+          declared = o.framed.declared;
+          later = o.framed.later;
+          order = subst (λ (y : Instance). made_of (block_numbered sc.blocks y.block).decls ≡ o.framed.declared ++ o.framed.later) is_x o.framed.order;
+          descriptors = o.framed.descriptors;
+          made = subst (λ (j : ℕ). AreMade o.framed.declared c.arrays (lay.rows j) o.framed.descriptors) (sym e) c.made;
           has = c.has;
           cells_is =
-              ap (λ (ws : List Word). put word ws far) (subst (λ (y : Instance). f.cells ≡ f.framed.values ++ (control_words (block_controls sc y.block f.framed.ats) ++ f.framed.descriptors)) is_x f.framed.cells_is)
-              ∙ put_first word f.framed.values (control_words (block_controls sc x.block f.framed.ats) ++ f.framed.descriptors) far (λ set. omega (arith, short set, frame_values part outer words f e));
-          placed = placed_so outer f.framed.instance (changed w i x at with_cells) (ap (λ (y : Instance). y.parent) is_x) (ap (λ (y : Instance). y.block) is_x) f.framed.placed;
-          home = f.framed.home;
-          linked = subst (λ (y : Instance). home_of sc w' lay y.parent ≡ Some f.framed.home) is_x (home_after tree code texts w w' lay lay p high stays f.framed.instance.parent f.framed.home f.framed.linked);
-          df = f.framed.df;
-          mark_is = f.framed.mark_is;
-          back = f.framed.back;
-          control_is = f.framed.control_is;
-          level_is = f.framed.level_is ∙ ap (λ (y : Instance). level_of (block_numbered sc.blocks y.block)) is_x;
+              ap (λ (ws : List Word). put word ws far) (subst (λ (y : Instance). cells ≡ o.framed.values ++ (control_words (block_controls sc y.block o.framed.ats) ++ o.framed.descriptors)) is_x o.framed.cells_is)
+              ∙ put_first word o.framed.values (control_words (block_controls sc x.block o.framed.ats) ++ o.framed.descriptors) far (λ set. omega (arith, short set, frame_values part outer (length lower) m k' cells o e));
+          placed = placed_so outer o.framed.instance (changed w i x at with_cells) (ap (λ (y : Instance). y.parent) is_x) (ap (λ (y : Instance). y.block) is_x) o.framed.placed;
+          home = o.framed.home;
+          linked = subst (λ (y : Instance). home_of sc w' lay y.parent ≡ Some o.framed.home) is_x (home_after tree code texts w w' lay lay p high stays o.framed.instance.parent o.framed.home o.framed.linked);
+          df = o.framed.df;
+          mark_is = o.framed.mark_is;
+          back = o.framed.back;
+          control_is = o.framed.control_is;
+          level_is = o.framed.level_is ∙ ap (λ (y : Instance). level_of (block_numbered sc.blocks y.block)) is_x;
         }
 
   -- one above it
-  abbrev other_framed : (part : Part) (outer : List Part) (words : List Word) (f : Before part outer words) → part.instance ≢ i →
-      Framed sc w' lay p part.instance outer (length (put word f.lower k)) f.mark f.control f.cells
-  other_framed part outer words f apart =
+  abbrev other_framed : (part : Part) (outer : List Part) (lower : List Word) (m k' : Word) (cells : List Word) (o : OwnedBefore part outer (length lower) m k' cells) → part.instance ≢ i →
+      Framed sc w' lay p part.instance outer (length (put word lower k)) m k' cells
+  other_framed part outer lower m k' cells o apart =
       record {
-        instance = f.framed.instance;
-        is = others_at w i x at with_cells part.instance apart ∙ f.framed.is;
-        own = f.framed.own;
-        known = f.framed.known;
-        laid = f.framed.laid ∙ ap (λ (n : ℕ). Some (place p n)) (sym (length_put word f.lower k));
-        stands = f.framed.stands;
-        simple = f.framed.simple;
-        values = f.framed.values;
-        simple_are = f.framed.simple_are;
+        instance = o.framed.instance;
+        is = others_at w i x at with_cells part.instance apart ∙ o.framed.is;
+        own = o.framed.own;
+        known = o.framed.known;
+        laid = o.framed.laid ∙ ap (λ (n : ℕ). Some (place p n)) (sym (length_put word lower k));
+        stands = o.framed.stands;
+        simple = o.framed.simple;
+        values = o.framed.values;
+        simple_are = o.framed.simple_are;
         formals = λ n t there refers.
-            let g = f.framed.formals n t there refers in
+            let g = o.framed.formals n t there refers in
             (g.0, g.1, g.2, g.3, denotes_lasts sc w w' lay lay outer outer (all_remain outer) t.wanted g.0.cell g.1 g.4);
-        ats = f.framed.ats;
-        each_has_place = f.framed.each_has_place;
-        arrays = f.framed.arrays;
-        declared = f.framed.declared;
-        later = f.framed.later;
-        order = f.framed.order;
-        descriptors = f.framed.descriptors;
-        made = f.framed.made;
-        has = f.framed.has;
-        cells_is = f.framed.cells_is;
-        placed = placed_so outer f.framed.instance f.framed.instance refl refl f.framed.placed;
-        home = f.framed.home;
-        linked = home_after tree code texts w w' lay lay p high stays f.framed.instance.parent f.framed.home f.framed.linked;
-        df = f.framed.df;
-        mark_is = f.framed.mark_is;
-        back = f.framed.back;
-        control_is = f.framed.control_is;
-        level_is = f.framed.level_is;
+        ats = o.framed.ats;
+        each_has_place = o.framed.each_has_place;
+        arrays = o.framed.arrays;
+        declared = o.framed.declared;
+        later = o.framed.later;
+        order = o.framed.order;
+        descriptors = o.framed.descriptors;
+        made = o.framed.made;
+        has = o.framed.has;
+        cells_is = o.framed.cells_is;
+        placed = placed_so outer o.framed.instance o.framed.instance refl refl o.framed.placed;
+        home = o.framed.home;
+        linked = home_after tree code texts w w' lay lay p high stays o.framed.instance.parent o.framed.home o.framed.linked;
+        df = o.framed.df;
+        mark_is = o.framed.mark_is;
+        back = o.framed.back;
+        control_is = o.framed.control_is;
+        level_is = o.framed.level_is;
       }
 
-  stored_by : (part : Part) (outer : List Part) (words : List Word) (f : Before part outer words) → Around tree code texts w lay p outer f.lower f.mark f.control (wanted_in tree w part) →
-      (IsOwn outer i → Around tree code texts w' lay p outer (put word f.lower k) f.mark f.control (wanted_in tree w part)) → IsOwn (part ∷ outer) i → Stored part outer words f
+  -- an instance is still there, of the same block
+  still_there : (j : ℕ) (y : Instance) → numbered w.instances j ≡ Some y → numbered w'.instances j ≡ Some (instance_at w' j)
+  still_there j y e = by_number (same_or_not j i)
+    where
+      itself : (z : Instance) → numbered w'.instances j ≡ Some z → numbered w'.instances j ≡ Some (instance_at w' j)
+      itself z there = there ∙ ap (λ (o : Option Instance). Some (or_no_instance o)) (sym there)
+
+      by_number : (j ≡ i) ⊎ (j ≢ i) → numbered w'.instances j ≡ Some (instance_at w' j)
+      by_number (inl same) = itself (changed w i x at with_cells) (ap (λ (n : ℕ). numbered w'.instances n) same ∙ changed_at w i x at with_cells)
+      by_number (inr apart) = itself y (others_at w i x at with_cells j apart ∙ e)
+
+  same_block : (j : ℕ) (y : Instance) → numbered w.instances j ≡ Some y → y.block ≡ (instance_at w' j).block
+  same_block j y e = sym (ap (λ (o : Option Instance). (or_no_instance o).block) e) ∙ same_of w i x at with_cells (λ (z : Instance). z.block) refl j
+
+  -- a frame above it is of the same shape: that of another instance, or lent
+  other_shape : (part : Part) (outer : List Part) (lower : List Word) (m k' : Word) (cells : List Word) (home : Place) (gives : Yields) → high + 2 ≤ length lower →
+      Shape tree code texts w lay p part outer (length lower) m k' cells home gives → Shape tree code texts w' lay p part outer (length (put word lower k)) m k' cells home gives
+  other_shape part outer lower m k' cells home gives above (of_own o is) =
+      let apart : part.instance ≢ i = λ (e : part.instance ≡ i). let height : length lower ≡ high = frame_high part outer (length lower) m k' cells o e in omega (arith, height, above) in
+      of_own (record { owns = o.owns; framed = other_framed part outer lower m k' cells o apart; routines = o.routines; making = o.making }) is
+  other_shape part outer lower m k' cells home gives above (of_lent l) =
+      of_lent (record { evaluates = l.evaluates; asked = l.asked; expression = l.expression; stands = l.stands; none = l.none; linked = l.linked })
+
+  stored_by : (part : Part) (outer : List Part) (words : List Word) (f : Before part outer words) → Around tree code texts w lay p outer f.lower f.mark f.control f.gives →
+      (IsOwn outer i → Around tree code texts w' lay p outer (put word f.lower k) f.mark f.control f.gives) → IsOwn (part ∷ outer) i → Stored part outer words f
   stored_by part outer words f a deeper (inl e) =
-      let height : length f.lower ≡ high = frame_high part outer words f e in
+      let o : OwnedBefore part outer (length f.lower) f.mark f.control f.cells = owned_frame tree code texts w lay p part outer words f e.0 in
+      let height : length f.lower ≡ high = frame_high part outer (length f.lower) f.mark f.control f.cells o e.1 in
+      let own : Framed sc w' lay p part.instance outer (length f.lower) f.mark f.control (put word f.cells far) =
+      own_framed part outer f.lower f.mark f.control f.cells o e.1 (own_cells part outer f.lower f.mark f.control f.cells o e.1) in
       record {
         frame = record {
-          owns = f.owns;
           lower = f.lower;
           mark = f.mark;
           control = f.control;
@@ -339,40 +369,63 @@ module _ (tree : PProgram) (code : Code) (texts : Texts) (w : World) (lay : Layo
           words_are = ap (λ (ws : List Word). put word ws k) f.words_are
               ∙ put_second word f.lower (f.mark ∷ f.control ∷ f.cells) k (suc (suc far)) (omega (arith, place_is, height))
               ∙ ap (λ (ws : List Word). f.lower ++ ws) (put_cells word f.mark f.control f.cells far);
-          framed = own_framed part outer words f e (own_cells part outer words f e);
-          routines = subst (λ (y : Instance). RoutinesStand tree code texts y.block f.framed.ats) (is_x part outer words f e) f.routines;
+          instance = own.instance;
+          is = own.is;
+          known = own.known;
+          home = own.home;
+          df = own.df;
+          mark_is = own.mark_is;
+          back = own.back;
+          control_is = own.control_is;
+          level_is = own.level_is ∙ runs_at part (level_of (block_numbered sc.blocks own.instance.block)) o.owns;
+          gives = f.gives;
           text = text_so part outer words f;
-          making = f.making;
+          shape = of_own (record {
+            owns = o.owns;
+            framed = own;
+            routines = subst (λ (y : Instance). RoutinesStand tree code texts y.block o.framed.ats) (is_x part outer f.lower f.mark f.control f.cells o e.1) o.routines;
+            making = o.making;
+          })
+              (frame_gives tree code texts w lay p part outer words f e.0 ∙ ap (λ (y : Instance). yields_of (block_numbered sc.blocks y.block).result) (ap or_no_instance (ap (λ (j : ℕ). numbered w.instances j) e.1 ∙ at)));
         };
-        low = λ set. omega (arith, place_is, height, short set, frame_cells part outer words f e, below_frame words f.lower f.mark f.control f.cells f.words_are);
+        low = λ set. omega (arith, place_is, height, short set, frame_cells part outer (length f.lower) f.mark f.control f.cells o e.1, below_frame words f.lower f.mark f.control f.cells f.words_are);
         lower = refl;
         mark = refl;
         control = refl;
         cells = length_put word f.cells far;
-        around = wanted_so part outer f.lower f.mark f.control (around_stays tree code texts w w' lay lay p high stays outer f.lower f.mark f.control (wanted_in tree w part) (omega (arith, height)) a);
+        gives = refl;
+        around = (around_stays tree code texts w w' lay lay p high stays outer f.lower f.mark f.control f.gives (omega (arith, height)) a);
       }
   stored_by part outer words f a deeper (inr o) =
-      let lies : (IsStored word → k < length f.lower) × (high + 2 ≤ length f.lower) = cell_low outer f.lower (lies_around tree code texts w lay p outer f.lower f.mark f.control (wanted_in tree w part) a i o) in
+      let lies : (IsStored word → k < length f.lower) × (high + 2 ≤ length f.lower) = cell_low outer f.lower (lies_around tree code texts w lay p outer f.lower f.mark f.control f.gives a i o) in
       record {
         frame = record {
-          owns = f.owns;
           lower = put word f.lower k;
           mark = f.mark;
           control = f.control;
           cells = f.cells;
           words_are = ap (λ (ws : List Word). put word ws k) f.words_are
               ∙ put_first word f.lower (f.mark ∷ f.control ∷ f.cells) k lies.0;
-          framed = other_framed part outer words f (λ (e : part.instance ≡ i). let height : length f.lower ≡ high = frame_high part outer words f e in omega (arith, height, lies.1));
-          routines = f.routines;
+          instance = instance_at w' part.instance;
+          is = still_there part.instance f.instance f.is;
+          known = subst (λ (b : ℕ). b < length sc.blocks) (same_block part.instance f.instance f.is) f.known;
+          home = f.home;
+          df = f.df;
+          mark_is = f.mark_is;
+          back = f.back;
+          control_is = f.control_is;
+          level_is = f.level_is ∙ ap (λ (b : ℕ). run_level (is_evaluation part.purpose) (level_of (block_numbered sc.blocks b))) (same_block part.instance f.instance f.is);
+          gives = f.gives;
           text = text_so part outer words f;
-          making = f.making;
+          shape = other_shape part outer f.lower f.mark f.control f.cells f.home f.gives lies.1 f.shape;
         };
         low = λ set. omega (arith, lies.0 set, below_frame words f.lower f.mark f.control f.cells f.words_are);
         lower = length_put word f.lower k;
         mark = refl;
         control = refl;
         cells = refl;
-        around = wanted_so part outer (put word f.lower k) f.mark f.control (deeper o);
+        gives = refl;
+        around = deeper o;
       }
 
   -- the parts around
@@ -381,7 +434,7 @@ module _ (tree : PProgram) (code : Code) (texts : Texts) (w : World) (lay : Layo
   around_stored [] lower mark control wanted a own = absurd own
   around_stored (part ∷ outer) lower mark control wanted a own =
       let s : Waits tree code texts w lay p part outer lower mark control wanted = a.0 in
-      let g : Stored part outer s.below s.frame = stored_by part outer s.below s.frame a.1 (λ o. around_stored outer s.frame.lower s.frame.mark s.frame.control (wanted_in tree w part) a.1 o) own in
+      let g : Stored part outer s.below s.frame = stored_by part outer s.below s.frame a.1 (λ o. around_stored outer s.frame.lower s.frame.mark s.frame.control s.frame.gives a.1 o) own in
       let block_is : (instance_at w part.instance).block ≡ (instance_at w' part.instance).block = same_of w i x at with_cells (λ (y : Instance). y.block) refl part.instance in
       let as_high : length s.below ≡ length (put word s.below k) = sym (length_put word s.below k) in (
         record {
@@ -393,13 +446,15 @@ module _ (tree : PProgram) (code : Code) (texts : Texts) (w : World) (lay : Layo
           pc = s.pc;
           slots = s.slots;
           returns = subst (λ (b : ℕ). (r : Answer) → Gives wanted r →
-              ComesTo sc (context_of code texts sc b) (texts.placed (segment_of sc.blocks b)) (level_of (block_numbered sc.blocks b)) (most_around tree b) (resume sc part.rest r) s.pc (pushed wanted r s.slots)) block_is s.returns;
+              ComesTo sc (in_routine g.frame.gives (context_of code texts sc b)) (texts.placed (segment_of sc.blocks b)) (run_level (is_evaluation part.purpose) (level_of (block_numbered sc.blocks b))) (most_around tree b) (resume sc part.rest r) s.pc (pushed wanted r s.slots)) block_is
+              (subst (λ (y : Yields). (r : Answer) → Gives wanted r →
+              ComesTo sc (context_at tree code texts w lay p part y) (text_of tree code texts w lay p part) (level_at tree code texts w lay p part) (most_of tree code texts w lay p part) (resume sc part.rest r) s.pc (pushed wanted r s.slots)) (sym g.gives) s.returns);
           few = subst (λ (b : ℕ). length s.slots + 1 ≤ most_around tree b) block_is s.few;
           held = s.held;
           held_are = known_stored (part ∷ outer) part.instance s.held s.held_are;
-          words_are = subst (λ (b : ℕ). SlotsAre sc s.held (level_of (block_numbered sc.blocks b)) (length g.frame.lower) (length (put word s.below k)) s.slots s.words) block_is
-              (subst (λ (n : ℕ). SlotsAre sc s.held (level_of (block_numbered sc.blocks ((instance_at w part.instance).block))) (length g.frame.lower) n s.slots s.words) as_high
-              (subst (λ (n : ℕ). SlotsAre sc s.held (level_of (block_numbered sc.blocks ((instance_at w part.instance).block))) n (length s.below) s.slots s.words) (sym g.lower) s.words_are));
+          words_are = subst (λ (b : ℕ). SlotsAre sc s.held (run_level (is_evaluation part.purpose) (level_of (block_numbered sc.blocks b))) (length g.frame.lower) (length (put word s.below k)) s.slots s.words) block_is
+              (subst (λ (n : ℕ). SlotsAre sc s.held (run_level (is_evaluation part.purpose) (level_of (block_numbered sc.blocks ((instance_at w part.instance).block)))) (length g.frame.lower) n s.slots s.words) as_high
+              (subst (λ (n : ℕ). SlotsAre sc s.held (run_level (is_evaluation part.purpose) (level_of (block_numbered sc.blocks ((instance_at w part.instance).block)))) n (length s.below) s.slots s.words) (sym g.lower) s.words_are));
           home = s.home;
           df = s.df;
           mark_is = s.mark_is;
@@ -411,7 +466,7 @@ module _ (tree : PProgram) (code : Code) (texts : Texts) (w : World) (lay : Layo
           control_is = s.control_is;
           segment_is = s.segment_is ∙ ap (λ (b : ℕ). segment_of sc.blocks b) block_is;
           place_is = s.place_is;
-          level_is = s.level_is ∙ ap (λ (b : ℕ). level_of (block_numbered sc.blocks b)) block_is;
+          level_is = s.level_is ∙ ap (λ (b : ℕ). run_level (is_evaluation part.purpose) (level_of (block_numbered sc.blocks b))) block_is;
           cells_are = s.cells_are ∙ sym g.cells;
           light = subst (λ (b : ℕ). length (put word s.below k) + most_around tree b + 3 ≤ parts_weight tree w' (part ∷ outer)) block_is
               (subst (λ (n : ℕ). n + most_in tree w part + 3 ≤ parts_weight tree w' (part ∷ outer)) as_high
@@ -421,6 +476,6 @@ module _ (tree : PProgram) (code : Code) (texts : Texts) (w : World) (lay : Layo
       )
 
   -- the innermost frame, and the parts around it
-  pub frame_stored : (part : Part) (outer : List Part) (words : List Word) (f : Frame tree code texts w lay p part outer words) → Around tree code texts w lay p outer f.lower f.mark f.control (wanted_in tree w part) →
+  pub frame_stored : (part : Part) (outer : List Part) (words : List Word) (f : Frame tree code texts w lay p part outer words) → Around tree code texts w lay p outer f.lower f.mark f.control f.gives →
       IsOwn (part ∷ outer) i → Stored part outer words f
-  frame_stored part outer words f a own = stored_by part outer words f a (λ o. around_stored outer f.lower f.mark f.control (wanted_in tree w part) a o) own
+  frame_stored part outer words f a own = stored_by part outer words f a (λ o. around_stored outer f.lower f.mark f.control f.gives a o) own

@@ -25,14 +25,18 @@ use Rattle.b67_cores.specs.Stretches.{CoreAt, Above}
 use Rattle.b67_cores.proofs.Staying.{steps_stay_above}
 use Rattle.b67_faithful.proofs.Choices.{length_set_numbered}
 use Rattle.b67_pictures.specs.Arrays.{Layout, AreMade, IsOwn, ArraysAre}
-use Rattle.b67_pictures.specs.Frames.{CellsAre, most_around, IsChained, Stands, Around, Frames}
+use Rattle.b67_pictures.specs.Frames.{CellsAre, most_around, IsChained, Stands, Around, Frames, run_level}
 use Rattle.b67_pictures.specs.Pictures.{innermost_most, Living, Pictured, living, dead, PicturesBy}
 use Rattle.b67_pictures.proofs.Kept.{alike_by, alike_but, pictured_alike}
 use Rattle.b67_pictures.proofs.Knowing.{KeepsArrays}
 use Rattle.b67_pictures.proofs.Numbers.{same_or_not}
 use Rattle.b67_pictures.proofs.Stage.{process_is, comes_by}
-use Rattle.b67_pictures.proofs.Staying.{wanted_in, same_weight}
+use Rattle.b67_pictures.proofs.Staying.{same_weight}
 use Rattle.b67_pictures.proofs.StoringFrames.{IsStored, put, length_put, put_first, changed, stored_world, same_of, same_ancestors, as_heavy, ChangedCells, Stored, known_stored, frame_stored}
+use Rattle.b67_templates.specs.Code.{in_routine}
+use Rattle.b67_templates.specs.Contexts.{Yields}
+use Rattle.algol_meaning.specs.Critical.{is_evaluation}
+use Rattle.b67_control.specs.Display.{place_at}
 
 -- The instance's frame lies so high in the stack of process p. A word that is stored lies so far above the frame's two words, at the place k.
 module _ (tree : PProgram) (code : Code) (texts : Texts) (w : World) (lay : Layout) (p : ℕ) (i : ℕ) (x : Instance) (at : numbered w.instances i ≡ Some x) (with_cells : List NamedCell)
@@ -51,7 +55,7 @@ module _ (tree : PProgram) (code : Code) (texts : Texts) (w : World) (lay : Layo
   abbrev pub stored_core : Core → Core
   stored_core core = over (put word core.below k) core
 
-  module _ (part : Part) (outer : List Part) (core : Core) (s : Stands tree code texts w lay p part outer core) (a : Around tree code texts w lay p outer s.frame.lower s.frame.mark s.frame.control (wanted_in tree w part))
+  module _ (part : Part) (outer : List Part) (core : Core) (s : Stands tree code texts w lay p part outer core) (a : Around tree code texts w lay p outer s.frame.lower s.frame.mark s.frame.control s.frame.gives)
       (own : IsOwn (part ∷ outer) i) where
     g : Stored tree code texts w lay p i x at with_cells high laid far k place_is word many short keeps changes part outer core.below s.frame
     g = frame_stored tree code texts w lay p i x at with_cells high laid far k place_is word many short keeps changes part outer core.below s.frame a own
@@ -63,7 +67,7 @@ module _ (tree : PProgram) (code : Code) (texts : Texts) (w : World) (lay : Layo
     as_high = sym (length_put word core.below k)
 
     abbrev level : ℕ
-    level = level_of (block_numbered sc.blocks ((instance_at w part.instance).block))
+    level = run_level (is_evaluation part.purpose) (level_of (block_numbered sc.blocks ((instance_at w part.instance).block)))
 
     core_at : CoreAt sc s.held code (texts.placed (segment_of sc.blocks ((instance_at w part.instance).block))) level s.pc s.slots (stored_core core)
     core_at =
@@ -78,7 +82,7 @@ module _ (tree : PProgram) (code : Code) (texts : Texts) (w : World) (lay : Layo
           words_are = subst (λ (n : ℕ). SlotsAre sc s.held level (frame core.registers) n s.slots core.words) as_high s.there.words_are;
         }
 
-    chained : IsChained sc w' lay part.instance level core.registers.display
+    chained : IsChained sc w' lay part.instance (level_of (block_numbered sc.blocks ((instance_at w part.instance).block))) core.registers.display
     chained up low =
         s.chained up low
         ∙ ap (λ (j : ℕ). numbered lay.places j) (same_ancestors w w' (λ j. same_of w i x at with_cells (λ (z : Instance). z.parent) refl j) up part.instance)
@@ -89,14 +93,17 @@ module _ (tree : PProgram) (code : Code) (texts : Texts) (w : World) (lay : Layo
           frame = g.frame;
           counted = s.counted ∙ sym g.cells;
           chained = subst (λ (m : ℕ). IsChained sc w' lay part.instance (level_of (block_numbered sc.blocks m)) core.registers.display) block_is chained;
+          top = ap (λ (m : ℕ). place_at core.registers.display (run_level (is_evaluation part.purpose) (level_of (block_numbered sc.blocks m)))) (sym block_is) ∙ s.top ∙ ap (λ (n : ℕ). Some (place p n)) (sym g.lower);
           segment_is = s.segment_is ∙ ap (λ (m : ℕ). segment_of sc.blocks m) block_is;
           asks = s.asks;
           pc = s.pc;
           slots = s.slots;
           held = s.held;
           held_are = known_stored tree code texts w lay p i x at with_cells high laid far k place_is word many short keeps changes (part ∷ outer) part.instance s.held s.held_are;
-          stands = subst (λ (m : ℕ). StandsFor sc (context_of code texts sc m) (texts.placed (segment_of sc.blocks m)) (level_of (block_numbered sc.blocks m)) (most_around tree m) part.rest s.pc s.slots) block_is s.stands;
-          there = subst (λ (m : ℕ). CoreAt sc s.held code (texts.placed (segment_of sc.blocks m)) (level_of (block_numbered sc.blocks m)) s.pc s.slots (stored_core core)) block_is core_at;
+          stands = subst (λ (m : ℕ). StandsFor sc (in_routine g.frame.gives (context_of code texts sc m)) (texts.placed (segment_of sc.blocks m)) (run_level (is_evaluation part.purpose) (level_of (block_numbered sc.blocks m))) (most_around tree m) part.rest s.pc s.slots) block_is
+              (subst (λ (y : Yields). StandsFor sc (in_routine y (context_of code texts sc ((instance_at w part.instance).block))) (texts.placed (segment_of sc.blocks ((instance_at w part.instance).block))) level
+              (most_around tree ((instance_at w part.instance).block)) part.rest s.pc s.slots) (sym g.gives) s.stands);
+          there = subst (λ (m : ℕ). CoreAt sc s.held code (texts.placed (segment_of sc.blocks m)) (run_level (is_evaluation part.purpose) (level_of (block_numbered sc.blocks m))) s.pc s.slots (stored_core core)) block_is core_at;
           few = subst (λ (m : ℕ). length s.slots ≤ most_around tree m) block_is s.few;
         }
 

@@ -76,10 +76,10 @@ module _ (tree : PProgram) (code : Code) (texts : Texts) (nested : AreNested (sc
 module _ (tree : PProgram) (code : Code) (texts : Texts) (nested : AreNested (scopes_of tree)) (fragments : FragmentsArePerformed) (keeps : RestsKeepToTheirText) (order : AllIsMadeInOrder)
     (w : World) (lay : Layout) (img : Image) (p : ℕ) (q : Process) (part : Part) (outer : List Part) (bound : ℕ) (core : Core) (s : Scene tree code texts w lay img p q part outer bound core)
     (able_is : q.state ≡ able) (able_p : numbered img.states p ≡ Some Able) (r : Reference) (v : Value) (asks : ask part.rest ≡ stores (there r) v)
-    (a : ActionAt (scopes_of tree) (context_in tree code texts w part) (text_in tree texts w part) (level_in tree w part) (most_in tree w part) (stores (there r) v) s.stands.pc s.stands.slots)
+    (a : ActionAt (scopes_of tree) (context_in tree code texts w part s.stands.frame.gives) (text_in tree texts w part) (level_in tree w part) (most_in tree w part) (stores (there r) v) s.stands.pc s.stands.slots)
     (answered : (x : Answer) (at : ℕ) (left : List Slot) →
-    Acted (scopes_of tree) (context_in tree code texts w part) (text_in tree texts w part) (level_in tree w part) (most_in tree w part) (stores (there r) v) s.stands.pc s.stands.slots a x at left →
-    ComesTo (scopes_of tree) (context_in tree code texts w part) (text_in tree texts w part) (level_in tree w part) (most_in tree w part) (resume (scopes_of tree) part.rest x) at left) where
+    Acted (scopes_of tree) (context_in tree code texts w part s.stands.frame.gives) (text_in tree texts w part) (level_in tree w part) (most_in tree w part) (stores (there r) v) s.stands.pc s.stands.slots a x at left →
+    ComesTo (scopes_of tree) (context_in tree code texts w part s.stands.frame.gives) (text_in tree texts w part) (level_in tree w part) (most_in tree w part) (resume (scopes_of tree) part.rest x) at left) where
   at_store : operator_at code core.registers ≡ Ok (ops.Plain kinds.Stod, a.0)
   at_store = operator_there (scopes_of tree) s.stands.held code (text_in tree texts w part) (level_in tree w part) s.stands.pc s.stands.slots core (ops.Plain kinds.Stod) a.0 s.stands.there a.2.stands
 

@@ -1,4 +1,5 @@
 -- A store into the cell of a variable in the process's own stack, which the word under the top names.
+use Rattle.b67_control.specs.Display.{place_at}
 use Rattle.std.proofs.Common.{◌≡◌, ◌≢◌, refl, sym, ap, ◌∙◌, subst, ℕ, suc, ◌+◌, ◌<◌, ◌≤◌, List, [], ◌∷◌, ◌++◌, length, Option, Some, None, Bool, true, false, Ok, arith}
 use Rattle.std.specs.Prelude.{slice_set, if◌then◌else◌}
 use Rattle.b67_list.specs.Numbered.{numbered}
@@ -44,28 +45,32 @@ use Rattle.b67_faithful.specs.Correspondence.{as_action}
 use Rattle.b67_faithful.specs.Weight.{weight}
 use Rattle.b67_pictures.specs.Arrays.{Layout, AreMade, AreKnown, IsOwn}
 use Rattle.b67_pictures.specs.Acting.{Does, gave}
-use Rattle.b67_pictures.specs.Frames.{CellsAre, most_around, IsChained, Frame, Stands}
+use Rattle.b67_pictures.specs.Frames.{CellsAre, most_around, IsChained, Frame, Stands, run_level}
 use Rattle.b67_pictures.specs.Pictures.{Living, PicturesBy}
 use Rattle.b67_pictures.proofs.ArraysKept.{arrays_stored}
 use Rattle.b67_pictures.proofs.Cored.{registers_now, has_now, others_have, system_stays}
 use Rattle.b67_pictures.proofs.Kept.{AreAlike, alike_but}
 use Rattle.b67_pictures.proofs.FreshCells.{words_long}
 use Rattle.b67_pictures.proofs.Knowing.{KeepsArrays, keeps_stored, known_of}
+use Rattle.b67_pictures.proofs.Expressions.{expression_resumed}
 use Rattle.b67_pictures.proofs.Landing.{living_of}
-use Rattle.b67_pictures.proofs.Lying.{StayBelow}
+use Rattle.b67_pictures.proofs.Lying.{StayBelow, shape_on}
 use Rattle.b67_faithful.proofs.Choices.{length_set_numbered}
 use Rattle.b67_pictures.proofs.Numbers.{get_below, numbered_set}
 use Rattle.b67_pictures.proofs.Rows.{action_not_plain, action_is}
 use Rattle.b67_pictures.proofs.Scene.{Scene}
 use Rattle.b67_pictures.proofs.Stage.{gives_within, choice_is, goes_on, weight_of}
 use Rattle.b67_pictures.proofs.StackWords.{length-set}
-use Rattle.b67_pictures.proofs.Staying.{text_in, level_in, context_in, most_in, IsAsHeavy, same_weight, FrameStill, frame_still}
+use Rattle.b67_pictures.proofs.Staying.{text_in, level_in, context_in, most_in, IsAsHeavy, same_weight, FrameStill, frame_still, still_low}
 use Rattle.b67_pictures.proofs.StoreRow.{with_cell, stores_variable, store_raw, store_class}
 use Rattle.b67_pictures.proofs.StoringFrames.{changed, stored_world, changed_at, same_of, same_ancestors, as_heavy, ChangedCells, Stored, known_stored, frame_stored}
 use Rattle.b67_pictures.proofs.Unmade.{makes, unmade}
 use Rattle.b67_pictures.proofs.Variables.{cell_changed, changed_front, references_stored}
 use Rattle.b67_pictures.proofs.Words.{value_tag}
 use Rattle.b67_pictures.proofs.VariableHomes.{VariableHome}
+use Rattle.b67_templates.specs.Code.{in_routine}
+use Rattle.b67_templates.specs.Contexts.{Yields}
+use Rattle.algol_meaning.specs.Critical.{is_evaluation}
 
 pub length_cells : (cells : List NamedCell) (name : List ℕ) (c : Cell) → length (cells_with cells name c) ≡ length cells
 length_cells [] name c = refl
@@ -81,7 +86,7 @@ module _ (tree : PProgram) (code : Code) (texts : Texts) (fragments : FragmentsA
     (h : VariableHome tree code texts w lay img p q part outer bound core s r kind found) (to : Place) (v : Value) (fits : HasKind kind v) (asks : ask part.rest ≡ stores to v)
     (stores_so : choice_of (scopes_of tree) w p q part outer (stores to v) ≡ goes (scopes_of tree) w p q part outer Store (set_cell w r (simple v)) done)
     (next : ℕ) (below : List Slot)
-    (answered : ComesTo (scopes_of tree) (context_in tree code texts w part) (text_in tree texts w part) (level_in tree w part) (most_in tree w part) (resume (scopes_of tree) part.rest done) next below)
+    (answered : ComesTo (scopes_of tree) (context_in tree code texts w part s.stands.frame.gives) (text_in tree texts w part) (level_in tree w part) (most_in tree w part) (resume (scopes_of tree) part.rest done) next below)
     (there : operator_at code core.registers ≡ Ok (ops.Plain kinds.Stod, next)) (under : Slot) (top_lies : s.stands.slots ≡ operand v ∷ under ∷ below)
     (unmarked : newest (frame core.registers) (length core.below) (operand v ∷ under ∷ below) ≡ newest (frame core.registers) (length core.below) below)
     (x y : Word) (words : List Word) (top : core.words ≡ x ∷ y ∷ words) (x_is : ValueIs v x)
@@ -94,7 +99,7 @@ module _ (tree : PProgram) (code : Code) (texts : Texts) (fragments : FragmentsA
   b = (instance_at w part.instance).block
 
   abbrev level : ℕ
-  level = level_of (block_numbered sc.blocks b)
+  level = run_level (is_evaluation part.purpose) (level_of (block_numbered sc.blocks b))
 
   abbrev text : List Placed
   text = texts.placed (segment_of sc.blocks b)
@@ -109,17 +114,17 @@ module _ (tree : PProgram) (code : Code) (texts : Texts) (fragments : FragmentsA
   cell_index = 2 + h.number
 
   abbrev instance : Instance
-  instance = h.lies.frame.framed.instance
+  instance = h.lies.owned.framed.instance
 
   instance_there : numbered w.instances i ≡ Some instance
-  instance_there = ap (λ (j : ℕ). numbered w.instances j) (sym h.lies.instance_is) ∙ h.lies.frame.framed.is
+  instance_there = ap (λ (j : ℕ). numbered w.instances j) (sym h.lies.instance_is) ∙ h.lies.owned.framed.is
 
   -- the height of its frame
   abbrev high : ℕ
   high = length h.lies.frame.lower
 
   laid : numbered lay.places i ≡ Some (place p high)
-  laid = ap (λ (j : ℕ). numbered lay.places j) (sym h.lies.instance_is) ∙ h.lies.frame.framed.laid
+  laid = ap (λ (j : ℕ). numbered lay.places j) (sym h.lies.instance_is) ∙ h.lies.owned.framed.laid
 
   abbrev ss : List Simple
   ss = simple_cells sc (block_numbered sc.blocks instance.block)
@@ -128,8 +133,8 @@ module _ (tree : PProgram) (code : Code) (texts : Texts) (fragments : FragmentsA
   short =
       omega (
         arith,
-        get_below h.lies.frame.framed.values h.number h.word h.value_lies,
-        words_long ss h.lies.frame.framed.simple h.lies.frame.framed.values h.lies.frame.framed.simple_are,
+        get_below h.lies.owned.framed.values h.number h.word h.value_lies,
+        words_long ss h.lies.owned.framed.simple h.lies.owned.framed.values h.lies.owned.framed.simple_are,
       )
 
   tag : h.word.tag ≡ 0
@@ -211,7 +216,7 @@ module _ (tree : PProgram) (code : Code) (texts : Texts) (fragments : FragmentsA
   stay = record { instances = λ j at y e mine lies low. e; places = λ j g e. e; rows = λ j at y e mine lies low. refl }
 
   abbrev IsStill : Type 0
-  IsStill = FrameStill tree code texts stored w' lay lay p (suc (length frames.frame.lower)) stay part outer new.below frames.frame.cells
+  IsStill = FrameStill tree code texts stored w' lay lay p (suc (length frames.frame.lower)) stay part outer new.below frames.frame.cells frames.frame.gives
 
   still : IsStill
   still =
@@ -223,19 +228,26 @@ module _ (tree : PProgram) (code : Code) (texts : Texts) (fragments : FragmentsA
   abbrev frame' : Frame tree code texts w' lay p part' outer new.below
   frame' =
       record {
-        owns = still.frame.owns;
         lower = still.frame.lower;
         mark = still.frame.mark;
         control = still.frame.control;
         cells = still.frame.cells;
         words_are = still.frame.words_are;
-        framed = still.frame.framed;
-        routines = still.frame.routines;
+        instance = still.frame.instance;
+        is = still.frame.is;
+        known = still.frame.known;
+        home = still.frame.home;
+        df = still.frame.df;
+        mark_is = still.frame.mark_is;
+        back = still.frame.back;
+        control_is = still.frame.control_is;
+        level_is = still.frame.level_is;
+        gives = still.frame.gives;
         text = kept.resumed sc ((instance_at w' part.instance).block) part.rest done still.frame.text tt;
-        making = still.frame.making ∙ sym (unmade part.rest (ap makes asks)) ∙ sym (order.resumed sc ((instance_at w' part.instance).block) part.rest done still.frame.text);
+        shape = shape_on tree code texts w' lay p part outer (length still.frame.lower) still.frame.mark still.frame.control still.frame.cells still.frame.home still.frame.gives part'.rest (sym (unmade part.rest (ap makes asks)) ∙ sym (order.resumed sc ((instance_at w' part.instance).block) part.rest done still.frame.text)) (expression_resumed sc part.rest done) still.frame.shape;
       }
 
-  chained : IsChained sc w' lay part.instance level core.registers.display
+  chained : IsChained sc w' lay part.instance (level_of (block_numbered sc.blocks b)) core.registers.display
   chained up low =
       st.chained up low
       ∙ ap (λ (j : ℕ). numbered lay.places j) (same_ancestors w w' (λ j. same_of w i instance instance_there cells' (λ (z : Instance). z.parent) refl j) up part.instance)
@@ -310,14 +322,18 @@ module _ (tree : PProgram) (code : Code) (texts : Texts) (fragments : FragmentsA
         around = still.around;
         counted = st.counted ∙ sym frames.cells ∙ sym (ap length still.cells_are);
         chained = subst (λ (m : ℕ). IsChained sc w' lay part.instance (level_of (block_numbered sc.blocks m)) core.registers.display) block_is chained;
+        top = ap (λ (m : ℕ). place_at core.registers.display (run_level (is_evaluation part.purpose) (level_of (block_numbered sc.blocks m)))) (sym block_is)
+            ∙ st.top
+            ∙ ap (λ (m : ℕ). Some (place p m)) (sym (still_low tree code texts stored w' lay lay p (suc (length frames.frame.lower)) stay part outer new.below frames.frame still ∙ frames.lower));
         segment_is = st.segment_is ∙ ap (λ (m : ℕ). segment_of sc.blocks m) block_is;
         pc = next;
         slots = below;
         known = st.held;
         known_are = known_now;
-        at = subst (λ (m : ℕ). CoreAt sc st.held code (texts.placed (segment_of sc.blocks m)) (level_of (block_numbered sc.blocks m)) next below new) block_is core_at;
+        at = subst (λ (m : ℕ). CoreAt sc st.held code (texts.placed (segment_of sc.blocks m)) (run_level (is_evaluation part.purpose) (level_of (block_numbered sc.blocks m))) next below new) block_is core_at;
         held = subst (λ (m : ℕ). length below ≤ most_around tree m) block_is held;
-        comes = subst (λ (m : ℕ). ComesTo sc (context_of code texts sc m) (texts.placed (segment_of sc.blocks m)) (level_of (block_numbered sc.blocks m)) (most_around tree m) (resume sc part.rest done) next below) block_is answered;
+        comes = subst (λ (y : Yields). ComesTo sc (context_in tree code texts w' part' y) (text_in tree texts w' part') (level_in tree w' part') (most_in tree w' part') part'.rest next below) (sym (still.gives_are ∙ frames.gives))
+            (subst (λ (m : ℕ). ComesTo sc (in_routine s.stands.frame.gives (context_of code texts sc m)) (texts.placed (segment_of sc.blocks m)) (run_level (is_evaluation part.purpose) (level_of (block_numbered sc.blocks m))) (most_around tree m) (resume sc part.rest done) next below) block_is answered);
         room = subst (λ (m : ℕ). length new.below + most_around tree m ≤ bound) block_is (omega (arith, s.room, length-set core.below k x));
         light = light';
       })
@@ -325,7 +341,7 @@ module _ (tree : PProgram) (code : Code) (texts : Texts) (fragments : FragmentsA
   -- the instances of another process are as they were
   alike : (r : ℕ) → r ≢ p → AreAlike w w' lay lay r
   alike r other =
-      alike_but w w' lay r i instance (changed w i instance instance_there cells') instance_there (λ (same : r ≡ instance.process). other (same ∙ h.lies.frame.framed.own)) refl
+      alike_but w w' lay r i instance (changed w i instance instance_there cells') instance_there (λ (same : r ≡ instance.process). other (same ∙ h.lies.owned.framed.own)) refl
 
   pictured : PicturesBy tree code texts w' lay (with_core img p new)
   pictured =

@@ -1,5 +1,5 @@
 -- The references that STFF made are known: each display register names the frame of a static parent, that of its level the part's own.
-use Rattle.std.proofs.Common.{◌≡◌, inl, refl, sym, ap, ◌∙◌, subst, ℕ, ◌+◌, ◌-◌, ◌≤◌, List, [], ◌∷◌, ◌++◌, Option, Some, arith}
+use Rattle.std.proofs.Common.{◌≡◌, refl, sym, ap, ◌∙◌, subst, ℕ, ◌+◌, ◌-◌, ◌≤◌, List, [], ◌∷◌, ◌++◌, Option, Some, arith}
 use Rattle.std.specs.Prelude.{IsSome}
 use Rattle.b67_list.specs.Numbered.{numbered}
 use Rattle.algol_tree.specs.Plain.{PProgram}
@@ -20,8 +20,8 @@ use Rattle.b67_cores.specs.Slots.{Known}
 use Rattle.b67_cores.specs.Stretches.{Sees, IsStuffed, AreStuffed}
 use Rattle.b67_pictures.specs.Arrays.{Layout, an_array_named, a_variable_named, HeldIs, AreKnown, IsOwn}
 use Rattle.b67_pictures.specs.Frames.{IsChained, Frame, Around}
-use Rattle.b67_pictures.proofs.Lying.{Lies, lies_frame, own_parent}
-use Rattle.b67_pictures.proofs.Staying.{level_in, context_in, wanted_in}
+use Rattle.b67_pictures.proofs.Lying.{Lies, lies_frame, own_parent, part_own}
+use Rattle.b67_pictures.proofs.Staying.{names_in, context_in}
 
 -- what is known of each is so of both
 pub known_both : (sc : Scopes) (w : World) (lay : Layout) (parts : List Part) (i : ℕ) (added known : List Known) → AreKnown sc w lay (IsOwn parts) i added → AreKnown sc w lay (IsOwn parts) i known →
@@ -30,16 +30,16 @@ known_both sc w lay parts i [] known more are = are
 known_both sc w lay parts i (x ∷ added) known more are = (more.0, known_both sc w lay parts i added known more.1 are)
 
 module _ (tree : PProgram) (code : Code) (texts : Texts) (w : World) (lay : Layout) (p : ℕ) (part : Part) (outer : List Part) (words : List Word) (f : Frame tree code texts w lay p part outer words)
-    (a : Around tree code texts w lay p outer f.lower f.mark f.control (wanted_in tree w part)) (core : Core)
-    (chained : IsChained (scopes_of tree) w lay part.instance (level_in tree w part) core.registers.display) where
+    (a : Around tree code texts w lay p outer f.lower f.mark f.control f.gives) (core : Core)
+    (chained : IsChained (scopes_of tree) w lay part.instance (names_in tree w part) core.registers.display) where
   abbrev sc : Scopes
   sc = scopes_of tree
 
   abbrev level : ℕ
-  level = level_in tree w part
+  level = names_in tree w part
 
   -- the display names a frame at each level
-  pub sees : Sees (level_in tree w part) core
+  pub sees : Sees (names_in tree w part) core
   sees l low high =
       let up : ℕ = level - l in
       let near : up + OUTER_LEVEL ≤ level = omega (arith, low, high) in
@@ -50,10 +50,10 @@ module _ (tree : PProgram) (code : Code) (texts : Texts) (w : World) (lay : Layo
       (sym (ap (place_at core.registers.display) here
       ∙ chained up near
       ∙ ap (numbered lay.places) (sym lies.instance_is)
-      ∙ lies.frame.framed.laid)) refl
+      ∙ lies.owned.framed.laid)) refl
 
   abbrev context : Context
-  context = context_in tree code texts w part
+  context = context_in tree code texts w part f.gives
 
   named_stuffed : (held : Held) (couple : Couple) (word : Word) (frame : Place) → Stuffable sc context held couple → place_at core.registers.display couple.level ≡ Some frame →
       word ≡ cell_word (record { frame = frame; index = couple.index }) → HeldIs sc w lay (IsOwn (part ∷ outer)) part.instance held word
@@ -87,7 +87,7 @@ module _ (tree : PProgram) (code : Code) (texts : Texts) (w : World) (lay : Layo
       let near : 0 + OUTER_LEVEL ≤ level = omega (arith, is.level_is, is.outer) in
       let own_level : level - 0 ≡ c.level = omega (arith, is.level_is) in
       record {
-        own = inl refl;
+        own = part_own tree code texts w lay p part outer words f;
         level = level;
         couple = c;
         stands = is;
@@ -101,6 +101,6 @@ module _ (tree : PProgram) (code : Code) (texts : Texts) (w : World) (lay : Layo
       subst (λ (h : Held). HeldIs sc w lay (IsOwn (part ∷ outer)) part.instance h x.word) (sym s.held_is) (named_stuffed s.held s.couple x.word s.frame s.stuffable s.shown s.word_is)
 
   -- all of them are known
-  pub stuffed_known : (known : List Known) → AreStuffed (scopes_of tree) (context_in tree code texts w part) core known → AreKnown (scopes_of tree) w lay (IsOwn (part ∷ outer)) part.instance known
+  pub stuffed_known : (known : List Known) → AreStuffed (scopes_of tree) (context_in tree code texts w part f.gives) core known → AreKnown (scopes_of tree) w lay (IsOwn (part ∷ outer)) part.instance known
   stuffed_known [] are = tt
   stuffed_known (x ∷ known) are = (one_stuffed x are.0, stuffed_known known are.1)

@@ -1,4 +1,5 @@
 -- No operator of a pictured image reads or writes a word in the private part of another process.
+use Rattle.algol_meaning.specs.Critical.{is_evaluation}
 use Rattle.std.proofs.Common.{◌≡◌, refl, sym, ap, ◌∙◌, subst, ℕ, ◌+◌, ◌-◌, ◌<◌, List, [], ◌∷◌, length, Some, None, Bool, true, false, arith, ◌^◌, ◌++◌}
 use Rattle.std.specs.Prelude.{if◌then◌else◌, nat_le, pos}
 use Rattle.b67_list.specs.Numbered.{numbered}
@@ -14,6 +15,8 @@ use Rattle.algol_meaning.specs.Rest.{Place as FoundPlace, own, there, element_of
 use Rattle.algol_meaning.specs.World.{Process, Part, World, instance_at}
 use Rattle.algol_meaning.specs.Asks.{Ask, nothing, reads, reads_element, indexes, asks_happened, fails, enters, passes, resolves, reads_result, leaves, stores, selects, turns, goes_to, enters_block, starts, acts, writes, makes_arrays, makes_event, ask}
 use Rattle.algol_paths.specs.Blocks.{IsSeen, IsSeenAround, IsInner}
+use Rattle.algol_standing.specs.Worlds.{IsWhole}
+use Rattle.algol_standing.specs.Fitting.{IsOk}
 use Rattle.b67_word.specs.declared.Place.{Place}
 use Rattle.b67_word.specs.Word.{Word}
 use Rattle.b67_control.specs.declared.Pcw.{Pcw}
@@ -56,24 +59,25 @@ use Rattle.b67_pictures.specs.Pictures.{Living, PicturesBy}
 use Rattle.b67_pictures.proofs.GivenWords.{AreFit, none_wanted, are_fit, Taken, taken_words}
 use Rattle.b67_pictures.proofs.Asked.{reads_seen, stores_seen}
 use Rattle.b67_pictures.proofs.AskedEntries.{enters_seen}
-use Rattle.b67_pictures.proofs.NameHomes.{NameHome, name_home}
-use Rattle.b67_pictures.proofs.Resolving.{FindsName, finds_name}
-use Rattle.b67_pictures.proofs.VariableHomes.{VariableHome}
+use Rattle.b67_pictures.proofs.NameHomes.{NameCellHome, NameStands, LeadsOn, home_of_name, leads_on, name_stands}
+use Rattle.b67_pictures.proofs.Resolving.{FindsName, finds_name, resolved_name}
 use Rattle.b67_pictures.proofs.StoringThere.{FindsVariable, finds_variable}
 use Rattle.b67_pictures.proofs.Scene.{Scene, scene_of, shown_frame}
+use Rattle.b67_pictures.proofs.Worlds.{narrow_of}
 use Rattle.b67_pictures.proofs.Slotted.{Top, top_slot}
 use Rattle.b67_pictures.proofs.Yielding.{result_given}
-use Rattle.b67_pictures.proofs.Staying.{text_in, level_in, context_in, most_in}
-use Rattle.b67_pictures.proofs.Words.{value_tag, no_sirw, reference_read}
+use Rattle.b67_pictures.proofs.Staying.{text_in, level_in, context_in, most_in, names_in}
+use Rattle.b67_pictures.proofs.Words.{no_sirw, reference_read}
 use Rattle.b67_pictures.proofs.Touching.{NearFrame, own_frame, own_cell, NamesNear}
 use Rattle.b67_pictures.proofs.TouchingOperators.{StandsNear, privately, near_reaches, operator_private}
 use Rattle.b67_pictures.proofs.TouchingOthers.{LivesThere, lives_there, own_stacks}
-use Rattle.b67_pictures.proofs.TouchingCells.{IsOperand, IsEntry, Names, below_there, variable_there, result_there, procedure_there}
+use Rattle.b67_pictures.proofs.TouchingCells.{IsOperand, IsEntry, Names, variable_there, result_there, procedure_there}
 use Rattle.b67_pictures.proofs.TouchingCalls.{under_top, over_top, call_names}
 use Rattle.b67_pictures.proofs.TouchingElements.{element_read_near, indexed_near, element_stored_near, passed_near, made_near}
 use Rattle.b67_pictures.proofs.TouchingNames.{value_names, value_names_through, through_named, none_named, branch_names, cell_named, refers_named, no_kind, block_names, entry_names}
 use Rattle.b67_pictures.proofs.TouchingScene.{by_names, by_class}
-use Rattle.b67_pictures.proofs.TouchingWords.{level_known, couple_fits, procedure_fits, pcw_kind}
+use Rattle.b67_pictures.proofs.TouchingWords.{couple_fits, procedure_fits, pcw_kind}
+use Rattle.b67_pictures.proofs.Lying.{asks_as_own, frame_gives, runs_low, runs_deep}
 
 -- ---- a process at its action
 
@@ -91,8 +95,11 @@ module _ (tree : PProgram) (code : Code) (texts : Texts) (nested : AreNested (sc
     abbrev level : ℕ
     level = level_in tree w part
 
+    abbrev named_level : ℕ
+    named_level = names_in tree w part
+
     abbrev context : Context
-    context = context_in tree code texts w part
+    context = context_in tree code texts w part s.stands.frame.gives
 
     abbrev text : List Placed
     text = text_in tree texts w part
@@ -107,8 +114,8 @@ module _ (tree : PProgram) (code : Code) (texts : Texts) (nested : AreNested (sc
     abbrev InCell : Couple → (Word → Type 0) → Type 0
     InCell couple Is = Names tree code texts nested w lay img p q part outer bound core s couple Is
 
-    known : level < 32
-    known = level_known tree code texts nested w lay p part outer core s.stands s.around
+    known : named_level < 32
+    known = omega (arith, runs_low tree code texts w lay p part outer core.below s.stands.frame, runs_deep (is_evaluation part.purpose) named_level)
 
     by_op : (op : Operator) (next : ℕ) → Has text level s.stands.pc op next → NamesNear p img op r → Comes
     by_op = by_names tree code texts nested w lay img p q part outer bound core s
@@ -124,29 +131,40 @@ module _ (tree : PProgram) (code : Code) (texts : Texts) (nested : AreNested (sc
 
     -- ---- actions
 
-    -- the cell of a parameter by name leads to one of the own stack
-    name_near : (n : Named) (kind : Kind) (couple : Couple) (next : ℕ) → Has text level s.stands.pc (ops.Valc couple) next → NameHome tree code texts nested w lay img p q part outer bound core s n kind couple → Comes
-    name_near n kind couple next has_it h =
-        let v : VariableHome tree code texts w lay img p q part outer bound core s h.home.r kind h.home.denotes.found = h.named.home in
-        let at : ℕ = length v.lies.frame.lower in
+    abbrev IsNamedThere : Named → Kind → Couple → Type 0
+    IsNamedThere n kind couple = NameStands tree code texts nested w lay img p q part outer bound core s n kind couple
+
+    -- the cell of a parameter by name, and the cell to which its word refers
+    abbrev CellOf : (n : Named) (kind : Kind) (couple : Couple) → IsNamedThere n kind couple → NameCellHome tree code texts nested w lay img p q part outer bound core s n kind couple
+    CellOf n kind couple x = home_of_name tree code texts nested w lay img p q part outer bound core s n kind couple x
+
+    way : (n : Named) (kind : Kind) (couple : Couple) (x : IsNamedThere n kind couple) → LeadsOn tree code texts nested w lay img p q part outer bound core s (CellOf n kind couple x).word
+    way n kind couple x = leads_on tree code texts nested w lay img p q part outer bound core s n kind couple x
+
+    -- it leads to one of the own stack
+    name_near : (n : Named) (kind : Kind) (couple : Couple) (next : ℕ) → Has text level s.stands.pc (ops.Valc couple) next → IsNamedThere n kind couple → Comes
+    name_near n kind couple next has_it x =
+        let h : NameCellHome tree code texts nested w lay img p q part outer bound core s n kind couple = CellOf n kind couple x in
+        let t : LeadsOn tree code texts nested w lay img p q part outer bound core s (CellOf n kind couple x).word = way n kind couple x in
         by_op (ops.Valc couple) next has_it
-        (value_names_through p img r couple (place p h.home.at) h.home.shown (own_cell p img (record { frame = place p h.home.at; index = couple.index }) refl) h.home.word h.home.lies
-        (record { stack = p; displacement = at; index = 2 + v.number }) h.named.reads (own_cell p img (record { frame = place p at; index = 2 + v.number }) refl) v.word
-        (below_there tree code texts nested w lay img p q part outer bound core s (at + (2 + v.number)) v.word v.below_lies) (no_sirw v.word (value_tag v.value v.word v.word_is)))
+        (value_names_through p img r couple (place p h.at) h.shown (own_cell p img (record { frame = place p h.at; index = couple.index }) refl) h.word h.lies
+        (record { stack = p; displacement = t.at; index = t.index }) t.refers (own_cell p img (record { frame = place p t.at; index = t.index }) refl) t.reached t.lies t.no_further)
 
     read_near : (n : Named) → ask part.rest ≡ reads n → At (reads n) → Comes
     read_near n e a =
         let seen : IsSeen sc block n = reads_seen (IsSeen sc block) n (IsInner sc block) (IsSeenAround sc block) (λ (seen : IsSeenAround sc block n). seen.0) part.rest e s.stands.frame.text in
         by_read seen a.2.1
       where
-        by_read : IsSeen sc block n → IsRead sc level n a.0 a.2.0 → Comes
+        by_read : IsSeen sc block n → IsRead sc named_level n a.0 a.2.0 → Comes
         by_read seen (of_variable v) = operand_near a.2.0 a.1 a.2.2 (variable_there tree code texts nested w lay img p q part outer bound core s n a.0 a.2.0 seen v)
-        by_read seen (of_formal v) = name_near n a.0 a.2.0 a.1 a.2.2 (name_home tree code texts nested w lay img p q part outer bound core s n a.0 a.2.0 seen v)
+        by_read seen (of_formal v) = name_near n a.0 a.2.0 a.1 a.2.2 (name_stands tree code texts nested w lay img p q part outer bound core s n a.0 a.2.0 seen v)
 
-    result_near : (name : List ℕ) → At (reads_result name) → Comes
-    result_near name a =
+    result_near : (name : List ℕ) → ask part.rest ≡ reads_result name → At (reads_result name) → Comes
+    result_near name e a =
+        let owns : is_evaluation part.purpose ≡ false = asks_as_own tree code texts w lay p part outer core.below s.stands.frame (reads_result name) e (λ k. k) in
         operand_near a.0.couple a.0.valued a.0.read
-        (result_there tree code texts nested w lay img p q part outer bound core s a.0.kind (result_given _ a.0.kind a.0.is) a.0.couple a.0.level_is a.0.index_is)
+        (result_there tree code texts nested w lay img p q part outer bound core s owns a.0.kind (result_given _ a.0.kind (sym (frame_gives tree code texts w lay p part outer core.below s.stands.frame owns) ∙ a.0.is))
+        a.0.couple a.0.level_is a.0.index_is)
 
     stored_near : (n : Named) (v : Value) → ask part.rest ≡ stores (own n) v → At (stores (own n) v) → Comes
     stored_near n v e a =
@@ -156,7 +174,7 @@ module _ (tree : PProgram) (code : Code) (texts : Texts) (nested : AreNested (sc
         top_slot sc s.stands.held level (frame r) (length core.below) s.stands.slots (operand v) (reference couple ∷ a.1) core.words s.stands.there.words_are a.2.lies in
         let second : Top sc s.stands.held level (frame r) (length core.below) (reference couple) a.1 first.words_below =
         top_slot sc s.stands.held level (frame r) (length core.below) (reference couple ∷ a.1) (reference couple) a.1 first.words_below first.are refl in
-        let fits : (couple.level < 32) × (couple.index < 2 ^ 14) = couple_fits sc nested level n a.2.kind couple a.2.variable known in
+        let fits : (couple.level < 32) × (couple.index < 2 ^ 14) = couple_fits sc nested named_level n a.2.kind couple a.2.variable known in
         let top : core.words ≡ (first.word ∷ []) ++ second.word ∷ second.words_below = first.is ∙ ap (λ (ws : List Word). first.word ∷ ws) second.is in
         let c : InCell couple IsOperand = variable_there tree code texts nested w lay img p q part outer bound core s n a.2.kind couple seen a.2.variable in
         by_op (ops.Plain kinds.Stod) a.0 a.2.stands
@@ -166,15 +184,15 @@ module _ (tree : PProgram) (code : Code) (texts : Texts) (nested : AreNested (sc
 
     resolved_near : (n : Named) → ask part.rest ≡ resolves n → At (resolves n) → Comes
     resolved_near n e a =
-        let f : FindsName tree code texts nested w lay img p q part outer bound core s n e a.0 a.1 a.2 a.3 = finds_name tree code texts nested w lay img p q part outer bound core s n e a.0 a.1 a.2 a.3 in
-        let v : VariableHome tree code texts w lay img p q part outer bound core s f.home.home.r a.0 f.home.home.denotes.found = f.home.named.home in
-        let at : ℕ = length v.lies.frame.lower in
+        let x : IsNamedThere n a.0 a.3.couple = resolved_name tree code texts nested w lay img p q part outer bound core s n e a.0 a.1 a.2 a.3 in
+        let h : NameCellHome tree code texts nested w lay img p q part outer bound core s n a.0 a.3.couple = CellOf n a.0 a.3.couple x in
+        let t : LeadsOn tree code texts nested w lay img p q part outer bound core s (CellOf n a.0 a.3.couple x).word = way n a.0 a.3.couple x in
+        let f : FindsName tree code texts nested w lay img p q part outer bound core s n e a.0 a.1 a.2 a.3 = finds_name tree code texts nested w lay img p q part outer bound core s n e a.0 a.1 a.2 a.3 h in
         by_op (ops.Plain kinds.Eval) a.1 a.3.stands
         (through_named p img r kinds.Eval (λ g. cc) (r.s - 1) (λ m g. g) f.top.word (over_top img p core s.has f.top.word f.top.words_below f.top.is)
-        (record { level = a.3.couple.level; index = a.3.couple.index }) (place p f.home.home.at) f.home.home.word (record { stack = p; displacement = at; index = 2 + v.number }) v.word f.names f.home.home.shown
-        (own_cell p img (record { frame = place p f.home.home.at; index = a.3.couple.index }) refl) f.home.home.lies f.home.named.reads
-        (own_cell p img (record { frame = place p at; index = 2 + v.number }) refl)
-        (below_there tree code texts nested w lay img p q part outer bound core s (at + (2 + v.number)) v.word v.below_lies) (no_sirw v.word (value_tag v.value v.word v.word_is)))
+        (record { level = a.3.couple.level; index = a.3.couple.index }) (place p h.at) h.word (record { stack = p; displacement = t.at; index = t.index }) t.reached f.names h.shown
+        (own_cell p img (record { frame = place p h.at; index = a.3.couple.index }) refl) h.lies t.refers
+        (own_cell p img (record { frame = place p t.at; index = t.index }) refl) t.lies t.no_further)
 
     there_near : (x : Reference) (v : Value) → At (stores (there x) v) → Comes
     there_near x v a =
@@ -247,7 +265,7 @@ module _ (tree : PProgram) (code : Code) (texts : Texts) (nested : AreNested (sc
     called_near n gs e a =
         let seen : IsSeen sc block n = (enters_seen (IsSeen sc block) n gs (IsInner sc block) (IsSeenAround sc block) (λ m (seen : IsSeenAround sc block m). seen.0) part.rest e s.stands.frame.text).0 in
         let couple : Couple = a.3.couple in
-        let fits : (couple.level < 32) × (couple.index < 2 ^ 14) = procedure_fits sc nested level n a.0 couple a.3.procedure known in
+        let fits : (couple.level < 32) × (couple.index < 2 ^ 14) = procedure_fits sc nested named_level n a.0 couple a.3.procedure known in
         let above = above_mark (parameter_wants sc a.0) gs (are_fit sc context (parameter_wants sc a.0) gs a.3.fit) (reference couple) a.2 a.3.lies refl in
         let c : InCell couple IsEntry = procedure_there tree code texts nested w lay img p q part outer bound core s n a.0 couple seen a.3.procedure in
         by_op (ops.Plain kinds.Entr) a.1 a.3.stands
@@ -267,7 +285,7 @@ module _ (tree : PProgram) (code : Code) (texts : Texts) (nested : AreNested (sc
     by_ask (leaves (value v)) e a = given_near v a
     by_ask (enters_block (tree_forms.body spot ds ss)) e a = block_near spot ds ss a
     by_ask (enters n gs) e a = called_near n gs e a
-    by_ask (reads_result name) e a = result_near name a
+    by_ask (reads_result name) e a = result_near name e a
     by_ask (leaves (cell c)) e a = absurd a
     by_ask (leaves (at_place y)) e a = place_near y a
     by_ask (leaves entered) e a = absurd a
@@ -293,13 +311,13 @@ module _ (tree : PProgram) (code : Code) (texts : Texts) (nested : AreNested (sc
 
   -- ---- a process that lives
 
-  module _ (by : PicturesBy tree code texts w lay img) where
+  module _ (by : PicturesBy tree code texts w lay img) (ok : IsOk (scopes_of tree) IsWhole w) where
     operator_near : (p : ℕ) (q : Process) → numbered w.processes p ≡ Some q → (l : Living tree code texts w lay img p q) → StandsNear code p img l.core.registers
     operator_near p q at l = by_steps l.steps refl refl
       where
         settled_near : l.core ≡ l.settled → StandsNear code p img l.core.registers
         settled_near same =
-            let found = scene_of tree code texts w lay img p q by at l (subst (λ (c : Core). HasCore img p c) same l.has) in
+            let found = scene_of tree code texts w lay img p q (narrow_of tree code texts w lay img by ok p q at) by at l (subst (λ (c : Core). HasCore img p c) same l.has) in
             subst (λ (c : Core). StandsNear code p img c.registers) (sym same) (standing_near p q found.0 found.1 l.bound l.settled found.2)
 
         step_near : (c b : Core) → c ≡ l.core → CoreStep code c b → StandsNear code p img l.core.registers
@@ -318,6 +336,6 @@ module _ (tree : PProgram) (code : Code) (texts : Texts) (nested : AreNested (sc
 
 -- no operator of a pictured image reads or writes a word in the private part of another process
 pub processes_apart : (tree : PProgram) (code : Code) (texts : Texts) → AreNested (scopes_of tree) → RestsGoOn →
-    (w : World) (lay : Layout) (a : Image) → PicturesBy tree code texts w lay a → (p q : ℕ) (x : Place) (r : Registers) → OperatorTouches code a p x → Lives a q r → IsPrivate r x → p ≡ q
-processes_apart tree code texts nested rests w lay a by p q x r touches lives private =
-    others_stay_private code a p x (own_stacks tree code texts w lay a by) (leads_below tree code texts nested rests w lay a by p) touches q r lives private
+    (w : World) (lay : Layout) (a : Image) → PicturesBy tree code texts w lay a → IsOk (scopes_of tree) IsWhole w → (p q : ℕ) (x : Place) (r : Registers) → OperatorTouches code a p x → Lives a q r → IsPrivate r x → p ≡ q
+processes_apart tree code texts nested rests w lay a by ok p q x r touches lives private =
+    others_stay_private code a p x (own_stacks tree code texts w lay a by) (leads_below tree code texts nested rests w lay a by ok p) touches q r lives private

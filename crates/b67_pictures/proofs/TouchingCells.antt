@@ -1,5 +1,6 @@
 -- Where a process finds what an action reads: the operand in the cell of a variable or a result, and the control word of a procedure.
-use Rattle.std.proofs.Common.{◌≡◌, inl, refl, sym, ap, ◌∙◌, subst, ℕ, suc, ◌+◌, ◌-◌, ◌≤◌, List, [], ◌∷◌, ◌++◌, length, Option, Some, None, false, arith, lit<}
+use Rattle.algol_meaning.specs.Critical.{is_evaluation}
+use Rattle.std.proofs.Common.{◌≡◌, refl, sym, ap, ◌∙◌, subst, ℕ, suc, ◌+◌, ◌-◌, ◌≤◌, List, [], ◌∷◌, ◌++◌, length, Option, Some, None, false, arith, lit<}
 use Rattle.std.specs.Prelude.{slice_get, reverse}
 use Rattle.b67_list.specs.Numbered.{numbered}
 use Rattle.algol_tree.specs.declared.tree.Kind.{Kind}
@@ -31,10 +32,10 @@ use Rattle.b67_cores.specs.Cores.{Core}
 use Rattle.b67_cores.specs.Stretches.{control_words}
 use Rattle.b67_fitting.specs.Nested.{IsDeclared, AreNested}
 use Rattle.b67_pictures.specs.Arrays.{Layout}
-use Rattle.b67_pictures.specs.Frames.{CellsAre}
+use Rattle.b67_pictures.specs.Frames.{CellsAre, Owned}
 use Rattle.b67_pictures.proofs.FreshCells.{cells_joined}
 use Rattle.b67_pictures.proofs.Homes.{Home, home}
-use Rattle.b67_pictures.proofs.Lying.{Lies, lies_in, IsParent, parents_in}
+use Rattle.b67_pictures.proofs.Lying.{Lies, lies_in, IsParent, parents_in, part_own, owned_frame}
 use Rattle.b67_pictures.proofs.Numbers.{get_below}
 use Rattle.b67_pictures.proofs.Rows.{words_are}
 use Rattle.b67_pictures.proofs.Scene.{Scene, shown_frame}
@@ -43,7 +44,7 @@ use Rattle.b67_pictures.proofs.ControlWords.{get_control}
 use Rattle.b67_pictures.proofs.Segmented.{procedure_segment, get_mapped}
 use Rattle.b67_pictures.proofs.StackWords.{get-front, get-behind}
 use Rattle.b67_pictures.proofs.Parents.{length_around}
-use Rattle.b67_pictures.proofs.Staying.{level_in}
+use Rattle.b67_pictures.proofs.Staying.{names_in, level_in}
 use Rattle.b67_pictures.proofs.Touching.{NearCell, own_cell}
 use Rattle.b67_pictures.proofs.TouchingWords.{pcw_kind}
 use Rattle.b67_pictures.proofs.Variables.{Holds_value, value_of_cell}
@@ -105,7 +106,7 @@ module _ (tree : PProgram) (code : Code) (texts : Texts) (nested : AreNested (sc
   sc = scopes_of tree
 
   abbrev level : ℕ
-  level = level_in tree w part
+  level = names_in tree w part
 
   abbrev block : ℕ
   block = (instance_at w part.instance).block
@@ -144,21 +145,24 @@ module _ (tree : PProgram) (code : Code) (texts : Texts) (nested : AreNested (sc
 
   -- ---- the own result
 
-  module _ (kind : Kind) (typed : (block_numbered sc.blocks block).result ≡ Some kind) (couple : Couple) (level_is : couple.level ≡ level)
+  module _ (owns : is_evaluation part.purpose ≡ false) (kind : Kind) (typed : (block_numbered sc.blocks block).result ≡ Some kind) (couple : Couple) (level_is : couple.level ≡ level_in tree w part)
       (index_is : couple.index ≡ 2 + length (parameter_cells sc (block_numbered sc.blocks block))) where
+    abbrev own_frame : Owned tree code texts w lay p part outer (length s.stands.frame.lower) s.stands.frame.mark s.stands.frame.control s.stands.frame.cells
+    own_frame = owned_frame tree code texts w lay p part outer core.below s.stands.frame owns
+
     abbrev own : Instance
-    own = s.stands.frame.framed.instance
+    own = own_frame.framed.instance
 
     own_block : own.block ≡ block
-    own_block = sym (ap (λ (o : Option Instance). (or_no_instance o).block) s.stands.frame.framed.is)
+    own_block = sym (ap (λ (o : Option Instance). (or_no_instance o).block) own_frame.framed.is)
 
     abbrev many : ℕ
     many = length (parameter_cells sc (block_numbered sc.blocks own.block))
 
-    first : First many s.stands.frame.framed.values
+    first : First many own_frame.framed.values
     first =
-        first_value sc (block_numbered sc.blocks own.block) kind (ap (λ (j : ℕ). (block_numbered sc.blocks j).result) own_block ∙ typed) s.stands.frame.framed.simple s.stands.frame.framed.values
-        s.stands.frame.framed.simple_are
+        first_value sc (block_numbered sc.blocks own.block) kind (ap (λ (j : ℕ). (block_numbered sc.blocks j).result) own_block ∙ typed) own_frame.framed.simple own_frame.framed.values
+        own_frame.framed.simple_are
 
     third : couple.index ≡ 2 + many
     third = index_is ∙ ap (λ (j : ℕ). 2 + length (parameter_cells sc (block_numbered sc.blocks j))) (sym own_block)
@@ -167,8 +171,8 @@ module _ (tree : PProgram) (code : Code) (texts : Texts) (nested : AreNested (sc
     result_lies =
         ap (λ (ws : List Word). slice_get ws (length s.stands.frame.lower + couple.index)) s.stands.frame.words_are
         ∙ get-behind s.stands.frame.lower (s.stands.frame.mark ∷ s.stands.frame.control ∷ s.stands.frame.cells) (suc (suc many)) (length s.stands.frame.lower + couple.index) (omega (arith, third))
-        ∙ ap (λ (ws : List Word). slice_get ws many) s.stands.frame.framed.cells_is
-        ∙ get-front s.stands.frame.framed.values _ many first.word first.lies
+        ∙ ap (λ (ws : List Word). slice_get ws many) own_frame.framed.cells_is
+        ∙ get-front own_frame.framed.values _ many first.word first.lies
 
     pub result_there : Names couple IsOperand
     result_there =
@@ -195,7 +199,7 @@ module _ (tree : PProgram) (code : Code) (texts : Texts) (nested : AreNested (sc
 
     module _ (parent : IsParent tree code texts w lay p (part ∷ outer) part.instance up ((use_of sc n).block)) (l : Lies tree code texts w lay p (part ∷ outer) home_at core.below) where
       abbrev here : Instance
-      here = l.frame.framed.instance
+      here = l.owned.framed.instance
 
       abbrev declaring : Block
       declaring = block_numbered sc.blocks here.block
@@ -210,13 +214,13 @@ module _ (tree : PProgram) (code : Code) (texts : Texts) (nested : AreNested (sc
       control = code_at segment 0 (level_of declaring + 1)
 
       block_here : here.block ≡ (use_of sc n).block
-      block_here = sym (ap (λ (x : Instance). x.block) (ap (instance_at w) (sym l.instance_is) ∙ ap or_no_instance l.frame.framed.is)) ∙ parent.block
+      block_here = sym (ap (λ (x : Instance). x.block) (ap (instance_at w) (sym l.instance_is) ∙ ap or_no_instance l.owned.framed.is)) ∙ parent.block
 
       declared_there : slice_get (procedures declaring.decls) c.number ≡ Some c.declared
       declared_there = ap (λ (j : ℕ). slice_get (procedures ((block_numbered sc.blocks j).decls)) c.number) block_here ∙ c.there
 
       is_declared : IsDeclared sc here.block c.declared
-      is_declared = (nested.each here.block l.frame.framed.known).procedure c.number c.declared declared_there
+      is_declared = (nested.each here.block l.owned.framed.known).procedure c.number c.declared declared_there
 
       -- a control word can hold its segment and its level
       fits : Fits_pcw control
@@ -228,15 +232,15 @@ module _ (tree : PProgram) (code : Code) (texts : Texts) (nested : AreNested (sc
           (omega (arith, procedure_segment sc.blocks called is_declared.procedure, few), (lit< tt, (lit< tt, (omega (arith, further, deep), (lit< tt, tt)))))
 
       abbrev controls_there : List Word
-      controls_there = control_words (block_controls sc here.block l.frame.framed.ats)
+      controls_there = control_words (block_controls sc here.block l.owned.framed.ats)
 
       cells_lie : slice_get l.frame.cells (length (simple_cells sc declaring) + c.number) ≡ Some (pcw_word control)
       cells_lie =
-          ap (λ (ws : List Word). slice_get ws (length (simple_cells sc declaring) + c.number)) l.frame.framed.cells_is
-          ∙ get-behind l.frame.framed.values (controls_there ++ l.frame.framed.descriptors) c.number (length (simple_cells sc declaring) + c.number)
-          (omega (arith, words_many (simple_cells sc declaring) l.frame.framed.simple l.frame.framed.values l.frame.framed.simple_are))
-          ∙ get-front controls_there l.frame.framed.descriptors c.number (pcw_word control)
-          (get_control sc here.block l.frame.framed.ats c.number segment
+          ap (λ (ws : List Word). slice_get ws (length (simple_cells sc declaring) + c.number)) l.owned.framed.cells_is
+          ∙ get-behind l.owned.framed.values (controls_there ++ l.owned.framed.descriptors) c.number (length (simple_cells sc declaring) + c.number)
+          (omega (arith, words_many (simple_cells sc declaring) l.owned.framed.simple l.owned.framed.values l.owned.framed.simple_are))
+          ∙ get-front controls_there l.owned.framed.descriptors c.number (pcw_word control)
+          (get_control sc here.block l.owned.framed.ats c.number segment
           (get_mapped (λ (m : Named). segment_of sc.blocks (number_at sc.blocks m.spot)) (procedures declaring.decls) c.number c.declared declared_there))
 
       far : length l.frame.lower + couple.index ≡ length l.frame.lower + suc (suc (length (simple_cells sc declaring) + c.number))
@@ -262,7 +266,7 @@ module _ (tree : PProgram) (code : Code) (texts : Texts) (nested : AreNested (sc
                 ap (λ (k : ℕ). display_at core.registers k) level_up
                 ∙ s.stands.chained up low
                 ∙ ap (λ (k : ℕ). numbered lay.places k) (sym l.instance_is)
-                ∙ l.frame.framed.laid;
+                ∙ l.owned.framed.laid;
             word = pcw_word control;
             lies = below_there (length l.frame.lower + couple.index) (pcw_word control) below_lies;
             is =
@@ -277,5 +281,5 @@ module _ (tree : PProgram) (code : Code) (texts : Texts) (nested : AreNested (sc
     pub procedure_there : Names couple IsEntry
     procedure_there =
         let parent : IsParent tree code texts w lay p (part ∷ outer) part.instance up ((use_of sc n).block) =
-        parents_in tree code texts w lay p part outer core s.stands s.around part.instance (inl refl) up ((use_of sc n).block) seen in
+        parents_in tree code texts w lay p part outer core s.stands s.around part.instance (part_own tree code texts w lay p part outer core.below s.stands.frame) up ((use_of sc n).block) seen in
         entry_there parent (lies_in tree code texts w lay p part outer core s.stands s.around home_at parent.own)

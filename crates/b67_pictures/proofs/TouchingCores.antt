@@ -1,4 +1,6 @@
 -- What an operator of a pictured image leaves of the cores of other processes: what it does of any code, since it is led below floors.
+use Rattle.algol_standing.specs.Worlds.{IsWhole}
+use Rattle.algol_standing.specs.Fitting.{IsOk}
 use Rattle.std.proofs.Common.{◌≡◌, ◌≢◌, ℕ, ◌<◌, length, Some, Ok}
 use Rattle.std.specs.Prelude.{slice_set}
 use Rattle.algol_tree.specs.Plain.{PProgram}
@@ -26,13 +28,13 @@ use Rattle.b67_pictures.specs.Pictures.{PicturesBy}
 use Rattle.b67_pictures.proofs.TouchingApart.{leads_below}
 use Rattle.b67_pictures.proofs.TouchingOthers.{own_stacks}
 
-module _ (tree : PProgram) (code : Code) (texts : Texts) (nested : AreNested (scopes_of tree)) (rests : RestsGoOn) (w : World) (lay : Layout) (img new : Image) (by : PicturesBy tree code texts w lay img)
+module _ (tree : PProgram) (code : Code) (texts : Texts) (nested : AreNested (scopes_of tree)) (rests : RestsGoOn) (w : World) (lay : Layout) (img new : Image) (by : PicturesBy tree code texts w lay img) (ok : IsOk (scopes_of tree) IsWhole w)
     (p : ℕ) (r : Registers) (op : Operator) (next : ℕ) (lives : Lives img p r) (stands : operator_at code r ≡ Ok (op, next)) (given : raw code img p ≡ gives new) (q : ℕ) (other : p ≢ q) (core : Core)
     (has : HasCore img q core) where
   -- a core of a stack in whose cells it stores nothing is as it was
   pub core_stays : ((x : Place) → x.stack ≡ q → NamesOperand img op r x → ⊥) → HasCore new q core
   core_stays none =
-      cores_stay code img new p q core r op next (own_stacks tree code texts w lay img by) (leads_below tree code texts nested rests w lay img by p) other has lives stands none given
+      cores_stay code img new p q core r op next (own_stacks tree code texts w lay img by) (leads_below tree code texts nested rests w lay img by ok p) other has lives stands none given
 
   -- so is each core, where it is no operator that stores
   pub core_kept : (Stores op → ⊥) → HasCore new q core
@@ -42,4 +44,4 @@ module _ (tree : PProgram) (code : Code) (texts : Texts) (nested : AreNested (sc
   pub core_holds : (at : ℕ) (word : Word) → ((x : Place) → x.stack ≡ q → NamesOperand img op r x → x.at ≡ at) → at < length core.below → word_at new.stacks (place q at) ≡ Some word →
       HasCore new q (over (slice_set core.below at word) core)
   core_holds at word only low now =
-      cores_hold_stores code img new p q core r op next (own_stacks tree code texts w lay img by) (leads_below tree code texts nested rests w lay img by p) other has lives stands at word only low now given
+      cores_hold_stores code img new p q core r op next (own_stacks tree code texts w lay img by) (leads_below tree code texts nested rests w lay img by ok p) other has lives stands at word only low now given

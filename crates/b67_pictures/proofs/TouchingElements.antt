@@ -61,7 +61,7 @@ module _ (tree : PProgram) (code : Code) (texts : Texts) (nested : AreNested (sc
     text = text_in tree texts w part
 
     abbrev At : Ask → Type 0
-    At k = ActionAt sc (context_in tree code texts w part) text level (most_in tree w part) k s.stands.pc s.stands.slots
+    At k = ActionAt sc (context_in tree code texts w part s.stands.frame.gives) text level (most_in tree w part) k s.stands.pc s.stands.slots
 
     -- an operator that takes the word at one place of its stack, where that word is found to be or to reach a descriptor
     by_found : (kind : PlainKind) → (ops.Plain kind ≡ ops.Plain kinds.Entr → ⊥) → (n next : ℕ) → ((m : ℕ) → TakesBy kind core.registers m → m ≡ n) → Has text level s.stands.pc (ops.Plain kind) next →
@@ -79,7 +79,7 @@ module _ (tree : PProgram) (code : Code) (texts : Texts) (nested : AreNested (sc
     module _ (n : Named) (ks : List ℕ) (v : Value) where
       pub element_read_near : ask part.rest ≡ reads_element n ks v → At (reads_element n ks v) → StandsNear code p img core.registers
       element_read_near asks a =
-          let found : ElementReadAt sc (context_in tree code texts w part) text level (most_in tree w part) n ks v s.stands.pc a.0 s.stands.slots a.1 = a.2 in
+          let found : ElementReadAt sc (context_in tree code texts w part s.stands.frame.gives) text level (most_in tree w part) n ks v s.stands.pc a.0 s.stands.slots a.1 = a.2 in
           let h : IsHome n a.2.array a.2.couple = array_home tree code texts nested w lay img p q part outer bound core s n a.2.array a.2.couple (ap array_asked asks) a.2.is_array in
           let l : LastIndex tree code texts nested w lay img p q part outer bound core s n a.2.array a.2.couple h ks a.2.subscript a.1 =
           last_index tree code texts nested w lay img p q part outer bound core s n a.2.array a.2.couple h ks a.2.subscript a.1 a.2.lies in

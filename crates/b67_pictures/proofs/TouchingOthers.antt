@@ -1,5 +1,5 @@
 -- The processes of a picture: each has its own stack and depends on no other, and the marks below its floor lead to frames below floors.
-use Rattle.std.proofs.Common.{◌≡◌, refl, sym, ap, ◌∙◌, ℕ, ◌+◌, ◌-◌, ◌<◌, ◌≤◌, List, [], ◌∷◌, length, Option, Some, None, arith}
+use Rattle.std.proofs.Common.{◌≡◌, refl, sym, ap, ◌∙◌, ℕ, ◌+◌, ◌<◌, ◌≤◌, List, [], ◌∷◌, length, Option, Some, None, arith}
 use Rattle.std.specs.Prelude.{slice_get, reverse}
 use Rattle.b67_list.specs.Numbered.{numbered}
 use Rattle.algol_tree.specs.Plain.{PProgram}
@@ -9,7 +9,6 @@ use Rattle.b67_word.specs.declared.Place.{Place}
 use Rattle.b67_word.specs.Word.{Word}
 use Rattle.b67_control.specs.declared.Registers.{Registers}
 use Rattle.b67_control.specs.Display.{place_at}
-use Rattle.b67_ops.specs.declared.TheConstants.{OUTER_LEVEL}
 use Rattle.b67_segment.specs.declared.code.Code.{Code}
 use Rattle.b67_store.specs.Store.{words_of, word_at}
 use Rattle.b67_table.specs.Chains.{place}
@@ -27,12 +26,11 @@ use Rattle.b67_faithful.proofs.Contradictions.{some_same, true_false}
 use Rattle.b67_fitting.specs.Nested.{AreNested}
 use Rattle.b67_footprints.specs.Laws.{HaveOwnStacks}
 use Rattle.b67_pictures.specs.Arrays.{Layout}
-use Rattle.b67_pictures.specs.Frames.{result_of_part, Stands, Around, Frames}
+use Rattle.b67_pictures.specs.Frames.{Stands, Around, Frames}
 use Rattle.b67_pictures.specs.Pictures.{Living, Pictured, living, dead, PicturesBy}
 use Rattle.b67_pictures.proofs.Numbers.{numbered_beyond, get_within}
 use Rattle.b67_pictures.proofs.Rows.{words_are}
 use Rattle.b67_pictures.proofs.StackWords.{get-front}
-use Rattle.b67_pictures.proofs.Staying.{level_in}
 use Rattle.b67_pictures.proofs.Touching.{below_floor, FrameAt, system_frame}
 use Rattle.b67_pictures.proofs.TouchingWords.{LinksTo, AllLead, lead_at, below_leads}
 
@@ -86,13 +84,10 @@ module _ (tree : PProgram) (code : Code) (texts : Texts) (w : World) (lay : Layo
         ∙ get-front l.core.below above.cells n x (found.1 ∙ ap (λ (y : Word). Some y) same)
 
     module _ (part : Part) (outer : List Part) (s : Stands tree code texts w lay q part outer l.settled)
-        (a : Around tree code texts w lay q outer s.frame.lower s.frame.mark s.frame.control (result_of_part tree code texts w lay q part)) where
+        (a : Around tree code texts w lay q outer s.frame.lower s.frame.mark s.frame.control s.frame.gives) where
       -- the innermost frame is where it was
       settled_frame : frame l.settled.registers ≡ length s.frame.lower
-      settled_frame =
-          let low : 0 + OUTER_LEVEL ≤ level_in tree w part = omega arith in
-          let here : l.settled.registers.ll ≡ level_in tree w part - 0 = omega (arith, s.there.level_is) in
-          ap at_or (ap (λ (n : ℕ). display_at l.settled.registers n) here ∙ s.chained 0 low ∙ s.frame.framed.laid)
+      settled_frame = ap at_or (ap (λ (n : ℕ). display_at l.settled.registers n) s.there.level_is ∙ s.top)
 
       own_frame : frame l.core.registers ≡ length s.frame.lower
       own_frame =

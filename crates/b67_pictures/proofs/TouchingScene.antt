@@ -1,5 +1,6 @@
 -- A process that stands at its action: near are the frames to which marks and its display lead.
-use Rattle.std.proofs.Common.{◌≡◌, inl, refl, sym, ap, ◌∙◌, ℕ, ◌+◌, ◌-◌, ◌≤◌, List, ◌∷◌, length, Some, None, Ok, arith}
+use Rattle.algol_meaning.specs.Critical.{is_evaluation}
+use Rattle.std.proofs.Common.{◌≡◌, ◌⊎◌, inl, inr, refl, sym, ap, ◌∙◌, ℕ, ◌+◌, ◌-◌, ◌<◌, ◌≤◌, List, ◌∷◌, length, Some, None, Ok, arith}
 use Rattle.std.specs.Prelude.{slice_get}
 use Rattle.b67_list.specs.Numbered.{numbered}
 use Rattle.algol_tree.specs.Blocks.{around}
@@ -28,12 +29,12 @@ use Rattle.b67_faithful.proofs.Contradictions.{some_same, none_some}
 use Rattle.b67_fitting.specs.Nested.{AreNested}
 use Rattle.b67_pictures.specs.Arrays.{Layout}
 use Rattle.b67_pictures.proofs.Homes.{operator_there}
-use Rattle.b67_pictures.proofs.Lying.{Lies, lies_in, parents_in}
-use Rattle.b67_pictures.proofs.Numbers.{get_within}
+use Rattle.b67_pictures.proofs.Lying.{Lies, lies_in, parents_in, part_own, runs_near}
+use Rattle.b67_pictures.proofs.Numbers.{get_within, most_or_more}
 use Rattle.b67_pictures.proofs.Parents.{length_around}
 use Rattle.b67_pictures.proofs.Rows.{words_are}
-use Rattle.b67_pictures.proofs.Scene.{Scene}
-use Rattle.b67_pictures.proofs.Staying.{text_in, level_in}
+use Rattle.b67_pictures.proofs.Scene.{Scene, shown_frame}
+use Rattle.b67_pictures.proofs.Staying.{text_in, level_in, names_in}
 use Rattle.b67_pictures.proofs.Touching.{Near, own_stack, system, below_floor, NearFrame, FrameAt, system_frame, own_frame, IsNear, NamesNear}
 use Rattle.b67_pictures.proofs.TouchingOperators.{StandsNear, privately, acting}
 use Rattle.b67_pictures.proofs.TouchingOthers.{LivesThere, lives_there, depends_not, lower_links}
@@ -47,6 +48,9 @@ module _ (tree : PProgram) (code : Code) (texts : Texts) (nested : AreNested (sc
   abbrev level : ℕ
   level = level_in tree w part
 
+  abbrev named_level : ℕ
+  named_level = names_in tree w part
+
   abbrev text : List Placed
   text = text_in tree texts w part
 
@@ -55,27 +59,36 @@ module _ (tree : PProgram) (code : Code) (texts : Texts) (nested : AreNested (sc
 
   -- the frames that the display names are those of the instance and of its static parents
   module _ (f : Place) (l : ℕ) (low : 2 ≤ l) (high : l ≤ core.registers.ll) (e : display_at core.registers l ≡ Some f) where
-    same_level : core.registers.ll ≡ level
-    same_level = s.stands.there.level_is
+    far : l ≤ named_level → named_level - l + OUTER_LEVEL ≤ named_level
+    far within = omega (arith, low, within)
 
-    far : level - l + OUTER_LEVEL ≤ level
-    far = omega (arith, low, high, same_level)
+    back : l ≤ named_level → named_level - (named_level - l) ≡ l
+    back within = omega (arith, within)
 
-    back : level - (level - l) ≡ l
-    back = omega (arith, high, same_level)
-
-    by_parent : Lies tree code texts w lay p (part ∷ outer) (ancestor w (level - l) part.instance) core.below → NearFrame p img f
-    by_parent k =
-        let named : numbered lay.places (ancestor w (level - l) part.instance) ≡ Some (place p (length k.frame.lower)) = ap (numbered lay.places) (sym k.instance_is) ∙ k.frame.framed.laid in
-        let shown : display_at core.registers l ≡ Some (place p (length k.frame.lower)) = ap (λ (n : ℕ). display_at core.registers n) (sym back) ∙ s.stands.chained (level - l) far ∙ named in
+    by_parent : l ≤ named_level → Lies tree code texts w lay p (part ∷ outer) (ancestor w (named_level - l) part.instance) core.below → NearFrame p img f
+    by_parent within k =
+        let named : numbered lay.places (ancestor w (named_level - l) part.instance) ≡ Some (place p (length k.frame.lower)) = ap (numbered lay.places) (sym k.instance_is) ∙ k.owned.framed.laid in
+        let shown : display_at core.registers l ≡ Some (place p (length k.frame.lower)) = ap (λ (n : ℕ). display_at core.registers n) (sym (back within)) ∙ s.stands.chained (named_level - l) (far within) ∙ named in
         own_frame p img f (ap (λ (y : Place). y.stack) (some_same (sym e ∙ shown)))
 
+    names_near : l ≤ named_level → NearFrame p img f
+    names_near within =
+        let there = get_within (block ∷ around sc.blocks block) (named_level - l) (omega (arith, far within, length_around sc.blocks block)) in
+        by_parent within
+        (lies_in tree code texts w lay p part outer core s.stands s.around (ancestor w (named_level - l) part.instance)
+        (parents_in tree code texts w lay p part outer core s.stands s.around part.instance (part_own tree code texts w lay p part outer core.below s.stands.frame) (named_level - l) there.0 there.1).own)
+
+    -- one level further in it is the part's own
     shown_near : NearFrame p img f
-    shown_near =
-        let there = get_within (block ∷ around sc.blocks block) (level - l) (omega (arith, far, length_around sc.blocks block)) in
-        by_parent
-        (lies_in tree code texts w lay p part outer core s.stands s.around (ancestor w (level - l) part.instance)
-        (parents_in tree code texts w lay p part outer core s.stands s.around part.instance (inl refl) (level - l) there.0 there.1).own)
+    shown_near = by_level (most_or_more l named_level)
+      where
+        own_near : l ≡ core.registers.ll → NearFrame p img f
+        own_near top =
+            own_frame p img f (ap (λ (y : Place). y.stack) (some_same (sym e ∙ ap (λ (n : ℕ). display_at core.registers n) top ∙ shown_frame tree code texts w lay img p q part outer bound core s)))
+
+        by_level : (l ≤ named_level) ⊎ (named_level < l) → NearFrame p img f
+        by_level (inl within) = names_near within
+        by_level (inr beyond) = own_near (omega (arith, high, beyond, s.stands.there.level_is, runs_near (is_evaluation part.purpose) named_level))
 
   -- the marks of near stacks lead to near frames
   own_leads : AllLead (FrameAt p img) (system_frame p img) (stack_of core)

@@ -50,11 +50,12 @@ use Rattle.b67_cores.proofs.Moving.{slots_length}
 use Rattle.b67_faithful.proofs.Contradictions.{some_same}
 use Rattle.b67_fitting.specs.Nested.{AreNested}
 use Rattle.b67_pictures.specs.Arrays.{Allotted, Layout, DescriptorIs, AreMade, Denotes, HeldIs, AreKnown, IsOwn}
-use Rattle.b67_pictures.specs.Frames.{CellIs, Refers, CellsAre, block_controls, IsPlaced, outermost, inside, home_of, result_of_part, Frame, Stands, Waits, Around, level_at}
+use Rattle.b67_pictures.specs.Frames.{CellIs, Refers, CellsAre, block_controls, IsPlaced, outermost, inside, home_of, Frame, Stands, Waits, Around, level_at, Owned, Shape, of_own, of_lent, run_level}
 use Rattle.b67_pictures.proofs.Lying.{Lies, lies_low, lies_around}
 use Rattle.b67_pictures.proofs.Numbers.{get_below}
 use Rattle.b67_pictures.proofs.StackWords.{reverse-cons}
 use Rattle.b67_pictures.proofs.Words.{value_tag, mark_read}
+use Rattle.algol_meaning.specs.Critical.{is_evaluation}
 
 -- the number of an intrinsic fits a reference
 pub numbers_small : (name : Intrinsic) → number_of name < 2 ^ 14
@@ -327,15 +328,12 @@ module _ (tree : PProgram) (code : Code) (texts : Texts) (nested : AreNested (sc
   abbrev Outer : List Part → List Word → Word → Word → Yields → Type 0
   Outer parts lower m c wanted = Around tree code texts w lay p parts lower m c wanted
 
-  abbrev wanted_of : Part → Yields
-  wanted_of part = result_of_part tree code texts w lay p part
-
-  module _ (part : Part) (outer : List Part) (core : Core) (s : Stands tree code texts w lay p part outer core) (a : Outer outer s.frame.lower s.frame.mark s.frame.control (wanted_of part)) where
+  module _ (part : Part) (outer : List Part) (core : Core) (s : Stands tree code texts w lay p part outer core) (a : Outer outer s.frame.lower s.frame.mark s.frame.control s.frame.gives) where
     pub level_known : level_at tree code texts w lay p part < 32
     level_known =
-        let same : level_at tree code texts w lay p part ≡ level_of (block_numbered sc.blocks s.frame.framed.instance.block) =
-        ap (λ (o : Option Instance). level_of (block_numbered sc.blocks ((or_no_instance o).block))) s.frame.framed.is in
-        omega (arith, same, s.frame.framed.level_is, (Fits-as_rcw s.frame.control s.frame.framed.control_is).1.1.1.1.1.0)
+        let same : level_at tree code texts w lay p part ≡ run_level (is_evaluation part.purpose) (level_of (block_numbered sc.blocks s.frame.instance.block)) =
+        ap (λ (o : Option Instance). run_level (is_evaluation part.purpose) (level_of (block_numbered sc.blocks ((or_no_instance o).block)))) s.frame.is in
+        omega (arith, same, s.frame.level_is, (Fits-as_rcw s.frame.control s.frame.control_is).1.1.1.1.1.0)
 
   -- Where frames so low are such places, and those of the system's stack.
   module _ (Home : ℕ → ℕ → Type 0) (root : (n : ℕ) → Home 0 n) (limit : ℕ) (frames : (n : ℕ) → n + 2 ≤ limit → Home p n) where
@@ -345,7 +343,7 @@ module _ (tree : PProgram) (code : Code) (texts : Texts) (nested : AreNested (sc
     -- the frame of an instance that lies in these parts
     laid_near : (outer : List Part) (lower : List Word) → length lower ≤ limit → (i : ℕ) (home : Place) → numbered lay.places i ≡ Some home → Lies tree code texts w lay p outer i lower → IsHome home
     laid_near outer lower low i home e l =
-        let at : numbered lay.places i ≡ Some (place p (length l.frame.lower)) = ap (numbered lay.places) (sym l.instance_is) ∙ l.frame.framed.laid in
+        let at : numbered lay.places i ≡ Some (place p (length l.frame.lower)) = ap (numbered lay.places) (sym l.instance_is) ∙ l.owned.framed.laid in
         let ends : length l.frame.lower + 2 + length l.frame.cells ≤ length lower = lies_low tree code texts w lay p outer i lower l in
         subst (λ (f : Place). Home f.stack f.at) (some_same (sym at ∙ e)) (frames (length l.frame.lower) (omega (arith, ends, low)))
 
@@ -362,28 +360,39 @@ module _ (tree : PProgram) (code : Code) (texts : Texts) (nested : AreNested (sc
         by_parent (suc i) f l = laid_near outer lower low (suc i) home f l
 
     -- the cells of parameters that stand for something else
-    formals_lead : (part : Part) (outer : List Part) (words : List Word) (f : Frame tree code texts w lay p part outer words) (k : ℕ) (s : Simple) (x : Word) →
-        slice_get (simple_cells sc (block_numbered sc.blocks f.framed.instance.block)) k ≡ Some s → Refers s.wanted → slice_get f.framed.values k ≡ Some x → LinksTo Home x
-    formals_lead part outer words f k s x there asked lies =
-        let g = f.framed.formals k s there asked in
+    formals_lead : (part : Part) (outer : List Part) (at : ℕ) (m c : Word) (cells : List Word) (o : Owned tree code texts w lay p part outer at m c cells) (k : ℕ) (s : Simple) (x : Word) →
+        slice_get (simple_cells sc (block_numbered sc.blocks o.framed.instance.block)) k ≡ Some s → Refers s.wanted → slice_get o.framed.values k ≡ Some x → LinksTo Home x
+    formals_lead part outer at m c cells o k s x there asked lies =
+        let g = o.framed.formals k s there asked in
         subst (LinksTo Home) (some_same (sym g.3 ∙ lies)) (denoted_leads sc w lay Home root outer part.instance s.wanted g.0.cell g.1 g.4)
 
-    frame_leads : (part : Part) (outer : List Part) (words : List Word) (f : Frame tree code texts w lay p part outer words) → Outer outer f.lower f.mark f.control (wanted_of part) → length f.lower ≤ limit → AllLead Home root f.lower → AllLead Home root words
+    owned_leads : (part : Part) (outer : List Part) (lower : List Word) (m c : Word) (cells : List Word) (wanted : Yields) (o : Owned tree code texts w lay p part outer (length lower) m c cells) → Outer outer lower m c wanted →
+        length lower ≤ limit → AllLead Home root (m ∷ c ∷ cells)
+    owned_leads part outer lower m c cells wanted o a ends = (
+      mark_leads Home root m _ o.framed.mark_is (home_near outer lower m c wanted a ends o.framed.instance o.framed.placed o.framed.home o.framed.linked),
+      (
+        back_leads Home root c o.framed.back o.framed.control_is,
+        subst (AllLead Home root) (sym o.framed.cells_is)
+            (lead_both Home root o.framed.values _ (cells_lead Home root (simple_cells sc (block_numbered sc.blocks o.framed.instance.block)) o.framed.simple o.framed.values o.framed.simple_are
+            (formals_lead part outer (length lower) m c cells o))
+            (lead_both Home root (control_words (block_controls sc o.framed.instance.block o.framed.ats)) o.framed.descriptors
+            (controls_lead Home root (block_controls sc o.framed.instance.block o.framed.ats))
+            (arrays_lead Home root o.framed.declared o.framed.arrays (lay.rows part.instance) o.framed.descriptors o.framed.made))),
+      ),
+    )
+
+    frame_leads : (part : Part) (outer : List Part) (words : List Word) (f : Frame tree code texts w lay p part outer words) → Outer outer f.lower f.mark f.control f.gives → length f.lower ≤ limit → AllLead Home root f.lower → AllLead Home root words
     frame_leads part outer words f a ends low =
-        let near : IsHome f.framed.home = home_near outer f.lower f.mark f.control (wanted_of part) a ends f.framed.instance f.framed.placed f.framed.home f.framed.linked in
-        subst (AllLead Home root) (sym f.words_are)
-        (lead_both Home root f.lower (f.mark ∷ f.control ∷ f.cells) low (
-          mark_leads Home root f.mark _ f.framed.mark_is near,
-          (
-            back_leads Home root f.control f.framed.back f.framed.control_is,
-            subst (AllLead Home root) (sym f.framed.cells_is)
-                (lead_both Home root f.framed.values _ (cells_lead Home root (simple_cells sc (block_numbered sc.blocks f.framed.instance.block)) f.framed.simple f.framed.values f.framed.simple_are
-                (formals_lead part outer words f))
-                (lead_both Home root (control_words (block_controls sc f.framed.instance.block f.framed.ats)) f.framed.descriptors
-                (controls_lead Home root (block_controls sc f.framed.instance.block f.framed.ats))
-                (arrays_lead Home root f.framed.declared f.framed.arrays (lay.rows part.instance) f.framed.descriptors f.framed.made))),
-          ),
-        ))
+        subst (AllLead Home root) (sym f.words_are) (lead_both Home root f.lower (f.mark ∷ f.control ∷ f.cells) low (by_shape f.shape))
+      where
+        -- the mark of one that is lent leads to the frame of a part around
+        by_shape : Shape tree code texts w lay p part outer (length f.lower) f.mark f.control f.cells f.home f.gives → AllLead Home root (f.mark ∷ f.control ∷ f.cells)
+        by_shape (of_own o is) = owned_leads part outer f.lower f.mark f.control f.cells f.gives o a ends
+        by_shape (of_lent l) = (
+          mark_leads Home root f.mark _ f.mark_is
+              (laid_near outer f.lower ends part.instance f.home l.linked (lies_around tree code texts w lay p outer f.lower f.mark f.control f.gives a part.instance l.stands)),
+          (back_leads Home root f.control f.back f.control_is, subst (AllLead Home root) (sym l.none) tt),
+        )
 
     around_leads : (parts : List Part) (lower : List Word) (m c : Word) (wanted : Yields) → Outer parts lower m c wanted → length lower ≤ 2 ^ 16 → length lower ≤ limit → AllLead Home root lower
     around_leads [] lower m c wanted a room low = subst (AllLead Home root) (sym a.0) tt
@@ -395,14 +404,14 @@ module _ (tree : PProgram) (code : Code) (texts : Texts) (nested : AreNested (sc
         subst (AllLead Home root) (sym s.lower_is)
         (lead_both Home root s.below (reverse s.words)
         (frame_leads part outer s.below s.frame a.1 (omega (arith, low, long, lowest))
-        (around_leads outer s.frame.lower s.frame.mark s.frame.control (wanted_of part) a.1 (omega (arith, room, long, lowest)) (omega (arith, low, long, lowest))))
+        (around_leads outer s.frame.lower s.frame.mark s.frame.control s.frame.gives a.1 (omega (arith, room, long, lowest)) (omega (arith, low, long, lowest))))
         (lead_turned Home root s.words (slots_lead sc s.held Home root (level_at tree code texts w lay p part) (length s.frame.lower) (length s.below)
         (known_lead sc w lay Home root (part ∷ outer) part.instance s.held s.held_are) s.slots s.words s.words_are (omega (arith, room, long, many)))))
 
-    module _ (part : Part) (outer : List Part) (core : Core) (s : Stands tree code texts w lay p part outer core) (a : Outer outer s.frame.lower s.frame.mark s.frame.control (wanted_of part)) where
+    module _ (part : Part) (outer : List Part) (core : Core) (s : Stands tree code texts w lay p part outer core) (a : Outer outer s.frame.lower s.frame.mark s.frame.control s.frame.gives) where
       -- so do the words below the floor
       pub below_leads : length s.frame.lower ≤ 2 ^ 16 → length s.frame.lower ≤ limit → AllLead Home root core.below
-      below_leads room low = frame_leads part outer core.below s.frame a low (around_leads outer s.frame.lower s.frame.mark s.frame.control (wanted_of part) a room low)
+      below_leads room low = frame_leads part outer core.below s.frame a low (around_leads outer s.frame.lower s.frame.mark s.frame.control s.frame.gives a room low)
 
       -- and those above it
       pub core_leads : size core ≤ stack_limit → length s.frame.lower ≤ limit → AllLead Home root (stack_of core)

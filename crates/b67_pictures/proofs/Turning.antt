@@ -39,9 +39,9 @@ module _ (tree : PProgram) (code : Code) (texts : Texts) (fragments : FragmentsA
   abbrev sc : Scopes
   sc = scopes_of tree
 
-  module _ (asks : ask part.rest ≡ turns) (a : ActionAt sc (context_in tree code texts w part) (text_in tree texts w part) (level_in tree w part) (most_in tree w part) turns s.stands.pc s.stands.slots)
-      (answered : (r : Answer) (at : ℕ) (left : List Slot) → Acted sc (context_in tree code texts w part) (text_in tree texts w part) (level_in tree w part) (most_in tree w part) turns s.stands.pc s.stands.slots a r at left →
-      ComesTo sc (context_in tree code texts w part) (text_in tree texts w part) (level_in tree w part) (most_in tree w part) (resume sc part.rest r) at left) where
+  module _ (asks : ask part.rest ≡ turns) (a : ActionAt sc (context_in tree code texts w part s.stands.frame.gives) (text_in tree texts w part) (level_in tree w part) (most_in tree w part) turns s.stands.pc s.stands.slots)
+      (answered : (r : Answer) (at : ℕ) (left : List Slot) → Acted sc (context_in tree code texts w part s.stands.frame.gives) (text_in tree texts w part) (level_in tree w part) (most_in tree w part) turns s.stands.pc s.stands.slots a r at left →
+      ComesTo sc (context_in tree code texts w part s.stands.frame.gives) (text_in tree texts w part) (level_in tree w part) (most_in tree w part) (resume sc part.rest r) at left) where
     there : operator_at code core.registers ≡ Ok (ops.Branch Brun a.0, a.1)
     there = operator_there sc s.stands.held code (text_in tree texts w part) (level_in tree w part) s.stands.pc s.stands.slots core (ops.Branch Brun a.0) a.1 s.stands.there a.2.stands
 

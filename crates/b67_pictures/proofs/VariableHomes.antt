@@ -32,8 +32,8 @@ module _ (tree : PProgram) (code : Code) (texts : Texts) (w : World) (lay : Layo
   pub record VariableHome (r : Reference) (kind : Kind) (found : Found) : Type 0 where
     pub own : IsOwn (part ∷ outer) r.instance
     pub lies : Lies tree code texts w lay p (part ∷ outer) r.instance core.below
-    pub instance_is : instance_at w r.instance ≡ lies.frame.framed.instance
-    pub there : found_from 0 (simple_cells sc (block_numbered sc.blocks lies.frame.framed.instance.block)) r.name ≡ Some found
+    pub instance_is : instance_at w r.instance ≡ lies.owned.framed.instance
+    pub there : found_from 0 (simple_cells sc (block_numbered sc.blocks lies.owned.framed.instance.block)) r.name ≡ Some found
     pub wanted_is : found.cell.wanted ≡ wants.value kind
     pub number : ℕ
     pub number_is : found.number ≡ number
@@ -42,7 +42,7 @@ module _ (tree : PProgram) (code : Code) (texts : Texts) (w : World) (lay : Layo
     pub fits : HasKind kind value
     pub word : Word
     pub word_is : ValueIs value word
-    pub value_lies : slice_get lies.frame.framed.values number ≡ Some word
+    pub value_lies : slice_get lies.owned.framed.values number ≡ Some word
     pub cell_lies : slice_get lies.frame.cells number ≡ Some word
     pub below_lies : slice_get core.below (length lies.frame.lower + (2 + number)) ≡ Some word
 
@@ -50,10 +50,10 @@ module _ (tree : PProgram) (code : Code) (texts : Texts) (w : World) (lay : Layo
       (there : found_from 0 (simple_cells sc (block_numbered sc.blocks ((instance_at w r.instance).block))) r.name ≡ Some found) (wanted_is : found.cell.wanted ≡ wants.value kind) where
     module _ (l : Lies tree code texts w lay p (part ∷ outer) r.instance core.below) where
       abbrev here : Instance
-      here = l.frame.framed.instance
+      here = l.owned.framed.instance
 
       instance_here : instance_at w r.instance ≡ here
-      instance_here = ap (instance_at w) (sym l.instance_is) ∙ ap or_no_instance l.frame.framed.is
+      instance_here = ap (instance_at w) (sym l.instance_is) ∙ ap or_no_instance l.owned.framed.is
 
       abbrev ss : List Simple
       ss = simple_cells sc (block_numbered sc.blocks here.block)
@@ -62,10 +62,10 @@ module _ (tree : PProgram) (code : Code) (texts : Texts) (w : World) (lay : Layo
       there_here = ap (λ (x : Instance). found_from 0 (simple_cells sc (block_numbered sc.blocks x.block)) r.name) (sym instance_here) ∙ there
 
       abbrev first_cells : List NamedCell
-      first_cells = l.frame.framed.simple
+      first_cells = l.owned.framed.simple
 
-      c : Cell_of found 0 r.name first_cells l.frame.framed.values
-      c = variable_cell ss first_cells l.frame.framed.values 0 r.name found l.frame.framed.simple_are there_here
+      c : Cell_of found 0 r.name first_cells l.owned.framed.values
+      c = variable_cell ss first_cells l.owned.framed.values 0 r.name found l.owned.framed.simple_are there_here
 
       held : Holds_value kind (cell_in first_cells r.name) c.word
       held = value_of_cell kind (cell_in first_cells r.name) c.word (subst (λ (o : Wanted). CellIs o (cell_in first_cells r.name) c.word) wanted_is c.is)
@@ -73,12 +73,12 @@ module _ (tree : PProgram) (code : Code) (texts : Texts) (w : World) (lay : Layo
       -- it lies before the arrays
       cell_here : cell_in here.cells r.name ≡ cell_in first_cells r.name
       cell_here =
-          ap (λ (cells : List NamedCell). cell_in cells r.name) l.frame.framed.has
-          ∙ cell_front ss first_cells l.frame.framed.arrays l.frame.framed.values 0 r.name found l.frame.framed.simple_are there_here
+          ap (λ (cells : List NamedCell). cell_in cells r.name) l.owned.framed.has
+          ∙ cell_front ss first_cells l.owned.framed.arrays l.owned.framed.values 0 r.name found l.owned.framed.simple_are there_here
 
       -- the values lie before the control words
       cells_lie : slice_get l.frame.cells c.far ≡ Some c.word
-      cells_lie = ap (λ (ws : List Word). slice_get ws c.far) l.frame.framed.cells_is ∙ get-front l.frame.framed.values _ c.far c.word c.lies
+      cells_lie = ap (λ (ws : List Word). slice_get ws c.far) l.owned.framed.cells_is ∙ get-front l.owned.framed.values _ c.far c.word c.lies
 
       far : length l.frame.lower + (2 + c.far) ≡ length l.frame.lower + suc (suc c.far)
       far = omega arith

@@ -1,5 +1,5 @@
 -- The name of a variable that is given to a parameter by name leads to the cell of that variable.
-use Rattle.std.proofs.Common.{◌≡◌, inl, refl, sym, ap, ◌∙◌, ℕ, ◌+◌, List, ◌∷◌, true, false, arith}
+use Rattle.std.proofs.Common.{◌≡◌, sym, ap, ◌∙◌, ℕ, ◌+◌, List, ◌∷◌, true, false, arith}
 use Rattle.algol_tree.specs.declared.tree.Kind.{Kind}
 use Rattle.algol_tree.specs.declared.tree.Named.{Named}
 use Rattle.algol_tree.specs.Blocks.{block_numbered}
@@ -17,11 +17,10 @@ use Rattle.b67_templates.specs.Programs.{Texts}
 use Rattle.b67_faithful.proofs.Contradictions.{some_same}
 use Rattle.b67_pictures.specs.Arrays.{Layout, named_from, LeadsToVariable, Names, an_array_named, a_variable_named, IsNamed, IsOwn}
 use Rattle.b67_pictures.specs.Frames.{Frame, Around}
-use Rattle.b67_pictures.proofs.Lying.{IsParent, parents_of}
-use Rattle.b67_pictures.proofs.Staying.{wanted_in}
+use Rattle.b67_pictures.proofs.Lying.{IsParent, parents_of, part_own}
 
 module _ (tree : PProgram) (code : Code) (texts : Texts) (w : World) (lay : Layout) (p : ℕ) (part : Part) (outer : List Part) (words : List Word) (f : Frame tree code texts w lay p part outer words)
-    (a : Around tree code texts w lay p outer f.lower f.mark f.control (wanted_in tree w part)) (level : ℕ) (n : Named) (seen : IsSeen (scopes_of tree) ((instance_at w part.instance).block) n)
+    (a : Around tree code texts w lay p outer f.lower f.mark f.control f.gives) (level : ℕ) (n : Named) (seen : IsSeen (scopes_of tree) ((instance_at w part.instance).block) n)
     (kind : Kind) (c : Couple) (v : IsVariable (scopes_of tree) level n kind c) (x : Word) (h : IsNamed (scopes_of tree) w lay (IsOwn (part ∷ outer)) part.instance n x) where
   abbrev sc : Scopes
   sc = scopes_of tree
@@ -49,4 +48,4 @@ module _ (tree : PProgram) (code : Code) (texts : Texts) (w : World) (lay : Layo
       }
 
   pub variable_leads : LeadsToVariable sc w lay (IsOwn (part ∷ outer)) kind (named_from sc w lay part.instance n) x
-  variable_leads = leads_from (parents_of tree code texts w lay p part outer words f a part.instance (inl refl) up ((use_of sc n).block) seen)
+  variable_leads = leads_from (parents_of tree code texts w lay p part outer words f a part.instance (part_own tree code texts w lay p part outer words f) up ((use_of sc n).block) seen)

@@ -8,7 +8,7 @@ use Rattle.b67_templates.specs.Cells.{procedures}
 use Rattle.b67_templates.specs.Depths.{depth, line_depth, bounds_depth, decls_depth, stmt_depth, stmts_depth}
 
 mutual
-  depth_small : (e : PExpr) → depth e ≤ 2 * expr_tokens e
+  pub depth_small : (e : PExpr) → depth e ≤ 2 * expr_tokens e
   depth_small (tree.number value spot) = omega arith
   depth_small (tree.truth value spot) = omega arith
   depth_small (tree.variable (tree.subscripted n tree.none)) = omega arith
@@ -29,7 +29,7 @@ mutual
 
 mutual
   -- and an actual has a token
-  arguments_small : (e : PExpr) → arguments_in e ≤ expr_tokens e
+  pub arguments_small : (e : PExpr) → arguments_in e ≤ expr_tokens e
   arguments_small (tree.number value spot) = omega arith
   arguments_small (tree.truth value spot) = omega arith
   arguments_small (tree.variable (tree.subscripted n tree.none)) = omega arith
@@ -44,15 +44,15 @@ mutual
   arguments_small (tree.two op a b) = omega (arith, arguments_small a, arguments_small b)
   arguments_small (tree.if c x y spot) = omega (arith, arguments_small c, arguments_small x, arguments_small y)
 
-  among_small : (es : PExprs) → arguments_among es ≤ exprs_tokens es
+  pub among_small : (es : PExprs) → arguments_among es ≤ exprs_tokens es
   among_small tree.none = omega arith
   among_small (tree.more e es) = omega (arith, arguments_small e, among_small es)
 
-  given_small : (es : PExprs) → arguments_given es ≤ exprs_tokens es
+  pub given_small : (es : PExprs) → arguments_given es ≤ exprs_tokens es
   given_small tree.none = omega arith
   given_small (tree.more e es) = omega (arith, arguments_small e, given_small es)
 
-bounds_arguments : (pairs : List PPair) → arguments_in_pairs pairs ≤ pairs_tokens pairs
+pub bounds_arguments : (pairs : List PPair) → arguments_in_pairs pairs ≤ pairs_tokens pairs
 bounds_arguments [] = omega arith
 bounds_arguments (p ∷ pairs) = omega (arith, arguments_small p.high, bounds_arguments pairs)
 

@@ -42,6 +42,9 @@ pcw_kind x = refl
 pub pcw_describes_nothing : (x : Pcw) → as_descriptor (pcw_word x) ≡ None
 pcw_describes_nothing x = descriptor_laws.other (pcw_word x) (λ k. let is = sym (pcw_kind x) ∙ k in cc)
 
+pub pcw_refers_nothing : (x : Pcw) → as_sirw (pcw_word x) ≡ None
+pcw_refers_nothing x = as_sirw-other (pcw_word x) (λ k. let is = sym (pcw_kind x) ∙ k in cc)
+
 -- ---- references
 
 pub reference_read : (c : Couple) → c.level < 32 → c.index < 2 ^ 14 → as_irw (reference c) ≡ Some (record { level = c.level; index = c.index })

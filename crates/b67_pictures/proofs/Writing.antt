@@ -28,7 +28,8 @@ use Rattle.b67_table.specs.Image.{Image}
 use Rattle.b67_table.specs.Lines.{before, format_line, line_by, line_for}
 use Rattle.b67_table.specs.Outcome as outcomes
 use Rattle.b67_table.specs.Table.{operator_at}
-use Rattle.b67_templates.specs.Code.{IsPart, text, word, AreParts, numbers_in, FormatIs}
+use Rattle.b67_templates.specs.Contexts.{Yields}
+use Rattle.b67_templates.specs.Code.{IsPart, text, word, AreParts, numbers_in, FormatIs, in_routine}
 use Rattle.b67_templates.specs.Programs.{Texts, context_of}
 use Rattle.b67_standing.specs.Stepping.{Slot}
 use Rattle.b67_standing.specs.Standing.{ActionAt, Acted, ComesTo}
@@ -76,18 +77,18 @@ shows_all (t ∷ ts) list are =
     subst (λ (l : List Phrase). Shows (t ∷ ts) l) (sym are.2) (shows_part t are.0 ts are.1 are.3 (shows_all ts are.1 are.4))
 
 -- the machine's line is that of the source
-pub line_is : (sc : Scopes) (code : Code) (texts : Texts) (j : ℕ) (ps : List Placed) (level format : ℕ) (ts : List PhraseText) (vs : List Value) → FormatIs sc (context_of code texts sc j) ps level format ts (length vs) →
+pub line_is : (sc : Scopes) (code : Code) (texts : Texts) (j : ℕ) (gives : Yields) (ps : List Placed) (level format : ℕ) (ts : List PhraseText) (vs : List Value) → FormatIs sc (in_routine gives (context_of code texts sc j)) ps level format ts (length vs) →
     line_for code (pos format ∷ wholes_of vs) ≡ Some (line_of ts vs)
-line_is sc code texts j ps level format ts vs f =
+line_is sc code texts j gives ps level format ts vs f =
     ap (λ (o : Option Format). line_by o (wholes_of vs)) f.is ∙ shows_all ts f.list f.parts vs f.numbers
 
 -- ---- the action
 
 module _ (tree : PProgram) (code : Code) (texts : Texts) (fragments : FragmentsArePerformed) (keeps : RestsKeepToTheirText) (order : AllIsMadeInOrder) (w : World) (lay : Layout) (img : Image)
     (p : ℕ) (q : Process) (part : Part) (outer : List Part) (bound : ℕ) (core : Core) (s : Scene tree code texts w lay img p q part outer bound core) (able_is : q.state ≡ able) (able_p : numbered img.states p ≡ Some Able)
-    (ts : List PhraseText) (vs : List Value) (asks : ask part.rest ≡ writes ts vs) (a : ActionAt (scopes_of tree) (context_in tree code texts w part) (text_in tree texts w part) (level_in tree w part) (most_in tree w part) (writes ts vs) s.stands.pc s.stands.slots)
-    (answered : (r : Answer) (at : ℕ) (left : List Slot) → Acted (scopes_of tree) (context_in tree code texts w part) (text_in tree texts w part) (level_in tree w part) (most_in tree w part) (writes ts vs) s.stands.pc s.stands.slots a r at left →
-    ComesTo (scopes_of tree) (context_in tree code texts w part) (text_in tree texts w part) (level_in tree w part) (most_in tree w part) (resume (scopes_of tree) part.rest r) at left) where
+    (ts : List PhraseText) (vs : List Value) (asks : ask part.rest ≡ writes ts vs) (a : ActionAt (scopes_of tree) (context_in tree code texts w part s.stands.frame.gives) (text_in tree texts w part) (level_in tree w part) (most_in tree w part) (writes ts vs) s.stands.pc s.stands.slots)
+    (answered : (r : Answer) (at : ℕ) (left : List Slot) → Acted (scopes_of tree) (context_in tree code texts w part s.stands.frame.gives) (text_in tree texts w part) (level_in tree w part) (most_in tree w part) (writes ts vs) s.stands.pc s.stands.slots a r at left →
+    ComesTo (scopes_of tree) (context_in tree code texts w part s.stands.frame.gives) (text_in tree texts w part) (level_in tree w part) (most_in tree w part) (resume (scopes_of tree) part.rest r) at left) where
   abbrev sc : Scopes
   sc = scopes_of tree
 
@@ -115,7 +116,7 @@ module _ (tree : PProgram) (code : Code) (texts : Texts) (fragments : FragmentsA
         (action_not_plain code img p core s.has (ops.Plain kinds.Entr) a.0 there
         (enter_class code img p core s.has a.0 there Write c.arguments c.reference c.marked c.others c.calls))
         (write_raw code img p core s.has a.0 there Write c.arguments c.reference c.marked c.others c.calls (wholes_of given) c.wholes refl (line_of ts vs)
-        (line_is sc code texts ((instance_at w part.instance).block) (text_in tree texts w part) (level_in tree w part) a.2.format ts vs a.2.is)
+        (line_is sc code texts ((instance_at w part.instance).block) s.stands.frame.gives (text_in tree texts w part) (level_in tree w part) a.2.format ts vs a.2.is)
         ∙ ap (λ (o : List (List ℕ)). effects.gives (record (with_core img p new) { output = o ++ line_of ts vs ∷ [] })) s.by.output)
         (choice_is sc w p q part outer s.at s.todo ∙ ap (λ (k : Ask). choice_of sc w p q part outer k) asks)
         (λ t. action_is code img p core s.has (ops.Plain kinds.Entr) a.0 there (outcomes.gives (record (with_core img p new) { output = out })) t ∙ ap as_action c.action)

@@ -1,9 +1,9 @@
 -- The frames of a process: how the words of its stack stand for the parts that it has still to do.
-use Rattle.std.specs.Prelude.{◌≡◌, ℕ, zero, suc, ◌+◌, ◌-◌, ◌*◌, ◌<◌, ◌≤◌, true, false, List, [], ◌∷◌, ◌++◌, length, reverse, Option, Some, None, slice_get}
+use Rattle.std.specs.Prelude.{◌≡◌, ◌⊎◌, ℕ, zero, suc, ◌+◌, ◌-◌, ◌*◌, ◌<◌, ◌≤◌, true, false, List, [], ◌∷◌, ◌++◌, length, reverse, Option, Some, None, slice_get, Bool}
 use Rattle.b67_list.specs.Numbered.{numbered}
 use Rattle.algol_tree.specs.Blocks.{Block, block_numbered, around}
 use Rattle.algol_tree.specs.Cells.{level_of}
-use Rattle.algol_tree.specs.Plain.{PProgram}
+use Rattle.algol_tree.specs.Plain.{PProgram, PBody}
 use Rattle.algol_tree.specs.Scopes.{Scopes, scopes_of}
 use Rattle.algol_meaning.specs.Value as meant
 use Rattle.algol_meaning.specs.Value.{Cell, simple, reference}
@@ -12,13 +12,15 @@ use Rattle.algol_meaning.specs.Rest.{Answer}
 use Rattle.algol_meaning.specs.Asks.{nothing, ask, resume}
 use Rattle.algol_meaning.specs.Critical.{is_evaluation}
 use Rattle.algol_paths.specs.Arrays.{Made, all_to_make}
+use Rattle.algol_paths.specs.Blocks.{IsSeenAround}
 use Rattle.algol_paths.specs.Laws.{KeepsToText}
 use Rattle.algol_paths.specs.Segments.{segment_of}
+use Rattle.algol_paths.specs.Texts.{InRest}
 use Rattle.b67_word.specs.declared.Place.{Place}
 use Rattle.b67_word.specs.Word.{Word}
 use Rattle.b67_control.specs.declared.Pcw.{Pcw}
 use Rattle.b67_control.specs.declared.Rcw.{Rcw}
-use Rattle.b67_control.specs.Control.{as_mscw, as_rcw, as_descriptor}
+use Rattle.b67_control.specs.Control.{Fits_pcw, as_mscw, as_rcw, as_descriptor}
 use Rattle.b67_control.specs.Display.{place_at}
 use Rattle.b67_ops.specs.declared.TheConstants.{OUTER_LEVEL}
 use Rattle.b67_segment.specs.Operators.{Placed}
@@ -32,7 +34,7 @@ use Rattle.b67_templates.specs.Fragments.{HasKind}
 use Rattle.b67_templates.specs.Programs.{Texts, text_of as text_numbered, context_of}
 use Rattle.b67_templates.specs.Cells as wants
 use Rattle.b67_templates.specs.Cells.{Simple, Wanted, simple_cells, procedures, actuals_of, made_of}
-use Rattle.b67_templates.specs.Code.{RoutinesAt, control_pcws}
+use Rattle.b67_templates.specs.Code.{RoutinesAt, control_pcws, in_routine}
 use Rattle.b67_standing.specs.Stepping.{Slot}
 use Rattle.b67_standing.specs.Standing.{Gives, pushed, StandsFor, ComesTo}
 use Rattle.b67_cores.specs.Cores.{Core}
@@ -40,6 +42,7 @@ use Rattle.b67_cores.specs.Slots.{ValueIs, Known, newest, SlotsAre}
 use Rattle.b67_cores.specs.Stretches.{CoreAt, control_words}
 use Rattle.b67_faithful.specs.Weight.{tokens_around, parts_weight}
 use Rattle.b67_pictures.specs.Arrays.{Layout, IsOwn, AreMade, Denotes, AreKnown}
+use Rattle.b67_pictures.specs.Lent.{Lent}
 
 -- ---- cells
 
@@ -76,6 +79,11 @@ controls_count sc j = length (procedures (block_numbered sc.blocks j).decls) + l
 abbrev pub most_around : PProgram → ℕ → ℕ
 most_around tree j = 4 * tokens_around tree j - controls_count (scopes_of tree) j
 
+-- the level at which the code of a part runs, of which the names have this level: that of an actual runs one level further in
+abbrev pub run_level : Bool → ℕ → ℕ
+run_level true level = level + 1
+run_level false level = level
+
 module _ (sc : Scopes) (w : World) (lay : Layout) where
   -- the block of an instance
   abbrev pub block_at : ℕ → Block
@@ -93,6 +101,12 @@ module _ (sc : Scopes) (w : World) (lay : Layout) where
   -- the instance has made all that its block declares
   abbrev pub IsComplete : ℕ → Type 0
   IsComplete i = length ((instance_at w i).cells) ≡ length (simple_cells sc (block_at i)) + length (made_of (block_at i).decls)
+
+  -- An evaluation in an instance that has not made all keeps to what is around the block of that, and enters no block.
+  abbrev pub IsNarrow : Part → Type 0
+  IsNarrow part =
+      is_evaluation part.purpose ≡ true → IsComplete part.instance
+      ⊎ InRest (IsSeenAround sc ((instance_at w part.instance).block)) (λ (b : PBody). ⊥) (IsSeenAround sc ((instance_at w part.instance).block)) part.rest
 
   -- An instance of an outermost block has no parent. That of another block has one among those of these parts, of the block around it, and
   -- that has all its cells.
@@ -136,14 +150,20 @@ module _ (sc : Scopes) (w : World) (lay : Layout) where
     pub control_is : as_rcw control ≡ Some back
     pub level_is : back.own_level ≡ level_of (block_numbered sc.blocks instance.block)
 
--- the code of the actuals of the block with this number stands at these places
+-- each control word can hold where its code stands
+abbrev pub AllFit : List Pcw → Type 0
+AllFit [] = Unit {0}
+AllFit (c ∷ cs) = Fits_pcw c × AllFit cs
+
+-- the code of the actuals of the block with this number stands at these places, and the block's control words can hold where their code stands
 abbrev pub RoutinesStand : PProgram → Code → Texts → ℕ → List ℕ → Type 0
 RoutinesStand tree code texts j ats =
     RoutinesAt (scopes_of tree) (context_of code texts (scopes_of tree) j) (text_numbered texts (scopes_of tree) j) (level_of (block_numbered (scopes_of tree).blocks j) + 1)
     (actuals_of (scopes_of tree) (block_numbered (scopes_of tree).blocks j)) ats
+    × AllFit (block_controls (scopes_of tree) j ats)
 
 module _ (tree : PProgram) (code : Code) (texts : Texts) (w : World) (lay : Layout) (p : ℕ) where
-  -- the number of a part's block, the segment in which its text stands, and its level
+  -- the number of a part's block, and the segment in which its text stands
   abbrev pub block_of : Part → ℕ
   block_of part = (instance_at w part.instance).block
 
@@ -153,46 +173,70 @@ module _ (tree : PProgram) (code : Code) (texts : Texts) (w : World) (lay : Layo
   abbrev pub text_of : Part → List Placed
   text_of part = texts.placed (segment_at part)
 
-  abbrev pub context_at : Part → Context
-  context_at part = context_of code texts (scopes_of tree) (block_of part)
+  -- what surrounds it, where it gives this when it leaves
+  abbrev pub context_at : Part → Yields → Context
+  context_at part gives = in_routine gives (context_of code texts (scopes_of tree) (block_of part))
 
-  -- how many words may lie above the cells of its frame, what it gives when it leaves
+  -- how many words may lie above the cells of its frame
   abbrev pub most_of : Part → ℕ
   most_of part = most_around tree (block_of part)
 
-  abbrev pub result_of_part : Part → Yields
-  result_of_part part = yields_of (block_at (scopes_of tree) w lay part.instance).result
+  -- the level of its names, and that at which its code runs
+  abbrev pub names_at : Part → ℕ
+  names_at part = level_of (block_at (scopes_of tree) w lay part.instance)
 
   abbrev pub level_at : Part → ℕ
-  level_at part = level_of (block_at (scopes_of tree) w lay part.instance)
+  level_at part = run_level (is_evaluation part.purpose) (names_at part)
 
-  -- These words of a stack, the bottom first, end with the frame of a part and its cells. What the part has still to do keeps to the text
-  -- of its block.
-  pub record Frame (part : Part) (outer : List Part) (words : List Word) : Type 0 where
+  -- The frame is that of the part's own instance, which holds the cells of its block.
+  pub record Owned (part : Part) (outer : List Part) (at : ℕ) (mark control : Word) (cells : List Word) : Type 0 where
     pub owns : is_evaluation part.purpose ≡ false
+    pub framed : Framed (scopes_of tree) w lay p part.instance outer at mark control cells
+    pub routines : RoutinesStand tree code texts framed.instance.block framed.ats
+    -- what it has still to make is what its instance has not made
+    pub making : framed.later ≡ all_to_make part.rest
+
+  -- Whose frame it is, and what the part gives when it leaves: of an own instance the result of its block. Or it is lent to the evaluation
+  -- of an actual, whose instance is one of those of the parts around; its mark leads there, to home.
+  pub data Shape (part : Part) (outer : List Part) (at : ℕ) (mark control : Word) (cells : List Word) (home : Place) (gives : Yields) : Type 0 where
+    of_own : (o : Owned part outer at mark control cells) → gives ≡ yields_of (block_numbered (scopes_of tree).blocks o.framed.instance.block).result → Shape part outer at mark control cells home gives
+    of_lent : Lent lay (IsOwn outer) part cells home gives → Shape part outer at mark control cells home gives
+
+  -- These words of a stack, the bottom first, end with the frame of a part: a mark and a control word, which are read as such, and these words
+  -- for cells. What the part has still to do keeps to the text of its block.
+  pub record Frame (part : Part) (outer : List Part) (words : List Word) : Type 0 where
     pub lower : List Word
     pub mark : Word
     pub control : Word
     pub cells : List Word
     pub words_are : words ≡ lower ++ mark ∷ control ∷ cells
-    pub framed : Framed (scopes_of tree) w lay p part.instance outer (length lower) mark control cells
-    pub routines : RoutinesStand tree code texts framed.instance.block framed.ats
+    pub instance : Instance
+    pub is : numbered w.instances part.instance ≡ Some instance
+    pub known : instance.block < length (scopes_of tree).blocks
+    pub home : Place
+    pub df : ℕ
+    pub mark_is : as_mscw mark ≡ Some (record { entered = true; stack = home.stack; displacement = home.at; df = df })
+    pub back : Rcw
+    pub control_is : as_rcw control ≡ Some back
+    pub level_is : back.own_level ≡ run_level (is_evaluation part.purpose) (level_of (block_numbered (scopes_of tree).blocks instance.block))
     pub text : KeepsToText (scopes_of tree) (block_of part) part.rest
-    -- what it has still to make is what its instance has not made
-    pub making : framed.later ≡ all_to_make part.rest
+    pub gives : Yields
+    pub shape : Shape part outer (length lower) mark control cells home gives
 
   -- The innermost part: the core is at the place, and has the words, where the machine stands for what the part has still to do.
   pub record Stands (part : Part) (outer : List Part) (core : Core) : Type 0 where
     pub frame : Frame part outer core.below
     pub counted : core.registers.cells ≡ length frame.cells
-    pub chained : IsChained (scopes_of tree) w lay part.instance (level_at part) core.registers.display
+    pub chained : IsChained (scopes_of tree) w lay part.instance (names_at part) core.registers.display
+    -- at the level at which its code runs the display names its own frame
+    pub top : place_at core.registers.display (level_at part) ≡ Some (place p (length frame.lower))
     pub segment_is : core.registers.segment ≡ segment_at part
     pub asks : ask part.rest ≡ nothing → ⊥
     pub pc : ℕ
     pub slots : List Slot
     pub held : List Known
     pub held_are : AreKnown (scopes_of tree) w lay (IsOwn (part ∷ outer)) part.instance held
-    pub stands : StandsFor (scopes_of tree) (context_at part) (text_of part) (level_at part) (most_of part) part.rest pc slots
+    pub stands : StandsFor (scopes_of tree) (context_at part frame.gives) (text_of part) (level_at part) (most_of part) part.rest pc slots
     pub there : CoreAt (scopes_of tree) held code (text_of part) (level_at part) pc slots core
     pub few : length slots ≤ most_of part
 
@@ -207,7 +251,7 @@ module _ (tree : PProgram) (code : Code) (texts : Texts) (w : World) (lay : Layo
     pub pc : ℕ
     pub slots : List Slot
     pub returns : (a : Answer) → Gives wanted a →
-        ComesTo (scopes_of tree) (context_at part) (text_of part) (level_at part) (most_of part) (resume (scopes_of tree) part.rest a) pc (pushed wanted a slots)
+        ComesTo (scopes_of tree) (context_at part frame.gives) (text_of part) (level_at part) (most_of part) (resume (scopes_of tree) part.rest a) pc (pushed wanted a slots)
     pub few : length slots + 1 ≤ most_of part
     pub held : List Known
     pub held_are : AreKnown (scopes_of tree) w lay (IsOwn (part ∷ outer)) part.instance held
@@ -229,9 +273,9 @@ module _ (tree : PProgram) (code : Code) (texts : Texts) (w : World) (lay : Layo
   abbrev pub Around : List Part → List Word → Word → Word → Yields → Type 0
   Around [] lower mark control wanted = (lower ≡ []) × (mark ≡ base_mark) × (control ≡ base_control OUTER_LEVEL) × (wanted ≡ yielding.nothing)
   Around (part ∷ outer) lower mark control wanted =
-      (s : Waits part outer lower mark control wanted) × Around outer s.frame.lower s.frame.mark s.frame.control (result_of_part part)
+      (s : Waits part outer lower mark control wanted) × Around outer s.frame.lower s.frame.mark s.frame.control s.frame.gives
 
   -- the parts of a process, the innermost first
   abbrev pub Frames : List Part → Core → Type 0
   Frames [] core = ⊥
-  Frames (part ∷ outer) core = (s : Stands part outer core) × Around outer s.frame.lower s.frame.mark s.frame.control (result_of_part part)
+  Frames (part ∷ outer) core = (s : Stands part outer core) × Around outer s.frame.lower s.frame.mark s.frame.control s.frame.gives

@@ -3,3 +3,4 @@ pub mod Frames
 pub mod Pictures
 pub mod Acting
 pub mod Programs
+pub mod Lent

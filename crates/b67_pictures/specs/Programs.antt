@@ -1,5 +1,6 @@
 -- The code of a program whose blocks lie in one another is faithful to it.
 use Rattle.algol_tree.specs.Plain.{PProgram}
+use Rattle.algol_texts.specs.Laws.{HasTexts}
 use Rattle.b67_segment.specs.declared.code.Code.{Code}
 use Rattle.b67_templates.specs.Programs.{ProgramAt}
 use Rattle.b67_fitting.specs.Names.{HasNames}
@@ -7,8 +8,8 @@ use Rattle.b67_fitting.specs.Nested.{LiesNested}
 use Rattle.b67_listing.specs.Listings.{IsListable}
 use Rattle.b67_faithful.specs.Faithful.{HasFormats, IsShort, Faithful}
 
--- Where the code of a program stands whose blocks lie in one another, as those of an accepted one do that is built, and whose procedures
--- have names, and where it has the program's formats, is short and can be listed, it is faithful to the program.
+-- Where the code of a program stands whose blocks lie in one another, as those of an accepted one do that is built, whose procedures have
+-- names, and whose names are seen and calls fit, and where it has the program's formats, is short and can be listed, it is faithful to the program.
 abbrev pub NestedProgramsAreFaithful : Type 0
 NestedProgramsAreFaithful =
-    (tree : PProgram) (code : Code) → LiesNested tree → HasNames tree → ProgramAt code tree → HasFormats tree code → IsShort tree code → IsListable code → Faithful tree code
+    (tree : PProgram) (code : Code) → LiesNested tree → HasNames tree → HasTexts tree → ProgramAt code tree → HasFormats tree code → IsShort tree code → IsListable code → Faithful tree code

@@ -1,5 +1,5 @@
--- Where a process finds the cell of a parameter that has a reference: in the frame of one of its parts.
-use Rattle.std.proofs.Common.{◌≡◌, inl, refl, sym, ap, ◌∙◌, subst, ℕ, suc, ◌+◌, ◌-◌, ◌<◌, ◌≤◌, ◌^◌, List, [], ◌∷◌, length, Option, Some, Bool, true, false, arith}
+-- Where a process finds the cell of a parameter that stands for something else: in the frame of one of its parts.
+use Rattle.std.proofs.Common.{◌≡◌, sym, ap, ◌∙◌, subst, ℕ, suc, ◌+◌, ◌-◌, ◌<◌, ◌≤◌, ◌^◌, List, [], ◌∷◌, length, Option, Some, Bool, true, false, arith}
 use Rattle.std.specs.Prelude.{if◌then◌else◌, slice_get}
 use Rattle.b67_list.specs.Numbered.{numbered}
 use Rattle.algol_tree.specs.declared.tree.Named.{Named}
@@ -8,7 +8,7 @@ use Rattle.algol_tree.specs.Cells.{level_of}
 use Rattle.algol_tree.specs.Plain.{PProgram}
 use Rattle.algol_tree.specs.Scopes.{Scopes, scopes_of, use_of}
 use Rattle.algol_tree.specs.Sorts.{same_name}
-use Rattle.algol_meaning.specs.Value.{Reference, Cell, reference}
+use Rattle.algol_meaning.specs.Value.{Reference, Cell}
 use Rattle.algol_meaning.specs.World.{NamedCell, Instance, Part, Process, World, instance_at, or_no_instance, ancestor, cell_at, cell_in}
 use Rattle.algol_paths.specs.Blocks.{IsSeen}
 use Rattle.b67_word.specs.Word.{Word}
@@ -27,14 +27,13 @@ use Rattle.b67_faithful.proofs.Contradictions.{some_same}
 use Rattle.b67_pictures.specs.Arrays.{Layout, Denotes, named_from, IsOwn}
 use Rattle.b67_pictures.specs.Frames.{CellsAre, Refers}
 use Rattle.b67_pictures.proofs.ArrayPlaces.{frame_lies}
-use Rattle.b67_pictures.proofs.Knowing.{denotes_so, HasReferred, has_reference, has_actual, referred_denoted}
-use Rattle.b67_pictures.proofs.Lying.{Lies, lies_in, IsParent, parents_in}
-use Rattle.b67_pictures.proofs.NoNames.{none_there}
+use Rattle.b67_pictures.proofs.Knowing.{denotes_so}
+use Rattle.b67_pictures.proofs.Lying.{Lies, lies_in, IsParent, parents_in, part_own}
 use Rattle.b67_pictures.proofs.Numbers.{get_below}
 use Rattle.b67_pictures.proofs.Parents.{length_around}
 use Rattle.b67_pictures.proofs.Scene.{Scene}
 use Rattle.b67_pictures.proofs.StackWords.{get-front}
-use Rattle.b67_pictures.proofs.Staying.{level_in}
+use Rattle.b67_pictures.proofs.Staying.{names_in}
 use Rattle.b67_pictures.proofs.Variables.{cell_front}
 
 -- ---- the first cell of a name
@@ -79,18 +78,18 @@ module _ (tree : PProgram) (code : Code) (texts : Texts) (nested : AreNested (sc
   sc = scopes_of tree
 
   abbrev level : ℕ
-  level = level_in tree w part
+  level = names_in tree w part
 
   -- what a name means there, where it is no reference
   abbrev named : Named → Reference
   named n = named_from sc w lay part.instance n
 
-  -- The cell that a name means, of which that is wanted, has a reference; its word, which the couple names, stands for that.
-  pub record ReferenceHome (n : Named) (wanted : Wanted) (couple : Couple) : Type 0 where
-    pub r : Reference
-    pub cell_is : cell_at w (named n) ≡ reference r
+  -- The cell that a name means, of which that is wanted; its word, which the couple names, stands for what it has.
+  pub record CellHome (n : Named) (wanted : Wanted) (couple : Couple) : Type 0 where
+    pub cell : Cell
+    pub cell_is : cell_at w (named n) ≡ cell
     pub word : Word
-    pub denotes : Denotes sc w lay (IsOwn (part ∷ outer)) wanted (reference r) word
+    pub denotes : Denotes sc w lay (IsOwn (part ∷ outer)) wanted cell word
     pub at : ℕ
     pub shown : display_at core.registers couple.level ≡ Some (place p at)
     pub lies : word_at img.stacks (place p (at + couple.index)) ≡ Some word
@@ -111,10 +110,10 @@ module _ (tree : PProgram) (code : Code) (texts : Texts) (nested : AreNested (sc
     module _ (parent : IsParent tree code texts w lay p (part ∷ outer) part.instance up ((use_of sc n).block))
         (l : Lies tree code texts w lay p (part ∷ outer) (ancestor w up part.instance) core.below) where
       abbrev here : Instance
-      here = l.frame.framed.instance
+      here = l.owned.framed.instance
 
       instance_here : instance_at w (ancestor w up part.instance) ≡ here
-      instance_here = ap (instance_at w) (sym l.instance_is) ∙ ap or_no_instance l.frame.framed.is
+      instance_here = ap (instance_at w) (sym l.instance_is) ∙ ap or_no_instance l.owned.framed.is
 
       block_here : here.block ≡ (use_of sc n).block
       block_here = sym (ap (λ (x : Instance). x.block) instance_here) ∙ parent.block
@@ -125,63 +124,51 @@ module _ (tree : PProgram) (code : Code) (texts : Texts) (nested : AreNested (sc
       there : found_from 0 ss n.name ≡ Some found
       there = ap (λ (k : ℕ). found_from 0 (simple_cells sc (block_numbered sc.blocks k)) n.name) block_here ∙ named_there
 
-      c : FirstCell ss l.frame.framed.simple 0 n.name found
-      c = first_cell ss l.frame.framed.simple l.frame.framed.values 0 n.name found l.frame.framed.simple_are there
+      c : FirstCell ss l.owned.framed.simple 0 n.name found
+      c = first_cell ss l.owned.framed.simple l.owned.framed.values 0 n.name found l.owned.framed.simple_are there
 
       abbrev Denoting : Type 0
       Denoting =
-          (d : NamedCell) × (word : Word) × (slice_get l.frame.framed.simple c.far ≡ Some d) × (slice_get l.frame.framed.values c.far ≡ Some word)
+          (d : NamedCell) × (word : Word) × (slice_get l.owned.framed.simple c.far ≡ Some d) × (slice_get l.owned.framed.values c.far ≡ Some word)
           × Denotes sc w lay (IsOwn l.outer) found.cell.wanted d.cell word
 
       g : Denoting
-      g = l.frame.framed.formals c.far found.cell c.lies (subst (λ (o : Wanted). Refers o) (sym wanted_is) refers)
+      g = l.owned.framed.formals c.far found.cell c.lies (subst (λ (o : Wanted). Refers o) (sym wanted_is) refers)
 
-      abbrev Referred : Type 0
-      Referred = (r : Reference) × (g.0.cell ≡ reference r)
-
-      referred : Referred
-      referred = by_denoted (referred_denoted sc w lay l.outer found.cell.wanted g.0.cell g.1 g.4)
-        where
-          by_denoted : HasReferred found.cell.wanted g.0.cell → Referred
-          by_denoted (has_reference r e) = (r, e)
-          by_denoted (has_actual kind a is_wanted e) = absurd (none_there sc nested ((use_of sc n).block) n.name found kind named_there is_wanted)
-
-      denotes_here : Denotes sc w lay (IsOwn (part ∷ outer)) wanted (reference referred.0) g.1
+      denotes_here : Denotes sc w lay (IsOwn (part ∷ outer)) wanted g.0.cell g.1
       denotes_here =
-          denotes_so sc w lay l.outer (part ∷ outer) l.inside wanted (reference referred.0) g.1
-          (subst (λ (k : Cell). Denotes sc w lay (IsOwn l.outer) wanted k g.1) referred.1 (subst (λ (o : Wanted). Denotes sc w lay (IsOwn l.outer) o g.0.cell g.1) wanted_is g.4))
+          denotes_so sc w lay l.outer (part ∷ outer) l.inside wanted g.0.cell g.1 (subst (λ (o : Wanted). Denotes sc w lay (IsOwn l.outer) o g.0.cell g.1) wanted_is g.4)
 
       -- the cell lies before the arrays
-      cell_here : cell_at w (named n) ≡ reference referred.0
+      cell_here : cell_at w (named n) ≡ g.0.cell
       cell_here =
           ap (λ (x : Instance). cell_in x.cells n.name) instance_here
-          ∙ ap (λ (cells : List NamedCell). cell_in cells n.name) l.frame.framed.has
-          ∙ cell_front ss l.frame.framed.simple l.frame.framed.arrays l.frame.framed.values 0 n.name found l.frame.framed.simple_are there
+          ∙ ap (λ (cells : List NamedCell). cell_in cells n.name) l.owned.framed.has
+          ∙ cell_front ss l.owned.framed.simple l.owned.framed.arrays l.owned.framed.values 0 n.name found l.owned.framed.simple_are there
           ∙ c.is g.0 g.2
-          ∙ referred.1
 
       far_is : couple.index ≡ suc (suc c.far)
       far_is = omega (arith, index_is, c.number)
 
       -- the values lie before the control words
       cells_lie : slice_get l.frame.cells c.far ≡ Some g.1
-      cells_lie = ap (λ (ws : List Word). slice_get ws c.far) l.frame.framed.cells_is ∙ get-front l.frame.framed.values _ c.far g.1 g.3
+      cells_lie = ap (λ (ws : List Word). slice_get ws c.far) l.owned.framed.cells_is ∙ get-front l.owned.framed.values _ c.far g.1 g.3
 
       level_up : couple.level ≡ level - up
       level_up = omega (arith, level_is)
 
       couple_fits : (couple.level < 32) × (couple.index < 2 ^ 14)
       couple_fits =
-          let own : Instance = s.stands.frame.framed.instance in
-          let same : level ≡ level_of (block_numbered sc.blocks own.block) = ap (λ (o : Option Instance). level_of (block_numbered sc.blocks (or_no_instance o).block)) s.stands.frame.framed.is in (
-            omega (arith, level_is, same, (nested.each own.block s.stands.frame.framed.known).low),
-            omega (arith, far_is, (nested.each here.block l.frame.framed.known).few, get_below ss c.far found.cell c.lies),
+          let own : Instance = s.stands.frame.instance in
+          let same : level ≡ level_of (block_numbered sc.blocks own.block) = ap (λ (o : Option Instance). level_of (block_numbered sc.blocks (or_no_instance o).block)) s.stands.frame.is in (
+            omega (arith, level_is, same, (nested.each own.block s.stands.frame.known).low),
+            omega (arith, far_is, (nested.each here.block l.owned.framed.known).few, get_below ss c.far found.cell c.lies),
           )
 
-      home_there : ReferenceHome n wanted couple
+      home_there : CellHome n wanted couple
       home_there =
           record {
-            r = referred.0;
+            cell = g.0.cell;
             cell_is = cell_here;
             word = g.1;
             denotes = denotes_here;
@@ -190,15 +177,15 @@ module _ (tree : PProgram) (code : Code) (texts : Texts) (nested : AreNested (sc
                 ap (λ (k : ℕ). display_at core.registers k) level_up
                 ∙ s.stands.chained up low
                 ∙ ap (λ (k : ℕ). numbered lay.places k) (sym l.instance_is)
-                ∙ l.frame.framed.laid;
+                ∙ l.owned.framed.laid;
             lies =
                 ap (λ (k : ℕ). word_at img.stacks (place p (length l.frame.lower + k))) far_is
                 ∙ frame_lies tree code texts w lay img p q part outer bound core s l c.far g.1 cells_lie;
             fits = couple_fits;
           }
 
-    pub reference_home : ReferenceHome n wanted couple
-    reference_home =
+    pub cell_home : CellHome n wanted couple
+    cell_home =
         let parent : IsParent tree code texts w lay p (part ∷ outer) part.instance up ((use_of sc n).block) =
-        parents_in tree code texts w lay p part outer core s.stands s.around part.instance (inl refl) up ((use_of sc n).block) seen in
+        parents_in tree code texts w lay p part outer core s.stands s.around part.instance (part_own tree code texts w lay p part outer core.below s.stands.frame) up ((use_of sc n).block) seen in
         home_there parent (lies_in tree code texts w lay p part outer core s.stands s.around (ancestor w up part.instance) parent.own)

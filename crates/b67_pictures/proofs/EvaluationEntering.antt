@@ -1,0 +1,465 @@
+-- An evaluation is entered: a part that evaluates an actual has a frame without cells above the words of the part around, which waits. No instance is made.
+use Rattle.std.proofs.Common.{◌≡◌, ◌⊎◌, inl, inr, refl, sym, ap, ◌∙◌, subst, ℕ, zero, suc, ◌+◌, ◌-◌, ◌*◌, ◌≤◌, ◌<◌, List, [], ◌∷◌, length, Option, Some, Bool, true, false, arith, None}
+use Rattle.std.specs.Prelude.{if◌then◌else◌, slice_get}
+use Rattle.b67_list.specs.Numbered.{numbered}
+use Rattle.algol_tree.specs.declared.tree.Kind.{Kind}
+use Rattle.algol_tree.specs.Blocks.{block_numbered}
+use Rattle.algol_tree.specs.Cells.{level_of}
+use Rattle.algol_tree.specs.Plain as forms
+use Rattle.algol_tree.specs.Plain.{PExpr, PProgram}
+use Rattle.algol_tree.specs.Scopes.{Scopes, scopes_of}
+use Rattle.algol_meaning.specs.Actions.{Enter}
+use Rattle.algol_meaning.specs.Asks.{nothing, ask, resume}
+use Rattle.algol_meaning.specs.Choice.{Choice, choice}
+use Rattle.algol_meaning.specs.Critical.{is_evaluation}
+use Rattle.algol_meaning.specs.Rest.{Rest, Answer, entered}
+use Rattle.algol_meaning.specs.World.{Instance, Process, Part, Purpose, able, World, instance_at, or_no_instance, ancestor, with_process}
+use Rattle.algol_paths.specs.Arrays.{all_to_make, all_left_to_make}
+use Rattle.algol_paths.specs.Laws.{KeepsToText, RestsKeepToTheirText, AllIsMadeInOrder}
+use Rattle.algol_paths.specs.Segments.{segment_of}
+use Rattle.b67_word.specs.declared.Place.{Place}
+use Rattle.b67_word.specs.Word.{Word}
+use Rattle.b67_control.specs.declared.Rcw.{Rcw}
+use Rattle.b67_control.specs.Control.{as_mscw, as_rcw}
+use Rattle.b67_control.specs.Display.{place_at}
+use Rattle.b67_segment.specs.Operators.{Placed}
+use Rattle.b67_segment.specs.declared.code.Code.{Code}
+use Rattle.b67_store.specs.Store.{stack_limit}
+use Rattle.b67_table.specs.declared.ProcessState.TheVariants.{Able}
+use Rattle.b67_table.specs.Chains.{place}
+use Rattle.b67_table.specs.Effect as effects
+use Rattle.b67_table.specs.Image.{Image}
+use Rattle.b67_table.specs.Linkage.{entered_mark, control_word}
+use Rattle.b67_table.specs.Outcome as outcomes
+use Rattle.b67_table.specs.Private.{frame}
+use Rattle.b67_table.specs.Table.{table, raw, plain}
+use Rattle.b67_templates.specs.Cells.{has_place}
+use Rattle.b67_templates.specs.Code.{in_routine}
+use Rattle.b67_templates.specs.Contexts.{Yields}
+use Rattle.b67_templates.specs.Depths.{depth}
+use Rattle.b67_templates.specs.Programs.{Texts, context_of}
+use Rattle.b67_standing.specs.Stepping.{Slot}
+use Rattle.b67_standing.specs.Standing.{Gives, pushed, selected, ComesTo}
+use Rattle.b67_cores.specs.Cores.{Core, size, IsCore, HasCore, with_core}
+use Rattle.b67_cores.specs.Slots.{newest, SlotsAre}
+use Rattle.b67_cores.specs.Stretches.{CoreAt, FragmentsArePerformed}
+use Rattle.b67_cores.proofs.Moving.{slots_length}
+use Rattle.b67_faithful.specs.Correspondence.{operator_action}
+use Rattle.b67_faithful.specs.Faithful.{IsShort}
+use Rattle.b67_faithful.specs.Weight.{tokens_around, part_weight, weight, parts_weight}
+use Rattle.b67_fitting.specs.Nested.{LiesNested}
+use Rattle.b67_pictures.specs.Acting.{Does, gave, stopped}
+use Rattle.b67_pictures.specs.Arrays.{Layout, IsActual, IsOwn, AreKnown}
+use Rattle.b67_pictures.specs.Frames.{most_around, run_level, IsChained, Frame, Waits, Around, of_lent}
+use Rattle.b67_pictures.specs.Lent.{IsAsked, IsOfExpression, Lent}
+use Rattle.b67_pictures.specs.Pictures.{Living, Pictures, PicturesBy}
+use Rattle.b67_pictures.proofs.ActualEntries as entries
+use Rattle.b67_pictures.proofs.ActualEntries.{Takes}
+use Rattle.b67_pictures.proofs.ActualHomes.{ActualHome}
+use Rattle.b67_pictures.proofs.Ancestors.{same_place}
+use Rattle.b67_pictures.proofs.ArraysKept.{arrays_unchanged}
+use Rattle.b67_pictures.proofs.Cored.{has_now, others_have, system_stays}
+use Rattle.b67_pictures.proofs.Displays.{shown, shown_below}
+use Rattle.b67_pictures.proofs.EntryRow.{lower_of}
+use Rattle.b67_pictures.proofs.Expressions.{expression_resumed}
+use Rattle.b67_pictures.proofs.FrameEntering.{around_of}
+use Rattle.b67_pictures.proofs.Kept.{alike_by}
+use Rattle.b67_pictures.proofs.Knowing.{known_of}
+use Rattle.b67_pictures.proofs.Landing.{steps_none, living_of}
+use Rattle.b67_pictures.proofs.Linked.{Linked}
+use Rattle.b67_pictures.proofs.Lying.{StayBelow, shape_on}
+use Rattle.b67_pictures.proofs.Numbers.{numbered_set, most_or_more}
+use Rattle.b67_pictures.proofs.Scene.{Scene}
+use Rattle.b67_pictures.proofs.Spelled.{HaveTexts}
+use Rattle.b67_pictures.proofs.Stage.{gives_within, limit_beyond, goes_on, weight_of}
+use Rattle.b67_pictures.proofs.Staying.{text_in, level_in, context_in, most_in, FrameStill, frame_still, still_low, parts_weigh}
+
+-- a selector is one word, or none
+one_selector : (b selector : Bool) → length (selected b selector) ≤ 1
+one_selector true selector = omega arith
+one_selector false selector = omega arith
+
+-- the code of the actual has room for it
+pub selected_few : (e : PExpr) (selector : Bool) → length (selected (has_place e) selector) ≤ depth e
+selected_few (forms.number z spot) selector = omega arith
+selected_few (forms.truth b spot) selector = omega arith
+selected_few (forms.variable (forms.subscripted n forms.none)) selector = omega arith
+selected_few (forms.variable (forms.subscripted n (forms.more e es))) selector = omega arith
+selected_few (forms.call c) selector = omega arith
+selected_few (forms.tested test e spot) selector = omega arith
+selected_few (forms.paren e spot) selector = omega arith
+selected_few (forms.plus e spot) selector = omega arith
+selected_few (forms.neg e spot) selector = omega arith
+selected_few (forms.not e spot) selector = omega arith
+selected_few (forms.two op x y) selector = omega arith
+selected_few (forms.if c x y spot) selector = omega arith
+
+-- the part that evaluates an actual, and the world in which that is to be done
+abbrev pub evaluation_of : ℕ → Purpose → Rest → Part
+evaluation_of i purpose rest = record { instance = i; purpose = purpose; rest = rest }
+
+abbrev pub evaluating_world : Scopes → World → ℕ → Process → Part → List Part → Part → World
+evaluating_world sc w p q part outer inner = with_process w p (record q { todo = inner ∷ around_of sc part ∷ outer })
+
+module _ (tree : PProgram) (code : Code) (texts : Texts) (w : World) where
+  -- From the start of the actual's code, with this selector, the machine comes to where it stands for what the evaluation has to do, which
+  -- gives what is asked for by this purpose.
+  pub record Evaluation (i : ℕ) (e : PExpr) (at : ℕ) (purpose : Purpose) (gives : Yields) (selector : Bool) (rest : Rest) : Type 0 where
+    pub evaluates : is_evaluation purpose ≡ true
+    pub asked : IsAsked purpose gives
+    pub text : KeepsToText (scopes_of tree) ((instance_at w i).block) rest
+    pub expression : IsOfExpression rest
+    pub room : depth e ≤ most_around tree ((instance_at w i).block)
+    pub comes : ComesTo (scopes_of tree) (in_routine gives (context_of code texts (scopes_of tree) ((instance_at w i).block))) (texts.placed (segment_of (scopes_of tree).blocks ((instance_at w i).block)))
+        (level_of (block_numbered (scopes_of tree).blocks ((instance_at w i).block)) + 1) (most_around tree ((instance_at w i).block)) rest at (selected (has_place e) selector)
+
+module _ (tree : PProgram) (code : Code) (texts : Texts) (nested : LiesNested tree) (short : IsShort tree code) (stand : HaveTexts tree code texts)
+    (fragments : FragmentsArePerformed) (keeps : RestsKeepToTheirText) (order : AllIsMadeInOrder)
+    (w : World) (lay : Layout) (img : Image) (p : ℕ) (q : Process) (part : Part) (outer : List Part) (bound : ℕ) (core : Core)
+    (s : Scene tree code texts w lay img p q part outer bound core) (able_is : q.state ≡ able) (able_p : numbered img.states p ≡ Some Able) where
+  abbrev sc : Scopes
+  sc = scopes_of tree
+
+  -- after the entry the part around goes on, once this was given, and has room for it
+  pub record Awaits (next : ℕ) (waiting : List Slot) (gives : Yields) : Type 0 where
+    pub unmade : all_left_to_make part.rest ≡ all_to_make part.rest
+    pub waits : ask (resume sc part.rest entered) ≡ nothing
+    pub returns : (a : Answer) → Gives gives a →
+        ComesTo sc (context_in tree code texts w part s.stands.frame.gives) (text_in tree texts w part) (level_in tree w part) (most_in tree w part) (resume sc (resume sc part.rest entered) a) next (pushed gives a waiting)
+    pub few : length waiting + 1 ≤ most_in tree w part
+
+  module _ (next : ℕ) (taken more : List Word) (waiting : List Slot) (t : Takes tree code texts nested short stand w lay img p q part outer bound core s next taken more waiting)
+      (i : ℕ) (e : PExpr) (kind : Kind) (word : Word) (is : IsActual sc w lay (IsOwn (part ∷ outer)) i e kind word)
+      (h : ActualHome tree code texts nested.nested w lay img p q part outer bound core s i e kind word is)
+      (purpose : Purpose) (gives : Yields) (selector : Bool) (rest : Rest) (evaluation : Evaluation tree code texts w i e h.at purpose gives selector rest) (behind : Awaits next waiting gives) where
+    -- the block in whose text the actual stands, the level of its names, and that at which its code runs
+    abbrev block : ℕ
+    block = (instance_at w i).block
+
+    abbrev names : ℕ
+    names = level_of (block_numbered sc.blocks block)
+
+    abbrev inner_level : ℕ
+    inner_level = names + 1
+
+    abbrev ps : List Placed
+    ps = texts.placed (segment_of sc.blocks block)
+
+    -- ---- the world
+
+    abbrev inner : Part
+    inner = evaluation_of i purpose rest
+
+    abbrev part' : Part
+    part' = around_of sc part
+
+    abbrev q' : Process
+    q' = record q { todo = inner ∷ part' ∷ outer }
+
+    abbrev w' : World
+    w' = evaluating_world sc w p q part outer inner
+
+    abbrev limit : ℕ
+    limit = length core.below
+
+    stay : StayBelow w w' lay lay p limit
+    stay = record { instances = λ k f x there own laid low. there; places = λ k f there. there; rows = λ k f x there own laid low. refl }
+
+    all_low : length core.below ≤ limit
+    all_low = omega arith
+
+    own_low : length s.stands.frame.lower + 2 + length s.stands.frame.cells ≡ length core.below
+    own_low = entries.own_low tree code texts nested short stand w lay img p q part outer bound core s next taken more waiting t i e kind word is h
+
+    still : FrameStill tree code texts w w' lay lay p limit stay part outer core.below s.stands.frame.cells s.stands.frame.gives
+    still = frame_still tree code texts w w' lay lay p limit stay part outer core.below s.stands.frame s.around (omega (arith, own_low))
+
+    same_lower : length s.stands.frame.lower ≡ length still.frame.lower
+    same_lower = sym (still_low tree code texts w w' lay lay p limit stay part outer core.below s.stands.frame still)
+
+    -- ---- the core in the frame
+
+    abbrev at : ℕ
+    at = length (lower_of core more)
+
+    abbrev df : ℕ
+    df = at - core.registers.f
+
+    abbrev home : Place
+    home = place p (length h.lies.frame.lower)
+
+    abbrev l : Linked sc w lay img.stacks p i
+    l = entries.l tree code texts nested short stand w lay img p q part outer bound core s next taken more waiting t i e kind word is h
+
+    abbrev frames : List Place
+    frames = home ∷ l.more
+
+    abbrev lower : List Word
+    lower = lower_of core more
+
+    abbrev mark : Word
+    mark = entered_mark home df
+
+    abbrev control : Word
+    control = control_word core.registers next inner_level
+
+    abbrev pub new : Core
+    new = entries.new tree code texts nested short stand w lay img p q part outer bound core s next taken more waiting t i e kind word is h selector
+
+    new_core : IsCore new
+    new_core = entries.new_core tree code texts nested short stand w lay img p q part outer bound core s next taken more waiting t i e kind word is h selector
+
+    core_at : CoreAt sc [] code ps inner_level h.at (selected (has_place e) selector) new
+    core_at = entries.core_at tree code texts nested short stand w lay img p q part outer bound core s next taken more waiting t i e kind word is h selector
+
+    new_long : length new.below ≡ at + 2
+    new_long = entries.new_long tree code texts nested short stand w lay img p q part outer bound core s next taken more waiting t i e kind word is h selector
+
+    at_is : at ≡ length core.below + length waiting
+    at_is =
+        omega (
+          arith,
+          entries.at_is tree code texts nested short stand w lay img p q part outer bound core s next taken more waiting t i e kind word is h,
+          entries.as_many tree code texts nested short stand w lay img p q part outer bound core s next taken more waiting t i e kind word is h,
+        )
+
+    level_is : inner_level ≡ length frames + 2
+    level_is = entries.level_is tree code texts nested short stand w lay img p q part outer bound core s next taken more waiting t i e kind word is h
+
+    abbrev bound' : ℕ
+    bound' = at + 2 + most_around tree block
+
+    room_there : length new.below + most_around tree block ≤ bound'
+    room_there = omega (arith, new_long)
+
+    few_there : length (selected (has_place e) selector) ≤ most_around tree block
+    few_there = omega (arith, selected_few e selector, evaluation.room)
+
+    -- how many words its stack has
+    pub top_is : new.registers.s ≡ at + 2 + length (selected (has_place e) selector)
+    top_is =
+        omega (
+          arith,
+          new_core.top,
+          new_long,
+          slots_length sc [] inner_level (frame new.registers) (length new.below) (selected (has_place e) selector) new.words core_at.words_are,
+        )
+
+    has_here : HasCore (with_core img p new) p new
+    has_here = has_now img p core new s.has refl new_core
+
+    -- ---- weights
+
+    weight_before : weight tree w p ≡ parts_weight tree w' (part' ∷ outer)
+    weight_before = weight_of tree w p q (part ∷ outer) s.at s.todo ∙ sym (parts_weigh tree code texts w w' lay lay p limit stay part outer core s.stands s.around all_low)
+
+    inner_weight : part_weight tree w' inner ≡ 8 + 4 * tokens_around tree block
+    inner_weight = ap (λ (b : Bool). 8 + (if b then 0 else length ((instance_at w i).cells)) + 4 * tokens_around tree block) evaluation.evaluates ∙ omega arith
+
+    light' : bound' + 3 ≤ weight tree w' p
+    light' =
+        omega (
+          arith,
+          weight_of tree w' p q' (inner ∷ part' ∷ outer) (numbered_set w.processes p q q' s.at) refl,
+          inner_weight,
+          weight_before,
+          s.light,
+          s.room,
+          behind.few,
+          at_is,
+        )
+
+    -- ---- its display
+
+    -- the frames down the links are those of the instance and of its static parents
+    each_frame : (up : ℕ) → up < length frames → slice_get frames up ≡ numbered lay.places (ancestor w up i)
+    each_frame zero low = sym (ap (numbered lay.places) (sym h.lies.instance_is) ∙ h.lies.owned.framed.laid)
+    each_frame (suc up) low =
+        l.each up (omega (arith, low))
+        ∙ ap (λ (o : Option Instance). numbered lay.places (ancestor w up ((or_no_instance o).parent))) (sym l.is)
+
+    chained_now : IsChained sc w' lay i names (shown (place p at) frames)
+    chained_now up low =
+        shown_below (place p at) frames up (names - up) (omega (arith, level_is, low)) (omega (arith, low))
+        ∙ each_frame up (omega (arith, level_is, low))
+        ∙ sym (same_place tree code texts w w' lay lay p limit stay part outer core s.stands s.around all_low i is.own up low)
+
+    -- ---- its frame, where the stack is no longer than a stack may be
+
+    module _ (small : size new ≤ stack_limit) where
+      low_at : at < stack_limit
+      low_at = omega (arith, small, new_long)
+
+      there : numbered w.instances i ≡ Some (instance_at w i)
+      there =
+          let here : numbered w.instances i ≡ Some h.lies.owned.framed.instance = ap (numbered w.instances) (sym h.lies.instance_is) ∙ h.lies.owned.framed.is in
+          here ∙ ap (λ (x : Instance). Some x) (sym (ap or_no_instance here))
+
+      known_block : block < length sc.blocks
+      known_block =
+          let here : numbered w.instances i ≡ Some h.lies.owned.framed.instance = ap (numbered w.instances) (sym h.lies.instance_is) ∙ h.lies.owned.framed.is in
+          subst (λ (x : Instance). x.block < length sc.blocks) (sym (ap or_no_instance here)) h.lies.owned.framed.known
+
+      mark_reads : as_mscw mark ≡ Some (record { entered = true; stack = p; displacement = length h.lies.frame.lower; df = df })
+      mark_reads = entries.mark_reads tree code texts nested short stand w lay img p q part outer bound core s next taken more waiting t i e kind word is h low_at
+
+      abbrev back : Rcw
+      back = entries.back tree code texts nested short stand w lay img p q part outer bound core s next taken more waiting t i e kind word is h
+
+      control_reads : as_rcw control ≡ Some back
+      control_reads = entries.control_reads tree code texts nested short stand w lay img p q part outer bound core s next taken more waiting t i e kind word is h
+
+      lent : Lent lay (IsOwn (part' ∷ outer)) inner [] home gives
+      lent =
+          record {
+            evaluates = evaluation.evaluates;
+            asked = evaluation.asked;
+            expression = evaluation.expression;
+            stands = is.own;
+            none = refl;
+            linked = ap (numbered lay.places) (sym h.lies.instance_is) ∙ h.lies.owned.framed.laid;
+          }
+
+      abbrev frame_in : Frame tree code texts w' lay p inner (part' ∷ outer) new.below
+      frame_in =
+          record {
+            lower = lower;
+            mark = mark;
+            control = control;
+            cells = [];
+            words_are = refl;
+            instance = instance_at w i;
+            is = there;
+            known = known_block;
+            home = home;
+            df = df;
+            mark_is = mark_reads;
+            back = back;
+            control_is = control_reads;
+            level_is = sym (ap (λ (b : Bool). run_level b names) evaluation.evaluates);
+            text = evaluation.text;
+            gives = gives;
+            shape = of_lent lent;
+          }
+
+      abbrev frame_around : Frame tree code texts w' lay p part' outer core.below
+      frame_around =
+          record {
+            lower = still.frame.lower;
+            mark = still.frame.mark;
+            control = still.frame.control;
+            cells = still.frame.cells;
+            words_are = still.frame.words_are;
+            instance = still.frame.instance;
+            is = still.frame.is;
+            known = still.frame.known;
+            home = still.frame.home;
+            df = still.frame.df;
+            mark_is = still.frame.mark_is;
+            back = still.frame.back;
+            control_is = still.frame.control_is;
+            level_is = still.frame.level_is;
+            gives = still.frame.gives;
+            text = keeps.resumed sc ((instance_at w part.instance).block) part.rest entered s.stands.frame.text tt;
+            shape = shape_on tree code texts w' lay p part outer (length still.frame.lower) still.frame.mark still.frame.control still.frame.cells still.frame.home still.frame.gives part'.rest
+                (sym behind.unmade ∙ sym (order.resumed sc ((instance_at w part.instance).block) part.rest entered s.stands.frame.text)) (expression_resumed sc part.rest entered) still.frame.shape;
+          }
+
+      -- ---- what waits
+
+      returns_now : (a : Answer) → Gives gives a →
+          ComesTo sc (context_in tree code texts w' part' still.frame.gives) (text_in tree texts w' part') (level_in tree w' part') (most_in tree w' part') (resume sc part'.rest a) next (pushed gives a waiting)
+      returns_now =
+          subst (λ (y : Yields). (a : Answer) → Gives gives a →
+          ComesTo sc (context_in tree code texts w part y) (text_in tree texts w part) (level_in tree w part) (most_in tree w part) (resume sc part'.rest a) next (pushed gives a waiting)) (sym still.gives_are) behind.returns
+
+      words_now : SlotsAre sc s.stands.held (level_in tree w' part') (length still.frame.lower) (length core.below) waiting more
+      words_now =
+          subst (λ (k : ℕ). SlotsAre sc s.stands.held (level_in tree w part) k (length core.below) waiting more)
+          (entries.own_is tree code texts nested short stand w lay img p q part outer bound core s next taken more waiting t i e kind word is h ∙ same_lower) t.are
+
+      known_now : AreKnown sc w' lay (IsOwn (part' ∷ outer)) part.instance s.stands.held
+      known_now = known_of sc w w' lay (part ∷ outer) (part' ∷ outer) refl (λ m own. own) part.instance s.stands.held s.stands.held_are
+
+      abbrev waits_now : Waits tree code texts w' lay p part' outer lower mark control gives
+      waits_now =
+          record {
+            below = core.below;
+            words = more;
+            lower_is = refl;
+            frame = frame_around;
+            waits = behind.waits;
+            pc = next;
+            slots = waiting;
+            returns = returns_now;
+            few = behind.few;
+            held = s.stands.held;
+            held_are = known_now;
+            words_are = words_now;
+            home = home;
+            df = df;
+            mark_is = mark_reads;
+            far = ap (λ (k : ℕ). df + newest k (length core.below) waiting) (sym same_lower) ∙ entries.far tree code texts nested short stand w lay img p q part outer bound core s next taken more waiting t i e kind word is h;
+            back = back;
+            control_is = control_reads;
+            segment_is = s.stands.segment_is;
+            place_is = omega arith;
+            level_is = s.stands.there.level_is;
+            cells_are = s.stands.counted ∙ sym (ap length still.cells_are);
+            light = omega (arith, s.room, s.light, weight_before);
+          }
+
+      around_inner : Around tree code texts w' lay p (part' ∷ outer) lower mark control gives
+      around_inner = (waits_now, still.around)
+
+      -- ---- the evaluation goes on
+
+      living_now : Living tree code texts w' lay (with_core img p new) p q'
+      living_now =
+          living_of tree code texts w' lay (with_core img p new) fragments p q' inner (part' ∷ outer) bound' new new (record {
+            todo = refl;
+            independent = s.independent;
+            without_task = s.without_task;
+            has = has_here;
+            free = s.free;
+            idle = s.idle;
+            sees = refl;
+            small = small;
+            begun = 0;
+            begins = steps_none sc [] code ps inner_level (most_around tree block) bound' h.at (selected (has_place e) selector) new core_at few_there room_there;
+            frame = frame_in;
+            around = around_inner;
+            counted = refl;
+            chained = chained_now;
+            top = ap (λ (x : Bool). place_at (shown (place p at) frames) (run_level x names)) evaluation.evaluates
+                ∙ entries.shown_here tree code texts nested short stand w lay img p q part outer bound core s next taken more waiting t i e kind word is h;
+            segment_is = refl;
+            pc = h.at;
+            slots = selected (has_place e) selector;
+            known = [];
+            known_are = tt;
+            at = subst (λ (x : Bool). CoreAt sc [] code ps (run_level x names) h.at (selected (has_place e) selector) new) (sym evaluation.evaluates) core_at;
+            held = few_there;
+            comes = subst (λ (x : Bool). ComesTo sc (in_routine gives (context_of code texts sc block)) ps (run_level x names) (most_around tree block) rest h.at (selected (has_place e) selector)) (sym evaluation.evaluates)
+                evaluation.comes;
+            room = room_there;
+            light = light';
+          })
+
+      pictured : PicturesBy tree code texts w' lay (with_core img p new)
+      pictured =
+          goes_on tree code texts w lay img s.by p q s.at w' lay (with_core img p new) q' refl able_is s.by.laid (arrays_unchanged sc w w' lay img.rows refl s.by.arrays)
+          (λ r other. alike_by w w' lay r refl) s.by.output refl refl refl refl (system_stays img p core new s.has refl q w s.at) able_p (others_have img p core new s.has refl) living_now
+
+    -- where the operator enters the code of the actual, and the choice is the entry, the operator does it
+    pub entering_evaluation : plain code img p ≡ false → raw code img p ≡ effects.gives (with_core img p new) → choice sc w p ≡ record { action = Enter; world = w'; released = []; started = None } →
+        (table code img p ≡ outcomes.gives (with_core img p new) → operator_action code img p ≡ Some Enter) → Does tree code texts w img p
+    entering_evaluation not_plain raw_is chosen acts = by_size (most_or_more new.registers.s stack_limit)
+      where
+        by_size : (new.registers.s ≤ stack_limit) ⊎ (stack_limit < new.registers.s) → Does tree code texts w img p
+        by_size (inl small) =
+            let table_is : table code img p ≡ outcomes.gives (with_core img p new) = gives_within code img (with_core img p new) p new.registers raw_is has_here.registers small in
+            gave (with_core img p new) not_plain table_is (acts table_is ∙ ap (λ (x : Choice). Some x.action) (sym chosen))
+            (subst (λ (x : Choice). Pictures tree code texts x.world (with_core img p new)) (sym chosen) (lay, pictured (omega (arith, small, new_core.top))))
+        by_size (inr long) =
+            stopped not_plain (limit_beyond code img (with_core img p new) p new.registers raw_is has_here.registers long) (omega (arith, long, top_is, one_selector (has_place e) selector, at_is, behind.few, s.room, s.light))

@@ -1,0 +1,260 @@
+-- The frame of an evaluation is left: no instance is left, no row is closed, and the part around goes on with the value, or with the place.
+use Rattle.std.proofs.Common.{◌≡◌, ◌≢◌, inl, inr, refl, sym, ap, ◌∙◌, subst, ℕ, zero, suc, List, [], ◌∷◌, length, Option, Some, None, Bool, true, false, Ok, arith}
+use Rattle.std.specs.Prelude.{if◌then◌else◌, is_some, ◌||◌, ◌==◌}
+use Rattle.b67_list.specs.Numbered.{numbered}
+use Rattle.b67_num.specs.declared.FaultKind.TheVariants as fault
+use Rattle.algol_tree.specs.declared.tree.Kind.{Kind}
+use Rattle.algol_tree.specs.Plain.{PProgram}
+use Rattle.algol_tree.specs.Scopes.{Scopes, scopes_of}
+use Rattle.algol_meaning.specs.Value.{Value}
+use Rattle.algol_meaning.specs.Rest as rests
+use Rattle.algol_meaning.specs.Rest.{Answer, value}
+use Rattle.algol_meaning.specs.World.{Process, Part, able, World, with_process, instance_at, ancestor}
+use Rattle.algol_meaning.specs.Actions.{Leave}
+use Rattle.algol_meaning.specs.Asks.{Ask, leaves, ask}
+use Rattle.algol_meaning.specs.Choice.{Choice, choice, choice_of, left_with, left_or_ended, fails}
+use Rattle.algol_meaning.specs.Critical.{some_depends}
+use Rattle.algol_paths.specs.Laws.{RestsKeepToTheirText, AllIsMadeInOrder}
+use Rattle.b67_word.specs.declared.Place.{Place}
+use Rattle.b67_word.specs.Word.{Word}
+use Rattle.b67_control.specs.declared.Descriptor.{Descriptor}
+use Rattle.b67_control.specs.declared.Sirw.{Sirw}
+use Rattle.b67_control.specs.Control.{as_sirw}
+use Rattle.b67_ops.specs.declared.Operator.TheVariants as ops
+use Rattle.b67_ops.specs.declared.PlainKind.TheVariants as kinds
+use Rattle.b67_segment.specs.declared.code.Code.{Code}
+use Rattle.b67_store.specs.Store.{Rows}
+use Rattle.b67_table.specs.declared.Below.{Below}
+use Rattle.b67_table.specs.declared.ProcessState.TheVariants.{Able}
+use Rattle.b67_table.specs.Arrays.{as_indexed}
+use Rattle.b67_table.specs.Chains.{place}
+use Rattle.b67_table.specs.Effect.{gives}
+use Rattle.b67_table.specs.Image.{Image, with_rows}
+use Rattle.b67_table.specs.Linkage.{arrays_closed}
+use Rattle.b67_table.specs.Outcome as outcomes
+use Rattle.b67_table.specs.Private.{frame}
+use Rattle.b67_table.specs.Program.{Change, changed}
+use Rattle.b67_table.specs.Rows.{is_result}
+use Rattle.b67_table.specs.Table.{raw, table, plain, operator_at}
+use Rattle.b67_templates.specs.Contexts.{Yields}
+use Rattle.b67_templates.specs.Programs.{Texts}
+use Rattle.b67_standing.specs.Stepping.{IsFound, held_at, operand, descriptor}
+use Rattle.b67_standing.specs.Standing.{ActionAt, Gives}
+use Rattle.b67_cores.specs.Cores.{Core, IsCore, HasCore, with_core}
+use Rattle.b67_cores.specs.Slots.{Known}
+use Rattle.b67_cores.specs.Stretches.{FragmentsArePerformed}
+use Rattle.b67_faithful.specs.Correspondence.{operator_action}
+use Rattle.b67_faithful.proofs.Contradictions.{true_false}
+use Rattle.b67_fitting.specs.Nested.{AreNested}
+use Rattle.b67_pictures.specs.Arrays.{Layout, ArraysAre, AreKnown, HeldIs, IsOwn}
+use Rattle.b67_pictures.specs.Acting.{Does, gave}
+use Rattle.b67_pictures.specs.Frames.{Waits}
+use Rattle.b67_pictures.specs.Lent.{Lent}
+use Rattle.b67_pictures.specs.Pictures.{Living, Pictures, PicturesBy}
+use Rattle.b67_pictures.proofs.ArraysKept.{arrays_unchanged}
+use Rattle.b67_pictures.proofs.Cored.{has_now, others_have, system_stays}
+use Rattle.b67_pictures.proofs.ElementHomes.{element_home}
+use Rattle.b67_pictures.proofs.Homes.{operator_there}
+use Rattle.b67_pictures.proofs.Kept.{alike_by, stay_below}
+use Rattle.b67_pictures.proofs.Knowing.{known_is, known_of}
+use Rattle.b67_pictures.proofs.LeaveRow.{Leaves, after, outer_is}
+use Rattle.b67_pictures.proofs.LeavingWords as leaving
+use Rattle.b67_pictures.proofs.LeavingWords.{IsGiven, value_given, place_given, known_given, leaves_so, rows_are, low, shown_home}
+use Rattle.b67_pictures.proofs.NamedVariables.{names_variable}
+use Rattle.b67_pictures.proofs.Numbers.{numbered_set}
+use Rattle.b67_pictures.proofs.PartAround as around
+use Rattle.b67_pictures.proofs.PartAround.{smaller, living_now}
+use Rattle.b67_pictures.proofs.ReturnRow.{operand_given, return_raw, return_class, return_action}
+use Rattle.b67_pictures.proofs.Rows.{action_not_plain}
+use Rattle.b67_pictures.proofs.Scene.{Scene}
+use Rattle.b67_pictures.proofs.Slotted.{Top, top_slot}
+use Rattle.b67_pictures.proofs.Spelled.{HaveTexts}
+use Rattle.b67_pictures.proofs.Stage.{choice_is, gives_within, goes_on}
+use Rattle.b67_pictures.proofs.Staying.{text_in, level_in, context_in, most_in}
+use Rattle.b67_pictures.proofs.Words.{value_tag}
+
+-- ---- the word of a place
+
+-- a reference that is read alike everywhere may be given back, and so may the descriptor of an element
+reference_given : (x : Word) (y : Sirw) → as_sirw x ≡ Some y → is_result x ≡ true
+reference_given x y reads = ap (λ (o : Option Sirw). x.tag == 0 || is_some o || is_some (as_indexed x)) reads ∙ either (x.tag == 0)
+  where
+    either : (b : Bool) → (b || true || is_some (as_indexed x)) ≡ true
+    either true = refl
+    either false = refl
+
+element_given : (x : Word) (d : Descriptor) → as_indexed x ≡ Some d → is_result x ≡ true
+element_given x d reads = ap (λ (o : Option Descriptor). x.tag == 0 || is_some (as_sirw x) || is_some o) reads ∙ either (x.tag == 0) (is_some (as_sirw x))
+  where
+    either : (b c : Bool) → (b || c || true) ≡ true
+    either true c = refl
+    either false true = refl
+    either false false = refl
+
+module _ (tree : PProgram) (code : Code) (texts : Texts) (nested : AreNested (scopes_of tree)) (w : World) (lay : Layout) (img : Image)
+    (p : ℕ) (q : Process) (part : Part) (outer : List Part) (bound : ℕ) (core : Core) (s : Scene tree code texts w lay img p q part outer bound core) where
+  -- the word of a place that was found may be given back
+  pub place_word_given : (x : rests.Place) (kind : Kind) (word : Word) → IsFound x → HeldIs (scopes_of tree) w lay (IsOwn (part ∷ outer)) part.instance (held_at x kind) word → is_result word ≡ true
+  place_word_given (rests.own n) kind word found h = absurd found
+  place_word_given (rests.there r) kind word found h = reference_given word _ (names_variable tree code texts nested w lay img p q part outer bound core s r kind word h).reads
+  place_word_given (rests.element_of r ks) kind word found h = element_given word _ (element_home tree code texts w lay img p q part outer bound core s r ks kind word h).reads
+
+-- what it stands for does not depend on the part
+place_moved : (sc : Scopes) (w : World) (lay : Layout) (Stand : ℕ → Type 0) (i j : ℕ) (x : rests.Place) (kind : Kind) (word : Word) → IsFound x → HeldIs sc w lay Stand i (held_at x kind) word →
+    HeldIs sc w lay Stand j (held_at x kind) word
+place_moved sc w lay Stand i j (rests.own n) kind word found h = absurd found
+place_moved sc w lay Stand i j (rests.there r) kind word found h = h
+place_moved sc w lay Stand i j (rests.element_of r ks) kind word found h = h
+
+-- ---- the frame is left
+
+module _ (tree : PProgram) (code : Code) (texts : Texts) (stand : HaveTexts tree code texts) (fragments : FragmentsArePerformed) (keeps : RestsKeepToTheirText) (order : AllIsMadeInOrder)
+    (w : World) (lay : Layout) (img : Image) (p : ℕ) (q : Process) (part next : Part) (parts : List Part) (bound : ℕ) (core : Core)
+    (s : Scene tree code texts w lay img p q part (next ∷ parts) bound core) (able_is : q.state ≡ able) (able_p : numbered img.states p ≡ Some Able)
+    (lent : Lent lay (IsOwn (next ∷ parts)) part s.stands.frame.cells s.stands.frame.home s.stands.frame.gives) where
+  abbrev sc : Scopes
+  sc = scopes_of tree
+
+  abbrev u : Waits tree code texts w lay p next parts s.stands.frame.lower s.stands.frame.mark s.stands.frame.control s.stands.frame.gives
+  u = s.around.0
+
+  abbrev f : ℕ
+  f = length s.stands.frame.lower
+
+  abbrev b : Below
+  b = leaving.b tree code texts w lay img p q part next parts bound core s
+
+  abbrev display : List (Option Place)
+  display = leaving.display tree code texts w lay img p q part next parts bound core s
+
+  -- it has no cells, so no rows are closed
+  pub none_closed : (m : ℕ) (change : Change) → changed m (arrays_closed s.stands.frame.cells change) img ≡ changed m change (with_rows img img.rows)
+  none_closed m change = ap (λ (cells : List Word). changed m (arrays_closed cells change) img) lent.none
+
+  abbrev pub e : Leaves img core u.below u.words s.stands.frame.mark s.stands.frame.control s.stands.frame.cells b display
+  e = leaves_so tree code texts w lay img p q part next parts bound core s img.rows none_closed
+
+  module _ (r : Answer) (given : Option Word) (g : IsGiven s.stands.frame.gives r given) (gives_it : Gives s.stands.frame.gives r)
+      (known_there : AreKnown (scopes_of tree) w lay (IsOwn (next ∷ parts)) next.instance (known_given s.stands.frame.gives r given)) where
+    abbrev q' : Process
+    q' = around.q' tree code texts stand fragments keeps order w lay img p q part next parts bound core s r given g gives_it known_there
+
+    abbrev new : Core
+    new = around.new tree code texts stand fragments keeps order w lay img p q part next parts bound core s r given g gives_it known_there
+
+    -- the world but for the parts
+    abbrev w' : World
+    w' = with_process w p q'
+
+    same_up : (up j : ℕ) → ancestor w' up j ≡ ancestor w up j
+    same_up zero j = refl
+    same_up (suc up) j = same_up up ((instance_at w j).parent)
+
+    module _ (over : ℕ) where
+      is_core : IsCore new
+      is_core =
+          outer_is code img p core s.has over u.below u.words s.stands.frame.mark s.stands.frame.control s.stands.frame.cells b display e given
+          (shown_home tree code texts w lay img p q part next parts bound core s ∙ ap (λ (n : ℕ). Some (place n (length u.frame.lower))) (sym s.has.own))
+          (omega (arith, low tree code texts w lay img p q part next parts bound core s, u.cells_are))
+
+      abbrev pub now : Image
+      now = after code img p core s.has over u.below u.words s.stands.frame.mark s.stands.frame.control s.stands.frame.cells b display e given
+
+      has_here : HasCore now p new
+      has_here =
+          let h : HasCore (with_core img p new) p new = has_now img p core new s.has refl is_core in
+          record { live = h.live; registers = h.registers; own = h.own; stack = h.stack; is = h.is }
+
+      others : (m : ℕ) (other : Core) → m ≢ p → HasCore img m other → HasCore now m other
+      others m other apart has =
+          let h : HasCore (with_core img p new) m other = others_have img p core new s.has refl m other apart has in
+          record { live = h.live; registers = h.registers; own = h.own; stack = h.stack; is = h.is }
+
+      here : Living tree code texts w' lay now p q'
+      here =
+          living_now tree code texts stand fragments keeps order w lay img p q part next parts bound core s r given g gives_it known_there w' (numbered_set w.processes p q q' s.at)
+          (stay_below tree code texts w w' lay lay p (alike_by w w' lay p refl) f) (λ j. record { block = refl; parent = refl; cells = refl }) same_up now has_here
+
+      pictured : PicturesBy tree code texts w' lay now
+      pictured =
+          goes_on tree code texts w lay img s.by p q s.at w' lay now q' refl able_is s.by.laid
+          (subst (λ (rows : Rows). ArraysAre sc w' lay rows) (sym (rows_are tree code texts w lay img p q part next parts bound core s img.rows none_closed)) (arrays_unchanged sc w w' lay img.rows refl s.by.arrays))
+          (λ m other. alike_by w w' lay m refl) s.by.output refl refl refl refl (system_stays img p core new s.has refl q w s.at) able_p others here
+
+      chosen : ask part.rest ≡ leaves r → choice sc w p ≡ record { action = Leave; world = w'; released = []; started = None }
+      chosen asks =
+          choice_is sc w p q part (next ∷ parts) s.at s.todo
+          ∙ ap (λ (k : Ask). choice_of sc w p q part (next ∷ parts) k) asks
+          ∙ ap
+          (λ (t : Bool). if t then left_with sc w p q part (next ∷ parts) w r (next ∷ parts) else if some_depends w.processes part.instance then fails sc w p q part (next ∷ parts) fault.CriticalBlockExit
+          else left_or_ended sc w p q part (next ∷ parts) r (next ∷ parts)) lent.evaluates
+
+      -- an operator that leaves the frame with that does it
+      leaving_evaluation : ask part.rest ≡ leaves r → raw code img p ≡ gives now → plain code img p ≡ false → (table code img p ≡ outcomes.gives now → operator_action code img p ≡ Some Leave) → Does tree code texts w img p
+      leaving_evaluation asks raw_is not_plain acts =
+          gave now not_plain table_is (acts table_is ∙ ap (λ (c : Choice). Some c.action) (sym (chosen asks)))
+          (subst (λ (c : Choice). Pictures tree code texts c.world now) (sym (chosen asks)) (lay, pictured))
+        where
+          table_is : table code img p ≡ outcomes.gives now
+          table_is =
+              gives_within code img now p new.registers raw_is has_here.registers
+              (omega (arith, has_here.is.top, smaller tree code texts stand fragments keeps order w lay img p q part next parts bound core s r given g gives_it known_there))
+
+  -- ---- by RETN
+
+  module _ (r : Answer) (asks : ask part.rest ≡ leaves r) (over : ℕ) (returns : operator_at code core.registers ≡ Ok (ops.Plain kinds.Retn, over)) (x : Word) (rest : List Word) (on_top : core.words ≡ x ∷ rest) (result : is_result x ≡ true)
+      (g : IsGiven s.stands.frame.gives r (Some x)) (gives_it : Gives s.stands.frame.gives r)
+      (known_there : AreKnown (scopes_of tree) w lay (IsOwn (next ∷ parts)) next.instance (known_given s.stands.frame.gives r (Some x))) where
+    returned : Does tree code texts w img p
+    returned =
+        leaving_evaluation r (Some x) g gives_it known_there over asks
+        (return_raw code img p core s.has over returns u.below u.words s.stands.frame.mark s.stands.frame.control s.stands.frame.cells b display e x rest on_top result)
+        (action_not_plain code img p core s.has (ops.Plain kinds.Retn) over returns
+        (return_class code img p core s.has over returns u.below u.words s.stands.frame.mark s.stands.frame.control s.stands.frame.cells b display e x rest on_top result))
+        (return_action code img p core s.has over returns u.below u.words s.stands.frame.mark s.stands.frame.control s.stands.frame.cells b display e x rest on_top result)
+
+  -- with a value
+  module _ (v : Value) (asks : ask part.rest ≡ leaves (value v))
+      (a : ActionAt (scopes_of tree) (context_in tree code texts w part s.stands.frame.gives) (text_in tree texts w part) (level_in tree w part) (most_in tree w part) (leaves (value v)) s.stands.pc s.stands.slots) where
+    value_on_top : Top sc s.stands.held (level_in tree w part) (frame core.registers) (length core.below) (operand v) [] core.words
+    value_on_top = top_slot sc s.stands.held (level_in tree w part) (frame core.registers) (length core.below) s.stands.slots (operand v) [] core.words s.stands.there.words_are a.5
+
+    pub left_value : Does tree code texts w img p
+    left_value =
+        returned (value v) asks a.1
+        (operator_there sc s.stands.held code (text_in tree texts w part) (level_in tree w part) s.stands.pc s.stands.slots core (ops.Plain kinds.Retn) a.1 s.stands.there a.4)
+        value_on_top.word value_on_top.words_below value_on_top.is (operand_given value_on_top.word (value_tag v value_on_top.word value_on_top.slot_is))
+        (subst (λ (y : Yields). IsGiven y (value v) (Some value_on_top.word)) (sym a.2) (value_given a.0 v value_on_top.word value_on_top.slot_is))
+        (subst (λ (y : Yields). Gives y (value v)) (sym a.2) a.3)
+        (subst (λ (y : Yields). AreKnown sc w lay (IsOwn (next ∷ parts)) next.instance (known_given y (value v) (Some value_on_top.word))) (sym a.2) tt)
+
+  -- with a place
+  module _ (nested : AreNested (scopes_of tree)) (x : rests.Place) (asks : ask part.rest ≡ leaves (rests.place x))
+      (a : ActionAt (scopes_of tree) (context_in tree code texts w part s.stands.frame.gives) (text_in tree texts w part) (level_in tree w part) (most_in tree w part) (leaves (rests.place x)) s.stands.pc s.stands.slots) where
+    place_on_top : Top sc s.stands.held (level_in tree w part) (frame core.registers) (length core.below) (descriptor (held_at x a.0)) [] core.words
+    place_on_top = top_slot sc s.stands.held (level_in tree w part) (frame core.registers) (length core.below) s.stands.slots (descriptor (held_at x a.0)) [] core.words s.stands.there.words_are a.5
+
+    here_is : HeldIs sc w lay (IsOwn (part ∷ next ∷ parts)) part.instance (held_at x a.0) place_on_top.word
+    here_is = known_is sc w lay (part ∷ next ∷ parts) part.instance s.stands.held s.stands.held_are (held_at x a.0) place_on_top.word place_on_top.slot_is
+
+    -- what stands for something, stands for that of a part around
+    others_own : (j : ℕ) → IsOwn (part ∷ next ∷ parts) j → IsOwn (next ∷ parts) j
+    others_own j (inl same) = true_false lent.evaluates same.0
+    others_own j (inr own) = own
+
+    abbrev one : Known
+    one = record { held = held_at x a.0; word = place_on_top.word }
+
+    around_is : HeldIs sc w lay (IsOwn (next ∷ parts)) part.instance (held_at x a.0) place_on_top.word
+    around_is = (known_of sc w w lay (part ∷ next ∷ parts) (next ∷ parts) refl others_own part.instance (one ∷ []) (here_is, tt)).0
+
+    pub left_place : Does tree code texts w img p
+    left_place =
+        returned (rests.place x) asks a.1
+        (operator_there sc s.stands.held code (text_in tree texts w part) (level_in tree w part) s.stands.pc s.stands.slots core (ops.Plain kinds.Retn) a.1 s.stands.there a.4)
+        place_on_top.word place_on_top.words_below place_on_top.is
+        (place_word_given tree code texts nested w lay img p q part (next ∷ parts) bound core s x a.0 place_on_top.word a.3 here_is)
+        (subst (λ (y : Yields). IsGiven y (rests.place x) (Some place_on_top.word)) (sym a.2) (place_given a.0 x place_on_top.word a.3))
+        (subst (λ (y : Yields). Gives y (rests.place x)) (sym a.2) a.3)
+        (subst (λ (y : Yields). AreKnown sc w lay (IsOwn (next ∷ parts)) next.instance (known_given y (rests.place x) (Some place_on_top.word))) (sym a.2)
+        (place_moved sc w lay (IsOwn (next ∷ parts)) part.instance next.instance x a.0 place_on_top.word a.3 around_is, tt))

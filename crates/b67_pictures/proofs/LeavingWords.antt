@@ -1,0 +1,217 @@
+-- What lies under a frame that is left: the words of the part around, with what is given on top.
+use Rattle.std.proofs.Common.{◌≡◌, inl, refl, sym, ap, ◌∙◌, subst, ℕ, ◌+◌, ◌≤◌, List, [], ◌∷◌, ◌++◌, length, Option, Some, None, Ok, arith}
+use Rattle.std.specs.Prelude.{reverse}
+use Rattle.algol_tree.specs.declared.tree.Kind.{Kind}
+use Rattle.algol_tree.specs.declared.tree.Named.{Named}
+use Rattle.algol_tree.specs.Plain.{PProgram}
+use Rattle.algol_tree.specs.Scopes.{Scopes, scopes_of}
+use Rattle.algol_meaning.specs.Value.{Value}
+use Rattle.algol_meaning.specs.Rest as rests
+use Rattle.algol_meaning.specs.Rest.{Answer, done, value}
+use Rattle.algol_meaning.specs.World.{Process, Part, World}
+use Rattle.algol_paths.specs.Texts.{InPlace, InAnswer}
+use Rattle.b67_word.specs.declared.Place.{Place}
+use Rattle.b67_word.specs.Word.{Word}
+use Rattle.b67_control.specs.Control.{as_mscw, as_rcw}
+use Rattle.b67_control.specs.Display.{place_at}
+use Rattle.b67_segment.specs.declared.code.Code.{Code}
+use Rattle.b67_store.specs.Store.{Rows}
+use Rattle.b67_table.specs.declared.Below.{Below}
+use Rattle.b67_table.specs.Chains.{place, left_to, rebuilt}
+use Rattle.b67_table.specs.Image.{Image, with_rows}
+use Rattle.b67_table.specs.Linkage.{arrays_closed}
+use Rattle.b67_table.specs.Look.{read_as, seen}
+use Rattle.b67_table.specs.Program.{Change, changed}
+use Rattle.b67_templates.specs.Contexts as yielding
+use Rattle.b67_templates.specs.Contexts.{Yields}
+use Rattle.b67_templates.specs.Programs.{Texts}
+use Rattle.b67_standing.specs.Stepping.{IsFound, held_at, Slot}
+use Rattle.b67_standing.specs.Standing.{pushed}
+use Rattle.b67_cores.specs.Cores.{Core}
+use Rattle.b67_cores.specs.Slots.{ValueIs, Known, newest, SlotsAre}
+use Rattle.b67_cores.proofs.Moving.{slots_length}
+use Rattle.b67_pictures.specs.Arrays.{Layout}
+use Rattle.b67_pictures.specs.Frames.{Waits}
+use Rattle.b67_pictures.proofs.Displays.{IsEntered, entered_to, shown, shown_top, rebuilt_seen}
+use Rattle.b67_pictures.proofs.Hanging.{Hangs, hangs}
+use Rattle.b67_pictures.proofs.Independent.{none_critical}
+use Rattle.b67_pictures.proofs.Indexing.{more_known}
+use Rattle.b67_pictures.proofs.LeaveRow.{Leaves, given_words}
+use Rattle.b67_pictures.proofs.Linked.{Begins_with, begins_front, begins_core, mark_there, control_there}
+use Rattle.b67_pictures.proofs.Marks.{Above, left_seen}
+use Rattle.b67_pictures.proofs.Scene.{Scene, frame_is}
+use Rattle.b67_pictures.proofs.StackWords.{length-stack}
+use Rattle.b67_pictures.proofs.Staying.{level_in, most_in, frame_low}
+
+-- what a part gives, and the word of it
+pub data IsGiven : Yields → Answer → Option Word → Type 0 where
+  nothing_given : IsGiven yielding.nothing done None
+  value_given : (kind : Kind) (v : Value) (x : Word) → ValueIs v x → IsGiven (yielding.value kind) (value v) (Some x)
+  place_given : (kind : Kind) (at : rests.Place) (x : Word) → IsFound at → IsGiven (yielding.element kind) (rests.place at) (Some x)
+
+-- what is then known of that word
+abbrev pub known_given : Yields → Answer → Option Word → List Known
+known_given (yielding.element kind) (rests.place at) (Some x) = record { held = held_at at kind; word = x } ∷ []
+known_given _ _ _ = []
+
+-- a place that was found has no name of the part
+found_nameless : (P : Named → Type 0) (at : rests.Place) → IsFound at → InPlace P at
+found_nameless P (rests.own n) found = absurd found
+found_nameless P (rests.there r) found = tt
+found_nameless P (rests.element_of r ks) found = tt
+
+module _ (tree : PProgram) (code : Code) (texts : Texts) (w : World) (lay : Layout) (img : Image) (p : ℕ) (q : Process) (part next : Part) (parts : List Part) (bound : ℕ) (core : Core)
+    (s : Scene tree code texts w lay img p q part (next ∷ parts) bound core) where
+  abbrev sc : Scopes
+  sc = scopes_of tree
+
+  -- the part around, and where its frame and the one that is left lie
+  abbrev pub u : Waits tree code texts w lay p next parts s.stands.frame.lower s.stands.frame.mark s.stands.frame.control s.stands.frame.gives
+  u = s.around.0
+
+  abbrev pub home : ℕ
+  home = length u.frame.lower
+
+  abbrev pub f : ℕ
+  f = length s.stands.frame.lower
+
+  abbrev pub f' : ℕ
+  f' = length (u.below ++ reverse u.words)
+
+  pub same_f : f ≡ f'
+  same_f = ap length u.lower_is
+
+  pub low : home + 2 + length u.frame.cells ≡ length u.below
+  low = frame_low tree code texts w lay p next parts u.below u.frame
+
+  pub many : length u.words ≡ length u.slots
+  many = slots_length sc u.held (level_in tree w next) home (length u.below) u.slots u.words u.words_are
+
+  pub height : f ≡ length u.below + length u.words
+  height = same_f ∙ length-stack u.below u.words
+
+  pub top : f + 2 + length s.stands.frame.cells ≡ length core.below
+  top = frame_low tree code texts w lay p part (next ∷ parts) core.below s.stands.frame
+
+  begins : Begins_with img.stacks p core.below
+  begins = begins_core img p core s.has
+
+  begins_lower : Begins_with img.stacks p s.stands.frame.lower
+  begins_lower =
+      begins_front img.stacks p s.stands.frame.lower (s.stands.frame.mark ∷ s.stands.frame.control ∷ s.stands.frame.cells)
+      (subst (Begins_with img.stacks p) s.stands.frame.words_are begins)
+
+  begins_words : Begins_with img.stacks p (u.below ++ reverse u.words)
+  begins_words = subst (Begins_with img.stacks p) u.lower_is begins_lower
+
+  pub begins_below : Begins_with img.stacks p u.below
+  begins_below = begins_front img.stacks p u.below (reverse u.words) begins_words
+
+  -- ---- the frames
+
+  -- that of the part around, which may be lent
+  pub hung : Hangs tree code texts w lay p img.stacks next parts u.below u.frame s.around.1 begins_below
+  hung = hangs tree code texts w lay p img.stacks next parts u.below u.frame s.around.1 begins_below
+
+  above : Above img.stacks p home u.below u.words
+  above =
+      record {
+        lies = begins_words;
+        own = entered_to u.frame.home u.frame.df;
+        marked = ap (read_as as_mscw) (mark_there tree code texts w lay p img.stacks next parts u.below u.frame begins_below) ∙ u.frame.mark_is;
+        entered = refl;
+        control = u.frame.back;
+        controlled = ap (read_as as_rcw) (control_there tree code texts w lay p img.stacks next parts u.below u.frame begins_below) ∙ u.frame.control_is;
+        low = omega (arith, low);
+      }
+
+  abbrev pub b : Below
+  b = record { mark = newest home (length u.below) u.slots; frame = home; control = u.back }
+
+  left_there : seen img.stacks (left_to (place p f)) ≡ Ok b
+  left_there =
+      left_seen sc u.held (level_in tree w next) img.stacks p home u.below u.words above f (entered_to u.home u.df)
+      (ap (read_as as_mscw) (mark_there tree code texts w lay p img.stacks part (next ∷ parts) core.below s.stands.frame begins) ∙ u.mark_is) u.back
+      (ap (read_as as_rcw) (control_there tree code texts w lay p img.stacks part (next ∷ parts) core.below s.stands.frame begins) ∙ u.control_is)
+      u.slots u.words_are (omega (arith, height, many, top, s.small)) u.far (omega (arith, u.cells_are, low, height))
+
+  abbrev pub display : List (Option Place)
+  display = shown (place p home) hung.more
+
+  rebuilt_there : seen img.stacks (rebuilt (place p home) u.back.caller_level) ≡ Ok display
+  rebuilt_there =
+      rebuilt_seen (place p home) hung.home hung.more u.back.caller_level
+      (subst (λ (n : ℕ). IsEntered img.stacks (place p home) hung.home n) (sym (u.level_is ∙ hung.level_is)) hung.entered) hung.links (u.level_is ∙ hung.level_is)
+
+  -- the display names the frame of the part around at the level at which its code runs
+  pub shown_home : place_at display u.back.caller_level ≡ Some (place p home)
+  shown_home = ap (place_at display) (u.level_is ∙ hung.level_is) ∙ shown_top (place p home) hung.more
+
+  -- the frame is left, where these rows are left once its cells are closed
+  module _ (rows : Rows) (closed : (m : ℕ) (change : Change) → changed m (arrays_closed s.stands.frame.cells change) img ≡ changed m change (with_rows img rows)) where
+    pub leaves_so : Leaves img core u.below u.words s.stands.frame.mark s.stands.frame.control s.stands.frame.cells b display
+    leaves_so =
+        record {
+          is = s.stands.frame.words_are ∙ ap (λ (ws : List Word). ws ++ s.stands.frame.mark ∷ s.stands.frame.control ∷ s.stands.frame.cells) u.lower_is;
+          some = omega (arith, same_f, height, low);
+          frame_is = frame_is tree code texts w lay img p q part (next ∷ parts) bound core s ∙ same_f;
+          counted = s.stands.counted;
+          rows = rows;
+          closed = closed;
+          left_to = subst (λ (n : ℕ). seen img.stacks (left_to (place n f')) ≡ Ok b) (sym s.has.own) (subst (λ (n : ℕ). seen img.stacks (left_to (place p n)) ≡ Ok b) same_f left_there);
+          rebuilt = subst (λ (n : ℕ). seen img.stacks (rebuilt (place n home) u.back.caller_level) ≡ Ok display) (sym s.has.own) rebuilt_there;
+          free = none_critical tree code texts w lay img s.by;
+        }
+
+    pub rows_are : leaves_so.rows ≡ rows
+    unfolding leaves_so
+    rows_are = refl
+
+  -- ---- what is given lies on top
+
+  module _ (r : Answer) (given : Option Word) (g : IsGiven s.stands.frame.gives r given) where
+    abbrev pub slots : List Slot
+    slots = pushed s.stands.frame.gives r u.slots
+
+    abbrev pub words : List Word
+    words = given_words given ++ u.words
+
+    abbrev pub held : List Known
+    held = known_given s.stands.frame.gives r given ++ u.held
+
+    pub nameless : (P : Named → Type 0) → InAnswer P r
+    nameless P = by_given s.stands.frame.gives r given g
+      where
+        by_given : (y : Yields) (a : Answer) (o : Option Word) → IsGiven y a o → InAnswer P a
+        by_given y a o nothing_given = tt
+        by_given y a o (value_given kind v x is) = tt
+        by_given y a o (place_given kind at x found) = found_nameless P at found
+
+    pub words_are : SlotsAre sc held (level_in tree w next) home (length u.below) slots words
+    words_are = by_given s.stands.frame.gives r given g
+      where
+        by_given : (y : Yields) (a : Answer) (o : Option Word) → IsGiven y a o →
+            SlotsAre sc (known_given y a o ++ u.held) (level_in tree w next) home (length u.below) (pushed y a u.slots) (given_words o ++ u.words)
+        by_given y a o nothing_given = u.words_are
+        by_given y a o (value_given kind v x is) = (is, u.words_are)
+        by_given y a o (place_given kind at x found) =
+            (inl (refl, refl), more_known u.held (record { held = held_at at kind; word = x }) sc (level_in tree w next) home (length u.below) u.slots u.words u.words_are)
+
+    pub same_newest : newest home (length u.below) u.slots ≡ newest home (length u.below) slots
+    same_newest = by_given s.stands.frame.gives r given g
+      where
+        by_given : (y : Yields) (a : Answer) (o : Option Word) → IsGiven y a o → newest home (length u.below) u.slots ≡ newest home (length u.below) (pushed y a u.slots)
+        by_given y a o nothing_given = refl
+        by_given y a o (value_given kind v x is) = refl
+        by_given y a o (place_given kind at x found) = refl
+
+    pub one_more : length words ≤ length u.words + 1
+    one_more = by_given s.stands.frame.gives r given g
+      where
+        by_given : (y : Yields) (a : Answer) (o : Option Word) → IsGiven y a o → length (given_words o ++ u.words) ≤ length u.words + 1
+        by_given y a o nothing_given = omega arith
+        by_given y a o (value_given kind v x is) = omega arith
+        by_given y a o (place_given kind at x found) = omega arith
+
+    pub few : length slots ≤ most_in tree w next
+    few = omega (arith, slots_length sc held (level_in tree w next) home (length u.below) slots words words_are, many, one_more, u.few)
