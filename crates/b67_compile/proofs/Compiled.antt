@@ -11,11 +11,13 @@ use Rattle.b67_faithful.specs.Faithful.{HasFormats, IsShort, Faithful}
 use Rattle.b67_fitting.proofs.Nesting.{built_programs_lie_nested}
 use Rattle.b67_pictures.proofs.Concluding.{nested_programs_are_faithful}
 use Rattle.algol_front.proofs.Ordered.{IsSource, source_in_order}
+use Rattle.algol_texts.proofs.Programs.{texts_of_accepted_fit}
 use Rattle.b67_compile.proofs.Sources.{source_accepted, source_named}
 
 pub code_is_faithful : (tree : PProgram) (result : Result Code AllocError) → IsSource tree → IsBuilt tree → IfOk result (λ code. ProgramAt code tree) → IfOk result (HasFormats tree) → IfOk result (IsShort tree) → IfOk result IsListable →
     IfOk result (Faithful tree)
 code_is_faithful tree (Ok code) source built there formats short listable =
     let named = source_named tree source in
-    nested_programs_are_faithful tree code (built_programs_lie_nested tree (source_accepted tree source) (source_in_order tree source) built named) named there formats short listable
+    nested_programs_are_faithful tree code (built_programs_lie_nested tree (source_accepted tree source) (source_in_order tree source) built named) named
+    (texts_of_accepted_fit tree (source_accepted tree source) (source_in_order tree source)) there formats short listable
 code_is_faithful tree (Err e) source built there formats short listable = there

@@ -1,20 +1,22 @@
 -- What the names of a tree tell of couples and of lower bounds is what its declarations say.
-use Rattle.std.proofs.Common.{◌≡◌, ◌+◌, ◌<◌, Option, Some, None, refl, sym, ap, ◌∙◌, subst}
+use Rattle.std.proofs.Common.{◌≡◌, ◌+◌, ◌<◌, ◌≤◌, Option, Some, None, refl, sym, ap, ◌∙◌, subst}
 use Rattle.algol_tree.specs.declared.TheConstants.{MOST_BLOCK_CELLS}
 use Rattle.algol_tree.specs.declared.token.Spot.{Spot}
 use Rattle.algol_tree.specs.Blocks.{blocks_of_program}
 use Rattle.algol_tree.specs.Cells as cells
-use Rattle.algol_tree.specs.Couples.{Located, declaration_at, result_at}
+use Rattle.algol_tree.specs.Couples.{Located, declaration_at, result_at, actual_at}
 use Rattle.algol_tree.specs.Plain.{PProgram}
 use Rattle.algol_tree.specs.Scopes.{scopes_of}
 use Rattle.algol_paths.specs.Arrays.{lows_at}
 use Rattle.algol_frames.specs.declared.scopes.Couple as found
 use Rattle.algol_frames.specs.declared.scopes.Declared.{Declared}
-use Rattle.algol_scope.specs.Resolved.{couple, located, declaration_of, result_of, AreOf}
+use Rattle.algol_scope.specs.Resolved.{couple, located, declaration_of, result_of, actual_of, AreOf}
 use Rattle.b67_ops.specs.declared.Couple.{Couple}
+use Rattle.b67_ops.specs.declared.TheConstants.{MOST_LEVEL}
 use Rattle.b67_emitter.specs.declared.names.Names.{Names}
-use Rattle.b67_emitter.specs.Values.{couple_found, couple_declared, couples, lows, lows_found, result_declared, results, AreNear}
-use Rattle.b67_fitting.specs.Fitted.{AreCouples, AreLows, AreResults, spelled}
+use Rattle.b67_emitter.specs.Values.{actuals, couple_found, couple_declared, couples, lows, lows_found, meanings, result_declared, results, AreNear}
+use Rattle.b67_emit_stmt.specs.Actuals.{AreInner}
+use Rattle.b67_fitting.specs.Fitted.{AreActuals, AreCouples, AreLows, AreResults, spelled}
 use Rattle.algol_lows.specs.Lows.{under}
 
 same_couple : (o : Option found.Couple) (c : cells.Couple) → couple o ≡ Some c → couple_found o ≡ Some (record { level = c.level; index = c.index })
@@ -36,11 +38,11 @@ found_spelled None = refl
 found_spelled (Some y) = refl
 
 -- the cell of a couple that is found, as its declaration tells it
-index_of : (o : Option found.Couple) (c : Couple) → couple_found o ≡ Some c → (e : cells.Couple) × (couple o ≡ Some e) × (e.index ≡ c.index)
+index_of : (o : Option found.Couple) (c : Couple) → couple_found o ≡ Some c → (e : cells.Couple) × (couple o ≡ Some e) × (e.index ≡ c.index) × (e.level ≡ c.level)
 index_of None c h = absurd (let clash : None ≡ Some c = h in cc)
 index_of (Some y) c h =
     let same : record { level = y.level; index = y.index } ≡ c = cc in
-    (record { level = y.level; index = y.index }, refl, ap (λ (z : Couple). z.index) same)
+    (record { level = y.level; index = y.index }, refl, ap (λ (z : Couple). z.index) same, ap (λ (z : Couple). z.level) same)
 
 module _ (p : PProgram) (names : Names) (are : AreOf p names.scopes.now) where
   pub couples_known : AreCouples p (couples names)
@@ -55,6 +57,9 @@ module _ (p : PProgram) (names : Names) (are : AreOf p names.scopes.now) where
           let same : record { spot = x.spot; level = x.level; couple = couple x.couple } ≡ d = cc in
           found_spelled (result_of names.scopes.now x.spot) ∙ ap spelled (are.results x.spot ∙ ap (λ (z : Located). result_at p z.spot) same)
 
+  pub actuals_known : AreActuals p (actuals names)
+  actuals_known spot c h = same_couple (actual_of names.scopes.now spot) c (are.actuals spot ∙ h)
+
   -- where the table has the lower bounds of all arrays, and nothing else
   pub lows_known : ((spot : Spot) → under names.lows spot ≡ lows_at (blocks_of_program p) spot) → AreLows p (lows names)
   unfolding scopes_of
@@ -66,12 +71,14 @@ module _ (p : PProgram) (names : Names) (are : AreOf p names.scopes.now) where
           let same : record { spot = x.spot; level = x.level; couple = couple x.couple } ≡ d = cc in
           there x.spot ∙ ap (λ (z : Located). lows_at (blocks_of_program p) z.spot) same
 
-  -- each couple lies near, where that of each declaration and of each result does
+  -- each couple lies near, where that of each declaration, of each result and of each actual does
   pub couples_near : ((spot : Spot) (d : Located) (c : cells.Couple) → declaration_at p spot ≡ Some d → d.couple ≡ Some c → c.index < 2 + MOST_BLOCK_CELLS) →
-      ((spot : Spot) (c : cells.Couple) → result_at p spot ≡ Some c → c.index < 2 + MOST_BLOCK_CELLS) → AreNear names
-  couples_near near near_result = record {
+      ((spot : Spot) (c : cells.Couple) → result_at p spot ≡ Some c → c.index < 2 + MOST_BLOCK_CELLS) →
+      ((spot : Spot) (c : cells.Couple) → actual_at p spot ≡ Some c → c.index < 2 + MOST_BLOCK_CELLS) → AreNear names
+  couples_near near near_result near_actual = record {
     own = λ spot c h. own spot c (declaration_of names.scopes.now spot) refl h;
     result = λ spot c h. result c (declaration_of names.scopes.now spot) h;
+    actual = λ spot c h. actual spot c h;
   }
     where
       own : (spot : Spot) (c : Couple) (o : Option Declared) → declaration_of names.scopes.now spot ≡ o → couple_declared o ≡ Some c → c.index < 2 + MOST_BLOCK_CELLS
@@ -81,8 +88,19 @@ module _ (p : PProgram) (names : Names) (are : AreOf p names.scopes.now) where
           let there = sym (are.declarations spot) ∙ ap located e in
           subst (λ n. n < 2 + MOST_BLOCK_CELLS) i.2 (near spot (record { spot = x.spot; level = x.level; couple = couple x.couple }) i.0 there i.1)
 
+      actual : (spot : Spot) (c : Couple) → actuals names spot ≡ Some c → c.index < 2 + MOST_BLOCK_CELLS
+      actual spot c g =
+          let i = index_of (actual_of names.scopes.now spot) c g in
+          subst (λ n. n < 2 + MOST_BLOCK_CELLS) i.2 (near_actual spot i.0 (sym (are.actuals spot) ∙ i.1))
+
       result : (c : Couple) (o : Option Declared) → result_declared names.scopes.now o ≡ Some c → c.index < 2 + MOST_BLOCK_CELLS
       result c None g = absurd (let clash : None ≡ Some c = g in cc)
       result c (Some x) g =
           let i = index_of (result_of names.scopes.now x.spot) c g in
           subst (λ n. n < 2 + MOST_BLOCK_CELLS) i.2 (near_result x.spot i.0 (sym (are.results x.spot) ∙ i.1))
+
+  -- the code of each actual has a level, where its couple tells so
+  pub actuals_inner : ((spot : Spot) (c : cells.Couple) → actual_at p spot ≡ Some c → c.level + 1 ≤ MOST_LEVEL) → AreInner (meanings names)
+  actuals_inner low spot c g =
+      let i = index_of (actual_of names.scopes.now spot) c g in
+      subst (λ n. n + 1 ≤ MOST_LEVEL) i.3 (low spot i.0 (sym (are.actuals spot) ∙ i.1))

@@ -1,5 +1,5 @@
 -- The tests of a program's declarations and statements decide whether it is built.
-use Rattle.std.proofs.Common.{◌≡◌, ℕ, ◌&&◌, ◌||◌, Bool, true, false, List, [], ◌∷◌, Option, Some, None, refl, sym, ap, ◌∙◌, subst, if◌then◌else◌}
+use Rattle.std.proofs.Common.{◌≡◌, ℕ, ◌&&◌, Bool, true, false, List, [], ◌∷◌, Option, Some, None, refl, ap, ◌∙◌, subst, if◌then◌else◌}
 use Rattle.std.specs.Bool.{Decides}
 use Rattle.std.specs.List.{AllByRecursion, list_all}
 use Rattle.std.proofs.lemmas.Bool.Decides.{Decides-at, Decides-and}
@@ -20,13 +20,13 @@ use Rattle.algol_tree.specs.Surroundings.{Surroundings, body_of}
 use Rattle.algol_sorts.specs.Sorts.{parameter_by}
 use Rattle.algol_frames.specs.declared.scopes.Declared as laid
 use Rattle.algol_frames.specs.declared.scopes.Scopes.{Scopes}
-use Rattle.algol_scope.specs.Resolved.{AreOf, declaration_of}
+use Rattle.algol_scope.specs.Resolved.{AreOf}
 use Rattle.algol_told.specs.Parameters.{HasAt, PartHas, TellsDecl, TellsParameter, TellsParameters}
 use Rattle.algol_told.proofs.Declarations.{DeclsHave, StmtHas, StmtsHave, in-program}
 use Rattle.algol_told.proofs.Lists.{all-both}
 use Rattle.algol_told.proofs.Parameters.{parameters-are-told}
 use Rattle.algol_sites.proofs.Forwards.{HasBody, forward-has-body}
-use Rattle.b67_fitting.specs.Built.{HeadingBuilt, DeclBuilt, DeclsBuilt, StmtBuilt, StmtsBuilt, IsBuilt}
+use Rattle.b67_fitting.specs.Built.{HeadingBuilt, DeclsBuilt, StmtBuilt, StmtsBuilt, IsBuilt}
 use Rattle.b67_fitting.proofs.Clean.{IsClean}
 use Rattle.b67_fitting.proofs.Cleaned.{cleaned}
 use Rattle.b67_compile.specs.Built.{is_built_as, is_sort_built, is_parameter_built, is_heading_built, is_decl_built, decls_are_built, is_stmt_built, stmts_are_built}
@@ -40,7 +40,7 @@ no = (λ e. absurd (let clash : false ≡ true = e in cc), λ p. absurd p)
 
 -- ---- parameters
 
-sort_tested : (c : Class) (by_value : Bool) → is_sort_built (parameter_by c by_value) ≡ is_class_built c by_value
+sort_tested : (c : Class) (by_value : Bool) → is_sort_built (parameter_by c by_value) ≡ is_class_built c
 sort_tested (class.simple kind) true = refl
 sort_tested (class.simple kind) false = refl
 sort_tested (class.array kind subscripts) true = refl

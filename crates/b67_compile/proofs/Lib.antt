@@ -1,5 +1,7 @@
 pub mod Forwards
 pub mod Decided
+pub mod Meanings
+pub mod Inner
 pub mod Couples
 pub mod Matching
 pub mod Places

@@ -9,7 +9,7 @@ use Rattle.algol_tree.specs.declared.token.Spot.{Spot}
 use Rattle.algol_tree.specs.Blocks.{Block, block_numbered, number_at, same_spot}
 use Rattle.algol_tree.specs.Cells as cells
 use Rattle.algol_tree.specs.Cells.{Cell, Content, cells_at, cells_of, content_number, holding, index_from, layout, level_of, couple_at, couple_in}
-use Rattle.algol_tree.specs.Couples.{Located, located, declaration_in, known_at, known_there}
+use Rattle.algol_tree.specs.Couples.{Located, located, declaration_in, known_at, known_there, couple_of_cells}
 use Rattle.algol_tree.specs.Names.{cells_beyond, found_place, place_beyond}
 use Rattle.algol_tree.specs.Sites.{Site}
 use Rattle.algol_tree.specs.Sorts.{Declared}
@@ -147,3 +147,12 @@ module _ (blocks : List Block) (all : List Site) where
     result_near spot c h =
         let block = number_at blocks spot in
         couple_near (level_of (block_numbered blocks block)) block spot (index_from 2 (layout (cells_of blocks all block)) spot) c refl h
+
+    pub actual_near : (cs : List Cell) (spot : Spot) (c : cells.Couple) → couple_of_cells blocks all cs spot ≡ Some c → c.index < 2 + MOST_BLOCK_CELLS
+    actual_near [] spot c h = absurd (let clash : None ≡ Some c = h in cc)
+    actual_near (x ∷ xs) spot c h = by (same_spot x.spot spot) h (λ e. actual_near xs spot c e)
+      where
+        by : (b : Bool) → (if b then couple_in blocks all x.block spot else couple_of_cells blocks all xs spot) ≡ Some c →
+            (couple_of_cells blocks all xs spot ≡ Some c → c.index < 2 + MOST_BLOCK_CELLS) → c.index < 2 + MOST_BLOCK_CELLS
+        by true e later = couple_near (level_of (block_numbered blocks x.block)) x.block spot (index_from 2 (layout (cells_of blocks all x.block)) spot) c refl e
+        by false e later = later e

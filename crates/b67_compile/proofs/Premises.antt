@@ -11,7 +11,7 @@ use Rattle.algol_tree.specs.Accepted.{Accepted, scope_faults, sites_of}
 use Rattle.algol_tree.specs.Ascending.{IsInOrder}
 use Rattle.algol_tree.specs.Blocks.{Block, block_numbered, number_at, blocks_of_program}
 use Rattle.algol_tree.specs.Cells.{Cell, cells_at, level_of}
-use Rattle.algol_tree.specs.Couples.{declaration_at, result_at}
+use Rattle.algol_tree.specs.Couples.{declaration_at, result_at, actual_at, actual_cells}
 use Rattle.algol_tree.specs.Image as plain
 use Rattle.algol_tree.specs.Names.{cells_beyond}
 use Rattle.algol_tree.specs.Plain as tree
@@ -25,15 +25,16 @@ use Rattle.algol_frames.specs.declared.scopes.Scopes as table
 use Rattle.algol_scope.specs.Resolved.{AreOf}
 use Rattle.algol_scope.proofs.Bodies.{body_is}
 use Rattle.b67_ops.specs.declared.TheConstants.{MOST_LEVEL, OUTER_LEVEL}
-use Rattle.b67_templates.specs.Cells.{Simple, parameter_cells, procedures, events_in, made_of, result_of, simple_cells, variables, zero_cells}
+use Rattle.b67_templates.specs.Cells.{Simple, parameter_cells, procedures, actuals_of, events_in, made_of, result_of, simple_cells, variables, zero_cells}
 use Rattle.b67_templates.specs.Fitting.{DeclsFit, StmtsFit}
 use Rattle.algol_lows.specs.declared.bounds.Lows.{Lows}
 use Rattle.b67_emitter.specs.declared.names.Names.{Names}
-use Rattle.b67_emitter.specs.Values.{couples, lows, results, AreNear}
+use Rattle.b67_emitter.specs.Values.{meanings, AreNear}
+use Rattle.b67_emit_stmt.specs.Actuals.{AreInner}
 use Rattle.b67_emit_stmt.specs.Programs.{AreDue, IsDue}
 use Rattle.b67_emit_stmt.specs.Texts.{Text, texts, texts_in_body}
 use Rattle.b67_fitting.specs.Built.{IsBuilt}
-use Rattle.b67_fitting.specs.Fitted.{BlockFits}
+use Rattle.b67_fitting.specs.Fitted.{BlockFits, IsToldOf}
 use Rattle.b67_fitting.specs.Names.{HasNames}
 use Rattle.b67_fitting.specs.Nested.{AreParameters, AreTold, IsText, LiesNested}
 use Rattle.b67_fitting.specs.Texts.{HasPlainTexts}
@@ -45,9 +46,11 @@ use Rattle.b67_fitting.proofs.Numbering.{block_is, each_at}
 use Rattle.b67_fitting.proofs.SurroundedSites.{IsSurrounded, each_number, each_surrounded}
 use Rattle.algol_lows.specs.Lows.{under}
 use Rattle.b67_compile.proofs.Cells.{AreOfFew, HasFew, HaveFew, IsOfOne, all_of_one}
-use Rattle.b67_compile.proofs.Couples.{couples_known, lows_known, results_known, couples_near}
+use Rattle.b67_compile.proofs.Couples.{actuals_inner, actuals_known, couples_known, lows_known, results_known, couples_near}
+use Rattle.b67_compile.proofs.Inner.{actuals_low, none_deep}
 use Rattle.b67_compile.proofs.Matching.{all_match, text_of}
-use Rattle.b67_compile.proofs.Near.{blocks_few, located_near, result_near}
+use Rattle.b67_compile.proofs.Meanings.{meant_known}
+use Rattle.b67_compile.proofs.Near.{actual_near, blocks_few, located_near, result_near}
 use Rattle.b67_compile.proofs.Places.{IsOf, block_there, text_block, texts_many}
 
 pub record Given (p : PProgram) (names : Names) : Type 0 where
@@ -150,6 +153,16 @@ module _ (spot : Spot) (ds : PDecls) (ss : PStmts) (names : Names) where
         let bs = blocks_of_program p in
         omega (arith, texts_many spot ds ss has.order has.built has.named, lies.nested.procedures_few (length bs), ap (λ (z : List Block). length (filter is_procedure z)) (all_taken bs))
 
+    -- what the tables tell of the names is what the program says of them
+    told : IsToldOf p (meanings names)
+    told = record {
+      couples = couples_known p names has.resolved;
+      results = results_known p names has.resolved;
+      lows = lows_known p names has.resolved has.lows;
+      meant = meant_known p names has.order has.resolved;
+      actuals = actuals_known p names has.resolved;
+    }
+
     -- ---- each text
 
     abbrev Due : ℕ → Text → Type 0
@@ -165,11 +178,9 @@ module _ (spot : Spot) (ds : PDecls) (ss : PStmts) (names : Names) where
         let here : block_numbered bs is.block ≡ b = block_is bs is.block b is.there in
         let own : block_numbered bs (number_at bs b.spot) ≡ b = ap (block_numbered bs) is.number_is ∙ here in
         let many : length (parameter_cells sc b) ≡ length b.parameters = parameters_many sc b (subst (AreParameters sc) here text.parameters) in
-        let cells : length (simple_cells sc b) + length (procedures b.decls) + length (made_of b.decls) ≤ MOST_BLOCK_CELLS =
-        subst (λ (z : Block). length (simple_cells sc z) + length (procedures z.decls) + length (made_of z.decls) ≤ MOST_BLOCK_CELLS) here text.few in
-        let fits : BlockFits p (couples names) (results names) (lows names) is.block =
-        accepted_fit p (couples names) (results names) (lows names) has.accepted has.order has.built has.whole has.texts (couples_known p names has.resolved) (results_known p names has.resolved)
-        (lows_known p names has.resolved has.lows) is.block known in
+        let cells : length (simple_cells sc b) + length (procedures b.decls) + length (actuals_of sc b) + length (made_of b.decls) ≤ MOST_BLOCK_CELLS =
+        subst (λ (z : Block). length (simple_cells sc z) + length (procedures z.decls) + length (actuals_of sc z) + length (made_of z.decls) ≤ MOST_BLOCK_CELLS) here text.few in
+        let fits : BlockFits p (meanings names) is.block = accepted_fit p (meanings names) has.accepted has.order has.built has.whole has.texts told is.block known in
         record {
           segment = ap (segment_of bs) is.number_is ∙ is.segment;
           named = ap (λ (z : Block). z.name) own;
@@ -177,8 +188,10 @@ module _ (spot : Spot) (ds : PDecls) (ss : PStmts) (names : Names) where
           parameters = ap (λ (z : Block). length (parameter_cells sc z)) own ∙ many;
           level = subst (λ (z : Block). level_of z ≤ MOST_LEVEL) here text.low;
           few = omega (arith, cells, many, zeros_behind sc b, arrays_fewer b.decls);
-          decls = subst (λ (z : Block). DeclsFit sc (couples names) (results names) (lows names) (level_of z) z.decls) here fits.decls;
-          fits = subst (λ (z : Block). StmtsFit sc (couples names) (results names) (lows names) (level_of z) z.stmts) here fits.stmts;
+          decls = subst (λ (j : ℕ). DeclsFit sc (meanings names) (level_of b) j b.decls) (sym is.number_is)
+              (subst (λ (z : Block). DeclsFit sc (meanings names) (level_of z) is.block z.decls) here fits.decls);
+          fits = subst (λ (j : ℕ). StmtsFit sc (meanings names) (level_of b) j b.stmts) (sym is.number_is)
+              (subst (λ (z : Block). StmtsFit sc (meanings names) (level_of z) is.block z.stmts) here fits.stmts);
           room = omega (arith, lies.short number, is.short);
         }
 
@@ -197,6 +210,9 @@ module _ (spot : Spot) (ds : PDecls) (ss : PStmts) (names : Names) where
         subst (HasFew bs (sites_of p)) (each_number p has.order has.built k (block_numbered bs k) there)
         (each_at (λ (b : Block). HasFew bs (sites_of p) (number_at bs b.spot)) bs k (block_numbered bs k) have there)
 
+    surrounded : AllByRecursion (λ (x : Site). IsSurrounded (blocks_of_program p) x.around) (sites_of p)
+    surrounded = each_surrounded p has.accepted has.order has.built
+
     all_few : AreOfFew (blocks_of_program p) (sites_of p) (sites_of p)
     all_few =
         let bs = blocks_of_program p in
@@ -204,12 +220,19 @@ module _ (spot : Spot) (ds : PDecls) (ss : PStmts) (names : Names) where
         let Known : Block → Type 0 = λ b. number_at bs b.spot < length bs in
         let known : AllByRecursion Known bs =
         each_by Known bs (λ i b h. subst (λ (n : ℕ). n < length bs) (sym (each_number p has.order has.built i b h)) (slice_get_within bs i b h)) in
-        let around = each_of (λ (x : Site). IsSurrounded bs x.around) (λ (x : Site). x.around.block < length bs) all (λ x h. h.some) (each_surrounded p has.accepted has.order has.built) in
+        let around = each_of (λ (x : Site). IsSurrounded bs x.around) (λ (x : Site). x.around.block < length bs) all (λ x h. h.some) surrounded in
         each_of (IsOfOne bs) (λ (c : Cell). HasFew bs all c.block) (flat_map (cells_at bs) all) (λ c h. block_few (blocks_few bs all (cells_kept p has.accepted)) c.block h)
         (all_of_one bs (filter is_procedure bs) all (texts_in_body (tree.body spot ds ss) OUTER_LEVEL) (all_match spot ds ss has.named) (each_kept_by Known is_procedure bs known) around)
 
     pub near : AreNear names
-    unfolding declaration_at result_at
+    unfolding declaration_at result_at actual_at
     near =
         let bs = blocks_of_program p in
-        couples_near p names has.resolved (located_near bs (sites_of p) all_few) (result_near bs (sites_of p) all_few)
+        let all = sites_of p in
+        couples_near p names has.resolved (located_near bs all all_few) (result_near bs all all_few) (actual_near bs all all_few (actual_cells bs all))
+
+    -- ---- levels
+
+    pub inner : AreInner (meanings names)
+    unfolding actual_at
+    inner = actuals_inner p names has.resolved (actuals_low (blocks_of_program p) (sites_of p) surrounded (none_deep p has.accepted))

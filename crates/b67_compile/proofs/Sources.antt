@@ -1,5 +1,5 @@
 -- What is known of a tree that some text is, from the mere fact that there is such a text: each of these facts has one proof at most.
-use Rattle.std.proofs.Common.{ℕ, ap, List, [], ◌∷◌}
+use Rattle.std.proofs.Common.{ap, List, [], ◌∷◌}
 use Rattle.std.proofs.Props.{props}
 use Rattle.std.proofs.Math.Logic.{∥∥₁_elim}
 use Rattle.std.specs.Coded.{×_prop, Π_prop, Unit-prop, le_prop}

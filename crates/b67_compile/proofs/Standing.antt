@@ -1,5 +1,5 @@
 -- The code of the texts is that of their program.
-use Rattle.std.proofs.Common.{arith, ◌≡◌, ◌⊎◌, ℕ, zero, suc, ◌<◌, ◌≤◌, true, List, [], ◌∷◌, ◌++◌, length, Option, Some, None, refl, sym, ap, ◌∙◌, subst, slice_get, ◌+◌, append-nil}
+use Rattle.std.proofs.Common.{arith, ◌≡◌, ◌⊎◌, ℕ, zero, suc, ◌<◌, ◌≤◌, true, List, [], ◌∷◌, ◌++◌, length, Option, Some, None, refl, sym, ap, ◌∙◌, subst, slice_get, ◌+◌}
 use Rattle.algol_tree.specs.declared.token.Spot.{Spot}
 use Rattle.algol_tree.specs.declared.tree.Kind.{Kind}
 use Rattle.algol_tree.specs.Blocks.{Block, block_numbered}
@@ -19,8 +19,8 @@ use Rattle.b67_segment.specs.declared.code.Format.{Format}
 use Rattle.b67_segment.specs.declared.code.Segment.{Segment}
 use Rattle.b67_listing.specs.Listings.{HasOperators, IsListable}
 use Rattle.b67_templates.specs.Contexts.{yields_of, Context}
-use Rattle.b67_templates.specs.Fragments.{procedure_controls, stop}
-use Rattle.b67_templates.specs.Cells.{control_segments, Actual, actuals_of, zero_cells}
+use Rattle.b67_templates.specs.Fragments.{Goes, stop}
+use Rattle.b67_templates.specs.Cells.{actuals_of, zero_cells}
 use Rattle.b67_templates.specs.Code.{RoutinesAt, CellsAt, DeclsAt, HasNoCounts, StmtsAt, KAt, control_pcws}
 use Rattle.b67_templates.specs.Programs.{BodyAt, ProgramAt, context_of}
 use Rattle.b67_emitter.specs.declared.names.Names.{Names}
@@ -29,8 +29,6 @@ use Rattle.b67_emit_stmt.specs.Programs as made
 use Rattle.b67_emit_stmt.specs.Programs.{AreShort, Coded, EndAt}
 use Rattle.b67_emit_stmt.specs.Texts.{Text, texts}
 use Rattle.b67_faithful.specs.Faithful.{IsShort}
-use Rattle.b67_fitting.proofs.Nesting.{built_programs_lie_nested}
-use Rattle.b67_fitting.proofs.Unnamed.{nested_no_actuals}
 use Rattle.b67_compile.proofs.Listed.{all_listed, is_segment}
 use Rattle.b67_compile.proofs.Matching.{text_of}
 use Rattle.b67_compile.proofs.Places.{block_text, text_block, texts_many}
@@ -84,22 +82,21 @@ module _ (sc : Scopes) (context : Context) (ps : List Placed) (level : ℕ) wher
   decls_at (tree.decls (tree.forward h) ds) k f t here after = decls_at ds k f t here after
   decls_at (tree.decls (tree.procedure h s) ds) k f t here after = decls_at ds k f t here after
 
-  -- the code of a block's text, where no actual has a cell
-  body_at : (b : Block) → context.yields ≡ yields_of b.result → actuals_of sc b ≡ [] → (m d e : ℕ) →
-      CellsAt sc context ps level (length (zero_cells b)) (procedure_controls level (control_segments sc b.decls)) 0 m →
+  -- the code of a block's text
+  body_at : (b : Block) → context.yields ≡ yields_of b.result → (begin : ℕ) (ats : List ℕ) (m d e : ℕ) → Goes ps level 0 begin → RoutinesAt sc context ps (level + 1) (actuals_of sc b) ats →
+      CellsAt sc context ps level (length (zero_cells b)) (control_pcws sc context.segment level b.decls (actuals_of sc b) ats) begin m →
       DeclsAt sc context ps level b.decls m d → StmtsAt sc context ps level b.stmts d e e → EndAt sc context ps level b.result b.name e → BodyAt sc context ps level b 0
-  body_at b is none m d e cells decls stmts end =
+  body_at b is begin ats m d e first routines cells decls stmts end =
       let last = ending b.result b.name in
       let after : KAt sc context ps level (items b.stmts last) d =
       items_at b.stmts last d e stmts (ending_at b.result b.name e is end) in
       record {
-        begin = 0;
+        begin = begin;
         start = m;
-        ats = [];
-        over = stop;
-        routines = subst (λ (as' : List Actual). RoutinesAt sc context ps (level + 1) as' []) (sym none) refl;
-        cells = subst (λ (as' : List Actual). CellsAt sc context ps level (length (zero_cells b)) (control_pcws sc context.segment level b.decls as' []) 0 m) (sym none)
-            (subst (λ (pcws : List _). CellsAt sc context ps level (length (zero_cells b)) pcws 0 m) (sym (append-nil (procedure_controls level (control_segments sc b.decls)))) cells);
+        ats = ats;
+        over = first;
+        routines = routines;
+        cells = cells;
         items = subst (λ (k : List Item). KAt sc context ps level (decls_items b.decls ++ items b.stmts k) m) (sym (same_ending b))
             (decls_at b.decls (items b.stmts last) m d decls (no_counts b.stmts last (ending_counts b.result b.name), after)).1;
       }
@@ -145,8 +142,8 @@ module _ (spot : Spot) (ds : PDecls) (ss : PStmts) (names : Names) (has : Given 
             let t = in_both segments ts k segment coded.many h in
             let stands = coded.code k t.0 t.1 in
             let room = (due spot ds ss names has k t.0 t.1).room in
-            some_operator (scopes_of p) (made.context_of (scopes_of p) formats t.0) (coded.placed k) t.0.level t.0.result t.0.name stands.2 segment (coded.spells k segment h)
-            (omega (arith, short k segment t.0 h t.1, room)) stands.6
+            some_operator (scopes_of p) (made.context_of (scopes_of p) formats t.0) (coded.placed k) t.0.level t.0.result t.0.name stands.4 segment (coded.spells k segment h)
+            (omega (arith, short k segment t.0 h t.1, room)) stands.10
 
     pub program_at : Coded (scopes_of p) formats segments ts → ProgramAt code p
     unfolding scopes_of
@@ -171,9 +168,12 @@ module _ (spot : Spot) (ds : PDecls) (ss : PStmts) (names : Names) (has : Given 
             r.number_is in
             let ps = coded.placed (segment_of sc.blocks j) in
             let l = level_of b in
-            let none = nested_no_actuals sc (built_programs_lie_nested p has.accepted has.order has.built has.named).nested b in
-            body_at sc at ps l b refl none there.0 there.1 there.2
-            (subst (λ (c : Context). CellsAt sc c ps l (length (zero_cells b)) (procedure_controls l (control_segments sc b.decls)) 0 there.0) same there.3)
-            (subst (λ (c : Context). DeclsAt sc c ps l b.decls there.0 there.1) same there.4)
-            (subst (λ (c : Context). StmtsAt sc c ps l b.stmts there.1 there.2 there.2) same there.5)
-            (subst (λ (c : Context). EndAt sc c ps l b.result b.name there.2) same there.6)
+            let own = actuals_of sc b in
+            let segment : segment_of sc.blocks (made.block_of sc (text_of b r.tokens)) ≡ segment_of sc.blocks j = ap (segment_of sc.blocks) r.number_is in
+            body_at sc at ps l b refl there.0 there.1 there.2 there.3 there.4 there.5
+            (subst (λ (c : Context). RoutinesAt sc c ps (l + 1) own there.1) same there.6)
+            (subst (λ (n : ℕ). CellsAt sc at ps l (length (zero_cells b)) (control_pcws sc n l b.decls own there.1) there.0 there.2) segment
+            (subst (λ (c : Context). CellsAt sc c ps l (length (zero_cells b)) (control_pcws sc (segment_of sc.blocks (made.block_of sc (text_of b r.tokens))) l b.decls own there.1) there.0 there.2) same there.7))
+            (subst (λ (c : Context). DeclsAt sc c ps l b.decls there.2 there.3) same there.8)
+            (subst (λ (c : Context). StmtsAt sc c ps l b.stmts there.3 there.4 there.4) same there.9)
+            (subst (λ (c : Context). EndAt sc c ps l b.result b.name there.4) same there.10)

@@ -11,9 +11,10 @@ use Rattle.algol_frames.specs.declared.scopes.Declared.{Declared}
 use Rattle.algol_frames.specs.declared.scopes.Scopes.{Scopes}
 use Rattle.algol_scope.specs.Resolved.{declaration_of}
 
--- a parameter is simple and by value, or stands for an array
+-- a parameter is simple, or stands for an array
 abbrev pub is_sort_built : Sort → Bool
 is_sort_built (sort.Variable kind) = true
+is_sort_built (sort.ByName kind) = true
 is_sort_built (sort.FormalArray kind subscripts) = true
 is_sort_built _ = false
 
@@ -29,8 +30,8 @@ module _ (scopes : Scopes) where
   abbrev pub is_heading_built : Heading → Bool
   is_heading_built h = list_all is_parameter_built h.params
 
-  -- each declaration is of simple variables, of files, of arrays or of a procedure whose parameters are simple and by value, or arrays, also
-  -- those within; what FORWARD says of a procedure is what the heading with its body says
+  -- each declaration is of simple variables, of files, of arrays or of a procedure whose parameters are simple or arrays, also those within;
+  -- what FORWARD says of a procedure is what the heading with its body says
   abbrev mutual
     pub is_decl_built : PDecl → Bool
     is_decl_built (tree.simple kind ns) = true

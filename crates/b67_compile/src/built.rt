@@ -10,12 +10,13 @@ use algol_scope::Scopes;
 use algol_sorts::Sort;
 use algol_tree::{Decl, Heading, Named, Stmt};
 
-/// Tests that a parameter of this sort is simple and by value, or stands for an array.
+/// Tests that a parameter of this sort is simple, or stands for an array.
 fn is_sort_built(sort: Sort) -> bool
     ensures { result ≡ is_sort_built sort }
 {
     match sort {
         Sort::Variable(_) => true,
+        Sort::ByName(_) => true,
         Sort::FormalArray(_, _) => true,
         _ => false,
     }
@@ -41,8 +42,8 @@ fn is_heading_built(scopes: &Scopes, h: &Heading) -> bool
         .all(|n| is_parameter_built(scopes, n))
 }
 
-/// Tests that a declaration is of simple variables, of files, of arrays or of a procedure whose parameters are simple and by value, or
-/// arrays, and so is each within it. What FORWARD says of a procedure is what the heading with its body says.
+/// Tests that a declaration is of simple variables, of files, of arrays or of a procedure whose parameters are simple or arrays, and so is
+/// each within it. What FORWARD says of a procedure is what the heading with its body says.
 #[cycle(statements)]
 fn is_decl_built(scopes: &Scopes, d: &Decl) -> bool
     ensures { result ≡ is_decl_built scopes.now (decl d.now) }
@@ -111,7 +112,7 @@ fn stmts_are_built(scopes: &Scopes, ss: &[Stmt]) -> bool
 }
 
 /// Tests that an accepted program is built: all that it declares are simple variables, files, arrays and procedures whose parameters are
-/// simple and by value, or arrays, in whatever block, and it starts no process.
+/// simple or arrays, in whatever block, and it starts no process.
 pub fn is_built(checked: &Checked) -> bool
     ensures { IsTrue result ↔ IsBuilt (program checked.now.program) }
 {

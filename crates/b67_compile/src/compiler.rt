@@ -24,8 +24,8 @@ use b67_list::List;
 use b67_segment::Code;
 use std::alloc::{AllocError, Global};
 
-/// The code of a program that declares only simple variables, files, arrays and procedures whose parameters are simple and by value, or
-/// arrays, in whatever block: a segment for the program's text and one for each procedure in the order of the text, and a format for each
+/// The code of a program that declares only simple variables, files, arrays and procedures whose parameters are simple or arrays, in
+/// whatever block: a segment for the program's text and one for each procedure in the order of the text, and a format for each
 /// line that is written, in order.
 fn code_of<E: ExprEmitter>(
     alloc: Global,

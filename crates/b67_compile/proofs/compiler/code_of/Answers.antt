@@ -9,7 +9,7 @@ use Rattle.b67_segment.specs.declared.code.Code.{Code}
 use Rattle.b67_emit_stmt.specs.Programs.{AreDue, AreShort, Coded}
 use Rattle.b67_emit_stmt.specs.Texts.{texts}
 use Rattle.b67_faithful.specs.Faithful.{IsShort}
-use Rattle.b67_compile.proofs.Premises.{given, few, due, near}
+use Rattle.b67_compile.proofs.Premises.{given, few, due, inner, near}
 use Rattle.b67_compile.proofs.Standing.{listable_code, program_at, short_code}
 use Rattle.b67_compile.proofs.compiler.code_of.Goals as goal
 
@@ -20,6 +20,15 @@ emit_program-requires-clause-near g c =
     let n = c.new-names.result in
     let r = c.requires in
     near b.spot (plain.decls b.decls) (plain.stmts b.stmts) n
+    (given b s c.in_ok-lows.lows n c.new-names.ensures.scopes c.new-names.ensures.lows r.resolved c.in_ok-lows.ensures r.accepted r.order r.whole r.texts r.named r.built)
+
+pub emit_program-requires-clause-inner : goal.emit_program-requires-clause-inner
+emit_program-requires-clause-inner g c =
+    let b = c.args.program.now.body in
+    let s = c.args.scopes.now in
+    let n = c.new-names.result in
+    let r = c.requires in
+    inner b.spot (plain.decls b.decls) (plain.stmts b.stmts) n
     (given b s c.in_ok-lows.lows n c.new-names.ensures.scopes c.new-names.ensures.lows r.resolved c.in_ok-lows.ensures r.accepted r.order r.whole r.texts r.named r.built)
 
 pub emit_program-requires-clause-few : goal.emit_program-requires-clause-few
