@@ -23,7 +23,7 @@ use Rattle.b67_table.specs.Rows.{row}
 use Rattle.b67_table.proofs.Wordly.{few_index_bits}
 use Rattle.b67_templates.specs.Contexts.{Context}
 use Rattle.b67_templates.specs.Fragments.{Has}
-use Rattle.b67_standing.specs.Stepping.{Held, Stuffable, of_array, of_variable, of_actual, Slot, reference, descriptor}
+use Rattle.b67_standing.specs.Stepping.{Held, Stuffable, of_array, of_variable, of_event, of_actual, Slot, reference, descriptor}
 use Rattle.b67_cores.specs.Cores.{Core}
 use Rattle.b67_cores.specs.Slots.{Known}
 use Rattle.b67_cores.specs.Stretches.{Sees}
@@ -39,6 +39,7 @@ record IsAround (context : Context) (c : Couple) : Type 0 where
 is_around : {sc : Scopes} {context : Context} {held : Held} {c : Couple} → Stuffable sc context held c → IsAround context c
 is_around (of_array n d c is) = record { outer = is.made.outer; inner = omega (arith, is.made.level_is) }
 is_around (of_variable n k c is outer) = record { outer = outer; inner = omega (arith, is.level_is) }
+is_around (of_event n c is) = record { outer = is.made.outer; inner = omega (arith, is.made.level_is) }
 is_around (of_actual e k c is) = record { outer = is.outer; inner = omega (arith, is.level_is) }
 
 module _ (code : Code) (ps : List Placed) (level most bound : ℕ) (core : Core) (st : Standing code ps level most bound core) where

@@ -78,6 +78,8 @@ module _ (blocks : List Block) where
   cells_in_decls a first (tree.decls (tree.arrays kind ns pairs) ds) =
       (cells_for a.block cells.made ns ++ cells_in_pairs (record a { known = first }) pairs) ++ cells_in_decls (knowing blocks (tree.arrays kind ns pairs) ds a) first ds
   cells_in_decls a first (tree.decls (tree.procedure h s) ds) = control_cell a.block h.name.spot ∷ cells_in_decls (knowing blocks (tree.procedure h s) ds a) first ds
+  cells_in_decls a first (tree.decls (tree.events ns) ds) = cells_for a.block cells.made ns ++ cells_in_decls (knowing blocks (tree.events ns) ds a) first ds
+  cells_in_decls a first (tree.decls (tree.tasks ns) ds) = cells_for a.block cells.made ns ++ cells_in_decls (knowing blocks (tree.tasks ns) ds a) first ds
   cells_in_decls a first (tree.decls d ds) = cells_in_decls (knowing blocks d ds a) first ds
 
   -- the bounds are seen from the begin of the block
@@ -204,8 +206,14 @@ module _ (blocks : List Block) where
   decls_plain a first (tree.decls (tree.procedure h s) ds) =
       ap (λ z. control_cell a.block h.name.spot ∷ z) (decls_plain (knowing blocks (tree.procedure h s) ds a) first ds)
   decls_plain a first (tree.decls (tree.files ns) ds) = decls_plain (knowing blocks (tree.files ns) ds a) first ds
-  decls_plain a first (tree.decls (tree.events ns) ds) = decls_plain (knowing blocks (tree.events ns) ds a) first ds
-  decls_plain a first (tree.decls (tree.tasks ns) ds) = decls_plain (knowing blocks (tree.tasks ns) ds a) first ds
+  decls_plain a first (tree.decls (tree.events ns) ds) =
+      let after = knowing blocks (tree.events ns) ds a in
+      plain_both (cells_for a.block cells.made ns) (cells_in_decls blocks after first ds) (cells_for a.block cells.made ns) (decl_cells a.block ds)
+      (names_plain a.block cells.made ns refl) (decls_plain after first ds)
+  decls_plain a first (tree.decls (tree.tasks ns) ds) =
+      let after = knowing blocks (tree.tasks ns) ds a in
+      plain_both (cells_for a.block cells.made ns) (cells_in_decls blocks after first ds) (cells_for a.block cells.made ns) (decl_cells a.block ds)
+      (names_plain a.block cells.made ns refl) (decls_plain after first ds)
   decls_plain a first (tree.decls (tree.labels ns) ds) = decls_plain (knowing blocks (tree.labels ns) ds a) first ds
   decls_plain a first (tree.decls (tree.forward h) ds) = decls_plain (knowing blocks (tree.forward h) ds a) first ds
 
@@ -224,8 +232,14 @@ module _ (blocks : List Block) where
       (held_both made bounds [] bounds (names_held a.block cells.made ns refl) (all_held bounds (of_pairs begin pairs))) (decls_held after first ds)
   decls_held a first (tree.decls (tree.procedure h s) ds) = decls_held (knowing blocks (tree.procedure h s) ds a) first ds
   decls_held a first (tree.decls (tree.files ns) ds) = decls_held (knowing blocks (tree.files ns) ds a) first ds
-  decls_held a first (tree.decls (tree.events ns) ds) = decls_held (knowing blocks (tree.events ns) ds a) first ds
-  decls_held a first (tree.decls (tree.tasks ns) ds) = decls_held (knowing blocks (tree.tasks ns) ds a) first ds
+  decls_held a first (tree.decls (tree.events ns) ds) =
+      let after = knowing blocks (tree.events ns) ds a in
+      held_both (cells_for a.block cells.made ns) (cells_in_decls blocks after first ds) [] (cells_in_bounds blocks (record a { known = first }) ds)
+      (names_held a.block cells.made ns refl) (decls_held after first ds)
+  decls_held a first (tree.decls (tree.tasks ns) ds) =
+      let after = knowing blocks (tree.tasks ns) ds a in
+      held_both (cells_for a.block cells.made ns) (cells_in_decls blocks after first ds) [] (cells_in_bounds blocks (record a { known = first }) ds)
+      (names_held a.block cells.made ns refl) (decls_held after first ds)
   decls_held a first (tree.decls (tree.labels ns) ds) = decls_held (knowing blocks (tree.labels ns) ds a) first ds
   decls_held a first (tree.decls (tree.forward h) ds) = decls_held (knowing blocks (tree.forward h) ds a) first ds
 

@@ -22,7 +22,7 @@ use Rattle.algol_tree.specs.Surroundings.{Surroundings, class_of, class_of_decla
 use Rattle.algol_meaning.specs.Settle.{block_of}
 use Rattle.b67_templates.specs.Cells.{Simple, Wanted, value, by_name, array, event, other, parameter_cells, parameter_wants, parameters_around, Actual, own_actual, wants_of, actuals_in, actuals_among, actuals_given, actuals_in_pairs, actuals_in_stmt, actuals_in_stmts}
 use Rattle.b67_templates.specs.Fitting.{is_by_name}
-use Rattle.b67_fitting.specs.Built.{DeclsBuilt, StmtBuilt, StmtsBuilt}
+use Rattle.b67_fitting.specs.Alone.{DeclsAlone, StmtAlone, StmtsAlone}
 use Rattle.b67_fitting.specs.Nested as told
 use Rattle.b67_fitting.specs.Nested.{IsTold, AreTold, AreParameters}
 use Rattle.b67_fitting.proofs.ActualCells.{actual_cell}
@@ -31,8 +31,8 @@ use Rattle.b67_fitting.proofs.CellsFew.{cells_both, FewBounds}
 use Rattle.b67_fitting.proofs.Lists.{each_front, each_back}
 use Rattle.b67_fitting.proofs.Numbering.{IsThere}
 use Rattle.b67_fitting.proofs.ParametersTold.{as_parameter}
-use Rattle.b67_fitting.proofs.Specified.{IsSpecified, as_value, as_name, as_array, AreSpecified, specified}
-use Rattle.b67_fitting.proofs.Surrounded.{Means, a_variable, a_name, a_file, an_array, a_formal, a_procedure, IsAround, use_is, the_use, known_as, IsGood, AreGood, actual_good}
+use Rattle.b67_fitting.proofs.Specified.{IsSpecified, as_value, as_name, as_array, as_event, AreSpecified, specified}
+use Rattle.b67_fitting.proofs.Surrounded.{Means, a_variable, a_name, a_file, an_array, a_formal, a_procedure, an_event, a_formal_event, a_task, a_label, IsAround, use_is, the_use, known_as, IsGood, AreGood, actual_good}
 use Rattle.b67_fitting.proofs.Typed.{as_formal}
 
 -- ---- what procedures want by name
@@ -45,6 +45,8 @@ AreNamed (w ∷ wanted) fs = (is_by_name w ≡ true → cells.is_by_name (first_
 one_named : (h : Heading) (n : Named) (c : Simple) → IsSpecified h n → IsTold (as_parameter h n) c → is_by_name c.wanted ≡ true → cells.is_by_name (Some (as_formal h n)) ≡ true
 one_named h n c s (told.by_value kind w v) e = absurd (let clash : false ≡ true = sym (ap is_by_name w) ∙ e in cc)
 one_named h n c s (told.an_array shape w v) e = absurd (let clash : false ≡ true = sym (ap is_by_name w) ∙ e in cc)
+one_named h n c s (told.an_event w v) e = absurd (let clash : false ≡ true = sym (ap is_by_name w) ∙ e in cc)
+one_named h n c (as_event d v s) (told.by_name k w x) e = absurd (let clash : sort.formal_event ≡ sort.by_name = sym s ∙ x in cc)
 one_named h n c (as_value kind d v s) (told.by_name k w x) e = absurd (let clash : sort.variable ≡ sort.by_name = sym s ∙ x in cc)
 one_named h n c (as_array shape d v s) (told.by_name k w x) e = absurd (let clash : sort.formal_array shape.lows ≡ sort.by_name = sym s ∙ x in cc)
 one_named h n c (as_name kind d v s) (told.by_name k w x) e = ap (λ (z : Class). is_simple z && not (is_named_in h.values n.name)) d ∙ ap not v
@@ -90,6 +92,10 @@ module _ (sc : Scopes) (each : (k : ℕ) → k < length sc.blocks → AreParamet
     no_variable s c k (a_variable kind) e = absurd (let clash : false ≡ true = e in cc)
     no_variable s c k (a_name kind) e = absurd (let clash : false ≡ true = e in cc)
     no_variable s c k a_file e = refl
+    no_variable s c k an_event e = refl
+    no_variable s c k a_formal_event e = refl
+    no_variable s c k a_task e = refl
+    no_variable s c k a_label e = refl
     no_variable s c k (an_array kind count) e = refl
     no_variable s c k (a_formal lows kind count) e = refl
     no_variable s c k (a_procedure h i) e = refl
@@ -100,6 +106,10 @@ module _ (sc : Scopes) (each : (k : ℕ) → k < length sc.blocks → AreParamet
     wants_as s c k (a_variable kind) = subst (λ (ws : List Wanted). AreNamed ws []) (sym nothing_wanted) tt
     wants_as s c k (a_name kind) = subst (λ (ws : List Wanted). AreNamed ws []) (sym nothing_wanted) tt
     wants_as s c k a_file = subst (λ (ws : List Wanted). AreNamed ws []) (sym nothing_wanted) tt
+    wants_as s c k an_event = subst (λ (ws : List Wanted). AreNamed ws []) (sym nothing_wanted) tt
+    wants_as s c k a_formal_event = subst (λ (ws : List Wanted). AreNamed ws []) (sym nothing_wanted) tt
+    wants_as s c k a_task = subst (λ (ws : List Wanted). AreNamed ws []) (sym nothing_wanted) tt
+    wants_as s c k a_label = subst (λ (ws : List Wanted). AreNamed ws []) (sym nothing_wanted) tt
     wants_as s c k (an_array kind count) = subst (λ (ws : List Wanted). AreNamed ws []) (sym nothing_wanted) tt
     wants_as s c k (a_formal lows kind count) = subst (λ (ws : List Wanted). AreNamed ws []) (sym nothing_wanted) tt
 
@@ -260,7 +270,7 @@ module _ (sc : Scopes) (each : (k : ℕ) → k < length sc.blocks → AreParamet
     these s listed = inside_stmt sc.blocks s of_statement listed a
 
     mutual
-      pub few_stmt : (s : PStmt) (listed : Bool) → StmtBuilt s → Good (stmt_sites s listed) → length (actuals_in_stmt sc s) ≤ many (these s listed) a.block
+      pub few_stmt : (s : PStmt) (listed : Bool) → StmtAlone s → Good (stmt_sites s listed) → length (actuals_in_stmt sc s) ≤ many (these s listed) a.block
       few_stmt tree.empty l b g = omega arith
       few_stmt (tree.label n s) l b g = few_stmt s l b g.1
       few_stmt (tree.assign (tree.subscripted n es) e) l b g =
@@ -347,7 +357,7 @@ module _ (sc : Scopes) (each : (k : ℕ) → k < length sc.blocks → AreParamet
       few_stmt (tree.event act e) l b g = omega arith
       few_stmt (tree.write n spot phrases es) l b g = few_list es g.1
 
-      pub few_stmts : (ss : PStmts) (listed : Bool) → StmtsBuilt ss → Good (sites_in_stmts sc.blocks ss listed a) → length (actuals_in_stmts sc ss) ≤ many (sites_in_stmts sc.blocks ss listed a) a.block
+      pub few_stmts : (ss : PStmts) (listed : Bool) → StmtsAlone ss → Good (sites_in_stmts sc.blocks ss listed a) → length (actuals_in_stmts sc ss) ≤ many (sites_in_stmts sc.blocks ss listed a) a.block
       few_stmts tree.no_stmts l b g = omega arith
       few_stmts (tree.stmts s ss) l b g =
           omega (
@@ -361,11 +371,14 @@ module _ (sc : Scopes) (each : (k : ℕ) → k < length sc.blocks → AreParamet
   -- ---- declarations, and the body of a procedure
 
   -- `begun`: what is known at the begin of the block
-  pub few_bounds : (j : ℕ) (outer : List Spot) (a : Surroundings) (known : List Declared) (ds : PDecls) → IsAround sc.blocks j outer (record a { known = known }) → DeclsBuilt ds →
+  pub few_bounds : (j : ℕ) (outer : List Spot) (a : Surroundings) (known : List Declared) (ds : PDecls) → IsAround sc.blocks j outer (record a { known = known }) → DeclsAlone ds →
       AreGood sc (sites_in_decls sc.blocks ds a known) → FewBounds sc a known ds
   few_bounds j outer a known tree.no_decls r b g = tt
   few_bounds j outer a known (tree.decls (tree.simple kind ns) ds) r b g = few_bounds j outer (knowing sc.blocks (tree.simple kind ns) ds a) known ds r b.1 g.1
   few_bounds j outer a known (tree.decls (tree.files ns) ds) r b g = few_bounds j outer (knowing sc.blocks (tree.files ns) ds a) known ds r b.1 g.1
+  few_bounds j outer a known (tree.decls (tree.events ns) ds) r b g = few_bounds j outer (knowing sc.blocks (tree.events ns) ds a) known ds r b.1 g.1
+  few_bounds j outer a known (tree.decls (tree.tasks ns) ds) r b g = few_bounds j outer (knowing sc.blocks (tree.tasks ns) ds a) known ds r b.1 g.1
+  few_bounds j outer a known (tree.decls (tree.labels ns) ds) r b g = few_bounds j outer (knowing sc.blocks (tree.labels ns) ds a) known ds r b.1 g.1
   few_bounds j outer a known (tree.decls (tree.arrays kind ns pairs) ds) r b g =
       let after : Surroundings = knowing sc.blocks (tree.arrays kind ns pairs) ds a in
       let at : Surroundings = record a { known = known } in
@@ -378,4 +391,3 @@ module _ (sc : Scopes) (each : (k : ℕ) → k < length sc.blocks → AreParamet
       let c : Surroundings = inside_procedure sc.blocks h after in
       let its : List Site = here_stmt t false c ∷ inside_stmt sc.blocks t of_procedure false c in
       few_bounds j outer after known ds r b.1 (each_back (IsGood sc) its (sites_in_decls sc.blocks ds after known) g.1)
-  few_bounds j outer a known (tree.decls d ds) r b g = absurd b.0

@@ -22,11 +22,11 @@ use Rattle.b67_fitting.proofs.ActualCells.{actual_cell, cell_given, cells_in, ce
 use Rattle.b67_fitting.proofs.Given.{wants_in}
 use Rattle.b67_fitting.proofs.Listed.{reads_in}
 use Rattle.b67_fitting.proofs.Lists.{each_front, each_back}
-use Rattle.b67_fitting.proofs.Specified.{IsSpecified, as_value, as_name, as_array, AreSpecified, specified}
+use Rattle.b67_fitting.proofs.Specified.{IsSpecified, as_value, as_name, as_array, as_event, AreSpecified, specified}
 use Rattle.b67_fitting.proofs.Stated.{TypedStmt, TypedStmts, TypedDecls}
 use Rattle.b67_fitting.proofs.Typed.{IsOf, TypedExpr, TypedActual, TypedActuals, TypedLine, as_formal, actual_part_is}
 use Rattle.b67_fitting.proofs.TypedBounds.{TypedPairs}
-use Rattle.b67_fitting.proofs.Wanting.{wanted_of, wanted_value, wanted_name, wanted_array}
+use Rattle.b67_fitting.proofs.Wanting.{wanted_of, wanted_value, wanted_name, wanted_array, wanted_event}
 
 module _ (blocks : List Block) (sc : Scopes) where
   -- what a procedure of that name wants, and whether the name is that of a procedure
@@ -91,12 +91,17 @@ module _ (blocks : List Block) (sc : Scopes) where
     one_given h n (as_array shape c d s) e t g =
         ap (λ (b : Bool). cell_if b e) (ap (λ (z : Class). is_simple z && not (is_named_in h.values n.name)) c)
         ∙ sym (ap (λ (w : Wanted). cells_for a.block (own_actual sc w e)) (wanted_array h n shape c d))
+    one_given h n (as_event c d s) e t g =
+        ap (λ (b : Bool). cell_if b e) (ap (λ (z : Class). is_simple z && not (is_named_in h.values n.name)) c)
+        ∙ sym (ap (λ (w : Wanted). cells_for a.block (own_actual sc w e)) (wanted_event h n c))
     one_given h n (as_name k c v s) e (inl t) g =
         let own : SiteTells (here e a) = subst (λ (p : Part). SiteTells (record { part = p; around = a })) (actual_part_is e (Some (as_formal h n)) (ap is_of_value c)) g in
         ap (λ (b : Bool). cell_if b e) (ap (λ (z : Class). is_simple z && not (is_named_in h.values n.name)) c ∙ ap not v) ∙ own_by k t.0 e t.2 own
         ∙ sym (ap (λ (w : Wanted). cells_for a.block (own_actual sc w e)) (wanted_name h n k c v))
-    one_given h n (as_name k c v s) (tree.variable (tree.subscripted m tree.none)) (inr t) g = absurd (let clash : class.simple k ≡ class.array t.0 t.1 = sym c ∙ t.2 in cc)
-    one_given h n (as_name k c v s) e (inr t) g = absurd t
+    one_given h n (as_name k c v s) (tree.variable (tree.subscripted m tree.none)) (inr (inl t)) g = absurd (let clash : class.simple k ≡ class.array t.0 t.1 = sym c ∙ t.2 in cc)
+    one_given h n (as_name k c v s) (tree.variable (tree.subscripted m tree.none)) (inr (inr t)) g = absurd (let clash : class.simple k ≡ class.event = sym c ∙ t.0 in cc)
+    one_given h n (as_name k c v s) e (inr (inl t)) g = absurd t
+    one_given h n (as_name k c v s) e (inr (inr t)) g = absurd t
 
     inside_call : (n : Named) (es : PExprs) (h : Heading) → class_of a n ≡ class.procedure h → Tell (inside_actuals es (formals_at a n) a) → Tell (inside_actuals es (formals_of h) a)
     inside_call n es h e g = subst (λ (c : Class). Tell (inside_actuals es (formals_of_class c) a)) e g
@@ -111,7 +116,8 @@ module _ (blocks : List Block) (sc : Scopes) where
     acts_actual h n e (inl t) own valued =
         valued t.0 t.2 (subst (λ (p : Part). SiteTells (record { part = p; around = a })) (actual_part_is e (Some (as_formal h n)) (ap is_of_value t.1)) own)
     acts_actual h n (tree.variable (tree.subscripted m tree.none)) (inr t) own valued = refl
-    acts_actual h n e (inr t) own valued = absurd t
+    acts_actual h n e (inr (inl t)) own valued = absurd t
+    acts_actual h n e (inr (inr t)) own valued = absurd t
 
     mutual
       acts_expr : (m : Kind) (e : PExpr) → TypedExpr a m e → Tell (sites e a) → Are (cells_in a e) (actuals_in sc e)
@@ -120,7 +126,7 @@ module _ (blocks : List Block) (sc : Scopes) where
       acts_expr m (tree.variable (tree.subscripted n tree.none)) t g = refl
       acts_expr m (tree.variable (tree.subscripted n (tree.more e es))) t g = acts_line (tree.more e es) t.1 g.1
       acts_expr m (tree.call (tree.called n es)) t g = acts_call n es t.0 t.1 (acts_given t.0 t.0.params (specified t.0 t.2) es t.4 (inside_call n es t.0 t.1 g.1)) g.0.0
-      acts_expr m (tree.tested test e spot) t g = absurd t
+      acts_expr m (tree.tested test e spot) t g = refl
       acts_expr m (tree.paren e spot) t g = acts_expr m e t g.1
       acts_expr m (tree.plus e spot) t g = acts_expr types.Number e t.1 g.1
       acts_expr m (tree.neg e spot) t g = acts_expr types.Number e t.1 g.1
@@ -165,14 +171,14 @@ module _ (blocks : List Block) (sc : Scopes) where
     mutual
       acts_stmt : (s : PStmt) (listed : Bool) → TypedStmt blocks of_statement a s → Tell (stmt_sites s listed) → Are (cells_in_stmt a s) (actuals_in_stmt sc s)
       acts_stmt tree.empty l t g = refl
-      acts_stmt (tree.label n s) l t g = absurd t
+      acts_stmt (tree.label n s) l t g = acts_stmt s l t.1 g.1
       acts_stmt (tree.assign (tree.subscripted n tree.none) e) l t g = acts_expr t.0 e t.2 g.1
       acts_stmt (tree.assign (tree.subscripted n (tree.more e es)) v) l t g =
           let these = inside_list (tree.more e es) a in
           joined a.block (cells_among a (tree.more e es)) (cells_in a v) (actuals_among sc (tree.more e es)) (actuals_in sc v) (acts_line (tree.more e es) t.2 (each_front SiteTells these (sites v a) g.1))
           (acts_expr t.0 v t.3 (each_back SiteTells these (sites v a) g.1))
       acts_stmt (tree.call_of (tree.called n es)) l t g = acts_call n es t.0 t.1 (acts_given t.0 t.0.params (specified t.0 t.2) es t.3 (inside_call n es t.0 t.1 g.1)) g.0.0
-      acts_stmt (tree.go_to n) l t g = absurd t
+      acts_stmt (tree.go_to n) l t g = refl
       acts_stmt (tree.block (tree.body spot tree.no_decls ss)) l t g = acts_stmts ss false t.1 g.1
       acts_stmt (tree.block (tree.body spot (tree.decls d ds) ss)) l t g = refl
       acts_stmt (tree.if_then c x) l t g =
@@ -206,7 +212,7 @@ module _ (blocks : List Block) (sc : Scopes) where
           joined a.block (cells_in a e) (cells_in_stmts a ss) (actuals_in sc e) (actuals_in_stmts sc ss) (acts_expr types.Number e t.0 (each_front SiteTells (sites e a) (sites_in_stmts blocks ss false a) g.1))
           (acts_stmts ss false t.1 (each_back SiteTells (sites e a) (sites_in_stmts blocks ss false a) g.1))
       acts_stmt (tree.process c task) l t g = absurd t
-      acts_stmt (tree.event act e) l t g = absurd t
+      acts_stmt (tree.event act e) l t g = refl
       acts_stmt (tree.write n spot phrases es) l t g = acts_line es t.2 g.1
 
       pub acts_stmts : (ss : PStmts) (listed : Bool) → TypedStmts blocks a ss → Tell (sites_in_stmts blocks ss listed a) → Are (cells_in_stmts a ss) (actuals_in_stmts sc ss)
@@ -228,8 +234,10 @@ module _ (blocks : List Block) (sc : Scopes) where
       (acts_pairs begin pairs t.1.1 (each_front SiteTells own others g.1)) (acts_decls behind first ds t.2 (each_back SiteTells own others g.1))
   acts_decls a first (tree.decls (tree.simple kind ns) ds) t g = acts_decls (knowing blocks (tree.simple kind ns) ds a) first ds t.2 g.1
   acts_decls a first (tree.decls (tree.files ns) ds) t g = acts_decls (knowing blocks (tree.files ns) ds a) first ds t.2 g.1
+  acts_decls a first (tree.decls (tree.events ns) ds) t g = acts_decls (knowing blocks (tree.events ns) ds a) first ds t.2 g.1
+  acts_decls a first (tree.decls (tree.tasks ns) ds) t g = acts_decls (knowing blocks (tree.tasks ns) ds a) first ds t.2 g.1
+  acts_decls a first (tree.decls (tree.labels ns) ds) t g = acts_decls (knowing blocks (tree.labels ns) ds a) first ds t.2 g.1
   acts_decls a first (tree.decls (tree.forward h) ds) t g = acts_decls (knowing blocks (tree.forward h) ds a) first ds t.2 g.1
   acts_decls a first (tree.decls (tree.procedure h s) ds) t g =
       let behind = knowing blocks (tree.procedure h s) ds a in
       acts_decls behind first ds t.2 (each_back SiteTells (inside_decl blocks (tree.procedure h s) behind first) (sites_in_decls blocks ds behind first) g.1)
-  acts_decls a first (tree.decls d ds) t g = absurd t.1

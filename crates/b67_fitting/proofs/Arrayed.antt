@@ -1,5 +1,5 @@
--- An array has the same number by its name among the arrays of its block as by its place among the cells that actions make.
-use Rattle.std.proofs.Common.{arith, ◌≡◌, inl, inr, ℕ, ◌+◌, Bool, true, false, List, [], ◌∷◌, ◌++◌, map, length, Option, Some, None, refl, sym, ap, ◌∙◌, subst, append_assoc, if◌then◌else◌}
+-- An array, an event or a task has the same number by its name among those of its block as by its place among the cells that actions make.
+use Rattle.std.proofs.Common.{arith, ◌≡◌, ◌⊎◌, inl, inr, ℕ, ◌+◌, Bool, true, false, List, [], ◌∷◌, ◌++◌, map, length, Option, Some, None, refl, sym, ap, ◌∙◌, subst, append_assoc, if◌then◌else◌}
 use Rattle.std.specs.List.{AllByRecursion}
 use Rattle.algol_tree.specs.declared.token.Spot.{Spot}
 use Rattle.algol_tree.specs.declared.tree.Heading.{Heading}
@@ -11,14 +11,15 @@ use Rattle.algol_tree.specs.Blocks.{same_spot}
 use Rattle.algol_tree.specs.Cells as cells
 use Rattle.algol_tree.specs.Cells.{Cell, cells_for, index_from}
 use Rattle.algol_tree.specs.Classes as class
+use Rattle.algol_tree.specs.Classes.{Class}
 use Rattle.algol_tree.specs.Names.{is_one_of, specified}
 use Rattle.algol_tree.specs.Plain as tree
 use Rattle.algol_tree.specs.Plain.{PPair, PStmt, PDecl, PDecls}
 use Rattle.algol_tree.specs.Sorts as sort
-use Rattle.algol_tree.specs.Sorts.{same_name, Declared, look_up, declare}
-use Rattle.algol_paths.specs.Arrays.{an_array, DeclaredArray, Lows, shape_in, arrays_in, arrays_of, lows_of, stands_among, lows_in, or_lows, lows_among, lows_declared}
-use Rattle.b67_templates.specs.Cells.{made_from}
-use Rattle.b67_fitting.proofs.Apart.{IsIn, each_in, in_back, in_front, IsApart, Apart, same_self, apart_sym, apart_front, apart_from, apart_across}
+use Rattle.algol_tree.specs.Sorts.{same_name, Sort, Declared, look_up, declare}
+use Rattle.algol_paths.specs.Arrays.{Made, an_array, an_event, made_in, Lows, shape_in, lows_of, stands_among, lows_in, or_lows, lows_among, lows_declared}
+use Rattle.b67_templates.specs.Cells.{made_name, made_of, made_from}
+use Rattle.b67_fitting.proofs.Apart.{IsIn, each_in, in_back, in_front, in_either, IsApart, Apart, same_self, apart_sym, apart_front, apart_from, apart_across}
 use Rattle.b67_fitting.proofs.Declaring.{same_is, one_more}
 use Rattle.b67_fitting.proofs.Frames.{made_cells}
 use Rattle.b67_fitting.proofs.Lists.{each_front, each_back, each_of}
@@ -29,147 +30,172 @@ array_spots tree.no_decls = []
 array_spots (tree.decls (tree.arrays kind ns pairs) ds) = spots_of_names ns ++ array_spots ds
 array_spots (tree.decls d ds) = array_spots ds
 
+-- .. of the arrays, the events and the tasks
+abbrev pub made_spots : PDecls → List Spot
+made_spots tree.no_decls = []
+made_spots (tree.decls (tree.arrays kind ns pairs) ds) = spots_of_names ns ++ made_spots ds
+made_spots (tree.decls (tree.events ns) ds) = spots_of_names ns ++ made_spots ds
+made_spots (tree.decls (tree.tasks ns) ds) = spots_of_names ns ++ made_spots ds
+made_spots (tree.decls d ds) = made_spots ds
+
+pub array_made : (ds : PDecls) (s : Spot) → IsIn s (array_spots ds) → IsIn s (made_spots ds)
+array_made tree.no_decls s i = i
+array_made (tree.decls (tree.arrays kind ns pairs) ds) s i = by (in_either s (spots_of_names ns) (array_spots ds) i) (array_made ds s)
+  where
+    by : IsIn s (spots_of_names ns) ⊎ IsIn s (array_spots ds) → (IsIn s (array_spots ds) → IsIn s (made_spots ds)) → IsIn s (spots_of_names ns ++ made_spots ds)
+    by (inl j) later = in_front s (spots_of_names ns) (made_spots ds) j
+    by (inr j) later = in_back s (spots_of_names ns) (made_spots ds) (later j)
+array_made (tree.decls (tree.events ns) ds) s i = in_back s (spots_of_names ns) (made_spots ds) (array_made ds s i)
+array_made (tree.decls (tree.tasks ns) ds) s i = in_back s (spots_of_names ns) (made_spots ds) (array_made ds s i)
+array_made (tree.decls d ds) s i = array_made ds s i
+
 -- the lower bounds of those with such bounds
 abbrev pub own_lows : List PPair → Option Lows
 own_lows pairs = Some (record { list = lows_of pairs; formal = false })
 
 -- ---- numbers
 
-pub record IsArrayed (xs : List DeclaredArray) (cs : List Cell) (name : List ℕ) (spot : Spot) (array : DeclaredArray) : Type 0 where
+pub record IsMade (xs : List Made) (cs : List Cell) (name : List ℕ) (spot : Spot) (made : Made) : Type 0 where
   pub number : ℕ
-  pub found : (i : ℕ) → made_from i (map an_array xs) name ≡ Some (record { number = i + number; made = an_array array })
+  pub found : (i : ℕ) → made_from i xs name ≡ Some (record { number = i + number; made = made })
   pub index : (j : ℕ) → index_from j cs spot ≡ Some (j + number)
 
 -- after one of another name, at another place
-arrayed_behind : (x : DeclaredArray) (c : Cell) (xs : List DeclaredArray) (cs : List Cell) (name : List ℕ) (spot : Spot) (array : DeclaredArray) → same_name x.name name ≡ false → IsApart c.spot spot →
-    IsArrayed xs cs name spot array → IsArrayed (x ∷ xs) (c ∷ cs) name spot array
-arrayed_behind x c xs cs name spot array g h r =
+made_behind : (x : Made) (c : Cell) (xs : List Made) (cs : List Cell) (name : List ℕ) (spot : Spot) (made : Made) → same_name (made_name x) name ≡ false → IsApart c.spot spot →
+    IsMade xs cs name spot made → IsMade (x ∷ xs) (c ∷ cs) name spot made
+made_behind x c xs cs name spot made g h r =
     record {
       number = r.number + 1;
       found =
           λ i.
-          ap (λ (b : Bool). if b then Some (record { number = i; made = an_array x }) else made_from (i + 1) (map an_array xs) name) g ∙ r.found (i + 1)
-          ∙ ap (λ (n : ℕ). Some (record { number = n; made = an_array array })) (let same : i + 1 + r.number ≡ i + (r.number + 1) = omega arith in same);
+          ap (λ (b : Bool). if b then Some (record { number = i; made = x }) else made_from (i + 1) xs name) g ∙ r.found (i + 1)
+          ∙ ap (λ (n : ℕ). Some (record { number = n; made = made })) (let same : i + 1 + r.number ≡ i + (r.number + 1) = omega arith in same);
       index =
           λ j.
           ap (λ (b : Bool). if b then Some j else index_from (j + 1) cs spot) h ∙ r.index (j + 1)
           ∙ ap (λ (n : ℕ). Some n) (let same : j + 1 + r.number ≡ j + (r.number + 1) = omega arith in same);
     }
 
--- these arrays are passed: their block has their names, and they stand apart from all of these places
-abbrev pub ArraysPassed : List (List ℕ) → List Spot → List DeclaredArray → List Cell → Type 0
-ArraysPassed names spots [] [] = Unit {0}
-ArraysPassed names spots (x ∷ xs) (c ∷ cs) = (is_one_of names x.name ≡ true) × AllByRecursion (IsApart c.spot) spots × ArraysPassed names spots xs cs
-ArraysPassed names spots _ _ = ⊥
+-- these are passed: their block has their names, and they stand apart from all of these places
+abbrev pub MadePassed : List (List ℕ) → List Spot → List Made → List Cell → Type 0
+MadePassed names spots [] [] = Unit {0}
+MadePassed names spots (x ∷ xs) (c ∷ cs) = (is_one_of names (made_name x) ≡ true) × AllByRecursion (IsApart c.spot) spots × MadePassed names spots xs cs
+MadePassed names spots _ _ = ⊥
 
-arrayed_over : (names : List (List ℕ)) (spots : List Spot) (xs ys : List DeclaredArray) (cs ds : List Cell) (name : List ℕ) (spot : Spot) (array : DeclaredArray) → is_one_of names name ≡ false →
-    IsIn spot spots → ArraysPassed names spots xs cs → IsArrayed ys ds name spot array → IsArrayed (xs ++ ys) (cs ++ ds) name spot array
-arrayed_over names spots [] ys [] ds name spot array n i h r = r
-arrayed_over names spots (x ∷ xs) ys (c ∷ cs) ds name spot array n i h r =
-    arrayed_behind x c (xs ++ ys) (cs ++ ds) name spot array (by (same_name x.name name) refl) (each_in (IsApart c.spot) spot spots h.1 i) (arrayed_over names spots xs ys cs ds name spot array n i h.2 r)
+made_over : (names : List (List ℕ)) (spots : List Spot) (xs ys : List Made) (cs ds : List Cell) (name : List ℕ) (spot : Spot) (made : Made) → is_one_of names name ≡ false →
+    IsIn spot spots → MadePassed names spots xs cs → IsMade ys ds name spot made → IsMade (xs ++ ys) (cs ++ ds) name spot made
+made_over names spots [] ys [] ds name spot made n i h r = r
+made_over names spots (x ∷ xs) ys (c ∷ cs) ds name spot made n i h r =
+    made_behind x c (xs ++ ys) (cs ++ ds) name spot made (by (same_name (made_name x) name) refl) (each_in (IsApart c.spot) spot spots h.1 i) (made_over names spots xs ys cs ds name spot made n i h.2 r)
   where
-    by : (b : Bool) → same_name x.name name ≡ b → b ≡ false
+    by : (b : Bool) → same_name (made_name x) name ≡ b → b ≡ false
     by false e = refl
     by true e =
-        let clash : true ≡ false = sym h.0 ∙ ap (is_one_of names) (same_is x.name name e) ∙ n in
+        let clash : true ≡ false = sym h.0 ∙ ap (is_one_of names) (same_is (made_name x) name e) ∙ n in
         clash
-arrayed_over names spots [] ys (c ∷ cs) ds name spot array n i h r = absurd h
-arrayed_over names spots (x ∷ xs) ys [] ds name spot array n i h r = absurd h
+made_over names spots [] ys (c ∷ cs) ds name spot made n i h r = absurd h
+made_over names spots (x ∷ xs) ys [] ds name spot made n i h r = absurd h
 
-passed_both : (names : List (List ℕ)) (spots : List Spot) (xs ys : List DeclaredArray) (cs ds : List Cell) → ArraysPassed names spots xs cs → ArraysPassed names spots ys ds →
-    ArraysPassed names spots (xs ++ ys) (cs ++ ds)
+passed_both : (names : List (List ℕ)) (spots : List Spot) (xs ys : List Made) (cs ds : List Cell) → MadePassed names spots xs cs → MadePassed names spots ys ds →
+    MadePassed names spots (xs ++ ys) (cs ++ ds)
 passed_both names spots [] ys [] ds g h = h
 passed_both names spots (x ∷ xs) ys (c ∷ cs) ds g h = (g.0, g.1, passed_both names spots xs ys cs ds g.2 h)
 passed_both names spots [] ys (c ∷ cs) ds g h = absurd g
 passed_both names spots (x ∷ xs) ys [] ds g h = absurd g
 
-passed_more : (more names : List (List ℕ)) (p q : List Spot) (xs : List DeclaredArray) (cs : List Cell) → ArraysPassed names (p ++ q) xs cs → ArraysPassed (more ++ names) q xs cs
+passed_more : (more names : List (List ℕ)) (p q : List Spot) (xs : List Made) (cs : List Cell) → MadePassed names (p ++ q) xs cs → MadePassed (more ++ names) q xs cs
 passed_more more names p q [] [] h = tt
-passed_more more names p q (x ∷ xs) (c ∷ cs) h = (one_more more names x.name h.0, each_back (IsApart c.spot) p q h.1, passed_more more names p q xs cs h.2)
+passed_more more names p q (x ∷ xs) (c ∷ cs) h = (one_more more names (made_name x) h.0, each_back (IsApart c.spot) p q h.1, passed_more more names p q xs cs h.2)
 passed_more more names p q [] (c ∷ cs) h = absurd h
 passed_more more names p q (x ∷ xs) [] h = absurd h
 
-passed_new : (names : List (List ℕ)) (spots : List Spot) (block : ℕ) (kind : Kind) (ns : List Named) (pairs : List PPair) → ((n : Named) → IsIn n ns → is_one_of names n.name ≡ true) →
-    AllByRecursion (λ s. AllByRecursion (IsApart s) spots) (spots_of_names ns) → ArraysPassed names spots (arrays_in kind ns pairs) (cells_for block cells.made ns)
-passed_new names spots block kind [] pairs f g = tt
-passed_new names spots block kind (n ∷ ns) pairs f g = (f n (inl refl), g.0, passed_new names spots block kind ns pairs (λ m i. f m (inr i)) g.1)
-
 -- ---- what a declaration makes known
 
-module _ (block depth : ℕ) (kind : Kind) (pairs : List PPair) where
-  pub record IsArrayHit (ns : List Named) (xs : List DeclaredArray) (cs : List Cell) (name : List ℕ) (d : Declared) : Type 0 where
-    pub class_is : d.class ≡ class.array kind (length pairs)
-    pub sort_is : d.sort ≡ sort.array
-    pub block_is : d.block ≡ block
-    pub depth_is : d.depth ≡ depth
-    pub inside : IsIn d.spot (spots_of_names ns)
-    pub array : DeclaredArray
-    pub kind_is : array.kind ≡ kind
-    pub pairs_are : array.pairs ≡ pairs
-    pub arrayed : IsArrayed (arrays_in kind ns pairs ++ xs) (cells_for block cells.made ns ++ cs) name d.spot array
+-- the array, or the event, of a name
+abbrev pub array_of : Kind → List PPair → Named → Made
+array_of kind pairs n = an_array (record { name = n.name; kind = kind; pairs = pairs })
 
-  abbrev entry : Named → Declared
-  entry n = record { name = n.name; spot = n.spot; block = block; depth = depth; sort = sort.array; class = class.array kind (length pairs) }
+abbrev pub event_of : Named → Made
+event_of n = an_event n.name
 
-  abbrev as_array : Named → DeclaredArray
-  as_array n = record { name = n.name; kind = kind; pairs = pairs }
+pub arrays_are : (kind : Kind) (ns : List Named) (pairs : List PPair) → made_in kind ns pairs ≡ map (array_of kind pairs) ns
+arrays_are kind [] pairs = refl
+arrays_are kind (n ∷ ns) pairs = ap (λ z. array_of kind pairs n ∷ z) (arrays_are kind ns pairs)
 
-  abbrev as_cell : Named → Cell
-  as_cell n = record { block = block; spot = n.spot; content = cells.made }
+-- `make`: what is made of a name
+module _ (make : Named → Made) (named : (n : Named) → made_name (make n) ≡ n.name) where
+  passed_new : (names : List (List ℕ)) (spots : List Spot) (block : ℕ) (ns : List Named) → ((n : Named) → IsIn n ns → is_one_of names n.name ≡ true) →
+      AllByRecursion (λ s. AllByRecursion (IsApart s) spots) (spots_of_names ns) → MadePassed names spots (map make ns) (cells_for block cells.made ns)
+  passed_new names spots block [] f g = tt
+  passed_new names spots block (n ∷ ns) f g = (ap (is_one_of names) (named n) ∙ f n (inl refl), g.0, passed_new names spots block ns (λ m i. f m (inr i)) g.1)
 
-  first_hit : (n : Named) (ns : List Named) (xs : List DeclaredArray) (cs : List Cell) (name : List ℕ) → same_name n.name name ≡ true → IsArrayHit (n ∷ ns) xs cs name (entry n)
-  first_hit n ns xs cs name h =
-      record {
-        class_is = refl;
-        sort_is = refl;
-        block_is = refl;
-        depth_is = refl;
-        inside = inl refl;
-        array = as_array n;
-        kind_is = refl;
-        pairs_are = refl;
-        arrayed = record {
-          number = 0;
-          found =
-              λ i.
-              ap (λ (b : Bool). if b then Some (record { number = i; made = an_array (as_array n) }) else made_from (i + 1) (map an_array (arrays_in kind ns pairs ++ xs)) name) h
-              ∙ ap (λ (m : ℕ). Some (record { number = m; made = an_array (as_array n) })) (let same : i ≡ i + 0 = omega arith in same);
-          index =
-              λ j.
-              ap (λ (b : Bool). if b then Some j else index_from (j + 1) (cells_for block cells.made ns ++ cs) n.spot) (same_self n.spot)
-              ∙ ap (λ (m : ℕ). Some m) (let same : j ≡ j + 0 = omega arith in same);
-        };
-      }
+  module _ (block depth : ℕ) (s : Sort) (c : Class) where
+    pub record IsHit (ns : List Named) (xs : List Made) (cs : List Cell) (name : List ℕ) (d : Declared) : Type 0 where
+      pub class_is : d.class ≡ c
+      pub sort_is : d.sort ≡ s
+      pub block_is : d.block ≡ block
+      pub depth_is : d.depth ≡ depth
+      pub inside : IsIn d.spot (spots_of_names ns)
+      pub one : Named
+      pub name_is : one.name ≡ name
+      pub made : IsMade (map make ns ++ xs) (cells_for block cells.made ns ++ cs) name d.spot (make one)
 
-  later_hit : (n : Named) (ns : List Named) (xs : List DeclaredArray) (cs : List Cell) (name : List ℕ) (d : Declared) → same_name n.name name ≡ false → IsApart n.spot d.spot →
-      IsArrayHit ns xs cs name d → IsArrayHit (n ∷ ns) xs cs name d
-  later_hit n ns xs cs name d g h r =
-      record {
-        class_is = r.class_is;
-        sort_is = r.sort_is;
-        block_is = r.block_is;
-        depth_is = r.depth_is;
-        inside = inr r.inside;
-        array = r.array;
-        kind_is = r.kind_is;
-        pairs_are = r.pairs_are;
-        arrayed = arrayed_behind (as_array n) (as_cell n) (arrays_in kind ns pairs ++ xs) (cells_for block cells.made ns ++ cs) name d.spot r.array g h r.arrayed;
-      }
+    abbrev entry : Named → Declared
+    entry n = record { name = n.name; spot = n.spot; block = block; depth = depth; sort = s; class = c }
 
-  pub array_hit : (ns : List Named) (xs : List DeclaredArray) (cs : List Cell) (name : List ℕ) (d : Declared) → Apart (spots_of_names ns) →
-      look_up (declare block depth sort.array (class.array kind (length pairs)) ns) name ≡ Some d → IsArrayHit ns xs cs name d
-  array_hit [] xs cs name d p h = absurd (let clash : None ≡ Some d = h in cc)
-  array_hit (n ∷ ns) xs cs name d p h = by (same_name n.name name) refl (array_hit ns xs cs name d p.1) h
-    where
-      by : (b : Bool) → same_name n.name name ≡ b →
-          (look_up (declare block depth sort.array (class.array kind (length pairs)) ns) name ≡ Some d → IsArrayHit ns xs cs name d) →
-          (if b then Some (entry n) else look_up (declare block depth sort.array (class.array kind (length pairs)) ns) name) ≡ Some d → IsArrayHit (n ∷ ns) xs cs name d
-      by true e later g =
-          let same : entry n ≡ d = cc in
-          subst (λ (z : Declared). IsArrayHit (n ∷ ns) xs cs name z) same (first_hit n ns xs cs name e)
-      by false e later g =
-          let r = later g in
-          later_hit n ns xs cs name d e (each_in (IsApart n.spot) d.spot (spots_of_names ns) p.0 r.inside) r
+    abbrev as_cell : Named → Cell
+    as_cell n = record { block = block; spot = n.spot; content = cells.made }
+
+    first_hit : (n : Named) (ns : List Named) (xs : List Made) (cs : List Cell) (name : List ℕ) → same_name n.name name ≡ true → IsHit (n ∷ ns) xs cs name (entry n)
+    first_hit n ns xs cs name h =
+        record {
+          class_is = refl;
+          sort_is = refl;
+          block_is = refl;
+          depth_is = refl;
+          inside = inl refl;
+          one = n;
+          name_is = same_is n.name name h;
+          made = record {
+            number = 0;
+            found =
+                λ i.
+                ap (λ (b : Bool). if b then Some (record { number = i; made = make n }) else made_from (i + 1) (map make ns ++ xs) name) (ap (λ z. same_name z name) (named n) ∙ h)
+                ∙ ap (λ (m : ℕ). Some (record { number = m; made = make n })) (let same : i ≡ i + 0 = omega arith in same);
+            index =
+                λ j.
+                ap (λ (b : Bool). if b then Some j else index_from (j + 1) (cells_for block cells.made ns ++ cs) n.spot) (same_self n.spot)
+                ∙ ap (λ (m : ℕ). Some m) (let same : j ≡ j + 0 = omega arith in same);
+          };
+        }
+
+    later_hit : (n : Named) (ns : List Named) (xs : List Made) (cs : List Cell) (name : List ℕ) (d : Declared) → same_name n.name name ≡ false → IsApart n.spot d.spot →
+        IsHit ns xs cs name d → IsHit (n ∷ ns) xs cs name d
+    later_hit n ns xs cs name d g h r =
+        record {
+          class_is = r.class_is;
+          sort_is = r.sort_is;
+          block_is = r.block_is;
+          depth_is = r.depth_is;
+          inside = inr r.inside;
+          one = r.one;
+          name_is = r.name_is;
+          made =
+              made_behind (make n) (as_cell n) (map make ns ++ xs) (cells_for block cells.made ns ++ cs) name d.spot (make r.one) (ap (λ z. same_name z name) (named n) ∙ g) h r.made;
+        }
+
+    pub hit : (ns : List Named) (xs : List Made) (cs : List Cell) (name : List ℕ) (d : Declared) → Apart (spots_of_names ns) → look_up (declare block depth s c ns) name ≡ Some d → IsHit ns xs cs name d
+    hit [] xs cs name d p h = absurd (let clash : None ≡ Some d = h in cc)
+    hit (n ∷ ns) xs cs name d p h = by (same_name n.name name) refl (hit ns xs cs name d p.1) h
+      where
+        by : (b : Bool) → same_name n.name name ≡ b → (look_up (declare block depth s c ns) name ≡ Some d → IsHit ns xs cs name d) →
+            (if b then Some (entry n) else look_up (declare block depth s c ns) name) ≡ Some d → IsHit (n ∷ ns) xs cs name d
+        by true e later g =
+            let same : entry n ≡ d = cc in
+            subst (λ (z : Declared). IsHit (n ∷ ns) xs cs name z) same (first_hit n ns xs cs name e)
+        by false e later g =
+            let r = later g in
+            later_hit n ns xs cs name d e (each_in (IsApart n.spot) d.spot (spots_of_names ns) p.0 r.inside) r
 
 -- ---- lower bounds by the places of names
 
@@ -240,85 +266,127 @@ last_lows all d ds p l = λ s i. l s (in_back s (spots_of_decl d) (spots_of_decl
 
 -- ---- in front of the last declarations of a block
 
--- the names that a declaration declares as arrays
-abbrev pub array_names : PDecl → List Named
-array_names (tree.arrays kind ns pairs) = ns
-array_names d = []
+-- the names that a declaration declares as arrays, events or tasks
+abbrev pub made_names : PDecl → List Named
+made_names (tree.arrays kind ns pairs) = ns
+made_names (tree.events ns) = ns
+made_names (tree.tasks ns) = ns
+made_names d = []
 
-pub record AreArraysPassed (block : ℕ) (names : List (List ℕ)) (all ds : PDecls) : Type 0 where
-  pub passed : List DeclaredArray
+pub record AreMadePassed (block : ℕ) (names : List (List ℕ)) (all ds : PDecls) : Type 0 where
+  pub passed : List Made
   pub passed_cells : List Cell
-  pub arrays_are : arrays_of all ≡ passed ++ arrays_of ds
+  pub made_are : made_of all ≡ passed ++ made_of ds
   pub cells_are : made_cells block all ≡ passed_cells ++ made_cells block ds
-  pub apart : ArraysPassed names (spots_of_decls ds) passed passed_cells
+  pub apart : MadePassed names (spots_of_decls ds) passed passed_cells
   pub lows : AreLastLows all ds
-  pub held : (s : Spot) → IsIn s (array_spots ds) → IsIn s (array_spots all)
+  pub held : (s : Spot) → IsIn s (made_spots ds) → IsIn s (made_spots all)
 
-pub arrays_begin : (block : ℕ) (names : List (List ℕ)) (all : PDecls) → AreArraysPassed block names all all
-arrays_begin block names all =
-    record { passed = []; passed_cells = []; arrays_are = refl; cells_are = refl; apart = tt; lows = λ s i. refl; held = λ s i. i }
+pub made_begin : (block : ℕ) (names : List (List ℕ)) (all : PDecls) → AreMadePassed block names all all
+made_begin block names all =
+    record { passed = []; passed_cells = []; made_are = refl; cells_are = refl; apart = tt; lows = λ s i. refl; held = λ s i. i }
 
-pub arrays_step : (block : ℕ) (more names : List (List ℕ)) (all : PDecls) (d : PDecl) (ds : PDecls) → ((n : Named) → IsIn n (array_names d) → is_one_of (more ++ names) n.name ≡ true) →
-    Apart (spots_of_decl d ++ spots_of_decls ds) → AreArraysPassed block names all (tree.decls d ds) → AreArraysPassed block (more ++ names) all ds
-arrays_step block more names all (tree.arrays kind ns pairs) ds f p s =
-    let own = spots_of_names ns ++ spots_of_pairs pairs in
+-- after a declaration that makes something of each of its names
+step_over : (make : Named → Made) → ((n : Named) → made_name (make n) ≡ n.name) → (block : ℕ) (more names : List (List ℕ)) (all : PDecls) (d : PDecl) (ns : List Named) (ds : PDecls) →
+    made_of (tree.decls d ds) ≡ map make ns ++ made_of ds → made_cells block (tree.decls d ds) ≡ cells_for block cells.made ns ++ made_cells block ds →
+    ((P : Spot → Type 0) → AllByRecursion P (spots_of_decl d) → AllByRecursion P (spots_of_names ns)) → ((s : Spot) → IsIn s (made_spots ds) → IsIn s (made_spots (tree.decls d ds))) →
+    ((n : Named) → IsIn n ns → is_one_of (more ++ names) n.name ≡ true) → Apart (spots_of_decl d ++ spots_of_decls ds) → AreLastLows all ds → AreMadePassed block names all (tree.decls d ds) →
+    AreMadePassed block (more ++ names) all ds
+step_over make named block more names all d ns ds e g own held f p lows s =
     record {
-      passed = s.passed ++ arrays_in kind ns pairs;
+      passed = s.passed ++ map make ns;
       passed_cells = s.passed_cells ++ cells_for block cells.made ns;
-      arrays_are = rw append_assoc s.arrays_are;
-      cells_are = rw append_assoc s.cells_are;
+      made_are = s.made_are ∙ ap (λ z. s.passed ++ z) e ∙ sym (append_assoc s.passed (map make ns) (made_of ds));
+      cells_are = s.cells_are ∙ ap (λ z. s.passed_cells ++ z) g ∙ sym (append_assoc s.passed_cells (cells_for block cells.made ns) (made_cells block ds));
       apart =
-          passed_both (more ++ names) (spots_of_decls ds) s.passed (arrays_in kind ns pairs) s.passed_cells (cells_for block cells.made ns)
-          (passed_more more names own (spots_of_decls ds) s.passed s.passed_cells s.apart)
-          (passed_new (more ++ names) (spots_of_decls ds) block kind ns pairs f
-          (each_front (λ z. AllByRecursion (IsApart z) (spots_of_decls ds)) (spots_of_names ns) (spots_of_pairs pairs) (apart_across own (spots_of_decls ds) p)));
-      lows = last_lows all (tree.arrays kind ns pairs) ds p s.lows;
-      held = λ t i. s.held t (in_back t (spots_of_names ns) (array_spots ds) i);
+          passed_both (more ++ names) (spots_of_decls ds) s.passed (map make ns) s.passed_cells (cells_for block cells.made ns)
+          (passed_more more names (spots_of_decl d) (spots_of_decls ds) s.passed s.passed_cells s.apart)
+          (passed_new make named (more ++ names) (spots_of_decls ds) block ns f (own (λ z. AllByRecursion (IsApart z) (spots_of_decls ds)) (apart_across (spots_of_decl d) (spots_of_decls ds) p)));
+      lows = lows;
+      held = λ t i. s.held t (held t i);
     }
-arrays_step block more names all d ds f p s =
+
+pub made_step : (block : ℕ) (more names : List (List ℕ)) (all : PDecls) (d : PDecl) (ds : PDecls) → ((n : Named) → IsIn n (made_names d) → is_one_of (more ++ names) n.name ≡ true) →
+    Apart (spots_of_decl d ++ spots_of_decls ds) → AreMadePassed block names all (tree.decls d ds) → AreMadePassed block (more ++ names) all ds
+made_step block more names all (tree.arrays kind ns pairs) ds f p s =
+    step_over (array_of kind pairs) (λ n. refl) block more names all (tree.arrays kind ns pairs) ns ds (ap (λ z. z ++ made_of ds) (arrays_are kind ns pairs)) refl
+    (λ P h. each_front P (spots_of_names ns) (spots_of_pairs pairs) h) (λ t i. in_back t (spots_of_names ns) (made_spots ds) i) f p (last_lows all (tree.arrays kind ns pairs) ds p s.lows) s
+made_step block more names all (tree.events ns) ds f p s =
+    step_over event_of (λ n. refl) block more names all (tree.events ns) ns ds refl refl (λ P h. h) (λ t i. in_back t (spots_of_names ns) (made_spots ds) i) f p
+    (last_lows all (tree.events ns) ds p s.lows) s
+made_step block more names all (tree.tasks ns) ds f p s =
+    step_over event_of (λ n. refl) block more names all (tree.tasks ns) ns ds refl refl (λ P h. h) (λ t i. in_back t (spots_of_names ns) (made_spots ds) i) f p
+    (last_lows all (tree.tasks ns) ds p s.lows) s
+made_step block more names all d ds f p s =
     record {
       passed = s.passed;
       passed_cells = s.passed_cells;
-      arrays_are = s.arrays_are;
+      made_are = s.made_are;
       cells_are = s.cells_are;
       apart = passed_more more names (spots_of_decl d) (spots_of_decls ds) s.passed s.passed_cells s.apart;
       lows = last_lows all d ds p s.lows;
       held = s.held;
     }
 
--- an array of the first of these declarations
-pub record IsArrayThere (block depth : ℕ) (kind : Kind) (pairs : List PPair) (all : PDecls) (name : List ℕ) (d : Declared) : Type 0 where
-  pub class_is : d.class ≡ class.array kind (length pairs)
-  pub sort_is : d.sort ≡ sort.array
+-- what the first of these declarations makes
+pub record IsThere (block depth : ℕ) (make : Named → Made) (s : Sort) (c : Class) (all : PDecls) (name : List ℕ) (d : Declared) : Type 0 where
+  pub class_is : d.class ≡ c
+  pub sort_is : d.sort ≡ s
   pub block_is : d.block ≡ block
   pub depth_is : d.depth ≡ depth
-  pub array : DeclaredArray
-  pub kind_is : array.kind ≡ kind
-  pub pairs_are : array.pairs ≡ pairs
-  pub among : IsIn d.spot (array_spots all)
-  pub arrayed : IsArrayed (arrays_of all) (made_cells block all) name d.spot array
-  pub lows : lows_declared all d.spot ≡ own_lows pairs
+  pub one : Named
+  pub name_is : one.name ≡ name
+  pub among : IsIn d.spot (made_spots all)
+  pub made : IsMade (made_of all) (made_cells block all) name d.spot (make one)
 
-pub array_there : (block depth : ℕ) (names : List (List ℕ)) (all : PDecls) (kind : Kind) (ns : List Named) (pairs : List PPair) (ds : PDecls) (name : List ℕ) (d : Declared) →
-    Apart ((spots_of_names ns ++ spots_of_pairs pairs) ++ spots_of_decls ds) → is_one_of names name ≡ false → AreArraysPassed block names all (tree.decls (tree.arrays kind ns pairs) ds) →
-    look_up (declare block depth sort.array (class.array kind (length pairs)) ns) name ≡ Some d → IsArrayThere block depth kind pairs all name d
-array_there block depth names all kind ns pairs ds name d p n s h =
-    let own = spots_of_names ns ++ spots_of_pairs pairs in
-    let r = array_hit block depth kind pairs ns (arrays_of ds) (made_cells block ds) name d (apart_front (spots_of_names ns) (spots_of_pairs pairs) (apart_front own (spots_of_decls ds) p)) h in
-    let here : IsIn d.spot (own ++ spots_of_decls ds) = in_front d.spot own (spots_of_decls ds) (in_front d.spot (spots_of_names ns) (spots_of_pairs pairs) r.inside) in
-    let all_arrayed : IsArrayed (s.passed ++ (arrays_in kind ns pairs ++ arrays_of ds)) (s.passed_cells ++ (cells_for block cells.made ns ++ made_cells block ds)) name d.spot r.array =
-    arrayed_over names (own ++ spots_of_decls ds) s.passed (arrays_in kind ns pairs ++ arrays_of ds) s.passed_cells (cells_for block cells.made ns ++ made_cells block ds) name d.spot r.array n here s.apart r.arrayed in
+there_by : (make : Named → Made) → ((n : Named) → made_name (make n) ≡ n.name) → (s : Sort) (c : Class) (block depth : ℕ) (names : List (List ℕ)) (all : PDecls) (first : PDecl) (ns : List Named) (ds : PDecls)
+    (name : List ℕ) (d : Declared) → made_of (tree.decls first ds) ≡ map make ns ++ made_of ds → made_cells block (tree.decls first ds) ≡ cells_for block cells.made ns ++ made_cells block ds →
+    ((t : Spot) → IsIn t (spots_of_names ns) → IsIn t (spots_of_decls (tree.decls first ds))) → ((t : Spot) → IsIn t (spots_of_names ns) → IsIn t (made_spots (tree.decls first ds))) →
+    Apart (spots_of_names ns) → is_one_of names name ≡ false → AreMadePassed block names all (tree.decls first ds) → look_up (declare block depth s c ns) name ≡ Some d →
+    IsThere block depth make s c all name d
+there_by make named s c block depth names all first ns ds name d e g here among p n q h =
+    let r = hit make named block depth s c ns (made_of ds) (made_cells block ds) name d p h in
+    let all_made : IsMade (q.passed ++ (map make ns ++ made_of ds)) (q.passed_cells ++ (cells_for block cells.made ns ++ made_cells block ds)) name d.spot (make r.one) =
+    made_over names (spots_of_decls (tree.decls first ds)) q.passed (map make ns ++ made_of ds) q.passed_cells (cells_for block cells.made ns ++ made_cells block ds) name d.spot (make r.one) n (here d.spot r.inside) q.apart r.made in
     record {
       class_is = r.class_is;
       sort_is = r.sort_is;
       block_is = r.block_is;
       depth_is = r.depth_is;
-      array = r.array;
-      kind_is = r.kind_is;
-      pairs_are = r.pairs_are;
-      among = s.held d.spot (in_front d.spot (spots_of_names ns) (array_spots ds) r.inside);
-      arrayed =
-          subst (λ (xs : List DeclaredArray). IsArrayed xs (made_cells block all) name d.spot r.array) (sym s.arrays_are)
-          (subst (λ (cs : List Cell). IsArrayed (s.passed ++ (arrays_in kind ns pairs ++ arrays_of ds)) cs name d.spot r.array) (sym s.cells_are) all_arrayed);
-      lows = s.lows d.spot here ∙ ap (λ (b : Bool). if b then own_lows pairs else lows_declared ds d.spot) (stands_there ns d.spot r.inside);
+      one = r.one;
+      name_is = r.name_is;
+      among = q.held d.spot (among d.spot r.inside);
+      made =
+          subst (λ (xs : List Made). IsMade xs (made_cells block all) name d.spot (make r.one)) (sym (q.made_are ∙ ap (λ z. q.passed ++ z) e))
+          (subst (λ (cs : List Cell). IsMade (q.passed ++ (map make ns ++ made_of ds)) cs name d.spot (make r.one)) (sym (q.cells_are ∙ ap (λ z. q.passed_cells ++ z) g)) all_made);
     }
+
+-- an array of the first of these declarations
+pub array_there : (block depth : ℕ) (names : List (List ℕ)) (all : PDecls) (kind : Kind) (ns : List Named) (pairs : List PPair) (ds : PDecls) (name : List ℕ) (d : Declared) →
+    Apart ((spots_of_names ns ++ spots_of_pairs pairs) ++ spots_of_decls ds) → is_one_of names name ≡ false → AreMadePassed block names all (tree.decls (tree.arrays kind ns pairs) ds) →
+    look_up (declare block depth sort.array (class.array kind (length pairs)) ns) name ≡ Some d →
+    IsThere block depth (array_of kind pairs) sort.array (class.array kind (length pairs)) all name d × (lows_declared all d.spot ≡ own_lows pairs)
+array_there block depth names all kind ns pairs ds name d p n s h =
+    let own = spots_of_names ns ++ spots_of_pairs pairs in
+    let apart = apart_front (spots_of_names ns) (spots_of_pairs pairs) (apart_front own (spots_of_decls ds) p) in
+    let here : (t : Spot) → IsIn t (spots_of_names ns) → IsIn t (own ++ spots_of_decls ds) = λ t i. in_front t own (spots_of_decls ds) (in_front t (spots_of_names ns) (spots_of_pairs pairs) i) in
+    let r = hit (array_of kind pairs) (λ n. refl) block depth sort.array (class.array kind (length pairs)) ns (made_of ds) (made_cells block ds) name d apart h in (
+      there_by (array_of kind pairs) (λ n. refl) sort.array (class.array kind (length pairs)) block depth names all (tree.arrays kind ns pairs) ns ds name d
+          (ap (λ z. z ++ made_of ds) (arrays_are kind ns pairs)) refl here (λ t i. in_front t (spots_of_names ns) (made_spots ds) i) apart n s h,
+      s.lows d.spot (here d.spot r.inside) ∙ ap (λ (b : Bool). if b then own_lows pairs else lows_declared ds d.spot) (stands_there ns d.spot r.inside),
+    )
+
+-- .. an event, or a task
+pub event_there : (block depth : ℕ) (names : List (List ℕ)) (all : PDecls) (ns : List Named) (ds : PDecls) (name : List ℕ) (d : Declared) → Apart (spots_of_names ns ++ spots_of_decls ds) →
+    is_one_of names name ≡ false → AreMadePassed block names all (tree.decls (tree.events ns) ds) → look_up (declare block depth sort.event class.event ns) name ≡ Some d →
+    IsThere block depth event_of sort.event class.event all name d
+event_there block depth names all ns ds name d p n s h =
+    there_by event_of (λ n. refl) sort.event class.event block depth names all (tree.events ns) ns ds name d refl refl (λ t i. in_front t (spots_of_names ns) (spots_of_decls ds) i)
+    (λ t i. in_front t (spots_of_names ns) (made_spots ds) i) (apart_front (spots_of_names ns) (spots_of_decls ds) p) n s h
+
+pub task_there : (block depth : ℕ) (names : List (List ℕ)) (all : PDecls) (ns : List Named) (ds : PDecls) (name : List ℕ) (d : Declared) → Apart (spots_of_names ns ++ spots_of_decls ds) →
+    is_one_of names name ≡ false → AreMadePassed block names all (tree.decls (tree.tasks ns) ds) → look_up (declare block depth sort.event class.task ns) name ≡ Some d →
+    IsThere block depth event_of sort.event class.task all name d
+task_there block depth names all ns ds name d p n s h =
+    there_by event_of (λ n. refl) sort.event class.task block depth names all (tree.tasks ns) ns ds name d refl refl (λ t i. in_front t (spots_of_names ns) (spots_of_decls ds) i)
+    (λ t i. in_front t (spots_of_names ns) (made_spots ds) i) (apart_front (spots_of_names ns) (spots_of_decls ds) p) n s h

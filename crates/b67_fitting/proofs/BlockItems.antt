@@ -1,14 +1,14 @@
--- The items of a block keep to its text where its bounds and its statements do: the arrays that it declares are made first.
-use Rattle.std.proofs.Common.{◌≡◌, ◌++◌, List, Option, Some, None, refl}
+-- The items of a block keep to its text where its bounds and its statements do: the arrays, the events and the tasks that it declares are made
+-- first.
+use Rattle.std.proofs.Common.{◌≡◌, List, [], ◌∷◌, ◌++◌, Option, Some, None, refl, sym, subst, append_assoc}
 use Rattle.algol_tree.specs.declared.tree.Kind.{Kind}
 use Rattle.algol_tree.specs.declared.tree.Named.{Named}
 use Rattle.algol_tree.specs.Blocks.{Block}
 use Rattle.algol_tree.specs.Plain as tree
 use Rattle.algol_tree.specs.Plain.{PStmts, PDecls, PBody}
 use Rattle.algol_meaning.specs.Rest.{Item}
-use Rattle.algol_meaning.specs.Statements.{items, decls_items, ending, items_of}
+use Rattle.algol_meaning.specs.Statements.{items, event_items, decls_items, ending, items_of}
 use Rattle.algol_paths.specs.Texts.{InStmts, InItems, InDeclared}
-use Rattle.b67_fitting.specs.Built.{DeclsBuilt}
 use Rattle.b67_fitting.proofs.Bounds.{InBounds}
 
 module _ (P : Named → Type 0) (Q : PBody → Type 0) (R : Named → Type 0) where
@@ -34,15 +34,23 @@ module _ (P : Named → Type 0) (Q : PBody → Type 0) (R : Named → Type 0) wh
   declared_stmts b tree.no_stmts i = declared_ending b
   declared_stmts b (tree.stmts s ss) i = (i.0, in_stated ss (ending b) i.1 (in_ending b))
 
-  -- no declaration is of an event or a task
-  declared_first : (ds : PDecls) (k : List Item) → DeclsBuilt ds → InBounds R ds → InDeclared P Q R k → InDeclared P Q R (decls_items ds ++ k)
-  declared_first tree.no_decls k b i h = h
-  declared_first (tree.decls (tree.simple kind ns) ds) k b i h = declared_first ds k b.1 i h
-  declared_first (tree.decls (tree.files ns) ds) k b i h = declared_first ds k b.1 i h
-  declared_first (tree.decls (tree.arrays kind ns pairs) ds) k b i h = (i.0, declared_first ds k b.1 i.1 h)
-  declared_first (tree.decls (tree.forward g) ds) k b i h = declared_first ds k b.1 i h
-  declared_first (tree.decls (tree.procedure g t) ds) k b i h = declared_first ds k b.1 i h
-  declared_first (tree.decls d ds) k b i h = absurd b.0
+  -- an event needs no name
+  events_first : (ns : List Named) (k : List Item) → InDeclared P Q R k → InDeclared P Q R (event_items ns ++ k)
+  events_first [] k h = h
+  events_first (n ∷ ns) k h = events_first ns k h
 
-  pub in_items : (b : Block) → DeclsBuilt b.decls → InBounds R b.decls → InStmts P Q b.stmts → InDeclared P Q R (items_of b)
-  in_items b built bounds stmts = declared_first b.decls (items b.stmts (ending b)) built bounds (declared_stmts b b.stmts stmts)
+  declared_first : (ds : PDecls) (k : List Item) → InBounds R ds → InDeclared P Q R k → InDeclared P Q R (decls_items ds ++ k)
+  declared_first tree.no_decls k i h = h
+  declared_first (tree.decls (tree.simple kind ns) ds) k i h = declared_first ds k i h
+  declared_first (tree.decls (tree.files ns) ds) k i h = declared_first ds k i h
+  declared_first (tree.decls (tree.arrays kind ns pairs) ds) k i h = (i.0, declared_first ds k i.1 h)
+  declared_first (tree.decls (tree.forward g) ds) k i h = declared_first ds k i h
+  declared_first (tree.decls (tree.procedure g t) ds) k i h = declared_first ds k i h
+  declared_first (tree.decls (tree.labels ns) ds) k i h = declared_first ds k i h
+  declared_first (tree.decls (tree.events ns) ds) k i h =
+      subst (InDeclared P Q R) (sym (append_assoc (event_items ns) (decls_items ds) k)) (events_first ns (decls_items ds ++ k) (declared_first ds k i h))
+  declared_first (tree.decls (tree.tasks ns) ds) k i h =
+      subst (InDeclared P Q R) (sym (append_assoc (event_items ns) (decls_items ds) k)) (events_first ns (decls_items ds ++ k) (declared_first ds k i h))
+
+  pub in_items : (b : Block) → InBounds R b.decls → InStmts P Q b.stmts → InDeclared P Q R (items_of b)
+  in_items b bounds stmts = declared_first b.decls (items b.stmts (ending b)) bounds (declared_stmts b b.stmts stmts)

@@ -5,7 +5,7 @@ use Rattle.algol_tree.specs.Ascending.{spots_of_names, spots_of_expr, spots_of_p
 use Rattle.algol_tree.specs.Blocks.{Begin, of_statement, of_procedure, begin_block, begin_outer, blocks_of, blocks_in_stmts, blocks_in_decls}
 use Rattle.algol_tree.specs.Plain as tree
 use Rattle.algol_tree.specs.Plain.{PStmt, PStmts, PDecls}
-use Rattle.b67_fitting.specs.Built.{DeclsBuilt, StmtBuilt, StmtsBuilt}
+use Rattle.b67_fitting.specs.Alone.{DeclsAlone, StmtAlone, StmtsAlone}
 use Rattle.b67_fitting.proofs.Numbering.{here, times, times_both, places, places_both, block_place}
 
 module _ (s : Spot) where
@@ -16,7 +16,7 @@ module _ (s : Spot) where
   of_begin of_procedure spot ds ss outer = omega arith
 
   mutual
-    in_stmt : (t : PStmt) (begin : Begin) (outer : List Spot) → StmtBuilt t → times block_place s (blocks_of t begin outer) ≤ places s (spots_of_stmt t)
+    in_stmt : (t : PStmt) (begin : Begin) (outer : List Spot) → StmtAlone t → times block_place s (blocks_of t begin outer) ≤ places s (spots_of_stmt t)
     in_stmt tree.empty g outer b = omega arith
     in_stmt (tree.label n t) g outer b = omega (arith, in_stmt t of_statement outer b)
     in_stmt (tree.assign v e) g outer b = omega arith
@@ -53,16 +53,19 @@ module _ (s : Spot) where
     in_stmt (tree.event act e) g outer b = omega arith
     in_stmt (tree.write n spot phrases es) g outer b = omega arith
 
-    pub in_stmts : (ss : PStmts) (outer : List Spot) → StmtsBuilt ss → times block_place s (blocks_in_stmts ss outer) ≤ places s (spots_of_stmts ss)
+    pub in_stmts : (ss : PStmts) (outer : List Spot) → StmtsAlone ss → times block_place s (blocks_in_stmts ss outer) ≤ places s (spots_of_stmts ss)
     in_stmts tree.no_stmts outer b = omega arith
     in_stmts (tree.stmts t ss) outer b =
         omega (arith, times_both block_place s (blocks_of t of_statement outer) (blocks_in_stmts ss outer), places_both s (spots_of_stmt t) (spots_of_stmts ss), in_stmt t of_statement outer b.0, in_stmts ss outer b.1)
 
     -- the block of a procedure stands at its name
-    pub in_decls : (ds : PDecls) (outer : List Spot) → DeclsBuilt ds → times block_place s (blocks_in_decls ds outer) ≤ places s (spots_of_decls ds)
+    pub in_decls : (ds : PDecls) (outer : List Spot) → DeclsAlone ds → times block_place s (blocks_in_decls ds outer) ≤ places s (spots_of_decls ds)
     in_decls tree.no_decls outer b = omega arith
     in_decls (tree.decls (tree.simple kind ns) ds) outer b = omega (arith, places_both s (spots_of_names ns) (spots_of_decls ds), in_decls ds outer b.1)
     in_decls (tree.decls (tree.files ns) ds) outer b = omega (arith, places_both s (spots_of_names ns) (spots_of_decls ds), in_decls ds outer b.1)
+    in_decls (tree.decls (tree.events ns) ds) outer b = omega (arith, places_both s (spots_of_names ns) (spots_of_decls ds), in_decls ds outer b.1)
+    in_decls (tree.decls (tree.tasks ns) ds) outer b = omega (arith, places_both s (spots_of_names ns) (spots_of_decls ds), in_decls ds outer b.1)
+    in_decls (tree.decls (tree.labels ns) ds) outer b = omega (arith, places_both s (spots_of_names ns) (spots_of_decls ds), in_decls ds outer b.1)
     in_decls (tree.decls (tree.arrays kind ns pairs) ds) outer b = omega (arith, places_both s (spots_of_names ns ++ spots_of_pairs pairs) (spots_of_decls ds), in_decls ds outer b.1)
     in_decls (tree.decls (tree.forward h) ds) outer b = omega (arith, places_both s (spots_of_heading h) (spots_of_decls ds), in_decls ds outer b.1)
     in_decls (tree.decls (tree.procedure h t) ds) outer b =
@@ -74,4 +77,3 @@ module _ (s : Spot) where
           in_stmt t of_procedure (h.name.spot ∷ outer) b.0.1,
           in_decls ds outer b.1,
         )
-    in_decls (tree.decls d ds) outer b = absurd b.0

@@ -15,10 +15,10 @@ use Rattle.algol_tree.specs.Sorts.{Sort, Declared, is_variable, is_formal, decla
 use Rattle.algol_tree.specs.Surroundings.{Surroundings, declared_as, knowing, knowing_all, inside_procedure}
 use Rattle.algol_paths.specs.Blocks.{IsSeenAround}
 use Rattle.algol_paths.specs.Texts.{InPairs}
-use Rattle.b67_fitting.specs.Built.{HeadingBuilt, DeclsBuilt, StmtBuilt}
+use Rattle.b67_fitting.specs.Alone.{HeadingSpecified, DeclsAlone, StmtAlone}
 use Rattle.b67_fitting.proofs.Lists.{each_front, each_back, each_both, each_of, nil_front}
 use Rattle.b67_fitting.proofs.Numbering.{IsThere}
-use Rattle.b67_fitting.proofs.Specified.{IsSpecified, as_value, as_name, as_array, AreSpecified, specified}
+use Rattle.b67_fitting.proofs.Specified.{IsSpecified, as_value, as_name, as_array, as_event, AreSpecified, specified}
 use Rattle.b67_fitting.proofs.Surrounded.{IsKnown, IsAround, found_known, use_is, IsGood, AreGood, the_use, KnownAs, all_seen, expr_known}
 
 -- ---- what is known at the begin of a block
@@ -42,6 +42,7 @@ module _ (sc : Scopes) (j : ℕ) (outer : List Spot) (a : Surroundings) (r : IsA
   is_parameter h n (as_value kind c v s) = inl (ap is_variable s)
   is_parameter h n (as_name kind c v s) = inr (ap is_formal s)
   is_parameter h n (as_array shape c a s) = inr (ap is_formal s)
+  is_parameter h n (as_event c a s) = inr (ap is_formal s)
 
   early_parameters : (k : ℕ) (h : Heading) (ns : List Named) → AreSpecified h ns →
       AreEarly (a.depth + 1)
@@ -50,7 +51,7 @@ module _ (sc : Scopes) (j : ℕ) (outer : List Spot) (a : Surroundings) (r : IsA
   early_parameters k h (n ∷ ns) v = (inr (is_parameter h n v.0), early_parameters k h ns v.1)
 
   -- inside a procedure
-  pub early_procedure : (h : Heading) → HeadingBuilt h → AreEarly (a.depth + 1) ((inside_procedure sc.blocks h a).known)
+  pub early_procedure : (h : Heading) → HeadingSpecified h → AreEarly (a.depth + 1) ((inside_procedure sc.blocks h a).known)
   early_procedure h b =
       let k = number_at sc.blocks h.name.spot in
       each_both (IsEarly (a.depth + 1)) (declared_parameters k (a.depth + 1) h) a.known (early_parameters k h h.params (specified h b)) early_inside
@@ -93,11 +94,14 @@ InBounds P (tree.decls d ds) = InBounds P ds
 
 module _ (sc : Scopes) (j : ℕ) (outer : List Spot) where
   -- `first`: what is known at the begin of the block
-  pub in_bounds : (a : Surroundings) (ds : PDecls) (first : List Declared) → IsAround sc.blocks j outer (record a { known = first }) → AreEarly a.depth first → DeclsBuilt ds →
+  pub in_bounds : (a : Surroundings) (ds : PDecls) (first : List Declared) → IsAround sc.blocks j outer (record a { known = first }) → AreEarly a.depth first → DeclsAlone ds →
       AreGood sc (sites_in_decls sc.blocks ds a first) → InBounds (IsSeenAround sc j) ds
   in_bounds a tree.no_decls first r e b g = tt
   in_bounds a (tree.decls (tree.simple kind ns) ds) first r e b g = in_bounds (knowing sc.blocks (tree.simple kind ns) ds a) ds first r e b.1 g.1
   in_bounds a (tree.decls (tree.files ns) ds) first r e b g = in_bounds (knowing sc.blocks (tree.files ns) ds a) ds first r e b.1 g.1
+  in_bounds a (tree.decls (tree.events ns) ds) first r e b g = in_bounds (knowing sc.blocks (tree.events ns) ds a) ds first r e b.1 g.1
+  in_bounds a (tree.decls (tree.tasks ns) ds) first r e b g = in_bounds (knowing sc.blocks (tree.tasks ns) ds a) ds first r e b.1 g.1
+  in_bounds a (tree.decls (tree.labels ns) ds) first r e b g = in_bounds (knowing sc.blocks (tree.labels ns) ds a) ds first r e b.1 g.1
   in_bounds a (tree.decls (tree.arrays kind ns pairs) ds) first r e b g =
       let after : Surroundings = knowing sc.blocks (tree.arrays kind ns pairs) ds a in
       let at : Surroundings = record a { known = first } in
@@ -112,10 +116,9 @@ module _ (sc : Scopes) (j : ℕ) (outer : List Spot) where
       let c : Surroundings = inside_procedure sc.blocks h after in
       let its : List Site = here_stmt t false c ∷ inside_stmt sc.blocks t of_procedure false c in
       in_bounds after ds first r e b.1 (each_back (IsGood sc) its (sites_in_decls sc.blocks ds after first) g.1)
-  in_bounds a (tree.decls d ds) first r e b g = absurd b.0
 
   -- those of the body of a procedure
-  pub in_body : (a : Surroundings) (t : PStmt) → IsAround sc.blocks j outer a → AreEarly a.depth a.known → StmtBuilt t →
+  pub in_body : (a : Surroundings) (t : PStmt) → IsAround sc.blocks j outer a → AreEarly a.depth a.known → StmtAlone t →
       AreGood sc (here_stmt t false a ∷ inside_stmt sc.blocks t of_procedure false a) → InBounds (IsSeenAround sc j) (decls_of t)
   in_body a (tree.block (tree.body spot ds ss)) r e b g =
       let declared = sites_in_decls sc.blocks ds a a.known in

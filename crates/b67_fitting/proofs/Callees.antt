@@ -13,7 +13,7 @@ use Rattle.algol_tree.specs.Plain.{PStmt, PDecls}
 use Rattle.algol_tree.specs.Sites.{Site, sites_in_pairs, here_stmt, inside_stmt, sites_in_decls}
 use Rattle.algol_tree.specs.Sorts.{same_name, Declared, parameters_of}
 use Rattle.algol_tree.specs.Surroundings.{Surroundings, body_of, heading_or, announced, knowing, inside_procedure}
-use Rattle.b67_fitting.specs.Built.{HeadingBuilt, DeclBuilt, DeclsBuilt}
+use Rattle.b67_fitting.specs.Alone.{HeadingSpecified, DeclAlone, DeclsAlone}
 use Rattle.b67_fitting.proofs.Lists.{each_back, nil_front}
 use Rattle.b67_fitting.proofs.Numbering.{IsNumbered, block_is}
 
@@ -31,7 +31,7 @@ module _ (blocks : List Block) where
     pub around_is : around blocks (number_at blocks h.name.spot) ≡ j ∷ around blocks j
     pub named : (block_numbered blocks (number_at blocks h.name.spot)).name ≡ h.name.name
     pub parameters_are : (block_numbered blocks (number_at blocks h.name.spot)).parameters ≡ parameters_of h
-    pub built : HeadingBuilt h
+    pub built : HeadingSpecified h
 
   -- so do those of all procedures that these declarations declare or announce
   abbrev pub AreCallees : ℕ → PDecls → Type 0
@@ -40,7 +40,7 @@ module _ (blocks : List Block) where
   AreCallees j (tree.decls (tree.procedure h t) ds) = IsCallee j h × AreCallees j ds
   AreCallees j (tree.decls d ds) = AreCallees j ds
 
-  numbered_callee : (j : ℕ) (outer : List Spot) (h : Heading) (t : PStmt) → map (number_at blocks) outer ≡ j ∷ around blocks j → DeclBuilt (tree.procedure h t) →
+  numbered_callee : (j : ℕ) (outer : List Spot) (h : Heading) (t : PStmt) → map (number_at blocks) outer ≡ j ∷ around blocks j → DeclAlone (tree.procedure h t) →
       IsNumbered blocks (procedure_block h t outer) → IsCallee j h
   numbered_callee j outer h t e b n =
       let k = number_at blocks h.name.spot in
@@ -73,11 +73,14 @@ module _ (blocks : List Block) where
   announced_callee j h ds (Some g) c e k = body_callee j h.name.name ds g c e
 
   -- `outer`: where the block j and those around it stand
-  pub are_callees : (j : ℕ) (outer : List Spot) (ds : PDecls) (a : Surroundings) (first : List Declared) → map (number_at blocks) outer ≡ j ∷ around blocks j → DeclsBuilt ds →
+  pub are_callees : (j : ℕ) (outer : List Spot) (ds : PDecls) (a : Surroundings) (first : List Declared) → map (number_at blocks) outer ≡ j ∷ around blocks j → DeclsAlone ds →
       AllByRecursion (IsNumbered blocks) (blocks_in_decls ds outer) → AreNamed (sites_in_decls blocks ds a first) → AreCallees j ds
   are_callees j outer tree.no_decls a first e b n k = tt
   are_callees j outer (tree.decls (tree.simple kind ns) ds) a first e b n k = are_callees j outer ds (knowing blocks (tree.simple kind ns) ds a) first e b.1 n k.1
   are_callees j outer (tree.decls (tree.files ns) ds) a first e b n k = are_callees j outer ds (knowing blocks (tree.files ns) ds a) first e b.1 n k.1
+  are_callees j outer (tree.decls (tree.events ns) ds) a first e b n k = are_callees j outer ds (knowing blocks (tree.events ns) ds a) first e b.1 n k.1
+  are_callees j outer (tree.decls (tree.tasks ns) ds) a first e b n k = are_callees j outer ds (knowing blocks (tree.tasks ns) ds a) first e b.1 n k.1
+  are_callees j outer (tree.decls (tree.labels ns) ds) a first e b n k = are_callees j outer ds (knowing blocks (tree.labels ns) ds a) first e b.1 n k.1
   are_callees j outer (tree.decls (tree.arrays kind ns pairs) ds) a first e b n k =
       let after : Surroundings = knowing blocks (tree.arrays kind ns pairs) ds a in
       are_callees j outer ds after first e b.1 n (each_back IsNamed (sites_in_pairs pairs (record after { known = first })) (sites_in_decls blocks ds after first) k.1)
@@ -92,7 +95,6 @@ module _ (blocks : List Block) where
         are_callees j outer ds after first e b.1 (each_back (IsNumbered blocks) (blocks_of t of_procedure (h.name.spot ∷ outer)) (blocks_in_decls ds outer) n.1)
             (each_back IsNamed its (sites_in_decls blocks ds after first) k.1),
       )
-  are_callees j outer (tree.decls d ds) a first e b n k = absurd b.0
 
   -- ---- blocks in one another
 

@@ -1,5 +1,5 @@
--- The cells of a block among those of the parts of a tree: its variables, its procedures, its actuals, its arrays and its result are no more
--- than these.
+-- The cells of a block among those of the parts of a tree: its variables, its procedures, its actuals, its arrays, events and tasks and its
+-- result are no more than these.
 use Rattle.std.proofs.Common.{arith, ◌≡◌, ℕ, ◌+◌, ◌==◌, ◌≤◌, Bool, true, false, List, [], ◌∷◌, ◌++◌, filter, length, is_some, Option, Some, None, refl, ap, ◌∙◌, if◌then◌else◌, suc}
 use Rattle.std.proofs.lemmas.Bool.Decides.{nat_tests}
 use Rattle.std.proofs.lemmas.List.{length-append, length-map}
@@ -20,9 +20,9 @@ use Rattle.algol_tree.specs.Sites as site
 use Rattle.algol_tree.specs.Sites.{Site, sites_in_pairs, here_stmt, inside_stmt, sites_in_stmts, sites_in_decls, has_decls}
 use Rattle.algol_tree.specs.Sorts.{Declared}
 use Rattle.algol_tree.specs.Surroundings.{Surroundings, knowing, knowing_all, inside_procedure}
-use Rattle.algol_paths.specs.Arrays.{DeclaredArray, arrays_in, arrays_of}
-use Rattle.b67_templates.specs.Cells.{Simple, value, parameter_cells, simple_cells, of_kind, result_of, variables, procedures, actuals_in_pairs, actuals_in_decls, actuals_in_stmts}
-use Rattle.b67_fitting.specs.Built.{DeclsBuilt, StmtBuilt}
+use Rattle.algol_paths.specs.Arrays.{DeclaredArray, Made, an_array, arrays_in, made_in, an_event}
+use Rattle.b67_templates.specs.Cells.{Simple, value, parameter_cells, simple_cells, of_kind, result_of, variables, procedures, made_of, events_in, actuals_in_pairs, actuals_in_decls, actuals_in_stmts}
+use Rattle.b67_fitting.specs.Alone.{DeclsAlone, StmtAlone}
 use Rattle.b67_fitting.specs.Nested.{AreParameters}
 use Rattle.b67_fitting.proofs.ParametersTold.{told_many}
 
@@ -72,8 +72,8 @@ module _ (sc : Scopes) where
       × FewBounds (knowing sc.blocks (tree.arrays kind ns pairs) ds a) first ds
   FewBounds a first (tree.decls d ds) = FewBounds (knowing sc.blocks d ds a) first ds
 
-  pub as_many : (ds : PDecls) (a : Surroundings) (first : List Declared) → DeclsBuilt ds → FewBounds a first ds →
-      length (variables ds) + length (procedures ds) + length (arrays_of ds) + length (actuals_in_decls sc ds) ≤ length (cells_of blocks (sites_in_decls blocks ds a first) a.block)
+  pub as_many : (ds : PDecls) (a : Surroundings) (first : List Declared) → DeclsAlone ds → FewBounds a first ds →
+      length (variables ds) + length (procedures ds) + length (made_of ds) + length (actuals_in_decls sc ds) ≤ length (cells_of blocks (sites_in_decls blocks ds a first) a.block)
   as_many tree.no_decls a first s f = omega arith
   as_many (tree.decls (tree.simple kind ns) ds) a first s f =
       let k = a.block in
@@ -101,7 +101,8 @@ module _ (sc : Scopes) where
       let more : List Cell = flat_map (cells_at blocks) (bounds ++ later) in
       omega (
         arith,
-        length-append (arrays_in kind ns pairs) (arrays_of ds),
+        length-append (made_in kind ns pairs) (made_of ds),
+        length-map {B = Made} (arrays_in kind ns pairs) an_array,
         length-map {B = DeclaredArray} ns (λ (n : Named). record { name = n.name; kind = kind; pairs = pairs }),
         ap length (filter-append own its more),
         length-append (filter own its) (filter own more),
@@ -121,7 +122,37 @@ module _ (sc : Scopes) where
       let more : List Cell = (result_cells blocks h ++ cells_for own cells.parameter h.params) ++ flat_map (cells_at blocks) (body_sites blocks t c) in
       let first_one : length (cells_of blocks its k) ≡ suc (length (filter (λ (z : Cell). z.block == k) more)) = one_there k h.name.spot cells.procedure more in
       omega (arith, cells_both blocks its (sites_in_decls blocks ds after first) k, first_one, as_many ds after first s.1 f)
-  as_many (tree.decls d ds) a first s f = absurd s.0
+  as_many (tree.decls (tree.events ns) ds) a first s f =
+      let k = a.block in
+      let own : Cell → Bool = λ c. c.block == k in
+      let its : List Cell = cells_for k cells.made ns in
+      let after : Surroundings = knowing blocks (tree.events ns) ds a in
+      let more : List Cell = flat_map (cells_at blocks) (sites_in_decls blocks ds after first) in
+      omega (
+        arith,
+        length-append (events_in ns) (made_of ds),
+        length-map {B = Made} ns (λ (n : Named). an_event n.name),
+        ap length (filter-append own its more),
+        length-append (filter own its) (filter own more),
+        own_cells k cells.made ns,
+        as_many ds after first s.1 f,
+      )
+  as_many (tree.decls (tree.tasks ns) ds) a first s f =
+      let k = a.block in
+      let own : Cell → Bool = λ c. c.block == k in
+      let its : List Cell = cells_for k cells.made ns in
+      let after : Surroundings = knowing blocks (tree.tasks ns) ds a in
+      let more : List Cell = flat_map (cells_at blocks) (sites_in_decls blocks ds after first) in
+      omega (
+        arith,
+        length-append (events_in ns) (made_of ds),
+        length-map {B = Made} ns (λ (n : Named). an_event n.name),
+        ap length (filter-append own its more),
+        length-append (filter own its) (filter own more),
+        own_cells k cells.made ns,
+        as_many ds after first s.1 f,
+      )
+  as_many (tree.decls (tree.labels ns) ds) a first s f = as_many ds (knowing blocks (tree.labels ns) ds a) first s.1 f
 
   -- ---- a procedure
 
@@ -132,8 +163,8 @@ module _ (sc : Scopes) where
       FewBounds a a.known ds × (length (actuals_in_stmts sc ss) ≤ length (cells_of sc.blocks (sites_in_stmts sc.blocks ss (has_decls ds) (knowing_all sc.blocks ds a)) a.block))
   FewInBody t a = length (actuals_in_stmts sc (stmts_of t)) ≤ length (cells_of sc.blocks (body_sites sc.blocks t a) a.block)
 
-  body_many : (t : PStmt) (a : Surroundings) → StmtBuilt t → FewInBody t a →
-      length (variables (decls_of t)) + length (procedures (decls_of t)) + length (arrays_of (decls_of t)) + length (actuals_in_decls sc (decls_of t)) + length (actuals_in_stmts sc (stmts_of t))
+  body_many : (t : PStmt) (a : Surroundings) → StmtAlone t → FewInBody t a →
+      length (variables (decls_of t)) + length (procedures (decls_of t)) + length (made_of (decls_of t)) + length (actuals_in_decls sc (decls_of t)) + length (actuals_in_stmts sc (stmts_of t))
       ≤ length (cells_of blocks (body_sites blocks t a) a.block)
   body_many (tree.block (tree.body spot ds ss)) a b f =
       let declared = sites_in_decls blocks ds a a.known in
@@ -146,8 +177,8 @@ module _ (sc : Scopes) where
   result_many (Some kind) k n = omega (arith, own_cells k cells.result (n ∷ []))
 
   -- its parameters and its result, whose cells stand in the block around
-  pub procedure_many : (h : Heading) (t : PStmt) (ds : PDecls) (a : Surroundings) (c : Surroundings) → c.block ≡ number_at blocks h.name.spot → StmtBuilt t → FewInBody t c →
-      length h.params + (length (result_of h.kind h.name.name) + (length (variables (decls_of t)) + length (procedures (decls_of t)) + length (arrays_of (decls_of t)))) + length (actuals_in_decls sc (decls_of t)) + length (actuals_in_stmts sc (stmts_of t))
+  pub procedure_many : (h : Heading) (t : PStmt) (ds : PDecls) (a : Surroundings) (c : Surroundings) → c.block ≡ number_at blocks h.name.spot → StmtAlone t → FewInBody t c →
+      length h.params + (length (result_of h.kind h.name.name) + (length (variables (decls_of t)) + length (procedures (decls_of t)) + length (made_of (decls_of t)))) + length (actuals_in_decls sc (decls_of t)) + length (actuals_in_stmts sc (stmts_of t))
       ≤ length (cells_of blocks (declaring blocks h t ds a ∷ body_sites blocks t c) (number_at blocks h.name.spot))
   procedure_many h t ds a c e b f =
       let k = number_at blocks h.name.spot in

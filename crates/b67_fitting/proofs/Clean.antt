@@ -1,6 +1,5 @@
--- Parts of a tree at which no rule is broken, where the names that are known are simple variables, arrays, files and procedures whose
--- parameters are simple ones or arrays.
-use Rattle.std.proofs.Common.{arith, ◌≡◌, ◌⊎◌, inl, inr, ℕ, ◌==◌, ◌&&◌, not, Bool, true, false, List, [], ◌∷◌, ◌++◌, length, is_some, Option, Some, None, refl, sym, ap, ◌∙◌, subst, if◌then◌else◌}
+-- Parts of a tree at which no rule is broken, where the names that are known are specified.
+use Rattle.std.proofs.Common.{arith, ◌≡◌, ◌⊎◌, inl, inr, ℕ, ◌==◌, ◌&&◌, not, Bool, true, false, List, [], ◌∷◌, ◌++◌, length, is_some, Option, Some, None, refl, ap, ◌∙◌, subst, if◌then◌else◌}
 use Rattle.std.proofs.lemmas.Bool.{eqb-true}
 use Rattle.std.specs.List.{AllByRecursion}
 use Rattle.algol_tree.specs.declared.token.Spot.{Spot}
@@ -12,7 +11,7 @@ use Rattle.algol_tree.specs.Blocks.{Block}
 use Rattle.algol_tree.specs.Cells.{first_spot}
 use Rattle.algol_tree.specs.Checks.{wrong_types, not_assignable, is_function}
 use Rattle.algol_tree.specs.Classes as class
-use Rattle.algol_tree.specs.Classes.{Class, same_kind, is_array, is_task, is_event, is_procedure, is_unspecified}
+use Rattle.algol_tree.specs.Classes.{Class, same_kind, is_task, is_event, is_label, is_array, is_procedure, is_unspecified}
 use Rattle.algol_tree.specs.Counted.{wrong_counts, bad_lists, wide_lines}
 use Rattle.algol_tree.specs.Names.{if_so, unknown_names, declared_twice}
 use Rattle.algol_tree.specs.Plain as tree
@@ -21,7 +20,7 @@ use Rattle.algol_tree.specs.Sites.{Site}
 use Rattle.algol_tree.specs.Sorts.{Declared, look_up}
 use Rattle.algol_tree.specs.Surroundings.{Surroundings, class_of, class_of_declared, declared_as}
 use Rattle.algol_tree.specs.Types.{read_type, type_of}
-use Rattle.b67_fitting.specs.Built.{HeadingBuilt}
+use Rattle.b67_fitting.specs.Alone.{HeadingSpecified}
 use Rattle.b67_fitting.proofs.Lists.{nil_front}
 
 pub record IsClean (blocks : List Block) (x : Site) : Type 0 where
@@ -36,12 +35,15 @@ pub record IsClean (blocks : List Block) (x : Site) : Type 0 where
 abbrev pub AreClean : List Block → List Site → Type 0
 AreClean blocks xs = AllByRecursion (IsClean blocks) xs
 
--- what a name is in a program that is built
+-- what a name is
 pub data IsPlain : Class → Type 0 where
   simple : (kind : Kind) → IsPlain (class.simple kind)
   array : (kind : Kind) (rank : ℕ) → IsPlain (class.array kind rank)
   file : IsPlain class.file
-  procedure : (h : Heading) → HeadingBuilt h → IsPlain (class.procedure h)
+  label : IsPlain class.label
+  event : IsPlain class.event
+  task : IsPlain class.task
+  procedure : (h : Heading) → HeadingSpecified h → IsPlain (class.procedure h)
 
 pub record KnowsPlain (a : Surroundings) : Type 0 where
   pub each : (name : List ℕ) (d : Declared) → look_up a.known name ≡ Some d → IsPlain d.class
@@ -62,25 +64,41 @@ plain_first a k n more h = plain_name a k n (nil_front (if_so (not (is_some (dec
 abbrev pub misnamed : (Class → Bool) → Class → Spot → List Spot
 misnamed test c spot = if_so (not (test c) && not (is_unspecified c)) spot
 
-pub none_such : (test : Class → Bool) (c : Class) (spot : Spot) → ((kind : Kind) → test (class.simple kind) ≡ false) →
-    ((kind : Kind) (rank : ℕ) → test (class.array kind rank) ≡ false) → test class.file ≡ false → ((h : Heading) → test (class.procedure h) ≡ false) → IsPlain c →
-    misnamed test c spot ≡ [] → ⊥
-none_such test c spot s y f p (simple kind) h =
-    let clash : spot ∷ [] ≡ [] = sym (ap (λ b. if_so (not b && not (is_unspecified (class.simple kind))) spot) (s kind)) ∙ h in
-    cc
-none_such test c spot s y f p (array kind rank) h =
-    let clash : spot ∷ [] ≡ [] = sym (ap (λ b. if_so (not b && not (is_unspecified (class.array kind rank))) spot) (y kind rank)) ∙ h in
-    cc
-none_such test c spot s y f p file h =
-    let clash : spot ∷ [] ≡ [] = sym (ap (λ b. if_so (not b && not (is_unspecified class.file)) spot) f) ∙ h in
-    cc
-none_such test c spot s y f p (procedure heading e) h =
-    let clash : spot ∷ [] ≡ [] = sym (ap (λ b. if_so (not b && not (is_unspecified (class.procedure heading))) spot) (p heading)) ∙ h in
-    cc
+-- a name that stands for a label is one
+pub label_of : (c : Class) (spot : Spot) → IsPlain c → misnamed is_label c spot ≡ [] → c ≡ class.label
+label_of c spot label h = refl
+label_of c spot (simple kind) h = absurd (let clash : spot ∷ [] ≡ [] = h in cc)
+label_of c spot (array kind rank) h = absurd (let clash : spot ∷ [] ≡ [] = h in cc)
+label_of c spot file h = absurd (let clash : spot ∷ [] ≡ [] = h in cc)
+label_of c spot event h = absurd (let clash : spot ∷ [] ≡ [] = h in cc)
+label_of c spot task h = absurd (let clash : spot ∷ [] ≡ [] = h in cc)
+label_of c spot (procedure g b) h = absurd (let clash : spot ∷ [] ≡ [] = h in cc)
 
-pub none_happens : (task : Bool) (c : Class) (spot : Spot) → IsPlain c → (if task then misnamed is_task c spot else misnamed is_event c spot) ≡ [] → ⊥
-none_happens true c spot p h = none_such is_task c spot (λ k. refl) (λ k r. refl) refl (λ g. refl) p h
-none_happens false c spot p h = none_such is_event c spot (λ k. refl) (λ k r. refl) refl (λ g. refl) p h
+-- .. for an event, that or a task
+abbrev pub IsEventful : Class → Type 0
+IsEventful c = (c ≡ class.event) ⊎ (c ≡ class.task)
+
+pub event_alone : (c : Class) (spot : Spot) → IsPlain c → misnamed is_event c spot ≡ [] → c ≡ class.event
+event_alone c spot event h = refl
+event_alone c spot (simple kind) h = absurd (let clash : spot ∷ [] ≡ [] = h in cc)
+event_alone c spot (array kind rank) h = absurd (let clash : spot ∷ [] ≡ [] = h in cc)
+event_alone c spot file h = absurd (let clash : spot ∷ [] ≡ [] = h in cc)
+event_alone c spot label h = absurd (let clash : spot ∷ [] ≡ [] = h in cc)
+event_alone c spot task h = absurd (let clash : spot ∷ [] ≡ [] = h in cc)
+event_alone c spot (procedure g b) h = absurd (let clash : spot ∷ [] ≡ [] = h in cc)
+
+task_alone : (c : Class) (spot : Spot) → IsPlain c → misnamed is_task c spot ≡ [] → c ≡ class.task
+task_alone c spot task h = refl
+task_alone c spot (simple kind) h = absurd (let clash : spot ∷ [] ≡ [] = h in cc)
+task_alone c spot (array kind rank) h = absurd (let clash : spot ∷ [] ≡ [] = h in cc)
+task_alone c spot file h = absurd (let clash : spot ∷ [] ≡ [] = h in cc)
+task_alone c spot label h = absurd (let clash : spot ∷ [] ≡ [] = h in cc)
+task_alone c spot event h = absurd (let clash : spot ∷ [] ≡ [] = h in cc)
+task_alone c spot (procedure g b) h = absurd (let clash : spot ∷ [] ≡ [] = h in cc)
+
+pub eventful_of : (task : Bool) (c : Class) (spot : Spot) → IsPlain c → (if task then misnamed is_task c spot else misnamed is_event c spot) ≡ [] → IsEventful c
+eventful_of true c spot p h = inr (task_alone c spot p h)
+eventful_of false c spot p h = inl (event_alone c spot p h)
 
 -- a name that is read is a simple variable or a typed procedure
 abbrev pub IsRead : Class → Kind → Type 0
@@ -94,6 +112,9 @@ pub read_kind : (c : Class) (spot : Spot) → IsPlain c → misnamed (λ d. is_s
 read_kind c spot (simple kind) h = (kind, inl refl)
 read_kind c spot (array kind rank) h = absurd (let clash : spot ∷ [] ≡ [] = h in cc)
 read_kind c spot file h = absurd (let clash : spot ∷ [] ≡ [] = h in cc)
+read_kind c spot label h = absurd (let clash : spot ∷ [] ≡ [] = h in cc)
+read_kind c spot event h = absurd (let clash : spot ∷ [] ≡ [] = h in cc)
+read_kind c spot task h = absurd (let clash : spot ∷ [] ≡ [] = h in cc)
 read_kind c spot (procedure g e) h =
     let r = some_kind g.kind spot h in
     (r.0, inr (g, refl, r.1))
@@ -128,7 +149,7 @@ none_taken c h k spot e f g =
 pub record IsTyped (c : Class) : Type 0 where
   pub heading : Heading
   pub class_is : c ≡ class.procedure heading
-  pub built : HeadingBuilt heading
+  pub built : HeadingSpecified heading
   pub kind : Kind
   pub kind_is : heading.kind ≡ Some kind
 
@@ -136,15 +157,21 @@ pub function_of : (c : Class) (spot : Spot) → IsPlain c → misnamed is_functi
 function_of c spot (simple kind) h = absurd (let clash : spot ∷ [] ≡ [] = h in cc)
 function_of c spot (array kind rank) h = absurd (let clash : spot ∷ [] ≡ [] = h in cc)
 function_of c spot file h = absurd (let clash : spot ∷ [] ≡ [] = h in cc)
+function_of c spot label h = absurd (let clash : spot ∷ [] ≡ [] = h in cc)
+function_of c spot event h = absurd (let clash : spot ∷ [] ≡ [] = h in cc)
+function_of c spot task h = absurd (let clash : spot ∷ [] ≡ [] = h in cc)
 function_of c spot (procedure g b) h =
     let r = some_kind g.kind spot h in
     record { heading = g; class_is = refl; built = b; kind = r.0; kind_is = r.1 }
 
 -- a name that is called is that of a procedure
-pub call_of : (c : Class) (spot : Spot) → IsPlain c → misnamed is_procedure c spot ≡ [] → (h : Heading) × (c ≡ class.procedure h) × HeadingBuilt h
+pub call_of : (c : Class) (spot : Spot) → IsPlain c → misnamed is_procedure c spot ≡ [] → (h : Heading) × (c ≡ class.procedure h) × HeadingSpecified h
 call_of c spot (simple kind) h = absurd (let clash : spot ∷ [] ≡ [] = h in cc)
 call_of c spot (array kind rank) h = absurd (let clash : spot ∷ [] ≡ [] = h in cc)
 call_of c spot file h = absurd (let clash : spot ∷ [] ≡ [] = h in cc)
+call_of c spot label h = absurd (let clash : spot ∷ [] ≡ [] = h in cc)
+call_of c spot event h = absurd (let clash : spot ∷ [] ≡ [] = h in cc)
+call_of c spot task h = absurd (let clash : spot ∷ [] ≡ [] = h in cc)
 call_of c spot (procedure g e) h = (g, refl, e)
 
 -- a name with subscripts is that of an array, which has as many of them as it has bounds
@@ -152,6 +179,9 @@ pub array_of : (c : Class) (spot : Spot) → IsPlain c → misnamed is_array c s
 array_of c spot (simple kind) h = absurd (let clash : spot ∷ [] ≡ [] = h in cc)
 array_of c spot (array kind rank) h = (kind, rank, refl)
 array_of c spot file h = absurd (let clash : spot ∷ [] ≡ [] = h in cc)
+array_of c spot label h = absurd (let clash : spot ∷ [] ≡ [] = h in cc)
+array_of c spot event h = absurd (let clash : spot ∷ [] ≡ [] = h in cc)
+array_of c spot task h = absurd (let clash : spot ∷ [] ≡ [] = h in cc)
 array_of c spot (procedure g b) h = absurd (let clash : spot ∷ [] ≡ [] = h in cc)
 
 abbrev pub has_others : Class → ℕ → Bool

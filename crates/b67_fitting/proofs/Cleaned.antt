@@ -3,10 +3,12 @@ use Rattle.std.proofs.Common.{◌≡◌, List, [], ◌∷◌}
 use Rattle.std.specs.List.{flat_map, AllByRecursion}
 use Rattle.algol_tree.specs.declared.token.Spot.{Spot}
 use Rattle.algol_tree.specs.declared.refusal.Code.{Code}
+use Rattle.algol_tree.specs.declared.refusal.Code.TheVariants as codes
 use Rattle.algol_tree.specs.Accepted.{broken, scope_faults_in, check_faults_in}
 use Rattle.algol_tree.specs.Blocks.{Block}
 use Rattle.algol_tree.specs.Checks.{wrong_types, not_assignable}
 use Rattle.algol_tree.specs.Counted.{wrong_counts, bad_lists, wide_lines}
+use Rattle.algol_tree.specs.Labels.{bad_labels}
 use Rattle.algol_tree.specs.Names.{unknown_names, declared_twice}
 use Rattle.algol_tree.specs.Plain.{PProgram}
 use Rattle.algol_tree.specs.Sites.{Site}
@@ -34,3 +36,7 @@ cleaned p blocks xs s c =
     (found_none _ (wrong_types blocks) xs (nil_front _ _ two)) (found_none _ (not_assignable blocks) xs (nil_back _ _ three)) (found_none _ wrong_counts xs (nil_back _ _ two))
     (found_none _ bad_lists xs (nil_back _ _ four))
     (found_none _ wide_lines xs (nil_back _ _ five))
+
+-- no label is bad
+pub unlabelled : (p : PProgram) (blocks : List Block) (xs : List Site) → check_faults_in blocks xs ≡ [] → bad_labels xs ≡ []
+unlabelled p blocks xs c = nil_map (λ (spot : Spot). record { spot = spot; code = codes.BadLabel }) (bad_labels xs) (nil_back _ _ c)

@@ -24,9 +24,9 @@ use Rattle.algol_paths.specs.Arrays.{lows_at}
 use Rattle.b67_ops.specs.declared.Couple.{Couple}
 use Rattle.b67_templates.specs.Cells.{Simple, Wanted, value, by_name, parameters_in, parameter_cells, simple_cells, variables, result_of, procedures, found_from, IsVariable, IsFormalName, of_variable, of_formal, IsProcedure}
 use Rattle.b67_templates.specs.Fitting as fitting
-use Rattle.b67_templates.specs.Fitting.{Told, a_variable, a_name, a_procedure, is_name, is_by_name, couple_on_left, ReadFits, PlaceFits, resolved, NameActualFits, refers_to, passes_on}
-use Rattle.b67_fitting.specs.Built.{HeadingBuilt}
-use Rattle.b67_fitting.specs.Fitted.{spelled, meant_as}
+use Rattle.b67_templates.specs.Fitting.{Told, is_event, a_variable, a_name, a_procedure, is_name, is_by_name, couple_on_left, ReadFits, PlaceFits, resolved, NameActualFits, refers_to, passes_on}
+use Rattle.b67_fitting.specs.Alone.{HeadingSpecified}
+use Rattle.b67_fitting.specs.Fitted.{spelled, meant_as, target_of}
 use Rattle.b67_fitting.proofs.Aligned.{IsAt}
 use Rattle.b67_fitting.proofs.Apart.{IsIn, each_in, in_each, in_map, in_front, in_back, in_flat, IsApart, Apart}
 use Rattle.b67_fitting.proofs.Blocked.{block_spots, numbered, number_none, HasCells}
@@ -40,10 +40,10 @@ use Rattle.b67_fitting.proofs.Homed.{IsHome, IsValue}
 use Rattle.b67_fitting.proofs.Known.{given_cells, given_places, IsVariableOf, IsParameterOf, IsHeld, IsName, IsOwned, AreAround, Stands}
 use Rattle.b67_fitting.proofs.Looked.{use_found, known_found}
 use Rattle.b67_fitting.proofs.Made.{places_in}
-use Rattle.b67_fitting.proofs.Specified.{IsSpecified, as_value, as_name, as_array, AreSpecified, specified}
+use Rattle.b67_fitting.proofs.Specified.{IsSpecified, as_value, as_name, as_array, as_event, AreSpecified, specified}
 use Rattle.b67_fitting.proofs.Stated.{is_around}
 use Rattle.b67_fitting.proofs.Typed.{as_formal}
-use Rattle.b67_fitting.proofs.Wanting.{wanted_of, wanted_value, wanted_name, wanted_array}
+use Rattle.b67_fitting.proofs.Wanting.{wanted_of, wanted_value, wanted_name, wanted_array, wanted_event}
 
 pub use_is : (sc : Scopes) (n : Named) (u : Use) → declared_in sc.uses n.spot ≡ Some u → use_of sc n ≡ u
 use_is sc n u h = rw h refl
@@ -68,6 +68,8 @@ pub record AreTold (blocks : List Block) (all : List Site) (told : Told) : Type 
   pub results : (spot : Spot) (d : Located) → declaration_in blocks all spot ≡ Some d → told.results spot ≡ spelled (couple_in blocks all (number_at blocks d.spot) d.spot)
   pub lows : (spot : Spot) (d : Located) → declaration_in blocks all spot ≡ Some d → told.lows spot ≡ lows_at blocks d.spot
   pub meant : (spot : Spot) (d : Declared) → known_there (flat_map (known_at blocks) all) spot ≡ Some d → told.meant spot ≡ meant_as d.class d.sort
+  pub labels :
+      (spot : Spot) (d : Declared) → known_there (flat_map (known_at blocks) all) spot ≡ Some d → told.labels spot ≡ target_of (record { blocks = blocks; uses = flat_map uses_at all }) d
   pub actuals :
       (spot : Spot) (c : cells.Couple) → couple_of_cells blocks all (actual_cells blocks all) spot ≡ Some c → told.actuals spot ≡ Some (record { level = c.level; index = c.index })
 
@@ -335,11 +337,12 @@ module _ (blocks : List Block) (all : List Site) (is : IsProgram blocks all) whe
 
   -- ---- names fit
 
-  -- a simple variable or parameter is read, is assigned, and is given for a parameter by name
+  -- a simple variable or parameter is read, is assigned, and is given for a parameter by name, and is known to be no event
   pub record IsPlaceOf (told : Told) (level : ℕ) (k : Kind) (n : Named) : Type 0 where
     pub reads : ReadFits scopes told level k n
     pub place : PlaceFits scopes told level k n
     pub given : (block : ℕ) → NameActualFits scopes told level block k (alone n)
+    pub no_event : is_event (told.meant n.spot) ≡ false
 
   -- which parameters are by name
   modes_in : (g : Heading) (ns : List Named) → AreSpecified g ns → map (λ (f : Formal). cells.is_by_name (Some f)) (map (as_formal g) ns) ≡ map is_by_name (map (λ (z : Simple). z.wanted) (map (cell_of g) ns))
@@ -350,8 +353,9 @@ module _ (blocks : List Block) (all : List Site) (is : IsProgram blocks all) whe
       one (as_value kind c v s) = ap (λ (z : Class). is_simple z && not (is_named_in g.values n.name)) c ∙ ap not v ∙ sym (ap is_by_name (wanted_value g n kind c v))
       one (as_name kind c v s) = ap (λ (z : Class). is_simple z && not (is_named_in g.values n.name)) c ∙ ap not v ∙ sym (ap is_by_name (wanted_name g n kind c v))
       one (as_array shape c e s) = ap (λ (z : Class). is_simple z && not (is_named_in g.values n.name)) c ∙ sym (ap is_by_name (wanted_array g n shape c e))
+      one (as_event c e s) = ap (λ (z : Class). is_simple z && not (is_named_in g.values n.name)) c ∙ sym (ap is_by_name (wanted_event g n c))
 
-  modes_of : (g : Heading) → HeadingBuilt g → map (λ (f : Formal). cells.is_by_name (Some f)) (formals_of g) ≡ map is_by_name (map (λ (z : Simple). z.wanted) (parameters_in g))
+  modes_of : (g : Heading) → HeadingSpecified g → map (λ (f : Formal). cells.is_by_name (Some f)) (formals_of g) ≡ map is_by_name (map (λ (z : Simple). z.wanted) (parameters_in g))
   modes_of g b = modes_in g g.params (specified g b)
 
   module _ (told : Told) (are : AreTold blocks all told) (a : Surroundings) (level : ℕ) (at : a.depth + 2 ≡ level) (n : Named) (d : Declared) (is_known : known_there (flat_map (known_at blocks) all) n.spot ≡ Some d) where
@@ -378,6 +382,7 @@ module _ (blocks : List Block) (all : List Site) (is : IsProgram blocks all) whe
           reads = ((record { level = c.level; index = c.index }, mine, of_variable v), none);
           place = fitting.own (record { level = c.level; index = c.index }, ap (λ (o : Option Couple). couple_on_left o (told.couples n.spot)) none ∙ mine, v) (ap is_name meant);
           given = λ block. refers_to n (record { level = c.level; index = c.index }) refl meant mine v (let low : 2 ≤ length b.outer + 2 = omega arith in low);
+          no_event = ap is_event meant;
         }
 
     -- a parameter by name
@@ -410,6 +415,7 @@ module _ (blocks : List Block) (all : List Site) (is : IsProgram blocks all) whe
           reads = ((record { level = c.level; index = c.index }, mine, of_formal v), none);
           place = resolved (record { level = c.level; index = c.index }) (ap (λ (o : Option Couple). couple_on_left o (told.couples n.spot)) none ∙ mine) (ap is_name meant) v;
           given = λ block. passes_on n (record { level = c.level; index = c.index }) refl meant mine v;
+          no_event = ap is_event meant;
         }
 
     pub procedure_fits : (g : Heading) → use_of scopes n ≡ the_use a n d → IsOwned blocks a.depth n.name d g →

@@ -28,7 +28,7 @@ use Rattle.algol_tree.specs.Types.{taken_by}
 use Rattle.algol_paths.specs.Arrays.{Lows, or_lows, lows_among, lows_declared}
 use Rattle.b67_fitting.proofs.ActualCells.{actual_cell, cell_given, cells_in, cells_among as cells_in_list, cells_given, cells_in_pairs}
 use Rattle.b67_fitting.proofs.ActualPlaces.{others_of, begins, no_part, both_places, places_inside}
-use Rattle.b67_fitting.proofs.Actuals.{IsArrayActual, name_alone}
+use Rattle.b67_fitting.proofs.Actuals.{IsArrayActual, name_alone, IsEventActual, event_name}
 use Rattle.b67_fitting.proofs.Among.{Among, nothing, skip, keep, none_among, join}
 use Rattle.b67_fitting.proofs.Apart.{IsIn, in_each, in_map, in_front, in_back, Apart, apart_back}
 use Rattle.b67_fitting.proofs.Arrayed.{none_lows, from_first, AreLastLows, last_lows}
@@ -93,6 +93,23 @@ module _ (blocks : List Block) (k : ℕ) (b : Block) (a : Surroundings) (stands 
       (site k (record { part = parts.name n; around = a }) (fair_name n) l)))
   listed_array f e t l = absurd t
 
+  -- an event has none either
+  none_for_event : (e : PExpr) (f : Formal) → f.class ≡ class.event → has_cell e (Some f) a ≡ false
+  none_for_event e f c = ap (λ (z : Class). has_cell e (Some (record { class = z; by_value = f.by_value })) a) c
+
+  listed_event : (f : Formal) (e : PExpr) → IsEventActual a f e → {spots : List Spot} {own : List Cell} {xs : List Site} → Listed blocks k spots own [] xs →
+      Listed blocks k (spots_of_expr e ++ spots) (cell_given a e (Some f) ++ cells_in a e ++ own) []
+      (record { part = parts.actual e (Some f); around = a } ∷ record { part = actual_part e (Some f); around = a } ∷ (inside_expr e a ++ xs))
+  listed_event f (tree.variable (tree.subscripted n tree.none)) t {spots} {own} {xs} l =
+      let e = tree.variable (tree.subscripted n tree.none) in
+      let none = none_for_event e f t.0 in
+      subst (λ (z : Bool). Listed blocks k (n.spot ∷ spots) (cells_if z e ++ [] ++ own) [] (record { part = parts.actual e (Some f); around = a } ∷ record { part = actual_part e (Some f); around = a } ∷ xs))
+      (sym none)
+      (site k (record { part = parts.actual e (Some f); around = a }) (fair_actual e f none)
+      (subst (λ (p : Part). Listed blocks k (n.spot ∷ spots) own [] (record { part = p; around = a } ∷ xs)) (sym (event_name n f t.0))
+      (site k (record { part = parts.name n; around = a }) (fair_name n) l)))
+  listed_event f e t l = absurd t
+
   -- an actual of a simple parameter, with a cell or without
   listed_simple : (f : Formal) (e : PExpr) (spots : List Spot) (own : List Cell) (xs : List Site) →
       Listed blocks k (spots_of_expr e ++ spots) (cells_in a e ++ own) [] (record { part = actual_part e (Some f); around = a } ∷ (inside_expr e a ++ xs)) → Among (places_in blocks xs) spots →
@@ -118,12 +135,13 @@ module _ (blocks : List Block) (k : ℕ) (b : Block) (a : Surroundings) (stands 
           (given k x (actual_cell a.block e) (giving_actual e f some) later
           (subst (λ (z : List Spot). Listed blocks k (z ++ spots) (cells_in a e ++ own) [] (p ∷ (inside_expr e a ++ xs))) (begins e) l))
 
-  -- an actual in front of the others, of a simple parameter or an array
+  -- an actual in front of the others, of a simple parameter, an array or an event
   listed_actual : (f : Formal) (e : PExpr) → TypedActual a f e → ((m : Kind) → TypedExpr a m e → Listed blocks k (spots_of_expr e) (cells_in a e) [] (sites e a)) →
       {spots : List Spot} {own : List Cell} {xs : List Site} → Listed blocks k spots own [] xs →
       Listed blocks k (spots_of_expr e ++ spots) (cell_given a e (Some f) ++ cells_in a e ++ own) []
       (record { part = parts.actual e (Some f); around = a } ∷ record { part = actual_part e (Some f); around = a } ∷ (inside_expr e a ++ xs))
-  listed_actual f e (inr t) valued l = listed_array f e t l
+  listed_actual f e (inr (inl t)) valued l = listed_array f e t l
+  listed_actual f e (inr (inr t)) valued l = listed_event f e t l
   listed_actual f e (inl t) valued {spots} {own} {xs} l =
       let those : Listed blocks k (spots_of_expr e ++ spots) (cells_in a e ++ own) [] (here e a ∷ (inside_expr e a ++ xs)) = both k (valued t.0 t.2) l in
       listed_simple f e spots own xs
@@ -141,7 +159,7 @@ module _ (blocks : List Block) (k : ℕ) (b : Block) (a : Surroundings) (stands 
         site k (here (tree.variable (tree.subscripted n (tree.more e es))) a) (fair_expr (tree.variable (tree.subscripted n (tree.more e es)))) (listed_line (tree.more e es) t.1)
     listed_expr m (tree.call (tree.called n es)) t =
         site k (here (tree.call (tree.called n es)) a) (fair_expr (tree.call (tree.called n es))) (listed_call n es t.0 t.1 (listed_actuals (formals_of t.0) es t.4))
-    listed_expr m (tree.tested test e spot) t = absurd t
+    listed_expr m (tree.tested test e spot) t = passed k spot (site k (here (tree.tested test e spot) a) (fair_expr (tree.tested test e spot)) (over k))
     listed_expr m (tree.paren e spot) t = site k (here (tree.paren e spot) a) (fair_expr (tree.paren e spot)) (passed k spot (listed_expr m e t))
     listed_expr m (tree.plus e spot) t = site k (here (tree.plus e spot) a) (fair_expr (tree.plus e spot)) (passed k spot (listed_expr types.Number e t.1))
     listed_expr m (tree.neg e spot) t = site k (here (tree.neg e spot) a) (fair_expr (tree.neg e spot)) (passed k spot (listed_expr types.Number e t.1))
@@ -225,9 +243,9 @@ variable_places : (block : ℕ) (ns : List Named) → Among (own_places (cells_f
 variable_places block [] = nothing
 variable_places block (n ∷ ns) = keep n.spot (variable_places block ns)
 
-array_places : (block : ℕ) (ns : List Named) → Among (own_places (cells_for block cells.made ns)) (spots_of_names ns)
-array_places block [] = nothing
-array_places block (n ∷ ns) = keep n.spot (array_places block ns)
+made_places : (block : ℕ) (ns : List Named) → Among (own_places (cells_for block cells.made ns)) (spots_of_names ns)
+made_places block [] = nothing
+made_places block (n ∷ ns) = keep n.spot (made_places block ns)
 
 result_is : (o : Option Kind) (n : Named) (block : ℕ) → (if is_some o then cells_for block cells.result (n ∷ []) else []) ≡ result_cell o block n.spot
 result_is None n block = refl
@@ -257,10 +275,42 @@ module _ (blocks : List Block) where
         cells = refl;
         owns = each_own_for a.block cells.made ns;
         among = cells_among a.block cells.made ns;
-        places = array_places a.block ns;
+        places = made_places a.block ns;
         reads = refl;
         lefts = refl;
       }
+
+  pub declares_events : (a : Surroundings) (ns : List Named) (ds : PDecls) →
+      IsDeclaring blocks a.block (record { part = parts.declaration (tree.events ns) ds; around = a }) (spots_of_names ns) (cells_for a.block cells.made ns)
+  declares_events a ns ds =
+      record {
+        uses = refl;
+        knows = names_among (knowing blocks (tree.events ns) ds a) ns;
+        cells = refl;
+        owns = each_own_for a.block cells.made ns;
+        among = cells_among a.block cells.made ns;
+        places = made_places a.block ns;
+        reads = refl;
+        lefts = refl;
+      }
+
+  pub declares_tasks : (a : Surroundings) (ns : List Named) (ds : PDecls) →
+      IsDeclaring blocks a.block (record { part = parts.declaration (tree.tasks ns) ds; around = a }) (spots_of_names ns) (cells_for a.block cells.made ns)
+  declares_tasks a ns ds =
+      record {
+        uses = refl;
+        knows = names_among (knowing blocks (tree.tasks ns) ds a) ns;
+        cells = refl;
+        owns = each_own_for a.block cells.made ns;
+        among = cells_among a.block cells.made ns;
+        places = made_places a.block ns;
+        reads = refl;
+        lefts = refl;
+      }
+
+  pub declares_labels : (a : Surroundings) (ns : List Named) (ds : PDecls) → IsDeclaring blocks a.block (record { part = parts.declaration (tree.labels ns) ds; around = a }) (spots_of_names ns) []
+  declares_labels a ns ds =
+      record { uses = refl; knows = names_among (knowing blocks (tree.labels ns) ds a) ns; cells = refl; owns = tt; among = tt; places = none_among (spots_of_names ns); reads = refl; lefts = refl }
 
   pub declares_files : (a : Surroundings) (ns : List Named) (ds : PDecls) → IsDeclaring blocks a.block (record { part = parts.declaration (tree.files ns) ds; around = a }) (spots_of_names ns) []
   declares_files a ns ds =
@@ -354,9 +404,14 @@ module _ (blocks : List Block) where
       (last_named b.decls (tree.arrays kind ns pairs) ds p m) (last_lows b.decls (tree.arrays kind ns pairs) ds p q) h i
   callees (tree.decls (tree.files ns) ds) a first b t f e p l m q h i =
       callees ds (knowing blocks (tree.files ns) ds a) first b t.2 f e (apart_back (spots_of_names ns) (spots_of_decls ds) p) (last_step b.decls (tree.files ns) ds p l) (last_named b.decls (tree.files ns) ds p m) (last_lows b.decls (tree.files ns) ds p q) h i
+  callees (tree.decls (tree.events ns) ds) a first b t f e p l m q h i =
+      callees ds (knowing blocks (tree.events ns) ds a) first b t.2 f e (apart_back (spots_of_names ns) (spots_of_decls ds) p) (last_step b.decls (tree.events ns) ds p l) (last_named b.decls (tree.events ns) ds p m) (last_lows b.decls (tree.events ns) ds p q) h i
+  callees (tree.decls (tree.tasks ns) ds) a first b t f e p l m q h i =
+      callees ds (knowing blocks (tree.tasks ns) ds a) first b t.2 f e (apart_back (spots_of_names ns) (spots_of_decls ds) p) (last_step b.decls (tree.tasks ns) ds p l) (last_named b.decls (tree.tasks ns) ds p m) (last_lows b.decls (tree.tasks ns) ds p q) h i
+  callees (tree.decls (tree.labels ns) ds) a first b t f e p l m q h i =
+      callees ds (knowing blocks (tree.labels ns) ds a) first b t.2 f e (apart_back (spots_of_names ns) (spots_of_decls ds) p) (last_step b.decls (tree.labels ns) ds p l) (last_named b.decls (tree.labels ns) ds p m) (last_lows b.decls (tree.labels ns) ds p q) h i
   callees (tree.decls (tree.forward g) ds) a first b t f e p l m q h i =
       callees ds (knowing blocks (tree.forward g) ds a) first b t.2 f e (apart_back (spots_of_heading g) (spots_of_decls ds) p) (last_step b.decls (tree.forward g) ds p l) (last_named b.decls (tree.forward g) ds p m) (last_lows b.decls (tree.forward g) ds p q) h i
-  callees (tree.decls d ds) a first b t f e p l m q h i = absurd t.1
 
   pub behind_decls : (b : Block) (a : Surroundings) (first : List Declared) (ds : PDecls) → IsStarted blocks b a ds → TypedDecls blocks a first ds → Apart (spots_of_decls ds) →
       Stands blocks b (knowing_all blocks ds a)

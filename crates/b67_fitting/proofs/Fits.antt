@@ -1,46 +1,56 @@
 -- An accepted program that is built fits.
-use Rattle.std.proofs.Common.{arith, ◌≡◌, inl, inr, ℕ, ◌+◌, ◌<◌, ◌≤◌, ◌==◌, Bool, false, List, [], ◌∷◌, ◌++◌, length, slice_get, Some, zero, suc, refl, sym, ap, ◌∙◌, subst, if◌then◌else◌}
+use Rattle.std.proofs.Common.{arith, ◌≡◌, inl, inr, ℕ, ◌+◌, ◌<◌, ◌≤◌, ◌==◌, Bool, true, false, List, [], ◌∷◌, ◌++◌, length, slice_get, Some, None, zero, suc, refl, sym, ap, ◌∙◌, subst, if◌then◌else◌}
 use Rattle.std.proofs.lemmas.Bool.Decides.{nat_tests}
 use Rattle.std.specs.List.{flat_map, AllByRecursion}
 use Rattle.algol_tree.specs.declared.token.Spot.{Spot}
+use Rattle.algol_tree.specs.declared.tree.Named.{Named}
 use Rattle.algol_tree.specs.Accepted.{scope_faults, scope_faults_in, check_faults}
 use Rattle.algol_tree.specs.Ascending.{spots_of_decls, spots_of_stmts}
 use Rattle.algol_tree.specs.Blocks.{Block, block_numbered, blocks_of_program, blocks_in_decls, blocks_in_stmts, number_at}
 use Rattle.algol_tree.specs.Cells.{cells_at, cells_of, level_of}
 use Rattle.algol_tree.specs.Couples.{declaration_at, result_at, actual_at}
+use Rattle.algol_tree.specs.Labels.{bad_labels}
 use Rattle.algol_tree.specs.Names.{declared_twice}
 use Rattle.algol_tree.specs.Plain as tree
 use Rattle.algol_tree.specs.Plain.{PDecls, PStmts, PProgram}
 use Rattle.algol_tree.specs.Scopes.{Scopes, scopes_of, scopes_by}
 use Rattle.algol_tree.specs.Sites.{Site, sites_by, sites_in_decls, sites_in_stmts, has_decls}
+use Rattle.algol_tree.specs.Sorts.{same_name}
 use Rattle.algol_tree.specs.Surroundings.{Surroundings, outermost, knowing_all}
+use Rattle.algol_paths.specs.Segments.{segment_of}
 use Rattle.b67_ops.specs.declared.TheConstants.{MOST_LEVEL}
+use Rattle.b67_templates.specs.Labels.{labels_in, labels_before, label_from, label_in}
 use Rattle.b67_templates.specs.Fitting.{Told, DeclsFit, StmtsFit}
 use Rattle.b67_fitting.specs.Fitted.{declared_at, AcceptedProgramsFit}
+use Rattle.b67_fitting.specs.Labelled.{LabelsStand}
 use Rattle.b67_fitting.proofs.ActualCells.{cells_in_decls, text_plain, text_held}
 use Rattle.b67_fitting.proofs.ActualsCelled.{have_acts, all_celled}
 use Rattle.b67_fitting.proofs.ActualsFound.{SiteTells}
-use Rattle.b67_fitting.proofs.Lists.{each_front, each_back, each_of}
+use Rattle.b67_fitting.proofs.Lists.{each_front, each_back, each_both, each_of}
 use Rattle.b67_fitting.proofs.Among.{apart_among}
 use Rattle.b67_fitting.proofs.Apart.{IsIn, each_in, in_each, in_front, in_back, IsApart, Apart, same_self, ascending_apart, apart_front, apart_back}
-use Rattle.b67_fitting.proofs.Blocked.{block_spots, number_within, AreOf, HasCells, cells_are}
-use Rattle.b67_fitting.proofs.Clean.{IsClean}
-use Rattle.b67_fitting.proofs.Cleaned.{cleaned}
+use Rattle.b67_fitting.proofs.Blocked.{block_spots, number_within, numbered, AreOf, HasCells, cells_are}
+use Rattle.b67_fitting.proofs.Clean.{IsClean, AreClean}
+use Rattle.b67_fitting.proofs.AtHome as home
+use Rattle.b67_fitting.proofs.AtHome.{StandsIn, AtHome}
+use Rattle.b67_fitting.proofs.Cleaned.{cleaned, unlabelled}
 use Rattle.b67_fitting.proofs.Coupled.{IsProgram, AreTold, plain_is}
 use Rattle.b67_fitting.proofs.CoupledArrays.{HaveActs}
 use Rattle.b67_fitting.proofs.Declares.{begun, callees, behind_decls}
+use Rattle.b67_fitting.proofs.Declaring.{same_is}
 use Rattle.b67_fitting.proofs.Frames.{decl_cells}
 use Rattle.b67_fitting.proofs.Given.{AreWhole}
 use Rattle.b67_fitting.proofs.Nesting.{whole, blocks_apart as numbers_apart}
-use Rattle.b67_fitting.proofs.Numbering.{number_is}
+use Rattle.b67_fitting.proofs.Numbering.{IsNumbered, all_numbered, number_is}
 use Rattle.b67_fitting.proofs.Homed.{IsHome, all_homes, all_far}
 use Rattle.b67_fitting.proofs.Known.{Stands, around_outermost, knows_plain}
+use Rattle.b67_fitting.proofs.LabelsFound.{IsWithin, all_within, all_read, label_stands}
 use Rattle.b67_fitting.proofs.Limits.{few_cells, not_deep}
 use Rattle.b67_fitting.proofs.Listed.{AllThere, Listed, both, block}
 use Rattle.b67_fitting.proofs.Listing.{listed_stmts, listed_decls}
 use Rattle.b67_fitting.proofs.Looked.{all_uses, all_known, all_blocks}
 use Rattle.b67_fitting.proofs.Made.{all_places}
-use Rattle.b67_fitting.proofs.Placed.{Keep, BlockFits, all_fit}
+use Rattle.b67_fitting.proofs.Placed.{same_number, Keep, BlockFits, all_fit}
 use Rattle.b67_fitting.proofs.Reached.{all_tell, all_placed}
 use Rattle.b67_fitting.proofs.Started.{HasCallees, IsStarted, start}
 use Rattle.b67_fitting.proofs.Stated.{TypedStmts, TypedDecls, all_stated, all_declared}
@@ -193,6 +203,13 @@ module _ (spot : Spot) (ds : PDecls) (ss : PStmts) (blocks : List Block) where
             let fits = all_fit blocks sc told refl (keeps faults) celled listed sites in
             each_in (BlockFits blocks sc told refl (keeps faults) celled) (block_numbered blocks j) in_text fits (back (block_numbered blocks j) (in_numbered blocks j h))
 
+        label_there : bad_labels all ≡ [] → AreClean blocks all → AllByRecursion (AtHome blocks) all → (b : Block) → IsIn b blocks → (n : Named) → IsIn n (labels_in b.decls) →
+            (label : Named) × (label_in b.stmts n.name ≡ Some label)
+        unfolding is_program
+        label_there good clean stand b i n j =
+            label_stands blocks all is_program.known_apart good clean stand (all_read blocks all listed) (λ c k. numbered blocks c all_apart k)
+            (in_each (IsWithin blocks all) blocks (λ c k. each_in (IsWithin blocks all) c in_text (all_within blocks all listed (λ x m. m)) (back c k))) b i n j
+
 got_numbered : (bs : List Block) (j : ℕ) → j < length bs → slice_get bs j ≡ Some (block_numbered bs j)
 got_numbered [] j h = absurd (omega (arith, h))
 got_numbered (b ∷ bs) zero h = refl
@@ -215,7 +232,7 @@ accepted_fit (tree.program (tree.body spot ds ss)) told accepted order built num
     let typed : TypedStmts blocks (knowing_all blocks ds outermost) ss =
     all_stated blocks (knowing_all blocks ds outermost) (knows_plain blocks (knowing_all blocks ds outermost) stands_behind.around) ss (has_decls ds) built.1 numbers.1 texts.1 (each_back (IsClean blocks) decl_sites stmt_sites clean) in
     let these : AreTold blocks (decl_sites ++ stmt_sites) told =
-    record { couples = are.couples; results = are.results; lows = are.lows; meant = are.meant; actuals = are.actuals } in
+    record { couples = are.couples; results = are.results; lows = are.lows; meant = are.meant; labels = are.labels; actuals = are.actuals } in
     let fits = fit_by spot ds ss blocks refl apart whole_blocks decls_typed typed told these accepted.scoped j h in
     let block = block_numbered blocks j in
     let number : number_at blocks block.spot ≡ j = number_is blocks j block (numbers_apart spot ds ss order built.0 built.1) (got_numbered blocks j h) in
@@ -223,3 +240,43 @@ accepted_fit (tree.program (tree.body spot ds ss)) told accepted order built num
       decls = subst (λ (k : ℕ). DeclsFit (scopes_by p blocks) told (level_of block) k block.decls) number fits.0;
       stmts = subst (λ (k : ℕ). StmtsFit (scopes_by p blocks) told (level_of block) k block.stmts) number fits.1;
     }
+
+-- a label of the number that its name has
+numbered_label : (k : ℕ) (ns : List Named) (name : List ℕ) (number : ℕ) → label_from k ns name ≡ Some number → (n : Named) × IsIn n ns × (n.name ≡ name)
+numbered_label k [] name number h = absurd (let clash : None ≡ Some number = h in cc)
+numbered_label k (n ∷ ns) name number h = by (same_name n.name name) refl (numbered_label (k + 1) ns name number) h
+  where
+    by : (b : Bool) → same_name n.name name ≡ b → (label_from (k + 1) ns name ≡ Some number → (m : Named) × IsIn m ns × (m.name ≡ name)) → (if b then Some k else label_from (k + 1) ns name) ≡ Some number →
+        (m : Named) × IsIn m (n ∷ ns) × (m.name ≡ name)
+    by true e later g = (n, inl refl, same_is n.name name e)
+    by false e later g = let r = later g in (r.0, inr r.1, r.2)
+
+pub labels_stand : LabelsStand
+unfolding scopes_of blocks_of_program scope_faults check_faults
+labels_stand (tree.program (tree.body spot ds ss)) accepted order built numbers texts j number name h e =
+    let p = tree.program (tree.body spot ds ss) in
+    let blocks = blocks_of_program p in
+    let around_all = knowing_all blocks ds outermost in
+    let decl_sites = sites_in_decls blocks ds outermost [] in
+    let stmt_sites = sites_in_stmts blocks ss (has_decls ds) around_all in
+    let apart = ascending_apart (spots spot ds ss blocks) order in
+    let clean = cleaned p blocks (sites_by p blocks) accepted.scoped accepted.checked in
+    let plain = knows_plain blocks outermost (around_outermost blocks) in
+    let once = each_of (IsClean blocks) (λ (x : Site). declared_twice blocks x ≡ []) (decl_sites ++ stmt_sites) (λ x c. c.once) clean in
+    let whole_blocks : AreWhole blocks = whole spot ds ss order built.0 built.1 once in
+    let decls_typed : TypedDecls blocks outermost [] ds = all_declared blocks outermost [] plain plain ds built.0 numbers.0 texts.0 (each_front (IsClean blocks) decl_sites stmt_sites clean) in
+    let stands_behind : Stands blocks (begun spot [] ds ss) around_all = behind spot ds ss blocks refl apart whole_blocks decls_typed in
+    let typed : TypedStmts blocks around_all ss =
+    all_stated blocks around_all (knows_plain blocks around_all stands_behind.around) ss (has_decls ds) built.1 numbers.1 texts.1 (each_back (IsClean blocks) decl_sites stmt_sites clean) in
+    let right : AllByRecursion (IsNumbered blocks) blocks = all_numbered blocks (numbers_apart spot ds ss order built.0 built.1) in
+    let decl_blocks = blocks_in_decls ds (spot ∷ []) in
+    let stmt_blocks = blocks_in_stmts ss (spot ∷ []) in
+    let stand =
+    each_both (AtHome blocks) decl_sites stmt_sites (home.in_decls blocks (spot ∷ []) outermost ds [] (each_front (IsNumbered blocks) decl_blocks stmt_blocks right.1))
+    (home.in_stmts blocks (spot ∷ []) around_all ss (has_decls ds)
+    (λ told m i. subst (λ (k : ℕ). StandsIn m (block_numbered blocks k).stmts) (sym (same_number blocks ds outermost)) i)
+    (each_back (IsNumbered blocks) decl_blocks stmt_blocks right.1)) in
+    let b = block_numbered blocks j in
+    let n = numbered_label (labels_before (scopes_by p blocks) (segment_of blocks j) j) (labels_in b.decls) name number e in
+    let r = label_there spot ds ss blocks refl apart whole_blocks decls_typed typed (unlabelled p blocks (sites_by p blocks) accepted.checked) clean stand b (in_numbered blocks j h) n.0 n.1 in
+    (r.0, subst (λ (z : List ℕ). label_in b.stmts z ≡ Some r.0) n.2 r.1)

@@ -15,7 +15,7 @@ use Rattle.b67_templates.specs.Cells.{Simple, parameters_in, parameters_declared
 use Rattle.b67_fitting.proofs.Wanting.{wanted_of}
 use Rattle.b67_fitting.proofs.Lists.{each_both, each_of, filter_none, filter_every}
 
--- ---- the cells of declarations: those of variables, those of procedures, those of arrays, and all in the order of the text
+-- ---- the cells of declarations: those of variables, those of procedures, those of arrays, events and tasks, and all in the order of the text
 
 abbrev pub variable_cells : ℕ → PDecls → List Cell
 variable_cells block tree.no_decls = []
@@ -33,12 +33,16 @@ control_cells block (tree.decls d ds) = control_cells block ds
 abbrev pub made_cells : ℕ → PDecls → List Cell
 made_cells block tree.no_decls = []
 made_cells block (tree.decls (tree.arrays kind ns pairs) ds) = cells_for block cells.made ns ++ made_cells block ds
+made_cells block (tree.decls (tree.events ns) ds) = cells_for block cells.made ns ++ made_cells block ds
+made_cells block (tree.decls (tree.tasks ns) ds) = cells_for block cells.made ns ++ made_cells block ds
 made_cells block (tree.decls d ds) = made_cells block ds
 
 abbrev pub decl_cells : ℕ → PDecls → List Cell
 decl_cells block tree.no_decls = []
 decl_cells block (tree.decls (tree.simple kind ns) ds) = cells_for block cells.variable ns ++ decl_cells block ds
 decl_cells block (tree.decls (tree.arrays kind ns pairs) ds) = cells_for block cells.made ns ++ decl_cells block ds
+decl_cells block (tree.decls (tree.events ns) ds) = cells_for block cells.made ns ++ decl_cells block ds
+decl_cells block (tree.decls (tree.tasks ns) ds) = cells_for block cells.made ns ++ decl_cells block ds
 decl_cells block (tree.decls (tree.procedure h s) ds) = control_cell block h.name.spot ∷ decl_cells block ds
 decl_cells block (tree.decls d ds) = decl_cells block ds
 
@@ -102,6 +106,10 @@ each_own block tree.no_decls = tt
 each_own block (tree.decls (tree.simple kind ns) ds) =
     each_both (IsOwn block) (cells_for block cells.variable ns) (decl_cells block ds) (each_own_for block cells.variable ns) (each_own block ds)
 each_own block (tree.decls (tree.arrays kind ns pairs) ds) =
+    each_both (IsOwn block) (cells_for block cells.made ns) (decl_cells block ds) (each_own_for block cells.made ns) (each_own block ds)
+each_own block (tree.decls (tree.events ns) ds) =
+    each_both (IsOwn block) (cells_for block cells.made ns) (decl_cells block ds) (each_own_for block cells.made ns) (each_own block ds)
+each_own block (tree.decls (tree.tasks ns) ds) =
     each_both (IsOwn block) (cells_for block cells.made ns) (decl_cells block ds) (each_own_for block cells.made ns) (each_own block ds)
 each_own block (tree.decls (tree.procedure h s) ds) = (refl, each_own block ds)
 each_own block (tree.decls d ds) = each_own block ds
@@ -174,6 +182,8 @@ module _ (block : ℕ) where
   held tree.no_decls = refl
   held (tree.decls (tree.simple kind ns) ds) = kept cells.variable ns (decl_cells block ds) refl ∙ ap (λ z. cells_for block cells.variable ns ++ z) (held ds)
   held (tree.decls (tree.arrays kind ns pairs) ds) = passed cells.made cells.variable ns (decl_cells block ds) refl ∙ held ds
+  held (tree.decls (tree.events ns) ds) = passed cells.made cells.variable ns (decl_cells block ds) refl ∙ held ds
+  held (tree.decls (tree.tasks ns) ds) = passed cells.made cells.variable ns (decl_cells block ds) refl ∙ held ds
   held (tree.decls (tree.procedure h s) ds) = held ds
   held (tree.decls d ds) = held ds
 
@@ -181,6 +191,8 @@ module _ (block : ℕ) where
   controlled tree.no_decls = refl
   controlled (tree.decls (tree.simple kind ns) ds) = passed cells.variable cells.procedure ns (decl_cells block ds) refl ∙ controlled ds
   controlled (tree.decls (tree.arrays kind ns pairs) ds) = passed cells.made cells.procedure ns (decl_cells block ds) refl ∙ controlled ds
+  controlled (tree.decls (tree.events ns) ds) = passed cells.made cells.procedure ns (decl_cells block ds) refl ∙ controlled ds
+  controlled (tree.decls (tree.tasks ns) ds) = passed cells.made cells.procedure ns (decl_cells block ds) refl ∙ controlled ds
   controlled (tree.decls (tree.procedure h s) ds) = ap (λ z. control_cell block h.name.spot ∷ z) (controlled ds)
   controlled (tree.decls d ds) = controlled ds
 
@@ -188,6 +200,8 @@ module _ (block : ℕ) where
   made tree.no_decls = refl
   made (tree.decls (tree.simple kind ns) ds) = passed cells.variable cells.made ns (decl_cells block ds) refl ∙ made ds
   made (tree.decls (tree.arrays kind ns pairs) ds) = kept cells.made ns (decl_cells block ds) refl ∙ ap (λ z. cells_for block cells.made ns ++ z) (made ds)
+  made (tree.decls (tree.events ns) ds) = kept cells.made ns (decl_cells block ds) refl ∙ ap (λ z. cells_for block cells.made ns ++ z) (made ds)
+  made (tree.decls (tree.tasks ns) ds) = kept cells.made ns (decl_cells block ds) refl ∙ ap (λ z. cells_for block cells.made ns ++ z) (made ds)
   made (tree.decls (tree.procedure h s) ds) = made ds
   made (tree.decls d ds) = made ds
 
@@ -195,6 +209,8 @@ module _ (block : ℕ) where
   no_parameter tree.no_decls = refl
   no_parameter (tree.decls (tree.simple kind ns) ds) = passed cells.variable cells.parameter ns (decl_cells block ds) refl ∙ no_parameter ds
   no_parameter (tree.decls (tree.arrays kind ns pairs) ds) = passed cells.made cells.parameter ns (decl_cells block ds) refl ∙ no_parameter ds
+  no_parameter (tree.decls (tree.events ns) ds) = passed cells.made cells.parameter ns (decl_cells block ds) refl ∙ no_parameter ds
+  no_parameter (tree.decls (tree.tasks ns) ds) = passed cells.made cells.parameter ns (decl_cells block ds) refl ∙ no_parameter ds
   no_parameter (tree.decls (tree.procedure h s) ds) = no_parameter ds
   no_parameter (tree.decls d ds) = no_parameter ds
 
@@ -202,6 +218,8 @@ module _ (block : ℕ) where
   no_result tree.no_decls = refl
   no_result (tree.decls (tree.simple kind ns) ds) = passed cells.variable cells.result ns (decl_cells block ds) refl ∙ no_result ds
   no_result (tree.decls (tree.arrays kind ns pairs) ds) = passed cells.made cells.result ns (decl_cells block ds) refl ∙ no_result ds
+  no_result (tree.decls (tree.events ns) ds) = passed cells.made cells.result ns (decl_cells block ds) refl ∙ no_result ds
+  no_result (tree.decls (tree.tasks ns) ds) = passed cells.made cells.result ns (decl_cells block ds) refl ∙ no_result ds
   no_result (tree.decls (tree.procedure h s) ds) = no_result ds
   no_result (tree.decls d ds) = no_result ds
 

@@ -69,7 +69,7 @@ controls_far block tree.no_decls spot h = tt
 controls_far block (tree.decls (tree.procedure g s) ds) spot h = (h.0, controls_far block ds spot (each_back (λ z. IsApart z spot) (spots_of_decl (tree.procedure g s)) (spots_of_decls ds) h))
 controls_far block (tree.decls d ds) spot h = controls_far block ds spot (each_back (λ s. IsApart s spot) (spots_of_decl d) (spots_of_decls ds) h)
 
--- .. and from their arrays
+-- .. and from their arrays, events and tasks
 made_apart : (block : ℕ) (ns : List Named) (spot : Spot) → AllByRecursion (λ s. IsApart s spot) (spots_of_names ns) → AllByRecursion (λ (c : Cell). IsApart c.spot spot) (cells_for block cells.made ns)
 made_apart block [] spot h = tt
 made_apart block (n ∷ ns) spot h = (h.0, made_apart block ns spot h.1)
@@ -81,6 +81,14 @@ made_far block (tree.decls (tree.arrays kind ns pairs) ds) spot h =
     each_both (λ (c : Cell). IsApart c.spot spot) (cells_for block cells.made ns) (made_cells block ds)
     (made_apart block ns spot (each_front (λ s. IsApart s spot) (spots_of_names ns) (spots_of_pairs pairs) (each_front (λ s. IsApart s spot) own (spots_of_decls ds) h)))
     (made_far block ds spot (each_back (λ s. IsApart s spot) own (spots_of_decls ds) h))
+made_far block (tree.decls (tree.events ns) ds) spot h =
+    each_both (λ (c : Cell). IsApart c.spot spot) (cells_for block cells.made ns) (made_cells block ds)
+    (made_apart block ns spot (each_front (λ s. IsApart s spot) (spots_of_names ns) (spots_of_decls ds) h))
+    (made_far block ds spot (each_back (λ s. IsApart s spot) (spots_of_names ns) (spots_of_decls ds) h))
+made_far block (tree.decls (tree.tasks ns) ds) spot h =
+    each_both (λ (c : Cell). IsApart c.spot spot) (cells_for block cells.made ns) (made_cells block ds)
+    (made_apart block ns spot (each_front (λ s. IsApart s spot) (spots_of_names ns) (spots_of_decls ds) h))
+    (made_far block ds spot (each_back (λ s. IsApart s spot) (spots_of_names ns) (spots_of_decls ds) h))
 made_far block (tree.decls d ds) spot h = made_far block ds spot (each_back (λ s. IsApart s spot) (spots_of_decl d) (spots_of_decls ds) h)
 
 index_none : (cs : List Cell) (j : ℕ) (spot : Spot) → AllByRecursion (λ (c : Cell). IsApart c.spot spot) cs → index_from j cs spot ≡ None
@@ -120,6 +128,10 @@ variable_cell block (tree.decls (tree.simple kind ns) ds) s i = by (in_either s 
     by (inl j) later = in_front cell (cells_for block cells.variable ns) (decl_cells block ds) (cell_among block ns s j)
     by (inr j) later = in_back cell (cells_for block cells.variable ns) (decl_cells block ds) (later j)
 variable_cell block (tree.decls (tree.arrays kind ns pairs) ds) s i =
+    in_back (record { block = block; spot = s; content = cells.variable }) (cells_for block cells.made ns) (decl_cells block ds) (variable_cell block ds s i)
+variable_cell block (tree.decls (tree.events ns) ds) s i =
+    in_back (record { block = block; spot = s; content = cells.variable }) (cells_for block cells.made ns) (decl_cells block ds) (variable_cell block ds s i)
+variable_cell block (tree.decls (tree.tasks ns) ds) s i =
     in_back (record { block = block; spot = s; content = cells.variable }) (cells_for block cells.made ns) (decl_cells block ds) (variable_cell block ds s i)
 variable_cell block (tree.decls (tree.procedure h body) ds) s i = inr (variable_cell block ds s i)
 variable_cell block (tree.decls d ds) s i = variable_cell block ds s i

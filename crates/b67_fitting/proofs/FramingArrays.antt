@@ -1,4 +1,4 @@
--- Where the arrays of a block lie in its frame: after its simple cells, its procedures and its actuals.
+-- Where the arrays, the events and the tasks of a block lie in its frame: after its simple cells, its procedures and its actuals.
 use Rattle.std.proofs.Common.{arith, ◌≡◌, ◌⊎◌, inl, inr, ℕ, ◌+◌, Bool, true, false, List, [], ◌∷◌, ◌++◌, length, is_some, Option, Some, None, refl, sym, ap, ◌∙◌, append_assoc, if◌then◌else◌}
 use Rattle.std.proofs.lemmas.List.{length-append}
 use Rattle.std.specs.List.{AllByRecursion}
@@ -13,11 +13,11 @@ use Rattle.algol_tree.specs.Names.{is_one_of, result_names_of}
 use Rattle.algol_tree.specs.Plain as tree
 use Rattle.algol_tree.specs.Plain.{PDecls}
 use Rattle.algol_tree.specs.Sorts.{same_name}
-use Rattle.algol_paths.specs.Arrays.{DeclaredArray, arrays_of}
-use Rattle.b67_templates.specs.Cells.{Simple, found_from, result_of, procedures, variables}
+use Rattle.algol_paths.specs.Arrays.{Made}
+use Rattle.b67_templates.specs.Cells.{Simple, found_from, result_of, procedures, variables, made_of}
 use Rattle.b67_fitting.proofs.Aligned.{index_past, index_on}
 use Rattle.b67_fitting.proofs.Apart.{IsIn, in_front, in_back, in_either, IsApart, Apart, apart_back, apart_from}
-use Rattle.b67_fitting.proofs.Arrayed.{array_spots, IsArrayed, from_first}
+use Rattle.b67_fitting.proofs.Arrayed.{made_spots, IsMade, from_first}
 use Rattle.b67_fitting.proofs.Frames.{named_of, variable_cells, control_cells, made_cells, decl_cells, result_cell}
 use Rattle.b67_fitting.proofs.Framing.{cells_apart, variables_far, controls_far, parameters_apart, block, frame, simples, decls_apart, own_apart, result_apart, all_long}
 use Rattle.b67_fitting.proofs.Homed.{IsHome}
@@ -26,68 +26,118 @@ use Rattle.b67_fitting.proofs.Lists.{each_both}
 
 -- ---- places
 
-pub array_among : (ds : PDecls) (s : Spot) → IsIn s (array_spots ds) → IsIn s (spots_of_decls ds)
-array_among tree.no_decls s i = absurd i
-array_among (tree.decls (tree.arrays kind ns pairs) ds) s i = by (in_either s (spots_of_names ns) (array_spots ds) i) (array_among ds s)
+pub made_inside : (ds : PDecls) (s : Spot) → IsIn s (made_spots ds) → IsIn s (spots_of_decls ds)
+made_inside tree.no_decls s i = absurd i
+made_inside (tree.decls (tree.arrays kind ns pairs) ds) s i = by (in_either s (spots_of_names ns) (made_spots ds) i) (made_inside ds s)
   where
-    by : IsIn s (spots_of_names ns) ⊎ IsIn s (array_spots ds) → (IsIn s (array_spots ds) → IsIn s (spots_of_decls ds)) → IsIn s ((spots_of_names ns ++ spots_of_pairs pairs) ++ spots_of_decls ds)
+    by : IsIn s (spots_of_names ns) ⊎ IsIn s (made_spots ds) → (IsIn s (made_spots ds) → IsIn s (spots_of_decls ds)) → IsIn s ((spots_of_names ns ++ spots_of_pairs pairs) ++ spots_of_decls ds)
     by (inl j) later = in_front s (spots_of_names ns ++ spots_of_pairs pairs) (spots_of_decls ds) (in_front s (spots_of_names ns) (spots_of_pairs pairs) j)
     by (inr j) later = in_back s (spots_of_names ns ++ spots_of_pairs pairs) (spots_of_decls ds) (later j)
-array_among (tree.decls d ds) s i = in_back s (spots_of_decl d) (spots_of_decls ds) (array_among ds s i)
+made_inside (tree.decls (tree.events ns) ds) s i = by (in_either s (spots_of_names ns) (made_spots ds) i) (made_inside ds s)
+  where
+    by : IsIn s (spots_of_names ns) ⊎ IsIn s (made_spots ds) → (IsIn s (made_spots ds) → IsIn s (spots_of_decls ds)) → IsIn s (spots_of_names ns ++ spots_of_decls ds)
+    by (inl j) later = in_front s (spots_of_names ns) (spots_of_decls ds) j
+    by (inr j) later = in_back s (spots_of_names ns) (spots_of_decls ds) (later j)
+made_inside (tree.decls (tree.tasks ns) ds) s i = by (in_either s (spots_of_names ns) (made_spots ds) i) (made_inside ds s)
+  where
+    by : IsIn s (spots_of_names ns) ⊎ IsIn s (made_spots ds) → (IsIn s (made_spots ds) → IsIn s (spots_of_decls ds)) → IsIn s (spots_of_names ns ++ spots_of_decls ds)
+    by (inl j) later = in_front s (spots_of_names ns) (spots_of_decls ds) j
+    by (inr j) later = in_back s (spots_of_names ns) (spots_of_decls ds) (later j)
+made_inside (tree.decls d ds) s i = in_back s (spots_of_decl d) (spots_of_decls ds) (made_inside ds s i)
 
--- the variables and the procedures are apart from an array
-simple_apart : (k : ℕ) (ds : PDecls) (s : Spot) → Apart (spots_of_decls ds) → IsIn s (array_spots ds) → AllByRecursion (λ (c : Cell). IsApart c.spot s) (variable_cells k ds)
+-- the variables and the procedures are apart from them
+simple_apart : (k : ℕ) (ds : PDecls) (s : Spot) → Apart (spots_of_decls ds) → IsIn s (made_spots ds) → AllByRecursion (λ (c : Cell). IsApart c.spot s) (variable_cells k ds)
 simple_apart k tree.no_decls s p i = tt
 simple_apart k (tree.decls (tree.simple kind ns) ds) s p i =
-    each_both (λ (c : Cell). IsApart c.spot s) (cells_for k cells.variable ns) (variable_cells k ds) (cells_apart k ns s (apart_from (spots_of_names ns) (spots_of_decls ds) s p (array_among ds s i)))
+    each_both (λ (c : Cell). IsApart c.spot s) (cells_for k cells.variable ns) (variable_cells k ds) (cells_apart k ns s (apart_from (spots_of_names ns) (spots_of_decls ds) s p (made_inside ds s i)))
     (simple_apart k ds s (apart_back (spots_of_names ns) (spots_of_decls ds) p) i)
-simple_apart k (tree.decls (tree.arrays kind ns pairs) ds) s p i = by (in_either s (spots_of_names ns) (array_spots ds) i) (simple_apart k ds s (apart_back own (spots_of_decls ds) p))
+simple_apart k (tree.decls (tree.arrays kind ns pairs) ds) s p i = by (in_either s (spots_of_names ns) (made_spots ds) i) (simple_apart k ds s (apart_back own (spots_of_decls ds) p))
   where
     own : List Spot
     own = spots_of_names ns ++ spots_of_pairs pairs
 
-    by : IsIn s (spots_of_names ns) ⊎ IsIn s (array_spots ds) → (IsIn s (array_spots ds) → AllByRecursion (λ (c : Cell). IsApart c.spot s) (variable_cells k ds)) →
+    by : IsIn s (spots_of_names ns) ⊎ IsIn s (made_spots ds) → (IsIn s (made_spots ds) → AllByRecursion (λ (c : Cell). IsApart c.spot s) (variable_cells k ds)) →
         AllByRecursion (λ (c : Cell). IsApart c.spot s) (variable_cells k ds)
     by (inl j) later = variables_far k ds s (from_first own (spots_of_decls ds) s p (in_front s (spots_of_names ns) (spots_of_pairs pairs) j))
     by (inr j) later = later j
+simple_apart k (tree.decls (tree.events ns) ds) s p i = by (in_either s (spots_of_names ns) (made_spots ds) i) (simple_apart k ds s (apart_back (spots_of_names ns) (spots_of_decls ds) p))
+  where
+    by : IsIn s (spots_of_names ns) ⊎ IsIn s (made_spots ds) → (IsIn s (made_spots ds) → AllByRecursion (λ (c : Cell). IsApart c.spot s) (variable_cells k ds)) →
+        AllByRecursion (λ (c : Cell). IsApart c.spot s) (variable_cells k ds)
+    by (inl j) later = variables_far k ds s (from_first (spots_of_names ns) (spots_of_decls ds) s p j)
+    by (inr j) later = later j
+simple_apart k (tree.decls (tree.tasks ns) ds) s p i = by (in_either s (spots_of_names ns) (made_spots ds) i) (simple_apart k ds s (apart_back (spots_of_names ns) (spots_of_decls ds) p))
+  where
+    by : IsIn s (spots_of_names ns) ⊎ IsIn s (made_spots ds) → (IsIn s (made_spots ds) → AllByRecursion (λ (c : Cell). IsApart c.spot s) (variable_cells k ds)) →
+        AllByRecursion (λ (c : Cell). IsApart c.spot s) (variable_cells k ds)
+    by (inl j) later = variables_far k ds s (from_first (spots_of_names ns) (spots_of_decls ds) s p j)
+    by (inr j) later = later j
 simple_apart k (tree.decls d ds) s p i = simple_apart k ds s (apart_back (spots_of_decl d) (spots_of_decls ds) p) i
 
-controls_apart : (k : ℕ) (ds : PDecls) (s : Spot) → Apart (spots_of_decls ds) → IsIn s (array_spots ds) → AllByRecursion (λ (c : Cell). IsApart c.spot s) (control_cells k ds)
+controls_apart : (k : ℕ) (ds : PDecls) (s : Spot) → Apart (spots_of_decls ds) → IsIn s (made_spots ds) → AllByRecursion (λ (c : Cell). IsApart c.spot s) (control_cells k ds)
 controls_apart k tree.no_decls s p i = tt
 controls_apart k (tree.decls (tree.procedure h body) ds) s p i =
     let own = spots_of_decl (tree.procedure h body) in
-    ((apart_from own (spots_of_decls ds) s p (array_among ds s i)).0, controls_apart k ds s (apart_back own (spots_of_decls ds) p) i)
-controls_apart k (tree.decls (tree.arrays kind ns pairs) ds) s p i = by (in_either s (spots_of_names ns) (array_spots ds) i) (controls_apart k ds s (apart_back own (spots_of_decls ds) p))
+    ((apart_from own (spots_of_decls ds) s p (made_inside ds s i)).0, controls_apart k ds s (apart_back own (spots_of_decls ds) p) i)
+controls_apart k (tree.decls (tree.arrays kind ns pairs) ds) s p i = by (in_either s (spots_of_names ns) (made_spots ds) i) (controls_apart k ds s (apart_back own (spots_of_decls ds) p))
   where
     own : List Spot
     own = spots_of_names ns ++ spots_of_pairs pairs
 
-    by : IsIn s (spots_of_names ns) ⊎ IsIn s (array_spots ds) → (IsIn s (array_spots ds) → AllByRecursion (λ (c : Cell). IsApart c.spot s) (control_cells k ds)) →
+    by : IsIn s (spots_of_names ns) ⊎ IsIn s (made_spots ds) → (IsIn s (made_spots ds) → AllByRecursion (λ (c : Cell). IsApart c.spot s) (control_cells k ds)) →
         AllByRecursion (λ (c : Cell). IsApart c.spot s) (control_cells k ds)
     by (inl j) later = controls_far k ds s (from_first own (spots_of_decls ds) s p (in_front s (spots_of_names ns) (spots_of_pairs pairs) j))
     by (inr j) later = later j
+controls_apart k (tree.decls (tree.events ns) ds) s p i = by (in_either s (spots_of_names ns) (made_spots ds) i) (controls_apart k ds s (apart_back (spots_of_names ns) (spots_of_decls ds) p))
+  where
+    by : IsIn s (spots_of_names ns) ⊎ IsIn s (made_spots ds) → (IsIn s (made_spots ds) → AllByRecursion (λ (c : Cell). IsApart c.spot s) (control_cells k ds)) →
+        AllByRecursion (λ (c : Cell). IsApart c.spot s) (control_cells k ds)
+    by (inl j) later = controls_far k ds s (from_first (spots_of_names ns) (spots_of_decls ds) s p j)
+    by (inr j) later = later j
+controls_apart k (tree.decls (tree.tasks ns) ds) s p i = by (in_either s (spots_of_names ns) (made_spots ds) i) (controls_apart k ds s (apart_back (spots_of_names ns) (spots_of_decls ds) p))
+  where
+    by : IsIn s (spots_of_names ns) ⊎ IsIn s (made_spots ds) → (IsIn s (made_spots ds) → AllByRecursion (λ (c : Cell). IsApart c.spot s) (control_cells k ds)) →
+        AllByRecursion (λ (c : Cell). IsApart c.spot s) (control_cells k ds)
+    by (inl j) later = controls_far k ds s (from_first (spots_of_names ns) (spots_of_decls ds) s p j)
+    by (inr j) later = later j
 controls_apart k (tree.decls d ds) s p i = controls_apart k ds s (apart_back (spots_of_decl d) (spots_of_decls ds) p) i
 
--- ---- the cell of an array
+-- ---- the cell of one
 
 made_among : (k : ℕ) (ns : List Named) (s : Spot) → IsIn s (spots_of_names ns) → IsIn (record { block = k; spot = s; content = cells.made }) (cells_for k cells.made ns)
 made_among k [] s i = absurd i
 made_among k (n ∷ ns) s (inl e) = inl (ap (λ (z : Spot). record { block = k; spot = z; content = cells.made }) e)
 made_among k (n ∷ ns) s (inr i) = inr (made_among k ns s i)
 
-pub array_cell : (k : ℕ) (ds : PDecls) (s : Spot) → IsIn s (array_spots ds) → IsIn (record { block = k; spot = s; content = cells.made }) (decl_cells k ds)
-array_cell k tree.no_decls s i = absurd i
-array_cell k (tree.decls (tree.simple kind ns) ds) s i = in_back (record { block = k; spot = s; content = cells.made }) (cells_for k cells.variable ns) (decl_cells k ds) (array_cell k ds s i)
-array_cell k (tree.decls (tree.arrays kind ns pairs) ds) s i = by (in_either s (spots_of_names ns) (array_spots ds) i) (array_cell k ds s)
+pub made_cell : (k : ℕ) (ds : PDecls) (s : Spot) → IsIn s (made_spots ds) → IsIn (record { block = k; spot = s; content = cells.made }) (decl_cells k ds)
+made_cell k tree.no_decls s i = absurd i
+made_cell k (tree.decls (tree.simple kind ns) ds) s i = in_back (record { block = k; spot = s; content = cells.made }) (cells_for k cells.variable ns) (decl_cells k ds) (made_cell k ds s i)
+made_cell k (tree.decls (tree.arrays kind ns pairs) ds) s i = by (in_either s (spots_of_names ns) (made_spots ds) i) (made_cell k ds s)
   where
     cell : Cell
     cell = record { block = k; spot = s; content = cells.made }
 
-    by : IsIn s (spots_of_names ns) ⊎ IsIn s (array_spots ds) → (IsIn s (array_spots ds) → IsIn cell (decl_cells k ds)) → IsIn cell (cells_for k cells.made ns ++ decl_cells k ds)
+    by : IsIn s (spots_of_names ns) ⊎ IsIn s (made_spots ds) → (IsIn s (made_spots ds) → IsIn cell (decl_cells k ds)) → IsIn cell (cells_for k cells.made ns ++ decl_cells k ds)
     by (inl j) later = in_front cell (cells_for k cells.made ns) (decl_cells k ds) (made_among k ns s j)
     by (inr j) later = in_back cell (cells_for k cells.made ns) (decl_cells k ds) (later j)
-array_cell k (tree.decls (tree.procedure h body) ds) s i = inr (array_cell k ds s i)
-array_cell k (tree.decls d ds) s i = array_cell k ds s i
+made_cell k (tree.decls (tree.events ns) ds) s i = by (in_either s (spots_of_names ns) (made_spots ds) i) (made_cell k ds s)
+  where
+    cell : Cell
+    cell = record { block = k; spot = s; content = cells.made }
+
+    by : IsIn s (spots_of_names ns) ⊎ IsIn s (made_spots ds) → (IsIn s (made_spots ds) → IsIn cell (decl_cells k ds)) → IsIn cell (cells_for k cells.made ns ++ decl_cells k ds)
+    by (inl j) later = in_front cell (cells_for k cells.made ns) (decl_cells k ds) (made_among k ns s j)
+    by (inr j) later = in_back cell (cells_for k cells.made ns) (decl_cells k ds) (later j)
+made_cell k (tree.decls (tree.tasks ns) ds) s i = by (in_either s (spots_of_names ns) (made_spots ds) i) (made_cell k ds s)
+  where
+    cell : Cell
+    cell = record { block = k; spot = s; content = cells.made }
+
+    by : IsIn s (spots_of_names ns) ⊎ IsIn s (made_spots ds) → (IsIn s (made_spots ds) → IsIn cell (decl_cells k ds)) → IsIn cell (cells_for k cells.made ns ++ decl_cells k ds)
+    by (inl j) later = in_front cell (cells_for k cells.made ns) (decl_cells k ds) (made_among k ns s j)
+    by (inr j) later = in_back cell (cells_for k cells.made ns) (decl_cells k ds) (later j)
+made_cell k (tree.decls (tree.procedure h body) ds) s i = inr (made_cell k ds s i)
+made_cell k (tree.decls d ds) s i = made_cell k ds s i
 
 -- ---- frames
 
@@ -124,10 +174,10 @@ module _ (blocks : List Block) (b : Block) (home : IsHome blocks b) (acts : List
       (each_both (λ (x : Simple). same_name x.name name ≡ false) (given_cells blocks b) (result_of b.result b.name ++ variables b.decls) g
       (each_both (λ (x : Simple). same_name x.name name ≡ false) (result_of b.result b.name) (variables b.decls) (result_other b.result b.name name o) v))
 
-  pub array_index : (name : List ℕ) (s : Spot) (array : DeclaredArray) → AllByRecursion (λ (c : Cell). IsApart c.spot s) acts → IsIn s (array_spots b.decls) →
-      (r : IsArrayed (arrays_of b.decls) (made_cells (block blocks b home acts) b.decls) name s array) →
+  pub made_index : (name : List ℕ) (s : Spot) (made : Made) → AllByRecursion (λ (c : Cell). IsApart c.spot s) acts → IsIn s (made_spots b.decls) →
+      (r : IsMade (made_of b.decls) (made_cells (block blocks b home acts) b.decls) name s made) →
       index_from 2 (frame blocks b home acts) s ≡ Some (2 + length (simples blocks b home acts) + length (procedures b.decls) + length acts + r.number)
-  array_index name s array own i r =
+  made_index name s its own i r =
       let k = block blocks b home acts in
       let given = given_places blocks b in
       let result = result_cell b.result k b.spot in
@@ -135,7 +185,7 @@ module _ (blocks : List Block) (b : Block) (home : IsHome blocks b) (acts : List
       let controls = control_cells k b.decls in
       let made = made_cells k b.decls in
       let front = ((given ++ (result ++ vars)) ++ controls) ++ acts in
-      let among = array_among b.decls s i in
+      let among = made_inside b.decls s i in
       let far =
       each_both (λ (c : Cell). IsApart c.spot s) ((given ++ (result ++ vars)) ++ controls) acts
       (each_both (λ (c : Cell). IsApart c.spot s) (given ++ (result ++ vars)) controls

@@ -15,13 +15,13 @@ use Rattle.algol_tree.specs.Plain.{PStmt, PDecl, PDecls}
 use Rattle.algol_tree.specs.Sorts as sort
 use Rattle.algol_tree.specs.Sorts.{same_name, Declared, look_up, is_named_in, sort_in, class_in}
 use Rattle.algol_paths.specs.Arrays.{Shape, Lows, shape_in, lows_in, lows_among}
-use Rattle.b67_templates.specs.Cells.{Simple, Wanted, value, by_name, array, found_from, parameters_around}
+use Rattle.b67_templates.specs.Cells.{Simple, Wanted, value, by_name, array, event, found_from, parameters_around}
 use Rattle.b67_fitting.specs.Wholes.{HaveDimensions}
 use Rattle.b67_fitting.proofs.Aligned.{Aligned, aligned_over}
 use Rattle.b67_fitting.proofs.Apart.{IsIn, each_in, in_back, IsApart, Apart, same_self, apart_from}
 use Rattle.b67_fitting.proofs.Frames.{named_declared, named_around, named_of}
-use Rattle.b67_fitting.proofs.Wanting.{wanted_of, wanted_value, wanted_name, wanted_array}
-use Rattle.b67_fitting.proofs.Specified.{IsSpecified, as_value, as_name, as_array, AreSpecified, SpecsWhole, no_shape, dimensions_in}
+use Rattle.b67_fitting.proofs.Wanting.{wanted_of, wanted_value, wanted_name, wanted_array, wanted_event}
+use Rattle.b67_fitting.proofs.Specified.{IsSpecified, as_value, as_name, as_array, as_event, AreSpecified, SpecsWhole, no_shape, dimensions_in}
 
 -- ---- what is known of them
 
@@ -47,6 +47,7 @@ module _ (block depth : ℕ) (h : Heading) where
     by_value : (kind : Kind) → d.class ≡ class.simple kind → d.sort ≡ sort.variable → IsParameter d (value kind)
     as_one : (kind : Kind) → d.class ≡ class.simple kind → d.sort ≡ sort.by_name → IsParameter d (by_name kind)
     an_array : (shape : Shape) → d.class ≡ class.array shape.kind (length shape.lows) → d.sort ≡ sort.formal_array shape.lows → HaveDimensions shape.lows → IsParameter d (array shape)
+    an_event : d.class ≡ class.event → d.sort ≡ sort.formal_event → IsParameter d event
 
   pub record IsGiven (ns : List Named) (name : List ℕ) (d : Declared) : Type 0 where
     pub wanted : Wanted
@@ -62,11 +63,13 @@ module _ (block depth : ℕ) (h : Heading) where
   one_parameter n (as_name kind c v s) w = subst (IsParameter (entry n)) (sym (wanted_name h n kind c v)) (as_one kind c s)
   one_parameter n (as_array shape c e s) w =
       subst (IsParameter (entry n)) (sym (wanted_array h n shape c e)) (an_array shape c s (dimensions_in h.specs n.name shape w e))
+  one_parameter n (as_event c e s) w = subst (IsParameter (entry n)) (sym (wanted_event h n c)) (an_event c s)
 
   one_lows : (n : Named) → IsSpecified h n → lows_in (shape_in h.specs n.name) ≡ lows_wanted (wanted_of h n)
   one_lows n (as_value kind c v s) = ap lows_in (no_shape h.specs n.name kind c) ∙ sym (ap lows_wanted (wanted_value h n kind c v))
   one_lows n (as_name kind c v s) = ap lows_in (no_shape h.specs n.name kind c) ∙ sym (ap lows_wanted (wanted_name h n kind c v))
   one_lows n (as_array shape c e s) = ap lows_in e ∙ sym (ap lows_wanted (wanted_array h n shape c e))
+  one_lows n (as_event c e s) = ap lows_in e ∙ sym (ap lows_wanted (wanted_event h n c))
 
   pub given : (ns : List Named) → AreSpecified h ns → SpecsWhole h → Apart (spots_of_names ns) → (name : List ℕ) (d : Declared) → look_up (map entry ns) name ≡ Some d → IsGiven ns name d
   given [] v w p name d g = absurd (let clash : None ≡ Some d = g in cc)

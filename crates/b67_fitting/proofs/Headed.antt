@@ -12,7 +12,7 @@ use Rattle.algol_tree.specs.Plain.{PStmt, PStmts, PDecls}
 use Rattle.algol_tree.specs.Scopes.{Scopes}
 use Rattle.algol_tree.specs.Sorts.{Parameter, parameters_of}
 use Rattle.b67_templates.specs.Cells.{Simple, found_from, parameters_in, parameters_declared, parameter_cells}
-use Rattle.b67_fitting.specs.Built.{HeadingBuilt, DeclsBuilt, StmtBuilt, StmtsBuilt}
+use Rattle.b67_fitting.specs.Alone.{HeadingSpecified, DeclsAlone, StmtAlone, StmtsAlone}
 use Rattle.b67_fitting.specs.Nested.{AreTold, AreParameters}
 use Rattle.b67_fitting.proofs.Apart.{Apart, in_each, apart_front, apart_back}
 use Rattle.b67_fitting.proofs.Lists.{each_front, each_back, each_both}
@@ -40,7 +40,7 @@ module _ (sc : Scopes) where
         apart = λ kind typed. ap (λ (cs : List Simple). found_from 0 cs b.name) e;
       }
 
-  of_heading : (h : Heading) (t : PStmt) (outer : List Spot) → HeadingBuilt h → parameter_cells sc (procedure_block h t outer) ≡ parameters_in h → IsClear (procedure_block h t outer) → AreParameters sc (procedure_block h t outer)
+  of_heading : (h : Heading) (t : PStmt) (outer : List Spot) → HeadingSpecified h → parameter_cells sc (procedure_block h t outer) ≡ parameters_in h → IsClear (procedure_block h t outer) → AreParameters sc (procedure_block h t outer)
   of_heading h t outer b e clear =
       record {
         told = subst (AreTold (parameters_of h)) (sym e) (parameters_told h b);
@@ -83,7 +83,7 @@ module _ (sc : Scopes) where
       in_each (IsOutside c.decls) (spots_of_stmt t) (λ s j. subst (λ (ds : PDecls). IsOutside ds s) (sym (o ∙ no_decls t i)) refl)
 
   mutual
-    in_stmt : (c : Block) → IsIt c → (t : PStmt) (begin : Begin) → StmtBuilt t → Apart (spots_of_stmt t) → IsOf begin c t → Its (blocks_of t begin (c.spot ∷ c.outer)) →
+    in_stmt : (c : Block) → IsIt c → (t : PStmt) (begin : Begin) → StmtAlone t → Apart (spots_of_stmt t) → IsOf begin c t → Its (blocks_of t begin (c.spot ∷ c.outer)) →
         Headed (blocks_of t begin (c.spot ∷ c.outer))
     in_stmt c i tree.empty g b p o f = tt
     in_stmt c i (tree.label n t) g b p o f = in_stmt c i t of_statement b p.1 ((out_of g c (tree.label n t) tt o).1) f
@@ -134,7 +134,7 @@ module _ (sc : Scopes) where
     in_stmt c i (tree.event act e) g b p o f = tt
     in_stmt c i (tree.write n spot phrases es) g b p o f = tt
 
-    pub in_stmts : (c : Block) → IsIt c → (ss : PStmts) → StmtsBuilt ss → Apart (spots_of_stmts ss) → Out c (spots_of_stmts ss) → Its (blocks_in_stmts ss (c.spot ∷ c.outer)) →
+    pub in_stmts : (c : Block) → IsIt c → (ss : PStmts) → StmtsAlone ss → Apart (spots_of_stmts ss) → Out c (spots_of_stmts ss) → Its (blocks_in_stmts ss (c.spot ∷ c.outer)) →
         Headed (blocks_in_stmts ss (c.spot ∷ c.outer))
     in_stmts c i tree.no_stmts b p o f = tt
     in_stmts c i (tree.stmts t ss) b p o f =
@@ -144,12 +144,15 @@ module _ (sc : Scopes) where
         (in_stmt c i t of_statement b.0 (apart_front (spots_of_stmt t) (spots_of_stmts ss) p) (out_front c (spots_of_stmt t) (spots_of_stmts ss) o) (each_front IsIt these those f))
         (in_stmts c i ss b.1 (apart_back (spots_of_stmt t) (spots_of_stmts ss) p) (out_back c (spots_of_stmt t) (spots_of_stmts ss) o) (each_back IsIt these those f))
 
-    pub in_decls : (c : Block) → IsIt c → (ds : PDecls) → DeclsBuilt ds → Apart (spots_of_decls ds) → AreLast c.decls ds → Its (blocks_in_decls ds (c.spot ∷ c.outer)) →
+    pub in_decls : (c : Block) → IsIt c → (ds : PDecls) → DeclsAlone ds → Apart (spots_of_decls ds) → AreLast c.decls ds → Its (blocks_in_decls ds (c.spot ∷ c.outer)) →
         Headed (blocks_in_decls ds (c.spot ∷ c.outer))
     in_decls c i tree.no_decls b p l f = tt
     in_decls c i (tree.decls (tree.simple kind ns) ds) b p l f =
         in_decls c i ds b.1 (apart_back (spots_of_names ns) (spots_of_decls ds) p) (last_step c.decls (tree.simple kind ns) ds p l) f
     in_decls c i (tree.decls (tree.files ns) ds) b p l f = in_decls c i ds b.1 (apart_back (spots_of_names ns) (spots_of_decls ds) p) (last_step c.decls (tree.files ns) ds p l) f
+    in_decls c i (tree.decls (tree.events ns) ds) b p l f = in_decls c i ds b.1 (apart_back (spots_of_names ns) (spots_of_decls ds) p) (last_step c.decls (tree.events ns) ds p l) f
+    in_decls c i (tree.decls (tree.tasks ns) ds) b p l f = in_decls c i ds b.1 (apart_back (spots_of_names ns) (spots_of_decls ds) p) (last_step c.decls (tree.tasks ns) ds p l) f
+    in_decls c i (tree.decls (tree.labels ns) ds) b p l f = in_decls c i ds b.1 (apart_back (spots_of_names ns) (spots_of_decls ds) p) (last_step c.decls (tree.labels ns) ds p l) f
     in_decls c i (tree.decls (tree.arrays kind ns pairs) ds) b p l f =
         in_decls c i ds b.1 (apart_back (spots_of_names ns ++ spots_of_pairs pairs) (spots_of_decls ds) p) (last_step c.decls (tree.arrays kind ns pairs) ds p l) f
     in_decls c i (tree.decls (tree.forward h) ds) b p l f = in_decls c i ds b.1 (apart_back (spots_of_heading h) (spots_of_decls ds) p) (last_step c.decls (tree.forward h) ds p l) f
@@ -162,4 +165,3 @@ module _ (sc : Scopes) where
           both these those (in_stmt (procedure_block h t outer) f.0 t of_procedure b.0.1 (apart_back (spots_of_heading h) (spots_of_stmt t) mine) refl (each_front IsIt these those f.1))
               (in_decls c i ds b.1 (apart_back (spots_of_decl (tree.procedure h t)) (spots_of_decls ds) p) (last_step c.decls (tree.procedure h t) ds p l) (each_back IsIt these those f.1)),
         )
-    in_decls c i (tree.decls d ds) b p l f = absurd b.0

@@ -1,5 +1,5 @@
 -- The places of the parameters and the declarations of each block are apart, and no variable and no parameter stands where a block does.
-use Rattle.std.proofs.Common.{◌≡◌, ◌⊎◌, inl, inr, ℕ, List, [], ◌∷◌, ◌++◌, map, Option, None, Some, sym, ap, subst}
+use Rattle.std.proofs.Common.{◌≡◌, ◌⊎◌, inl, inr, ℕ, List, [], ◌∷◌, ◌++◌, Option, None, Some, sym, ap, subst}
 use Rattle.std.proofs.lemmas.List.{map-append}
 use Rattle.std.proofs.lemmas.List.Concat.{flat_map-append}
 use Rattle.std.specs.List.{flat_map, AllByRecursion}
@@ -12,24 +12,19 @@ use Rattle.algol_tree.specs.Cells as cells
 use Rattle.algol_tree.specs.Cells.{Cell, cells_for, cells_at}
 use Rattle.algol_tree.specs.Scopes.{names_in}
 use Rattle.algol_tree.specs.Sites.{Site}
-use Rattle.algol_paths.specs.Arrays.{an_array, arrays_of}
-use Rattle.b67_templates.specs.Cells.{made_of}
 use Rattle.b67_fitting.proofs.Among.{each_among}
 use Rattle.b67_fitting.proofs.Apart.{IsIn, each_in, in_front, in_back, in_either, IsApart, Apart, apart_sym, apart_front, apart_back, apart_from, apart_across}
 use Rattle.b67_fitting.proofs.Blocked.{block_spots}
 use Rattle.b67_fitting.proofs.Frames.{control_cell, result_cell, named_of}
 use Rattle.b67_fitting.proofs.Listed.{Listed, over, passed, site, given, left, declared, both, block, procedure}
 use Rattle.b67_fitting.proofs.Lists.{each_back, each_both, each_of}
-use Rattle.b67_fitting.proofs.OnlyArrays.{typed_arrays}
 use Rattle.b67_fitting.proofs.Looked.{all_blocks}
 use Rattle.b67_fitting.proofs.Started.{HasCallees}
 
--- a block whose parameters and declarations are apart from one another and from its own place, whose procedures have their blocks, and which
--- makes arrays only
+-- a block whose parameters and declarations are apart from one another and from its own place, and whose procedures have their blocks
 pub record IsHome (blocks : List Block) (b : Block) : Type 0 where
   pub apart : Apart (b.spot ∷ (spots_of_names (named_of blocks b) ++ spots_of_decls b.decls))
   pub callees : HasCallees blocks b b.decls
-  pub made : made_of b.decls ≡ map an_array (arrays_of b.decls)
 
 pub all_homes : (blocks : List Block) {k : ℕ} {spots : List Spot} {own : List Cell} {bs : List Block} {xs : List Site} → Listed blocks k spots own bs xs → AllByRecursion (IsHome blocks) bs
 all_homes blocks (over k) = tt
@@ -39,9 +34,8 @@ all_homes blocks (given k x c g m l) = all_homes blocks l
 all_homes blocks (left k a n e listed b g l) = all_homes blocks l
 all_homes blocks (declared k x names new f l) = all_homes blocks l
 all_homes blocks (both k {bs = bs} {cs = cs} i j) = each_both (IsHome blocks) bs cs (all_homes blocks i) (all_homes blocks j)
-all_homes blocks (block k b e i l) = (record { apart = i.apart; callees = i.callees; made = typed_arrays blocks i.begin i.begin.known b.decls i.declares }, all_homes blocks l)
-all_homes blocks (procedure k x b more f i l) =
-    (record { apart = i.apart; callees = i.callees; made = typed_arrays blocks i.begin i.begin.known b.decls i.declares }, all_homes blocks l)
+all_homes blocks (block k b e i l) = (record { apart = i.apart; callees = i.callees }, all_homes blocks l)
+all_homes blocks (procedure k x b more f i l) = (record { apart = i.apart; callees = i.callees }, all_homes blocks l)
 
 -- the place is among these, and apart from the blocks
 pub record IsFar (spots : List Spot) (bs : List Block) (spot : Spot) : Type 0 where

@@ -1,5 +1,5 @@
--- What is known at a place of a program that is built: files, variables and parameters whose cells lie in blocks around the place, and
--- arrays and procedures that such blocks declare.
+-- What is known at a place of a program: files, variables and parameters whose cells lie in blocks around the place, and arrays, events, labels
+-- and procedures that such blocks declare.
 use Rattle.std.proofs.Common.{arith, ◌≡◌, ◌⊎◌, inl, inr, ℕ, ◌+◌, ◌≤◌, true, false, List, [], ◌∷◌, ◌++◌, Some, None, length, sym, refl, ◌∙◌, subst}
 use Rattle.std.specs.List.{AllByRecursion}
 use Rattle.algol_tree.specs.declared.token.Spot.{Spot}
@@ -11,25 +11,27 @@ use Rattle.algol_tree.specs.Blocks.{Block, block_numbered, number_at, procedure_
 use Rattle.algol_tree.specs.Cells as cells
 use Rattle.algol_tree.specs.Cells.{Cell, cells_for}
 use Rattle.algol_tree.specs.Classes as class
+use Rattle.algol_tree.specs.Classes.{Class}
 use Rattle.algol_tree.specs.Names.{is_one_of, result_names_of, twice_in_heading}
 use Rattle.algol_tree.specs.Plain as tree
 use Rattle.algol_tree.specs.Plain.{PStmt, PDecls}
 use Rattle.algol_tree.specs.Sorts as sort
 use Rattle.algol_tree.specs.Sorts.{same_name, Declared, look_up, declared_parameters}
 use Rattle.algol_tree.specs.Surroundings.{Surroundings, outermost, inside_procedure}
-use Rattle.algol_paths.specs.Arrays.{DeclaredArray, Shape, arrays_of, lows_among, lows_declared}
-use Rattle.b67_templates.specs.Cells.{Simple, Wanted, value, by_name, array as array_of, variables, parameters_in, parameters_around}
+use Rattle.algol_paths.specs.Arrays.{DeclaredArray, Shape, an_array, an_event, lows_among, lows_declared}
+use Rattle.b67_templates.specs.Cells.{Simple, Wanted, value, by_name, array as array_of, event as event_of, variables, made_of, parameters_in, parameters_around}
+use Rattle.b67_templates.specs.Labels.{labels_in}
 use Rattle.b67_templates.specs.Code.{AreDimensions}
-use Rattle.b67_fitting.specs.Built.{HeadingBuilt}
+use Rattle.b67_fitting.specs.Alone.{HeadingSpecified}
 use Rattle.b67_fitting.specs.Wholes.{HaveDimensions}
 use Rattle.b67_fitting.proofs.Aligned.{Aligned, AreOthers}
 use Rattle.b67_fitting.proofs.Apart.{IsIn, Apart}
-use Rattle.b67_fitting.proofs.Arrayed.{array_spots, own_lows, IsArrayed}
+use Rattle.b67_fitting.proofs.Arrayed.{made_spots, own_lows, IsMade}
 use Rattle.b67_fitting.proofs.TypedBounds.{LowsWhole}
-use Rattle.b67_fitting.proofs.Clean.{IsPlain, simple, array, file, procedure, KnowsPlain}
+use Rattle.b67_fitting.proofs.Clean.{IsPlain, simple, array, file, label, event, task, procedure, KnowsPlain, IsEventful}
 use Rattle.b67_fitting.proofs.Declaring.{found_either}
 use Rattle.b67_fitting.proofs.Frames.{named_around, named_of, variable_cells, made_cells}
-use Rattle.b67_fitting.proofs.Given.{lows_wanted, IsParameter, by_value, as_one, an_array, IsGiven, given}
+use Rattle.b67_fitting.proofs.Given.{lows_wanted, IsParameter, by_value, as_one, an_array as given_array, an_event as given_event, IsGiven, given}
 use Rattle.b67_fitting.proofs.Specified.{specified, SpecsWhole}
 
 -- the places of the simple variables, and the headings of the procedures
@@ -96,8 +98,8 @@ module _ (blocks : List Block) where
     pub rank_is : length array.pairs ≡ rank
     pub dimensions : AreDimensions array.pairs
     pub whole : LowsWhole array.pairs
-    pub among : IsIn d.spot (array_spots in_block.decls)
-    pub arrayed : IsArrayed (arrays_of in_block.decls) (made_cells (number_at blocks in_block.spot) in_block.decls) name d.spot array
+    pub among : IsIn d.spot (made_spots in_block.decls)
+    pub arrayed : IsMade (made_of in_block.decls) (made_cells (number_at blocks in_block.spot) in_block.decls) name d.spot (an_array array)
     pub lows : lows_declared in_block.decls d.spot ≡ own_lows array.pairs
     pub other : is_one_of (result_names_of (block_numbered blocks d.block)) name ≡ false
     pub past : AllByRecursion (λ (x : Simple). same_name x.name name ≡ false) (given_cells in_block)
@@ -126,13 +128,54 @@ module _ (blocks : List Block) where
     pub dimensions : HaveDimensions shape.lows
     pub place : IsParameterOf in_block name d (array_of shape)
 
+  -- The declaration is that of an event or of a task, in a block of the program. The block has no simple cell of that name.
+  pub record IsEvented (depth : ℕ) (name : List ℕ) (d : Declared) : Type 0 where
+    pub in_block : Block
+    pub there : IsIn in_block blocks
+    pub class_is : IsEventful d.class
+    pub sort_is : d.sort ≡ sort.event
+    pub block_is : d.block ≡ number_at blocks in_block.spot
+    pub depth_is : d.depth ≡ length in_block.outer
+    pub within : d.depth ≤ depth
+    pub among : IsIn d.spot (made_spots in_block.decls)
+    pub made : IsMade (made_of in_block.decls) (made_cells (number_at blocks in_block.spot) in_block.decls) name d.spot (an_event name)
+    pub other : is_one_of (result_names_of (block_numbered blocks d.block)) name ≡ false
+    pub past : AllByRecursion (λ (x : Simple). same_name x.name name ≡ false) (given_cells in_block)
+    pub simple : AllByRecursion (λ (x : Simple). same_name x.name name ≡ false) (variables in_block.decls)
+
+  -- The declaration is that of a parameter that stands for an event, in a block of the program.
+  pub record IsFormalEvent (depth : ℕ) (name : List ℕ) (d : Declared) : Type 0 where
+    pub in_block : Block
+    pub there : IsIn in_block blocks
+    pub class_is : d.class ≡ class.event
+    pub sort_is : d.sort ≡ sort.formal_event
+    pub block_is : d.block ≡ number_at blocks in_block.spot
+    pub depth_is : d.depth ≡ length in_block.outer
+    pub within : d.depth ≤ depth
+    pub place : IsParameterOf in_block name d event_of
+
+  -- The declaration is that of a label, in a block of the program.
+  pub record IsLabelled (depth : ℕ) (name : List ℕ) (d : Declared) : Type 0 where
+    pub in_block : Block
+    pub there : IsIn in_block blocks
+    pub class_is : d.class ≡ class.label
+    pub sort_is : d.sort ≡ sort.label
+    pub block_is : d.block ≡ number_at blocks in_block.spot
+    pub depth_is : d.depth ≡ length in_block.outer
+    pub within : d.depth ≤ depth
+    pub name_is : d.name ≡ name
+    pub one : Named
+    pub one_name : one.name ≡ name
+    pub one_spot : one.spot ≡ d.spot
+    pub among : IsIn one (labels_in in_block.decls)
+
   -- The declaration is that of a procedure with this heading and body, in a block of the program.
   pub record IsOwned (depth : ℕ) (name : List ℕ) (d : Declared) (h : Heading) : Type 0 where
     pub in_block : Block
     pub there : IsIn in_block blocks
     pub body : PStmt
     pub body_there : IsIn (procedure_block h body (in_block.spot ∷ in_block.outer)) blocks
-    pub built : HeadingBuilt h
+    pub built : HeadingSpecified h
     pub once : twice_in_heading h ≡ []
     pub cells_are : parameters_around blocks (in_block.spot ∷ in_block.outer) h.name.spot ≡ parameters_in h
     pub named_are : named_around blocks (in_block.spot ∷ in_block.outer) h.name.spot ≡ h.params
@@ -151,6 +194,9 @@ module _ (blocks : List Block) where
     known_name : (kind : Kind) → IsName depth name d kind → IsKnown depth name d
     known_array : (kind : Kind) (rank : ℕ) → IsRowed depth name d kind rank → IsKnown depth name d
     known_formal : (shape : Shape) → IsFormal depth name d shape → IsKnown depth name d
+    known_event : IsEvented depth name d → IsKnown depth name d
+    known_formal_event : IsFormalEvent depth name d → IsKnown depth name d
+    known_label : IsLabelled depth name d → IsKnown depth name d
     known_procedure : (h : Heading) → IsOwned depth name d h → IsKnown depth name d
 
   pub record Around (a : Surroundings) : Type 0 where
@@ -238,6 +284,47 @@ module _ (blocks : List Block) where
         dimensions = h.dimensions;
         place = h.place;
       })
+  deeper depth more name d l (known_event h) =
+      known_event (record {
+        in_block = h.in_block;
+        there = h.there;
+        class_is = h.class_is;
+        sort_is = h.sort_is;
+        block_is = h.block_is;
+        depth_is = h.depth_is;
+        within = omega (arith, l, h.within);
+        among = h.among;
+        made = h.made;
+        other = h.other;
+        past = h.past;
+        simple = h.simple;
+      })
+  deeper depth more name d l (known_formal_event h) =
+      known_formal_event (record {
+        in_block = h.in_block;
+        there = h.there;
+        class_is = h.class_is;
+        sort_is = h.sort_is;
+        block_is = h.block_is;
+        depth_is = h.depth_is;
+        within = omega (arith, l, h.within);
+        place = h.place;
+      })
+  deeper depth more name d l (known_label h) =
+      known_label (record {
+        in_block = h.in_block;
+        there = h.there;
+        class_is = h.class_is;
+        sort_is = h.sort_is;
+        block_is = h.block_is;
+        depth_is = h.depth_is;
+        within = omega (arith, l, h.within);
+        name_is = h.name_is;
+        one = h.one;
+        one_name = h.one_name;
+        one_spot = h.one_spot;
+        among = h.among;
+      })
   deeper depth more name d l (known_procedure heading h) =
       known_procedure heading (record {
         in_block = h.in_block;
@@ -277,7 +364,7 @@ module _ (blocks : List Block) where
   abbrev pub HasLows : Block → Heading → Type 0
   HasLows b h = (s : Spot) → IsIn s (spots_of_names h.params) → lows_declared b.decls s ≡ lows_among h.specs h.params s
 
-  pub stands_procedure : (b : Block) (h : Heading) (body : PStmt) (a : Surroundings) → Stands b a → HeadingBuilt h → SpecsWhole h → IsIn h (headings b.decls) → HasLows b h → Apart (spots_of_names h.params) →
+  pub stands_procedure : (b : Block) (h : Heading) (body : PStmt) (a : Surroundings) → Stands b a → HeadingSpecified h → SpecsWhole h → IsIn h (headings b.decls) → HasLows b h → Apart (spots_of_names h.params) →
       parameters_around blocks (b.spot ∷ b.outer) h.name.spot ≡ parameters_in h → named_around blocks (b.spot ∷ b.outer) h.name.spot ≡ h.params →
       IsIn (procedure_block h body (b.spot ∷ b.outer)) blocks → Stands (procedure_block h body (b.spot ∷ b.outer)) (inside_procedure blocks h a)
   stands_procedure b h body a s u w m l p e f i =
@@ -336,7 +423,18 @@ module _ (blocks : List Block) where
             within = omega (arith, depth_is);
             place = place;
           })
-      known name d wanted (an_array shape class_is sort_is dimensions) block_is depth_is place =
+      known name d wanted (given_event class_is sort_is) block_is depth_is place =
+          known_formal_event (record {
+            in_block = c;
+            there = i;
+            class_is = class_is;
+            sort_is = sort_is;
+            block_is = block_is;
+            depth_is = depth_is ∙ inner.depth_is;
+            within = omega (arith, depth_is);
+            place = place;
+          })
+      known name d wanted (given_array shape class_is sort_is dimensions) block_is depth_is place =
           known_formal shape (record {
             in_block = c;
             there = i;
@@ -354,12 +452,19 @@ module _ (blocks : List Block) where
           let r = given k (a.depth + 1) h h.params (specified h u) w p name d g in
           known name d r.wanted r.parameter r.block_is r.depth_is (parameter name d r)
 
+  eventful_plain : (c : Class) → IsEventful c → IsPlain c
+  eventful_plain c (inl e) = subst IsPlain (sym e) event
+  eventful_plain c (inr e) = subst IsPlain (sym e) task
+
   plain_class : (depth : ℕ) (name : List ℕ) (d : Declared) → IsKnown depth name d → IsPlain d.class
   plain_class depth name d (known_file c s) = subst IsPlain (sym c) file
   plain_class depth name d (known_variable k h) = subst IsPlain (sym h.class_is) (simple k)
   plain_class depth name d (known_name k h) = subst IsPlain (sym h.class_is) (simple k)
   plain_class depth name d (known_array k rank h) = subst IsPlain (sym h.class_is) (array k rank)
   plain_class depth name d (known_formal shape h) = subst IsPlain (sym h.class_is) (array shape.kind (length shape.lows))
+  plain_class depth name d (known_event h) = eventful_plain d.class h.class_is
+  plain_class depth name d (known_formal_event h) = subst IsPlain (sym h.class_is) event
+  plain_class depth name d (known_label h) = subst IsPlain (sym h.class_is) label
   plain_class depth name d (known_procedure g h) = subst IsPlain (sym h.class_is) (procedure g h.built)
 
   pub knows_plain : (a : Surroundings) → Around a → KnowsPlain a

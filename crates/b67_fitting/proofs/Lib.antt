@@ -3,6 +3,7 @@ pub mod Apart
 pub mod Among
 pub mod Clean
 pub mod Cleaned
+pub mod Alone
 pub mod Parameters
 pub mod Specified
 pub mod Wanting
@@ -16,7 +17,6 @@ pub mod Aligned
 pub mod Given
 pub mod Arrayed
 pub mod Stated
-pub mod OnlyArrays
 pub mod Known
 pub mod ResultsApart
 pub mod Later
@@ -39,7 +39,10 @@ pub mod Coupled
 pub mod LowsFound
 pub mod CoupledArrays
 pub mod CoupledFormals
+pub mod CoupledEvents
 pub mod Reached
+pub mod AtHome
+pub mod LabelsFound
 pub mod Numbering
 pub mod UsesOnce
 pub mod BlocksOnce

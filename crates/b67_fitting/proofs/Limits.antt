@@ -1,4 +1,4 @@
--- The blocks of an accepted program that is built keep to the limits of levels and of cells.
+-- The blocks of an accepted program keep to the limits of levels and of cells.
 use Rattle.std.proofs.Common.{arith, ◌≡◌, ℕ, ◌+◌, ◌≤◌, List, [], ◌∷◌, map, length, slice_get, Option, Some, None, zero, suc, refl, ap}
 use Rattle.std.proofs.lemmas.Bool.{ltb-false}
 use Rattle.std.proofs.lemmas.List.{length-append, length-map}
@@ -12,8 +12,7 @@ use Rattle.algol_tree.specs.Names.{if_so, is_too_deep, found_place, place_beyond
 use Rattle.algol_tree.specs.Plain as tree
 use Rattle.algol_tree.specs.Plain.{PDecls, PProgram}
 use Rattle.algol_tree.specs.Sites.{Site}
-use Rattle.algol_paths.specs.Arrays.{arrays_of}
-use Rattle.b67_templates.specs.Cells.{variables, procedures}
+use Rattle.b67_templates.specs.Cells.{variables, procedures, made_of}
 use Rattle.b67_fitting.proofs.Frames.{plain, named_of, front_cells, decl_cells, cells_of_block, as_many as all_many}
 use Rattle.b67_fitting.proofs.Apart.{IsIn, each_in}
 use Rattle.b67_fitting.proofs.Lists.{nil_front, nil_back, nil_map, nil_each, not_so}
@@ -30,19 +29,31 @@ not_found (Some s) h = absurd (let clash : s ∷ [] ≡ [] = h in cc)
 none_beyond : (most : ℕ) (spots : List Spot) → place_beyond most spots ≡ [] → length spots ≤ most
 none_beyond most spots h = no_longer spots most (not_found (slice_get spots most) h)
 
--- declarations have as many cells as simple variables, procedures and arrays
-as_many : (block : ℕ) (ds : PDecls) → length (decl_cells block ds) ≡ length (variables ds) + length (procedures ds) + length (arrays_of ds)
+-- declarations have as many cells as simple variables, procedures, arrays, events and tasks
+as_many : (block : ℕ) (ds : PDecls) → length (decl_cells block ds) ≡ length (variables ds) + length (procedures ds) + length (made_of ds)
 as_many block tree.no_decls = refl
 as_many block (tree.decls (tree.simple kind ns) ds) = more ns (as_many block ds)
   where
-    more : (ms : List Named) → length (decl_cells block ds) ≡ length (variables ds) + length (procedures ds) + length (arrays_of ds) →
-        length (decl_cells block (tree.decls (tree.simple kind ms) ds)) ≡ length (variables (tree.decls (tree.simple kind ms) ds)) + length (procedures ds) + length (arrays_of ds)
+    more : (ms : List Named) → length (decl_cells block ds) ≡ length (variables ds) + length (procedures ds) + length (made_of ds) →
+        length (decl_cells block (tree.decls (tree.simple kind ms) ds)) ≡ length (variables (tree.decls (tree.simple kind ms) ds)) + length (procedures ds) + length (made_of ds)
     more [] h = h
     more (m ∷ ms) h = omega (arith, more ms h)
 as_many block (tree.decls (tree.arrays kind ns pairs) ds) = more ns (as_many block ds)
   where
-    more : (ms : List Named) → length (decl_cells block ds) ≡ length (variables ds) + length (procedures ds) + length (arrays_of ds) →
-        length (decl_cells block (tree.decls (tree.arrays kind ms pairs) ds)) ≡ length (variables ds) + length (procedures ds) + length (arrays_of (tree.decls (tree.arrays kind ms pairs) ds))
+    more : (ms : List Named) → length (decl_cells block ds) ≡ length (variables ds) + length (procedures ds) + length (made_of ds) →
+        length (decl_cells block (tree.decls (tree.arrays kind ms pairs) ds)) ≡ length (variables ds) + length (procedures ds) + length (made_of (tree.decls (tree.arrays kind ms pairs) ds))
+    more [] h = h
+    more (m ∷ ms) h = omega (arith, more ms h)
+as_many block (tree.decls (tree.events ns) ds) = more ns (as_many block ds)
+  where
+    more : (ms : List Named) → length (decl_cells block ds) ≡ length (variables ds) + length (procedures ds) + length (made_of ds) →
+        length (decl_cells block (tree.decls (tree.events ms) ds)) ≡ length (variables ds) + length (procedures ds) + length (made_of (tree.decls (tree.events ms) ds))
+    more [] h = h
+    more (m ∷ ms) h = omega (arith, more ms h)
+as_many block (tree.decls (tree.tasks ns) ds) = more ns (as_many block ds)
+  where
+    more : (ms : List Named) → length (decl_cells block ds) ≡ length (variables ds) + length (procedures ds) + length (made_of ds) →
+        length (decl_cells block (tree.decls (tree.tasks ms) ds)) ≡ length (variables ds) + length (procedures ds) + length (made_of (tree.decls (tree.tasks ms) ds))
     more [] h = h
     more (m ∷ ms) h = omega (arith, more ms h)
 as_many block (tree.decls (tree.procedure h s) ds) = omega (arith, as_many block ds)
@@ -56,7 +67,7 @@ module _ (p : PProgram) (blocks : List Block) (sites : List Site) (accepted : sc
       (each_in (λ (c : Block). place_beyond MOST_BLOCK_CELLS (map (λ (c : Cell). c.spot) (cells_of blocks sites (number_at blocks c.spot))) ≡ []) b blocks (nil_each _ blocks beyond) i)
 
   pub few_cells : (b : Block) → IsIn b blocks → plain (cells_of blocks sites (number_at blocks b.spot)) ≡ cells_of_block (number_at blocks b.spot) (named_of blocks b) b →
-      length (variables b.decls) + length (procedures b.decls) + length (holding actual (cells_of blocks sites (number_at blocks b.spot))) + length (arrays_of b.decls) ≤ MOST_BLOCK_CELLS
+      length (variables b.decls) + length (procedures b.decls) + length (holding actual (cells_of blocks sites (number_at blocks b.spot))) + length (made_of b.decls) ≤ MOST_BLOCK_CELLS
   few_cells b i own =
       omega (
         arith,

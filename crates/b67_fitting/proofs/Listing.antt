@@ -19,7 +19,7 @@ use Rattle.b67_fitting.proofs.ActualCells.{cells_in, cells_in_stmt, cells_in_stm
 use Rattle.b67_fitting.proofs.Apart.{IsIn, in_front, in_back, IsApart, Apart, apart_front, apart_back, apart_across}
 use Rattle.b67_fitting.proofs.Among.{skip, keep, join, apart_among}
 use Rattle.b67_fitting.proofs.Bare.{IsBare, bare}
-use Rattle.b67_fitting.proofs.Declares.{begun, listed_expr, listed_call, listed_actuals, listed_line, listed_pairs, fair_stmt, fair_element, declares_simple, declares_arrays, declares_files, declares_forward, declares_procedure, callees, behind_decls}
+use Rattle.b67_fitting.proofs.Declares.{begun, listed_expr, listed_call, listed_actuals, listed_line, listed_pairs, fair_stmt, fair_element, declares_simple, declares_arrays, declares_events, declares_tasks, declares_labels, declares_files, declares_forward, declares_procedure, callees, behind_decls}
 use Rattle.b67_fitting.proofs.Frames.{plain, control_cell, named_of, decl_cells}
 use Rattle.b67_fitting.proofs.Given.{AreWhole}
 use Rattle.b67_fitting.proofs.Declaring.{names_of}
@@ -147,7 +147,8 @@ module _ (blocks : List Block) (whole : AreWhole blocks) where
         AllThere blocks (blocks_of s of_statement (b.spot ∷ b.outer)) →
         Listed blocks k (spots_of_stmt s) (cells_in_stmt a s) (blocks_of s of_statement (b.spot ∷ b.outer)) (here_stmt s listed a ∷ inside_stmt blocks s of_statement listed a)
     listed_stmt k b a g i tree.empty l t p f = site k (here_stmt tree.empty l a) (fair_stmt blocks k b a g i tree.empty l refl refl refl) (over k)
-    listed_stmt k b a g i (tree.label n s) l t p f = absurd t
+    listed_stmt k b a g i (tree.label n s) l t p f =
+        site k (here_stmt (tree.label n s) l a) (fair_stmt blocks k b a g i (tree.label n s) l refl refl refl) (listed_stmt k b a g i s l t.1 p.1 f)
     listed_stmt k b a g i (tree.assign (tree.subscripted n tree.none) e) l t p f = left k a n e l b g (listed_expr blocks k b a g i t.0 e t.2)
     listed_stmt k b a g i (tree.assign (tree.subscripted n (tree.more e es)) v) l t p f =
         site k (here_stmt (tree.assign (tree.subscripted n (tree.more e es)) v) l a) (fair_element blocks k b a g i n e es v t.0 l t.1)
@@ -155,7 +156,7 @@ module _ (blocks : List Block) (whole : AreWhole blocks) where
     listed_stmt k b a g i (tree.call_of (tree.called n es)) l t p f =
         site k (here_stmt (tree.call_of (tree.called n es)) l a) (fair_stmt blocks k b a g i (tree.call_of (tree.called n es)) l refl refl refl)
         (listed_call blocks k b a g i n es t.0 t.1 (listed_actuals blocks k b a g i (formals_of t.0) es t.3))
-    listed_stmt k b a g i (tree.go_to n) l t p f = absurd t
+    listed_stmt k b a g i (tree.go_to n) l t p f = site k (here_stmt (tree.go_to n) l a) (fair_stmt blocks k b a g i (tree.go_to n) l refl refl refl) (over k)
     listed_stmt k b a g i (tree.block (tree.body spot tree.no_decls ss)) l t p f =
         site k (here_stmt (tree.block (tree.body spot tree.no_decls ss)) l a) (fair_stmt blocks k b a g i (tree.block (tree.body spot tree.no_decls ss)) l refl refl refl)
         (passed k spot (listed_stmts k b a g i ss false t.1 p.1 f))
@@ -231,7 +232,7 @@ module _ (blocks : List Block) (whole : AreWhole blocks) where
         site k (here_stmt (tree.case e ss) l a) (fair_stmt blocks k b a g i (tree.case e ss) l refl refl refl)
         (both k (listed_expr blocks k b a g i types.Number e t.0) (listed_stmts k b a g i ss false t.1 (apart_back (spots_of_expr e) (spots_of_stmts ss) p) f))
     listed_stmt k b a g i (tree.process c task) l t p f = absurd t
-    listed_stmt k b a g i (tree.event act e) l t p f = absurd t
+    listed_stmt k b a g i (tree.event act e) l t p f = site k (here_stmt (tree.event act e) l a) (fair_stmt blocks k b a g i (tree.event act e) l refl refl refl) (over k)
     listed_stmt k b a g i (tree.write n spot phrases es) l t p f =
         site k (here_stmt (tree.write n spot phrases es) l a) (fair_stmt blocks k b a g i (tree.write n spot phrases es) l refl refl refl) (listed_line blocks k b a g i es t.2)
 
@@ -256,6 +257,18 @@ module _ (blocks : List Block) (whole : AreWhole blocks) where
     listed_decls b a first g (tree.decls (tree.files ns) ds) s t p f =
         let d = tree.files ns in
         declared a.block (record { part = parts.declaration d ds; around = a }) (spots_of_names ns) [] (declares_files blocks a ns ds)
+        (listed_decls b (knowing blocks d ds a) first g ds (step blocks b a first d ds s t p) t.2 (apart_back (spots_of_decl d) (spots_of_decls ds) p) f)
+    listed_decls b a first g (tree.decls (tree.labels ns) ds) s t p f =
+        let d = tree.labels ns in
+        declared a.block (record { part = parts.declaration d ds; around = a }) (spots_of_names ns) [] (declares_labels blocks a ns ds)
+        (listed_decls b (knowing blocks d ds a) first g ds (step blocks b a first d ds s t p) t.2 (apart_back (spots_of_decl d) (spots_of_decls ds) p) f)
+    listed_decls b a first g (tree.decls (tree.events ns) ds) s t p f =
+        let d = tree.events ns in
+        declared a.block (record { part = parts.declaration d ds; around = a }) (spots_of_names ns) (cells_for a.block cells.made ns) (declares_events blocks a ns ds)
+        (listed_decls b (knowing blocks d ds a) first g ds (step blocks b a first d ds s t p) t.2 (apart_back (spots_of_decl d) (spots_of_decls ds) p) f)
+    listed_decls b a first g (tree.decls (tree.tasks ns) ds) s t p f =
+        let d = tree.tasks ns in
+        declared a.block (record { part = parts.declaration d ds; around = a }) (spots_of_names ns) (cells_for a.block cells.made ns) (declares_tasks blocks a ns ds)
         (listed_decls b (knowing blocks d ds a) first g ds (step blocks b a first d ds s t p) t.2 (apart_back (spots_of_decl d) (spots_of_decls ds) p) f)
     listed_decls b a first g (tree.decls (tree.arrays kind ns pairs) ds) s t p f =
         let d = tree.arrays kind ns pairs in
@@ -321,4 +334,3 @@ module _ (blocks : List Block) (whole : AreWhole blocks) where
         (declares_procedure blocks a h body ds (b.spot ∷ b.outer) q.named_are) stands t.1.1 in_body
         (listed_stmt (number_at blocks h.name.spot) c inner stands stands.block_is body false (r.typed inner t.1.1) (apart_back (spots_of_heading h) (spots_of_stmt body) (apart_front (spots_of_decl d) (spots_of_decls ds) p)) in_body))
         (listed_decls b behind first g ds next t.2 (apart_back (spots_of_decl d) (spots_of_decls ds) p) (there_back blocks those others f))
-    listed_decls b a first g (tree.decls d ds) s t p f = absurd t.1

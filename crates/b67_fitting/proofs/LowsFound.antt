@@ -18,12 +18,12 @@ use Rattle.algol_tree.specs.Sorts.{Declared}
 use Rattle.algol_paths.specs.Arrays.{Lows, shape_in, stands_among, lows_in, or_lows, lows_among, lows_declared, lows_at}
 use Rattle.b67_templates.specs.Cells.{value}
 use Rattle.b67_fitting.proofs.Apart.{IsIn, each_in, in_map, in_front, in_back, IsApart, same_self, same_place}
-use Rattle.b67_fitting.proofs.Arrayed.{array_spots, own_lows}
+use Rattle.b67_fitting.proofs.Arrayed.{array_spots, made_spots, array_made, own_lows}
 use Rattle.b67_fitting.proofs.Blocked.{block_spots, numbered}
 use Rattle.b67_fitting.proofs.Coupled.{given_cell, IsProgram, one_of, acts_of, act_there}
 use Rattle.b67_fitting.proofs.Frames.{named_of, result_cell, front_cells, decl_cells, cells_of_block}
 use Rattle.b67_fitting.proofs.Framing.{variable_cell, in_filter}
-use Rattle.b67_fitting.proofs.FramingArrays.{array_cell}
+use Rattle.b67_fitting.proofs.FramingArrays.{made_cell}
 use Rattle.b67_fitting.proofs.Known.{variable_spots, headings, IsVariableOf, IsParameterOf, IsHeld, IsName, IsOwned}
 use Rattle.b67_fitting.proofs.Listed.{has_own_place}
 use Rattle.b67_fitting.proofs.Made.{one_there, in_kept}
@@ -104,17 +104,20 @@ module _ (blocks : List Block) (all : List Site) (is : IsProgram blocks all) whe
           let one : d ≡ c = one_there (λ (z : Cell). z.spot) placed d c is.places_apart j (act_placed b c i) (same_place d.spot c.spot e) in
           absurd (other (ap (λ (z : Cell). z.content) one ∙ (act_there blocks all is b c i).1))
 
-  -- the actuals of a block are apart from its variables, its parameters and its arrays
+  -- the actuals of a block are apart from its variables, its parameters and what it makes
   pub acts_past : (b : Block) → IsIn b blocks → (c : Cell) → IsIn c (acts_of blocks all is b) → (d : Cell) → IsIn d (cells_of_block (number_at blocks b.spot) (named_of blocks b) b) → has_own_place d.content ≡ true →
       (d.content ≡ cells.actual → ⊥) → IsApart d.spot c.spot
   acts_past b t c i d j e other = act_elsewhere b c i d (cell_there b t d j e) other
 
-  -- that of the array that is declared there
-  pub array_there : (b : Block) → IsIn b blocks → (s : Spot) → IsIn s (array_spots b.decls) → IsIn (record { block = number_at blocks b.spot; spot = s; content = cells.made }) placed
-  array_there b t s i =
+  -- that of the array, the event or the task that is declared there
+  pub made_there : (b : Block) → IsIn b blocks → (s : Spot) → IsIn s (made_spots b.decls) → IsIn (record { block = number_at blocks b.spot; spot = s; content = cells.made }) placed
+  made_there b t s i =
       let k = number_at blocks b.spot in
       let c : Cell = record { block = k; spot = s; content = cells.made } in
-      cell_there b t c (in_back c (front_cells k (named_of blocks b) b) (decl_cells k b.decls) (array_cell k b.decls s i)) refl
+      cell_there b t c (in_back c (front_cells k (named_of blocks b) b) (decl_cells k b.decls) (made_cell k b.decls s i)) refl
+
+  array_there : (b : Block) → IsIn b blocks → (s : Spot) → IsIn s (array_spots b.decls) → IsIn (record { block = number_at blocks b.spot; spot = s; content = cells.made }) placed
+  array_there b t s i = made_there b t s (array_made b.decls s i)
 
   -- that of the parameter that stands there
   parameter_there : (b : Block) (h : Heading) → IsCalleeOf blocks b h → (s : Spot) → IsIn s (spots_of_names h.params) →

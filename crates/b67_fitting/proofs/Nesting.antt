@@ -19,9 +19,9 @@ use Rattle.algol_tree.specs.Sites.{Site, sites_in_decls, sites_in_stmts, has_dec
 use Rattle.algol_tree.specs.Surroundings.{Surroundings, outermost, knowing_all}
 use Rattle.algol_paths.specs.Segments.{is_procedure, procedures_before, tokens_or_none, segment_tokens}
 use Rattle.b67_templates.specs.Cells.{parameters_around, actuals_in_stmts}
-use Rattle.b67_fitting.specs.Built.{DeclsBuilt, StmtsBuilt}
+use Rattle.b67_fitting.specs.Alone.{DeclsAlone, StmtsAlone}
 use Rattle.b67_fitting.specs.Names.{DeclsNamed, StmtsNamed}
-use Rattle.b67_fitting.specs.Nested.{AreParameters, IsText, AreNested, BuiltProgramsLieNested}
+use Rattle.b67_fitting.specs.Nested.{AreParameters, IsText, AreNested, ProgramsLieNested}
 use Rattle.b67_fitting.proofs.Lists.{each_front, each_back, each_both, nil_front, nil_back, nil_map, nil_each, not_so}
 use Rattle.b67_fitting.proofs.Numbering.{times_both, places, places_both, once, Apart, once_apart, use_place, IsThere, all_there, block_place, IsNumbered, all_numbered, block_is, each_at, number_is, number_first}
 use Rattle.b67_fitting.proofs.Apart.{Apart as IsApartList, IsIn, each_in, ascending_apart, apart_front, apart_back}
@@ -134,7 +134,7 @@ module _ (sc : Scopes) (all : List Site) where
 
 -- ---- the program
 
-module _ (spot : Spot) (ds : PDecls) (ss : PStmts) (order : IsInOrder (tree.program (tree.body spot ds ss))) (built_decls : DeclsBuilt ds) (built : StmtsBuilt ss) where
+module _ (spot : Spot) (ds : PDecls) (ss : PStmts) (order : IsInOrder (tree.program (tree.body spot ds ss))) (built_decls : DeclsAlone ds) (built : StmtsAlone ss) where
   abbrev pub program : PProgram
   program = tree.program (tree.body spot ds ss)
 
@@ -267,7 +267,7 @@ module _ (spot : Spot) (ds : PDecls) (ss : PStmts) (order : IsInOrder (tree.prog
         let same_cells : length (cells_of blocks declared first) ≡ length (cells_of blocks declared 0) = ap (λ (i : ℕ). length (cells_of blocks declared i)) number_outer in
         let bounds = in_bounds sc first outer outermost ds [] starts tt built_decls part.good in
         let its_text =
-        is_text sc all (the_block spot [] ds ss) fine.0 built_decls called
+        is_text sc all (the_block spot [] ds ss) fine.0 called
         (omega (arith, as_many sc ds outermost [] built_decls few_declared, few_stated, same_cells, cells_both blocks declared stated first, parts.less first)) bounds nested.0 in
         (its_text, each_both (IsTextOf sc all) (blocks_in_decls ds outer) (blocks_in_stmts ss outer) in_procedures nested.1)
 
@@ -302,9 +302,9 @@ module _ (spot : Spot) (ds : PDecls) (ss : PStmts) (order : IsInOrder (tree.prog
       let its = headed (nil_each (declared_twice blocks) all twice) in
       nested_by (λ k h. each_in (AreParameters sc) (block_numbered blocks k) blocks its (there_numbered blocks k h)) (good_by unknown) kept (all_fine sc all blocks (all_numbered blocks blocks_apart) its named (nil_each _ blocks deep) (nil_each _ blocks cells)) many
 
-pub built_programs_lie_nested : BuiltProgramsLieNested
+pub programs_lie_nested : ProgramsLieNested
 unfolding scopes_of blocks_of_program scope_faults check_faults
-built_programs_lie_nested (tree.program (tree.body spot ds ss)) accepted order built named =
+programs_lie_nested (tree.program (tree.body spot ds ss)) accepted order built named =
     let up_to_procedures = nil_front _ _ accepted.scoped in
     let up_to_cells = nil_front _ _ up_to_procedures in
     let up_to_levels = nil_front _ _ up_to_cells in

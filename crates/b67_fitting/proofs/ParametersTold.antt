@@ -1,14 +1,14 @@
--- The parameters of a heading that is built, one by one beside their cells: that of a simple one has its kind, that of an array its shape.
+-- The parameters of a heading, one by one beside their cells: that of a simple one has its kind, that of an array its shape.
 use Rattle.std.proofs.Common.{◌≡◌, List, [], ◌∷◌, map, length, suc, refl, ap}
 use Rattle.algol_tree.specs.declared.tree.Heading.{Heading}
 use Rattle.algol_tree.specs.declared.tree.Named.{Named}
 use Rattle.algol_tree.specs.Sorts.{Parameter, is_variable, is_named_in, sort_in, parameters_of}
 use Rattle.b67_templates.specs.Cells.{Simple, parameters_in}
-use Rattle.b67_fitting.specs.Built.{HeadingBuilt}
+use Rattle.b67_fitting.specs.Alone.{HeadingSpecified}
 use Rattle.b67_fitting.specs.Nested as told
 use Rattle.b67_fitting.specs.Nested.{IsTold, AreTold}
-use Rattle.b67_fitting.proofs.Specified.{IsSpecified, as_value, as_name, as_array, AreSpecified, specified}
-use Rattle.b67_fitting.proofs.Wanting.{wanted_of, wanted_value, wanted_name, wanted_array}
+use Rattle.b67_fitting.proofs.Specified.{IsSpecified, as_value, as_name, as_array, as_event, AreSpecified, specified}
+use Rattle.b67_fitting.proofs.Wanting.{wanted_of, wanted_value, wanted_name, wanted_array, wanted_event}
 
 module _ (h : Heading) where
   abbrev pub as_parameter : Named → Parameter
@@ -25,6 +25,7 @@ module _ (h : Heading) where
   told_one n (as_value kind c v s) = told.by_value kind (wanted_value h n kind c v) (ap is_variable s)
   told_one n (as_name kind c v s) = told.by_name kind (wanted_name h n kind c v) s
   told_one n (as_array shape c a s) = told.an_array shape (wanted_array h n shape c a) s
+  told_one n (as_event c a s) = told.an_event (wanted_event h n c) s
 
   told_all : (ns : List Named) → AreSpecified h ns → AreTold (map as_parameter ns) (map as_cell ns)
   told_all [] s = tt
@@ -33,7 +34,7 @@ module _ (h : Heading) where
 pub parameter_names : (h : Heading) → map (λ (p : Parameter). p.name) (parameters_of h) ≡ map (λ (c : Simple). c.name) (parameters_in h)
 parameter_names h = names_same h h.params
 
-pub parameters_told : (h : Heading) → HeadingBuilt h → AreTold (parameters_of h) (parameters_in h)
+pub parameters_told : (h : Heading) → HeadingSpecified h → AreTold (parameters_of h) (parameters_in h)
 parameters_told h b = told_all h h.params (specified h b)
 
 -- there are as many

@@ -10,7 +10,7 @@ use Rattle.algol_tree.specs.declared.tree.Named.{Named}
 use Rattle.algol_tree.specs.Blocks.{Block, of_statement, block_numbered, number_at, blocks_of, blocks_in_stmts, blocks_in_decls}
 use Rattle.algol_tree.specs.Cells.{Cell, first_spot, level_of}
 use Rattle.algol_tree.specs.Classes as class
-use Rattle.algol_tree.specs.Classes.{Class}
+use Rattle.algol_tree.specs.Classes.{Class, Formal}
 use Rattle.algol_tree.specs.Counted.{exprs_count}
 use Rattle.algol_tree.specs.Plain as tree
 use Rattle.algol_tree.specs.Plain.{PExpr, PExprs, PPair, PStmt, PStmts, PDecls}
@@ -24,13 +24,14 @@ use Rattle.algol_meaning.specs.Settle.{sorts_of, block_of}
 use Rattle.algol_meaning.specs.Statements.{alone}
 use Rattle.b67_ops.specs.declared.Couple.{Couple}
 use Rattle.b67_ops.specs.declared.TheConstants.{MOST_LEVEL, OUTER_LEVEL}
-use Rattle.algol_paths.specs.Arrays.{Shape, shape_in, arrays_of}
-use Rattle.b67_templates.specs.Cells.{Simple, Wanted, by_name, parameters_in, parameter_cells, parameter_wants, variables, procedures, Actual, own_actual, wants_of, actuals_in, actuals_among, actuals_given, actuals_in_pairs, actuals_in_decls, actuals_in_stmt, actuals_in_stmts, actuals_in_block, actuals_of, actual_base}
-use Rattle.b67_templates.specs.Fitting.{Told, ReadFits, PlaceFits, NameActualFits, names, ProcedureFits, CallFits, ArrayFits, ExprFits, SubscriptsFit, ActualsFit, LineFits, ElementAssignFits, BoundsFit, DeclsFit, StmtFits, StmtsFit}
-use Rattle.b67_fitting.specs.Built.{HeadingBuilt}
+use Rattle.algol_paths.specs.Arrays.{Shape, shape_in}
+use Rattle.b67_templates.specs.Cells.{Simple, Wanted, by_name, parameters_in, parameter_cells, parameter_wants, variables, procedures, made_of, Actual, own_actual, wants_of, actuals_in, actuals_among, actuals_given, actuals_in_pairs, actuals_in_decls, actuals_in_stmt, actuals_in_stmts, actuals_in_block, actuals_of, actual_base}
+use Rattle.b67_templates.specs.Fitting.{Told, is_event, EventFits, LabelFits, ReadFits, PlaceFits, NameActualFits, names, ProcedureFits, CallFits, ArrayFits, ExprFits, SubscriptsFit, ActualsFit, LineFits, ElementAssignFits, BoundsFit, DeclsFit, StmtFits, StmtsFit}
+use Rattle.b67_fitting.specs.Alone.{HeadingSpecified}
 use Rattle.b67_fitting.specs.Wholes.{HaveDimensions}
-use Rattle.b67_fitting.proofs.Actuals.{IsArrayActual, name_alone}
+use Rattle.b67_fitting.proofs.Actuals.{IsArrayActual, name_alone, IsEventActual, event_name}
 use Rattle.b67_fitting.proofs.Apart.{IsIn, in_front, in_back}
+use Rattle.b67_fitting.proofs.Clean.{IsEventful}
 use Rattle.b67_fitting.proofs.TypedBounds.{TypedPairs}
 use Rattle.b67_fitting.proofs.Declares.{begun}
 use Rattle.b67_fitting.proofs.Listed as listing
@@ -38,9 +39,9 @@ use Rattle.b67_fitting.proofs.Listed.{AllThere, reads_in, lefts_in, IsBlock, Lis
 use Rattle.b67_fitting.proofs.Lists.{each_front, each_back, each_both, map_none}
 use Rattle.b67_fitting.proofs.Stated.{IsResult, IsLeft, TypedStmt, TypedStmts, TypedDecls}
 use Rattle.b67_fitting.proofs.Typed.{IsOf, IsFunction, TypedExpr, TypedActual, TypedActuals, TypedLine, as_formal, actual_part_is}
-use Rattle.b67_fitting.proofs.Wanting.{wanted_of, wanted_value, wanted_name, wanted_array}
+use Rattle.b67_fitting.proofs.Wanting.{wanted_of, wanted_value, wanted_name, wanted_array, wanted_event}
 use Rattle.b67_fitting.proofs.Given.{wants_in}
-use Rattle.b67_fitting.proofs.Specified.{IsSpecified, as_value, as_name, as_array, AreSpecified, specified}
+use Rattle.b67_fitting.proofs.Specified.{IsSpecified, as_value, as_name, as_array, as_event, AreSpecified, specified}
 
 -- the depth is that of the block
 same_depth : (blocks : List Block) (ds : PDecls) (a : Surroundings) → (knowing_all blocks ds a).depth ≡ a.depth
@@ -48,7 +49,7 @@ same_depth blocks tree.no_decls a = refl
 same_depth blocks (tree.decls d ds) a = same_depth blocks ds (knowing blocks d ds a)
 
 -- .. and so is its number
-same_number : (blocks : List Block) (ds : PDecls) (a : Surroundings) → (knowing_all blocks ds a).block ≡ a.block
+pub same_number : (blocks : List Block) (ds : PDecls) (a : Surroundings) → (knowing_all blocks ds a).block ≡ a.block
 same_number blocks tree.no_decls a = refl
 same_number blocks (tree.decls d ds) a = same_number blocks ds (knowing blocks d ds a)
 
@@ -56,7 +57,7 @@ same_number blocks (tree.decls d ds) a = same_number blocks ds (knowing blocks d
 abbrev pub Keep : Scopes → List Block → Type 0
 Keep sc blocks =
     (b : Block) → IsIn b blocks →
-    (level_of b ≤ MOST_LEVEL) × (length (variables b.decls) + length (procedures b.decls) + length (actuals_in_block sc b.decls b.stmts) + length (arrays_of b.decls) ≤ limits.MOST_BLOCK_CELLS)
+    (level_of b ≤ MOST_LEVEL) × (length (variables b.decls) + length (procedures b.decls) + length (actuals_in_block sc b.decls b.stmts) + length (made_of b.decls) ≤ limits.MOST_BLOCK_CELLS)
 
 -- in the block with this number, of this level, an actual that has a cell has the couple of it
 pub record IsCelled (sc : Scopes) (told : Told) (level j : ℕ) (x : Actual) : Type 0 where
@@ -79,11 +80,12 @@ pub record CalleeFits (sc : Scopes) (told : Told) (level : ℕ) (n : Named) (h :
   pub parameters_are : (block_numbered sc.blocks callee).parameters ≡ parameters_of h
   pub cells_are : parameter_cells sc (block_numbered sc.blocks callee) ≡ parameters_in h
 
--- A simple variable or parameter is read, is assigned, and is given for a parameter by name.
+-- A simple variable or parameter is read, is assigned, and is given for a parameter by name. It is known to be no event.
 pub record IsSimpleFor (sc : Scopes) (told : Told) (level : ℕ) (k : Kind) (n : Named) : Type 0 where
   pub reads : ReadFits sc told level k n
   pub place : PlaceFits sc told level k n
   pub given : (j : ℕ) → NameActualFits sc told level j k (alone n)
+  pub no_event : is_event (told.meant n.spot) ≡ false
 
 -- An array, or a parameter that stands for one, has its couple, and the lower bounds that are known are its own.
 pub record RowFits (sc : Scopes) (told : Told) (level : ℕ) (n : Named) (kind : Kind) (rank : ℕ) : Type 0 where
@@ -102,6 +104,8 @@ module _ (blocks : List Block) (sc : Scopes) (told : Told) where
     pub simple : (k : Kind) (level : ℕ) → a.depth + 2 ≡ level → IsOf a k n → IsSimpleFor sc told level k n
     pub array : (k : Kind) (rank level : ℕ) → a.depth + 2 ≡ level → class_of a n ≡ class.array k rank → RowFits sc told level n k rank
     pub called : (h : Heading) (level : ℕ) → a.depth + 2 ≡ level → class_of a n ≡ class.procedure h → CalleeFits sc told level n h
+    pub evented : (level : ℕ) → a.depth + 2 ≡ level → IsEventful (class_of a n) → EventFits sc told level n
+    pub labelled : (level : ℕ) → a.depth + 2 ≡ level → class_of a n ≡ class.label → LabelFits sc told level n
     pub simple_alone : (k : Kind) → IsOf a k n → told.lows n.spot ≡ None
     pub called_alone : (h : Heading) → class_of a n ≡ class.procedure h → told.lows n.spot ≡ None
     -- whether the name is that of a procedure
@@ -118,11 +122,13 @@ module _ (blocks : List Block) (sc : Scopes) (told : Told) where
 
   module _ (a : Surroundings) (level : ℕ) (at : a.depth + 2 ≡ level) where
     fits_name : (k : Kind) (n : Named) → IsPlaced a n → IsOf a k n ⊎ IsFunction a k n →
-        (ReadFits sc told level k n ⊎ CallFits sc told level k n) × (told.lows n.spot ≡ None)
-    fits_name k n g (inl o) = (inl (g.simple k level at o).reads, g.simple_alone k o)
+        (ReadFits sc told level k n ⊎ CallFits sc told level k n) × (told.lows n.spot ≡ None) × (is_event (told.meant n.spot) ≡ false)
+    fits_name k n g (inl o) =
+        let s = g.simple k level at o in
+        (inl s.reads, g.simple_alone k o, s.no_event)
     fits_name k n g (inr f) =
         let c = g.called f.0 level at f.1 in
-        (inr (c.callee, c.fits, ap (map (λ (z : Simple). z.wanted)) (c.cells_are ∙ map_none _ f.0.params f.3), c.result_is ∙ f.2), g.called_alone f.0 f.1)
+        (inr (c.callee, c.fits, ap (map (λ (z : Simple). z.wanted)) (c.cells_are ∙ map_none _ f.0.params f.3), c.result_is ∙ f.2), g.called_alone f.0 f.1, ap is_event c.fits.modes)
 
     fits_left : (k : Kind) (n : Named) → IsLeftPlaced a n → IsLeft blocks a k n → PlaceFits sc told level k n
     fits_left k n g (inl o) = g.simple k level at o
@@ -174,6 +180,31 @@ module _ (blocks : List Block) (sc : Scopes) (told : Told) where
         (sym (wanted_array h n shape c s)) (ap is_variable o, (r.shape, r.fits, (r.kind_is ∙ kind, r.rank_is ∙ rank)), f)
     fits_array h n ns shape c s o e es t g f = absurd t
 
+    -- that of an event parameter is the name of an event
+    fits_event : (h : Heading) (n : Named) (ns : List Named) → class_in h.specs n.name ≡ class.event → sort_in h.specs (is_named_in h.values n.name) n.name ≡ sort.formal_event → (e : PExpr) (es : PExprs) →
+        IsEventActual a (as_formal h n) e → SitePlaced (record { part = actual_part e (Some (as_formal h n)); around = a }) → ActualsFit sc told level a.block (sorts_in h ns) (wants_in h ns) es →
+        ActualsFit sc told level a.block (sorts_in h (n ∷ ns)) (wants_in h (n ∷ ns)) (tree.more e es)
+    fits_event h n ns c o (tree.variable (tree.subscripted m tree.none)) es t g f =
+        let own : SitePlaced (record { part = name m; around = a }) = subst (λ (p : Part). SitePlaced (record { part = p; around = a })) (event_name m (as_formal h n) t.0) g in
+        subst (λ (w : Wanted). ActualsFit sc told level a.block (sorts_in h (n ∷ ns)) (w ∷ wants_in h ns) (tree.more (tree.variable (tree.subscripted m tree.none)) es))
+        (sym (wanted_event h n c)) (ap is_variable o, own.0.0.evented level at (inl t.1), f)
+    fits_event h n ns c o e es t g f = absurd t
+
+    -- an actual is of one parameter only
+    no_name : (k : Kind) (f : Formal) → f.class ≡ class.simple k → (e : PExpr) → IsArrayActual a f e ⊎ IsEventActual a f e → ⊥
+    no_name k f c (tree.variable (tree.subscripted m tree.none)) (inl t) = (let clash : class.simple k ≡ class.array t.0 t.1 = sym c ∙ t.2 in cc)
+    no_name k f c (tree.variable (tree.subscripted m tree.none)) (inr t) = (let clash : class.simple k ≡ class.event = sym c ∙ t.0 in cc)
+    no_name k f c e (inl t) = absurd t
+    no_name k f c e (inr t) = absurd t
+
+    no_array : (f : Formal) → f.class ≡ class.event → (e : PExpr) → IsArrayActual a f e → ⊥
+    no_array f c (tree.variable (tree.subscripted m tree.none)) t = (let clash : class.event ≡ class.array t.0 t.1 = sym c ∙ t.2 in cc)
+    no_array f c e t = absurd t
+
+    no_event : (k : Kind) (rank : ℕ) (f : Formal) → f.class ≡ class.array k rank → (e : PExpr) → IsEventActual a f e → ⊥
+    no_event k rank f c (tree.variable (tree.subscripted m tree.none)) t = (let clash : class.array k rank ≡ class.event = sym c ∙ t.0 in cc)
+    no_event k rank f c e t = absurd t
+
     -- an actual that has a cell
     celled_fits : (k : Kind) (e : PExpr) → own_actual sc (by_name k) e ≡ record { expr = e; kind = k } ∷ [] → IsCelled sc told level a.block (record { expr = e; kind = k }) →
         NameActualFits sc told level a.block k e
@@ -219,14 +250,14 @@ module _ (blocks : List Block) (sc : Scopes) (told : Told) where
         let typed = kind_of_actual k t.0 e (class_in h.specs n.name) c t.1 t.2 in
         subst (λ (w : Wanted). ActualsFit sc told level a.block (sorts_in h (n ∷ ns)) (w ∷ wants_in h ns) (tree.more e es)) (sym (wanted_name h n k c v))
         (ap is_variable s, named_fits k e typed own (subst (λ (w : Wanted). Celled (own_actual sc w e)) (wanted_name h n k c v) own_celled), valued k typed own, f)
-    fits_actual h n ns (as_value k c v s) (tree.variable (tree.subscripted m tree.none)) es (inr t) g own_celled valued f =
-        absurd (let clash : class.simple k ≡ class.array t.0 t.1 = sym c ∙ t.2 in cc)
-    fits_actual h n ns (as_value k c v s) e es (inr t) g own_celled valued f = absurd t
-    fits_actual h n ns (as_name k c v s) (tree.variable (tree.subscripted m tree.none)) es (inr t) g own_celled valued f =
-        absurd (let clash : class.simple k ≡ class.array t.0 t.1 = sym c ∙ t.2 in cc)
-    fits_actual h n ns (as_name k c v s) e es (inr t) g own_celled valued f = absurd t
+    fits_actual h n ns (as_value k c v s) e es (inr t) g own_celled valued f = absurd (no_name k (as_formal h n) c e t)
+    fits_actual h n ns (as_name k c v s) e es (inr t) g own_celled valued f = absurd (no_name k (as_formal h n) c e t)
     fits_actual h n ns (as_array shape c s o) e es (inl t) g own_celled valued f = absurd (let clash : class.simple t.0 ≡ class.array shape.kind (length shape.lows) = sym t.1 ∙ c in cc)
-    fits_actual h n ns (as_array shape c s o) e es (inr t) g own_celled valued f = fits_array h n ns shape c s o e es t g f
+    fits_actual h n ns (as_array shape c s o) e es (inr (inl t)) g own_celled valued f = fits_array h n ns shape c s o e es t g f
+    fits_actual h n ns (as_array shape c s o) e es (inr (inr t)) g own_celled valued f = absurd (no_event shape.kind (length shape.lows) (as_formal h n) c e t)
+    fits_actual h n ns (as_event c s o) e es (inl t) g own_celled valued f = absurd (let clash : class.simple t.0 ≡ class.event = sym t.1 ∙ c in cc)
+    fits_actual h n ns (as_event c s o) e es (inr (inl t)) g own_celled valued f = absurd (no_array (as_formal h n) c e t)
+    fits_actual h n ns (as_event c s o) e es (inr (inr t)) g own_celled valued f = fits_event h n ns c o e es t g f
 
     -- what the procedure of that name wants
     called_wants : (n : Named) (es : PExprs) (h : Heading) (c : CalleeFits sc told level n h) → Celled (actuals_given sc (wants_of sc n) es) → Celled (actuals_given sc (wants_in h h.params) es)
@@ -246,7 +277,7 @@ module _ (blocks : List Block) (sc : Scopes) (told : Told) where
       fits_expr k (tree.call (tree.called n es)) t g x =
           let c = g.0.0.0.called t.0 level at t.1 in
           (c.callee, c.fits, fits_actuals_of n es t.0 c (fits_actuals t.0 t.0.params (specified t.0 t.2) es t.4 (inside_call n es t.0 t.1 g.1) (called_wants n es t.0 c x)), c.result_is ∙ t.3)
-      fits_expr k (tree.tested test e spot) t g x = absurd t
+      fits_expr k (tree.tested tree.happened e spot) t g x = (t.0, g.0.0.0.evented level at t.1)
       fits_expr k (tree.paren e spot) t g x = fits_expr k e t g.1 x
       fits_expr k (tree.plus e spot) t g x = (t.0, fits_expr types.Number e t.1 g.1 x)
       fits_expr k (tree.neg e spot) t g x = (t.0, fits_expr types.Number e t.1 g.1 x)
@@ -283,7 +314,7 @@ module _ (blocks : List Block) (sc : Scopes) (told : Told) where
       fits_line (tree.more e es) t g x =
           (fits_expr types.Number e t.0 (each_front SitePlaced (sites e a) (inside_list es a) g) (celled_front (actuals_in sc e) (actuals_among sc es) x), fits_line es t.1 (each_back SitePlaced (sites e a) (inside_list es a) g) (celled_back (actuals_in sc e) (actuals_among sc es) x))
 
-    fits_call : (n : Named) (es : PExprs) (h : Heading) → class_of a n ≡ class.procedure h → HeadingBuilt h → TypedActuals a (formals_of h) es → (c : CalleeFits sc told level n h) →
+    fits_call : (n : Named) (es : PExprs) (h : Heading) → class_of a n ≡ class.procedure h → HeadingSpecified h → TypedActuals a (formals_of h) es → (c : CalleeFits sc told level n h) →
         AllByRecursion SitePlaced (inside_actuals es (formals_at a n) a) → Celled (actuals_given sc (wants_of sc n) es) →
         ActualsFit sc told level a.block (sorts_of ((block_numbered sc.blocks c.callee).parameters)) (parameter_wants sc c.callee) es
     fits_call n es h e b t c g x = fits_actuals_of n es h c (fits_actuals h h.params (specified h b) es t (inside_call n es h e g) (called_wants n es h c x))
@@ -321,11 +352,13 @@ module _ (blocks : List Block) (sc : Scopes) (told : Told) where
       )
   fits_decls a first level at (tree.decls (tree.simple kind ns) ds) t g x = fits_decls (knowing blocks (tree.simple kind ns) ds a) first level at ds t.2 g.1 x
   fits_decls a first level at (tree.decls (tree.files ns) ds) t g x = fits_decls (knowing blocks (tree.files ns) ds a) first level at ds t.2 g.1 x
+  fits_decls a first level at (tree.decls (tree.events ns) ds) t g x = fits_decls (knowing blocks (tree.events ns) ds a) first level at ds t.2 g.1 x
+  fits_decls a first level at (tree.decls (tree.tasks ns) ds) t g x = fits_decls (knowing blocks (tree.tasks ns) ds a) first level at ds t.2 g.1 x
+  fits_decls a first level at (tree.decls (tree.labels ns) ds) t g x = fits_decls (knowing blocks (tree.labels ns) ds a) first level at ds t.2 g.1 x
   fits_decls a first level at (tree.decls (tree.forward h) ds) t g x = fits_decls (knowing blocks (tree.forward h) ds a) first level at ds t.2 g.1 x
   fits_decls a first level at (tree.decls (tree.procedure h s) ds) t g x =
       let behind = knowing blocks (tree.procedure h s) ds a in
       fits_decls behind first level at ds t.2 (each_back SitePlaced (inside_decl blocks (tree.procedure h s) behind first) (sites_in_decls blocks ds behind first) g.1) x
-  fits_decls a first level at (tree.decls d ds) t g x = absurd t.1
 
   -- In each block the actuals that have cells have their couples.
   abbrev pub Actuals : List Block → Type 0
@@ -350,7 +383,7 @@ module _ (blocks : List Block) (sc : Scopes) (told : Told) where
           AllThere blocks (blocks_of s of_statement (b.spot ∷ b.outer)) → AllByRecursion SitePlaced (stmt_sites a s listed) → CelledIn level a.block (actuals_in_stmt sc s) →
           StmtFits sc told level a.block s
       fits_stmt b a level d at tree.empty l t f g x = tt
-      fits_stmt b a level d at (tree.label n s) l t f g x = absurd t
+      fits_stmt b a level d at (tree.label n s) l t f g x = (g.0.0.0.labelled level at t.0, fits_stmt b a level d at s l t.1 f g.1 x)
       fits_stmt b a level d at (tree.assign (tree.subscripted n tree.none) e) l t f g x = (t.0, fits_left a level at t.0 n g.0.1.0 t.1, fits_expr a level at t.0 e t.2 g.1 x)
       fits_stmt b a level d at (tree.assign (tree.subscripted n (tree.more e es)) v) l t f g x =
           let r = g.0.0.0.array t.0 (exprs_count (tree.more e es)) level at t.1 in
@@ -361,7 +394,7 @@ module _ (blocks : List Block) (sc : Scopes) (told : Told) where
       fits_stmt b a level d at (tree.call_of (tree.called n es)) l t f g x =
           let c = g.0.0.0.called t.0 level at t.1 in
           (c.callee, c.fits, fits_call a level at n es t.0 t.1 t.2 t.3 c g.1 x)
-      fits_stmt b a level d at (tree.go_to n) l t f g x = absurd t
+      fits_stmt b a level d at (tree.go_to n) l t f g x = g.0.0.0.labelled level at t
       fits_stmt b a level d at (tree.block (tree.body spot tree.no_decls ss)) l t f g x = fits_stmts b a level d at ss false t.1 f g.1 x
       fits_stmt b a level d at (tree.block (tree.body spot (tree.decls e es) ss)) l t f g x =
           let c = begun spot (b.spot ∷ b.outer) (tree.decls e es) ss in
@@ -446,7 +479,7 @@ module _ (blocks : List Block) (sc : Scopes) (told : Told) where
             fits_stmts b a level d at ss false t.1 f (each_back SitePlaced (sites e a) (sites_in_stmts blocks ss false a) g.1) (back_of level a.block ones others x),
           )
       fits_stmt b a level d at (tree.process c task) l t f g x = absurd t
-      fits_stmt b a level d at (tree.event act e) l t f g x = absurd t
+      fits_stmt b a level d at (tree.event act e) l t f g x = g.0.0.0.evented level at t
       fits_stmt b a level d at (tree.write n spot phrases es) l t f g x = (t.0, t.1, fits_line a level at es t.2 g.1 x)
 
       pub fits_stmts : (b : Block) (a : Surroundings) (level : ℕ) → a.depth ≡ length b.outer → a.depth + 2 ≡ level → (ss : PStmts) (listed : Bool) → TypedStmts blocks a ss →

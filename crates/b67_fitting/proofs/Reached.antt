@@ -13,15 +13,16 @@ use Rattle.algol_tree.specs.Plain.{PExpr}
 use Rattle.algol_tree.specs.Scopes.{Scopes, Use, used, use_by, left_use, left_uses, names_in, uses_at, declared_in, use_of}
 use Rattle.algol_tree.specs.Sites.{Site, here_stmt}
 use Rattle.algol_tree.specs.Sorts.{Sort, Declared, procedure_in}
-use Rattle.algol_tree.specs.Surroundings.{Surroundings, declared_as}
+use Rattle.algol_tree.specs.Surroundings.{Surroundings, declared_as, class_of}
 use Rattle.algol_meaning.specs.Settle.{block_of}
 use Rattle.algol_paths.specs.Arrays.{lows_at}
 use Rattle.b67_templates.specs.Cells.{Simple, parameters_in, parameter_cells, parameter_wants}
-use Rattle.b67_templates.specs.Fitting.{Told}
+use Rattle.b67_templates.specs.Fitting.{Told, EventFits}
 use Rattle.b67_fitting.proofs.ActualsFound.{IsTelling, SiteTells}
 use Rattle.b67_fitting.proofs.Apart.{IsIn, in_each, in_front, in_back, in_flat}
 use Rattle.b67_fitting.proofs.Coupled.{the_use, result_use, use_is, AreTold, IsProgram, scopes, used_at, known_at_place, inside_deep, variable_fits, name_fits, procedure_fits, result_fits}
 use Rattle.b67_fitting.proofs.CoupledArrays.{HaveActs, row_fits}
+use Rattle.b67_fitting.proofs.CoupledEvents.{event_fits, formal_event_fits, label_fits}
 use Rattle.b67_fitting.proofs.CoupledFormals.{formal_fits}
 use Rattle.b67_fitting.proofs.Blocked.{numbered}
 use Rattle.b67_fitting.proofs.Known.{IsOwned, Stands}
@@ -30,7 +31,7 @@ use Rattle.b67_fitting.proofs.Listed.{reads_in, lefts_in, IsFair, Listed, over, 
 use Rattle.b67_fitting.proofs.Lists.{each_both}
 use Rattle.b67_fitting.proofs.LowsFound.{held_none, named_none, owned_none}
 use Rattle.b67_fitting.proofs.Meant as meant
-use Rattle.b67_fitting.proofs.Meant.{IsSimpleAs, held, declared_simple, declared_array, declared_procedure, held_of, IsArrayAs, of_block, of_parameter, arrayed_of, owned_of}
+use Rattle.b67_fitting.proofs.Meant.{IsSimpleAs, held, declared_simple, declared_array, declared_procedure, declared_event, declared_label, IsEventAs, event_of, labelled_of, held_of, IsArrayAs, of_block, of_parameter, arrayed_of, owned_of}
 use Rattle.b67_fitting.proofs.Placed.{RowFits, IsSimpleFor, IsPlaced, IsLeftPlaced, SitePlaced}
 
 module _ (blocks : List Block) (all : List Site) (is : IsProgram blocks all) where
@@ -118,15 +119,21 @@ module _ (blocks : List Block) (all : List Site) (is : IsProgram blocks all) whe
         subst (λ (z : Kind). RowFits sc told level n z rank) e
         (subst (λ (r : ℕ). RowFits sc told level n shape.kind r) f (formal_fits blocks all is told are a level at n d is_known shape u h))
 
+    -- an event or a task that a block declares, or a parameter that stands for an event
+    named_event_fits : (a : Surroundings) (level : ℕ) → a.depth + 2 ≡ level → (n : Named) (d : Declared) → known_there (flat_map (known_at blocks) all) n.spot ≡ Some d → use_of sc n ≡ the_use a n d →
+        IsEventAs blocks a.depth n.name d → EventFits sc told level n
+    named_event_fits a level at n d is_known u (meant.made h) = event_fits blocks all is told are a level at n d is_known many u h
+    named_event_fits a level at n d is_known u (meant.given_for h) = formal_event_fits blocks all is told are a level at n d is_known u h
+
     -- a variable, or a parameter by name
     simple_fits : (a : Surroundings) (level : ℕ) → a.depth + 2 ≡ level → (n : Named) (d : Declared) → known_there (flat_map (known_at blocks) all) n.spot ≡ Some d → (k : Kind) →
         use_of sc n ≡ the_use a n d → IsSimpleAs blocks a.depth n.name d k → IsSimpleFor sc told level k n
     simple_fits a level at n d is_known k u (held h) =
         let r = variable_fits blocks all is told are a level at n d is_known k u h in
-        record { reads = r.reads; place = r.place; given = r.given }
+        record { reads = r.reads; place = r.place; given = r.given; no_event = r.no_event }
     simple_fits a level at n d is_known k u (meant.given h) =
         let r = name_fits blocks all is told are a level at n d is_known k u h in
-        record { reads = r.reads; place = r.place; given = r.given }
+        record { reads = r.reads; place = r.place; given = r.given; no_event = r.no_event }
 
     simple_none : (depth : ℕ) (name : List ℕ) (d : Declared) (k : Kind) → IsSimpleAs blocks depth name d k → lows_at blocks d.spot ≡ None
     simple_none depth name d k (held h) = held_none blocks all is depth name d k h
@@ -156,6 +163,16 @@ module _ (blocks : List Block) (all : List Site) (is : IsProgram blocks all) whe
                   let o = declared_procedure x.around g n h in
                   procedure_fits blocks all is told are x.around level at n o.as_one (known_as x i f n o.as_one j o.is) g (used_as x i f n o.as_one j o.is)
                   (owned_of blocks x.around.depth n.name o.as_one g o.class_is (f.stands.around.each n.name o.as_one o.is));
+              evented =
+                  λ level at h.
+                  let o = declared_event x.around (class_of x.around n) n h refl in
+                  named_event_fits x.around level at n o.as_one (known_as x i f n o.as_one j o.is) (used_as x i f n o.as_one j o.is)
+                  (event_of blocks x.around.depth n.name o.as_one (class_of x.around n) h o.class_is (f.stands.around.each n.name o.as_one o.is));
+              labelled =
+                  λ level at h.
+                  let o = declared_label x.around n h in
+                  label_fits blocks all is told are x.around level at n o.as_one (known_as x i f n o.as_one j o.is) (used_as x i f n o.as_one j o.is)
+                  (labelled_of blocks x.around.depth n.name o.as_one o.class_is (f.stands.around.each n.name o.as_one o.is));
               simple_alone =
                   λ k h.
                   let o = declared_simple x.around k n h in

@@ -12,25 +12,26 @@ use Rattle.algol_tree.specs.Cells as cells
 use Rattle.algol_tree.specs.Cells.{Cell, cells_for}
 use Rattle.algol_tree.specs.Classes as class
 use Rattle.algol_tree.specs.Classes.{Class}
-use Rattle.algol_tree.specs.Names.{if_so, is_one_of, result_names_of, twice_in_heading, unknown_in_heading}
+use Rattle.algol_tree.specs.Names.{if_so, is_one_of, repeated, result_names_of, twice_in_heading, unknown_in_heading}
 use Rattle.algol_tree.specs.Plain as tree
 use Rattle.algol_tree.specs.Plain.{PPair, PStmt, PDecl, PDecls}
 use Rattle.algol_tree.specs.Sites as parts
 use Rattle.algol_tree.specs.Sorts as sort
 use Rattle.algol_tree.specs.Sorts.{same_name, Sort, Declared, look_up, declare}
 use Rattle.algol_tree.specs.Surroundings.{Surroundings, body_of, heading_or, announced, knowing}
-use Rattle.algol_paths.specs.Arrays.{arrays_of}
-use Rattle.b67_templates.specs.Cells.{Simple, value, of_kind, variables, parameters_in, parameters_around}
+use Rattle.algol_paths.specs.Arrays.{an_array, an_event}
+use Rattle.b67_templates.specs.Cells.{Simple, value, of_kind, variables, made_of, parameters_in, parameters_around}
+use Rattle.b67_templates.specs.Labels.{labels_in}
 use Rattle.b67_templates.specs.Code.{AreDimensions}
-use Rattle.b67_fitting.specs.Built.{HeadingBuilt}
+use Rattle.b67_fitting.specs.Alone.{HeadingSpecified}
 use Rattle.b67_fitting.proofs.Aligned.{AreOthers, Aligned, aligned_over, hit}
 use Rattle.b67_fitting.proofs.Apart.{IsIn, each_in, in_front, in_back, IsApart, Apart, apart_front, apart_across}
-use Rattle.b67_fitting.proofs.Arrayed.{own_lows, IsArrayed, array_names, AreArraysPassed, arrays_begin, arrays_step, array_there}
-use Rattle.b67_fitting.proofs.TypedBounds.{TypedPairs, LowsWhole, lows_whole}
-use Rattle.b67_fitting.proofs.Clean.{IsClean}
+use Rattle.b67_fitting.proofs.Arrayed.{IsMade, event_of, made_names, AreMadePassed, made_begin, made_step, IsThere, array_there, event_there, task_there}
+use Rattle.b67_fitting.proofs.TypedBounds.{TypedPairs, lows_whole}
+use Rattle.b67_fitting.proofs.Clean.{IsClean, IsEventful}
 use Rattle.b67_fitting.proofs.Declaring.{same_name_self, same_is, one_of_front, one_of_back, names_of, names_both, one_more, one_front, entry, declared_is, found_one, fresh}
 use Rattle.b67_fitting.proofs.Frames.{named_around, variable_cells, made_cells}
-use Rattle.b67_fitting.proofs.Known.{given_cells, given_places, variable_spots, headings, IsKnown, known_file, known_variable, known_array, known_procedure, around_with, Stands, HasLows}
+use Rattle.b67_fitting.proofs.Known.{given_cells, given_places, variable_spots, headings, IsKnown, known_file, known_variable, known_array, known_event, known_label, known_procedure, around_with, Stands, HasLows}
 use Rattle.b67_fitting.proofs.Later.{declared_name, later}
 use Rattle.b67_fitting.proofs.Lists.{each_back, each_both, nil_front}
 use Rattle.b67_fitting.proofs.Stated.{TypedDecls}
@@ -120,10 +121,60 @@ announced_there : (h : Heading) (ds : PDecls) (o : Option Heading) (spot : Spot)
 announced_there h ds None spot e g = absurd (let clash : spot ∷ [] ≡ [] = g in cc)
 announced_there h ds (Some f) spot e g = found_body h.name.name ds f e
 
+-- ---- labels
+
+record IsLabelHit (block depth : ℕ) (ns : List Named) (name : List ℕ) (d : Declared) : Type 0 where
+  pub class_is : d.class ≡ class.label
+  pub sort_is : d.sort ≡ sort.label
+  pub block_is : d.block ≡ block
+  pub depth_is : d.depth ≡ depth
+  pub name_is : d.name ≡ name
+  pub one : Named
+  pub one_name : one.name ≡ name
+  pub one_spot : one.spot ≡ d.spot
+  pub among : IsIn one ns
+
+label_hit : (block depth : ℕ) (ns : List Named) (name : List ℕ) (d : Declared) → look_up (declare block depth sort.label class.label ns) name ≡ Some d → IsLabelHit block depth ns name d
+label_hit block depth [] name d h = absurd (let clash : None ≡ Some d = h in cc)
+label_hit block depth (n ∷ ns) name d h = by (same_name n.name name) refl (label_hit block depth ns name d) h
+  where
+    first : Declared
+    first = entry block depth sort.label class.label n
+
+    by : (t : Bool) → same_name n.name name ≡ t → (look_up (declare block depth sort.label class.label ns) name ≡ Some d → IsLabelHit block depth ns name d) →
+        (if t then Some first else look_up (declare block depth sort.label class.label ns) name) ≡ Some d → IsLabelHit block depth (n ∷ ns) name d
+    by true e later g =
+        let same : first ≡ d = cc in
+        subst (λ (z : Declared). IsLabelHit block depth (n ∷ ns) name z) same
+        (record {
+          class_is = refl;
+          sort_is = refl;
+          block_is = refl;
+          depth_is = refl;
+          name_is = same_is n.name name e;
+          one = n;
+          one_name = same_is n.name name e;
+          one_spot = refl;
+          among = inl refl;
+        })
+    by false e later g =
+        let r = later g in
+        record {
+          class_is = r.class_is;
+          sort_is = r.sort_is;
+          block_is = r.block_is;
+          depth_is = r.depth_is;
+          name_is = r.name_is;
+          one = r.one;
+          one_name = r.one_name;
+          one_spot = r.one_spot;
+          among = inr r.among;
+        }
+
 module _ (blocks : List Block) where
   -- The procedure's block is one of the program's, in this block, and its heading and the lower bounds of its parameters are found there.
   pub record IsCalleeOf (b : Block) (h : Heading) : Type 0 where
-    pub built : HeadingBuilt h
+    pub built : HeadingSpecified h
     pub once : twice_in_heading h ≡ []
     pub body : PStmt
     pub body_there : IsIn (procedure_block h body (b.spot ∷ b.outer)) blocks
@@ -147,11 +198,12 @@ module _ (blocks : List Block) where
     pub given : Passed (names_of a.block a.known) (spots_of_decls ds) (given_cells blocks b) (given_places blocks b)
     pub owned : (h : Heading) → IsIn h (headings ds) → IsIn h (headings b.decls)
     pub held : (s : Spot) → IsIn s (variable_spots ds) → IsIn s (variable_spots b.decls)
-    pub arrays : AreArraysPassed a.block (names_of a.block a.known) b.decls ds
+    pub made : AreMadePassed a.block (names_of a.block a.known) b.decls ds
+    pub labelled : (n : Named) → IsIn n (labels_in ds) → IsIn n (labels_in b.decls)
 
   pub start : (b : Block) (a : Surroundings) → Stands blocks b a → HasCallees b b.decls → Passed (names_of a.block a.known) (spots_of_decls b.decls) (given_cells blocks b) (given_places blocks b) → IsStarted b a b.decls
   start b a s c q =
-      record { stands = s; callees = c; passed_variables = []; passed_cells = []; variables_are = refl; cells_are = refl; passed = tt; given = q; owned = λ h i. i; held = λ t i. i; arrays = arrays_begin a.block (names_of a.block a.known) b.decls }
+      record { stands = s; callees = c; passed_variables = []; passed_cells = []; variables_are = refl; cells_are = refl; passed = tt; given = q; owned = λ h i. i; held = λ t i. i; made = made_begin a.block (names_of a.block a.known) b.decls; labelled = λ name i. i }
 
   stands_with : (b : Block) (a : Surroundings) (new : List Declared) → Stands blocks b a → ((name : List ℕ) (d : Declared) → look_up new name ≡ Some d → IsKnown blocks a.depth name d) →
       Stands blocks b (record a { known = new ++ a.known })
@@ -180,9 +232,10 @@ module _ (blocks : List Block) where
             (passed_more (names_of a.block new) (names_of a.block a.known) (spots_of_names ns) (spots_of_decls ds) (given_cells blocks b) (given_places blocks b) s.given);
         owned = s.owned;
         held = λ t i. s.held t (in_back t (spots_of_names ns) (variable_spots ds) i);
-        arrays =
-            subst (λ (names : List (List ℕ)). AreArraysPassed a.block names b.decls ds) (sym (names_both a.block new a.known))
-            (arrays_step a.block (names_of a.block new) (names_of a.block a.known) b.decls (tree.simple kind ns) ds (λ n i. absurd i) p s.arrays);
+        made =
+            subst (λ (names : List (List ℕ)). AreMadePassed a.block names b.decls ds) (sym (names_both a.block new a.known))
+            (made_step a.block (names_of a.block new) (names_of a.block a.known) b.decls (tree.simple kind ns) ds (λ n i. absurd i) p s.made);
+        labelled = s.labelled;
       }
     where
       new : List Declared
@@ -223,9 +276,9 @@ module _ (blocks : List Block) where
   step_with : (b : Block) (a : Surroundings) (d : PDecl) (ds : PDecls) (new : List Declared) → IsStarted b a (tree.decls d ds) → variables (tree.decls d ds) ≡ variables ds →
       variable_cells a.block (tree.decls d ds) ≡ variable_cells a.block ds → ((h : Heading) → IsIn h (headings ds) → IsIn h (headings (tree.decls d ds))) →
       ((t : Spot) → IsIn t (variable_spots ds) → IsIn t (variable_spots (tree.decls d ds))) → ((name : List ℕ) (e : Declared) → look_up new name ≡ Some e → IsKnown blocks a.depth name e) →
-      ((n : Named) → IsIn n (array_names d) → is_one_of (names_of a.block new ++ names_of a.block a.known) n.name ≡ true) → Apart (spots_of_decl d ++ spots_of_decls ds) →
-      IsStarted b (record a { known = new ++ a.known }) ds
-  step_with b a d ds new s v w o t f g p =
+      ((n : Named) → IsIn n (made_names d) → is_one_of (names_of a.block new ++ names_of a.block a.known) n.name ≡ true) → Apart (spots_of_decl d ++ spots_of_decls ds) →
+      ((n : Named) → IsIn n (labels_in ds) → IsIn n (labels_in (tree.decls d ds))) → IsStarted b (record a { known = new ++ a.known }) ds
+  step_with b a d ds new s v w o t f g p l =
       record {
         stands = stands_with b a new s.stands f;
         callees = s.callees;
@@ -241,9 +294,10 @@ module _ (blocks : List Block) where
             (passed_more (names_of a.block new) (names_of a.block a.known) (spots_of_decl d) (spots_of_decls ds) (given_cells blocks b) (given_places blocks b) s.given);
         owned = λ h i. s.owned h (o h i);
         held = λ x i. s.held x (t x i);
-        arrays =
-            subst (λ (names : List (List ℕ)). AreArraysPassed a.block names b.decls ds) (sym (names_both a.block new a.known))
-            (arrays_step a.block (names_of a.block new) (names_of a.block a.known) b.decls d ds g p s.arrays);
+        made =
+            subst (λ (names : List (List ℕ)). AreMadePassed a.block names b.decls ds) (sym (names_both a.block new a.known))
+            (made_step a.block (names_of a.block new) (names_of a.block a.known) b.decls d ds g p s.made);
+        labelled = λ n i. s.labelled n (l n i);
       }
 
   files_known : (a : Surroundings) (ns : List Named) (name : List ℕ) (d : Declared) → look_up (declare a.block a.depth sort.file class.file ns) name ≡ Some d → IsKnown blocks a.depth name d
@@ -275,6 +329,14 @@ module _ (blocks : List Block) where
         within = omega (arith, ap (λ (z : Declared). z.depth) (sym r.1));
       })
 
+  -- no variable has such a name: neither those that are passed, nor those that come
+  none_simple : (b : Block) (a : Surroundings) (spots : List Spot) (ds : PDecls) (name : List ℕ) (passed : List Simple) (cells_passed : List Cell) → is_one_of (names_of a.block a.known) name ≡ false →
+      variables b.decls ≡ passed ++ variables ds → Passed (names_of a.block a.known) spots passed cells_passed → AllByRecursion (λ (x : Simple). same_name x.name name ≡ false) (variables ds) →
+      AllByRecursion (λ (x : Simple). same_name x.name name ≡ false) (variables b.decls)
+  none_simple b a spots ds name passed cells_passed other are those later_ones =
+      subst (AllByRecursion (λ (x : Simple). same_name x.name name ≡ false)) (sym are)
+      (each_both (λ (x : Simple). same_name x.name name ≡ false) passed (variables ds) (passed_named (names_of a.block a.known) spots name passed cells_passed other those) later_ones)
+
   array_known : (b : Block) (a : Surroundings) (first : List Declared) (kind : Kind) (ns : List Named) (pairs : List PPair) (ds : PDecls) → IsStarted b a (tree.decls (tree.arrays kind ns pairs) ds) →
       IsClean blocks (record { part = parts.declaration (tree.arrays kind ns pairs) ds; around = a }) → AreDimensions pairs × TypedPairs (record a { known = first }) pairs × (1 ≤ length ns) →
       TypedDecls blocks (knowing blocks (tree.arrays kind ns pairs) ds a) first ds → Apart ((spots_of_names ns ++ spots_of_pairs pairs) ++ spots_of_decls ds) → (name : List ℕ) (d : Declared) →
@@ -287,7 +349,8 @@ module _ (blocks : List Block) where
       let own = spots_of_names ns ++ spots_of_pairs pairs in
       let none = fresh a.block a.depth sort.array whole ns (results ++ names) name d c.once h in
       let other = one_of_back results names name none in
-      let r = array_there a.block a.depth names b.decls kind ns pairs ds name d p other s.arrays h in
+      let found = array_there a.block a.depth names b.decls kind ns pairs ds name d p other s.made h in
+      let r = found.0 in
       let mine = one_front (names_of a.block new) names name (declared_name a.block a.depth sort.array whole ns name d h) in
       let later_ones =
       later blocks (knowing blocks (tree.arrays kind ns pairs) ds a) first ds behind name (subst (λ (z : List (List ℕ)). is_one_of z name ≡ true) (sym (names_both a.block new a.known)) mine) in
@@ -299,42 +362,106 @@ module _ (blocks : List Block) where
         block_is = r.block_is ∙ s.stands.block_is;
         depth_is = r.depth_is ∙ s.stands.depth_is;
         within = omega (arith, r.depth_is);
-        array = r.array;
-        kind_is = r.kind_is;
-        rank_is = ap length r.pairs_are;
-        dimensions = subst AreDimensions (sym r.pairs_are) t.0;
-        whole = subst LowsWhole (sym r.pairs_are) (lows_whole (record a { known = first }) pairs t.1);
+        array = record { name = r.one.name; kind = kind; pairs = pairs };
+        kind_is = refl;
+        rank_is = refl;
+        dimensions = t.0;
+        whole = lows_whole (record a { known = first }) pairs t.1;
         among = r.among;
-        arrayed = subst (λ (k : ℕ). IsArrayed (arrays_of b.decls) (made_cells k b.decls) name d.spot r.array) s.stands.block_is r.arrayed;
-        lows = r.lows ∙ ap own_lows (sym r.pairs_are);
+        arrayed = subst (λ (k : ℕ). IsMade (made_of b.decls) (made_cells k b.decls) name d.spot (an_array (record { name = r.one.name; kind = kind; pairs = pairs }))) s.stands.block_is r.made;
+        lows = found.1;
         other = subst (λ (k : ℕ). is_one_of (result_names_of (block_numbered blocks k)) name ≡ false) (sym r.block_is) (one_of_front results names name none);
         past = passed_named names (own ++ spots_of_decls ds) name (given_cells blocks b) (given_places blocks b) other s.given;
-        simple =
-            subst (AllByRecursion (λ (x : Simple). same_name x.name name ≡ false)) (sym s.variables_are)
-            (each_both (λ (x : Simple). same_name x.name name ≡ false) s.passed_variables (variables ds) (passed_named names (own ++ spots_of_decls ds) name s.passed_variables s.passed_cells other s.passed) later_ones);
+        simple = none_simple b a (own ++ spots_of_decls ds) ds name s.passed_variables s.passed_cells other s.variables_are s.passed later_ones;
       })
 
-  -- the names of arrays are among those that the block has after them
-  array_named : (a : Surroundings) (kind : Kind) (ns : List Named) (pairs : List PPair) (n : Named) → IsIn n ns →
-      is_one_of (names_of a.block (declare a.block a.depth sort.array (class.array kind (length pairs)) ns) ++ names_of a.block a.known) n.name ≡ true
-  array_named a kind ns pairs n i =
-      let whole = class.array kind (length pairs) in
-      one_front (names_of a.block (declare a.block a.depth sort.array whole ns)) (names_of a.block a.known) n.name (named_new a.block a.depth sort.array whole ns n i)
+  -- .. an event or a task
+  evented : (b : Block) (a : Surroundings) (first : List Declared) (d : PDecl) (ns : List Named) (ds : PDecls) (class_of : Class) → IsEventful class_of → IsStarted b a (tree.decls d ds) → variables (tree.decls d ds) ≡ variables ds →
+      spots_of_decl d ≡ spots_of_names ns → knowing blocks d ds a ≡ record a { known = declare a.block a.depth sort.event class_of ns ++ a.known } →
+      repeated (result_names_of (block_numbered blocks a.block) ++ names_of a.block a.known) ns ≡ [] → TypedDecls blocks (knowing blocks d ds a) first ds → (name : List ℕ) (e : Declared) →
+      (is_one_of (names_of a.block a.known) name ≡ false → IsThere a.block a.depth event_of sort.event class_of b.decls name e) →
+      look_up (declare a.block a.depth sort.event class_of ns) name ≡ Some e → IsKnown blocks a.depth name e
+  evented b a first d ns ds class_of v s w places same once behind name e there h =
+      let new = declare a.block a.depth sort.event class_of ns in
+      let names = names_of a.block a.known in
+      let results = result_names_of (block_numbered blocks a.block) in
+      let own = spots_of_decl d in
+      let none = fresh a.block a.depth sort.event class_of ns (results ++ names) name e once h in
+      let other = one_of_back results names name none in
+      let r = there other in
+      let mine = one_front (names_of a.block new) names name (declared_name a.block a.depth sort.event class_of ns name e h) in
+      let later_ones =
+      later blocks (record a { known = new ++ a.known }) first ds (subst (λ (z : Surroundings). TypedDecls blocks z first ds) same behind) name
+      (subst (λ (z : List (List ℕ)). is_one_of z name ≡ true) (sym (names_both a.block new a.known)) mine) in
+      known_event (record {
+        in_block = b;
+        there = s.stands.there;
+        class_is = subst IsEventful (sym r.class_is) v;
+        sort_is = r.sort_is;
+        block_is = r.block_is ∙ s.stands.block_is;
+        depth_is = r.depth_is ∙ s.stands.depth_is;
+        within = omega (arith, r.depth_is);
+        among = r.among;
+        made =
+            subst (λ (k : ℕ). IsMade (made_of b.decls) (made_cells k b.decls) name e.spot (an_event name)) s.stands.block_is
+            (subst (λ (z : List ℕ). IsMade (made_of b.decls) (made_cells a.block b.decls) name e.spot (an_event z)) r.name_is r.made);
+        other = subst (λ (k : ℕ). is_one_of (result_names_of (block_numbered blocks k)) name ≡ false) (sym r.block_is) (one_of_front results names name none);
+        past = passed_named names (own ++ spots_of_decls ds) name (given_cells blocks b) (given_places blocks b) other s.given;
+        simple = none_simple b a (own ++ spots_of_decls ds) ds name s.passed_variables s.passed_cells other (s.variables_are ∙ ap (λ z. s.passed_variables ++ z) w) s.passed later_ones;
+      })
+
+  -- .. a label
+  labels_known : (b : Block) (a : Surroundings) (ns : List Named) (ds : PDecls) → IsStarted b a (tree.decls (tree.labels ns) ds) → (name : List ℕ) (d : Declared) →
+      look_up (declare a.block a.depth sort.label class.label ns) name ≡ Some d → IsKnown blocks a.depth name d
+  labels_known b a ns ds s name d h =
+      let r = label_hit a.block a.depth ns name d h in
+      known_label (record {
+        in_block = b;
+        there = s.stands.there;
+        class_is = r.class_is;
+        sort_is = r.sort_is;
+        block_is = r.block_is ∙ s.stands.block_is;
+        depth_is = r.depth_is ∙ s.stands.depth_is;
+        within = omega (arith, r.depth_is);
+        name_is = r.name_is;
+        one = r.one;
+        one_name = r.one_name;
+        one_spot = r.one_spot;
+        among = s.labelled r.one (in_front r.one ns (labels_in ds) r.among);
+      })
+
+  -- the names of what is made are among those that the block has after them
+  made_named : (a : Surroundings) (s : Sort) (c : Class) (ns : List Named) (n : Named) → IsIn n ns →
+      is_one_of (names_of a.block (declare a.block a.depth s c ns) ++ names_of a.block a.known) n.name ≡ true
+  made_named a s c ns n i =
+      one_front (names_of a.block (declare a.block a.depth s c ns)) (names_of a.block a.known) n.name (named_new a.block a.depth s c ns n i)
 
   pub step : (b : Block) (a : Surroundings) (first : List Declared) (d : PDecl) (ds : PDecls) → IsStarted b a (tree.decls d ds) → TypedDecls blocks a first (tree.decls d ds) →
       Apart (spots_of_decl d ++ spots_of_decls ds) → IsStarted b (knowing blocks d ds a) ds
   step b a first (tree.simple kind ns) ds s t p = step_simple b a kind ns ds s t.0 p
   step b a first (tree.files ns) ds s t p =
-      step_with b a (tree.files ns) ds (declare a.block a.depth sort.file class.file ns) s refl refl (λ h i. i) (λ x i. i) (files_known a ns) (λ n i. absurd i) p
+      step_with b a (tree.files ns) ds (declare a.block a.depth sort.file class.file ns) s refl refl (λ h i. i) (λ x i. i) (files_known a ns) (λ n i. absurd i) p (λ z i. i)
   step b a first (tree.arrays kind ns pairs) ds s t p =
       step_with b a (tree.arrays kind ns pairs) ds (declare a.block a.depth sort.array (class.array kind (length pairs)) ns) s refl refl (λ h i. i) (λ x i. i)
-      (array_known b a first kind ns pairs ds s t.0 t.1 t.2 p) (array_named a kind ns pairs) p
+      (array_known b a first kind ns pairs ds s t.0 t.1 t.2 p) (made_named a sort.array (class.array kind (length pairs)) ns) p (λ z i. i)
+  step b a first (tree.events ns) ds s t p =
+      step_with b a (tree.events ns) ds (declare a.block a.depth sort.event class.event ns) s refl refl (λ h i. i) (λ x i. i)
+      (λ name e h. evented b a first (tree.events ns) ns ds class.event (inl refl) s refl refl refl t.0.once t.2 name e
+      (λ other. event_there a.block a.depth (names_of a.block a.known) b.decls ns ds name e p other s.made h) h)
+      (made_named a sort.event class.event ns) p (λ z i. i)
+  step b a first (tree.tasks ns) ds s t p =
+      step_with b a (tree.tasks ns) ds (declare a.block a.depth sort.event class.task ns) s refl refl (λ h i. i) (λ x i. i)
+      (λ name e h. evented b a first (tree.tasks ns) ns ds class.task (inr refl) s refl refl refl t.0.once t.2 name e
+      (λ other. task_there a.block a.depth (names_of a.block a.known) b.decls ns ds name e p other s.made h) h)
+      (made_named a sort.event class.task ns) p (λ z i. i)
+  step b a first (tree.labels ns) ds s t p =
+      step_with b a (tree.labels ns) ds (declare a.block a.depth sort.label class.label ns) s refl refl (λ h i. i) (λ x i. i) (labels_known b a ns ds s) (λ n i. absurd i) p
+      (λ n i. in_back n ns (labels_in ds) i)
   step b a first (tree.forward h) ds s t p =
       let g = announced h ds in
       let there = announced_there h ds (body_of h.name.name ds) h.name.spot refl (nil_front (if_so (not (is_some (body_of h.name.name ds))) h.name.spot) (unknown_in_heading h) t.0.known) in
       step_with b a (tree.forward h) ds (declare a.block a.depth (sort.procedure (number_at blocks g.name.spot)) (class.procedure g) (g.name ∷ [])) s refl refl (λ f i. i) (λ x i. i)
-      (procedure_known b a (tree.decls (tree.forward h) ds) g s there) (λ n i. absurd i) p
+      (procedure_known b a (tree.decls (tree.forward h) ds) g s there) (λ n i. absurd i) p (λ z i. i)
   step b a first (tree.procedure h body) ds s t p =
       step_with b a (tree.procedure h body) ds (declare a.block a.depth (sort.procedure (number_at blocks h.name.spot)) (class.procedure h) (h.name ∷ [])) s refl refl (λ f i. inr i) (λ x i. i)
-      (procedure_known b a (tree.decls (tree.procedure h body) ds) h s (inl refl)) (λ n i. absurd i) p
-  step b a first d ds s t p = absurd t.1
+      (procedure_known b a (tree.decls (tree.procedure h body) ds) h s (inl refl)) (λ n i. absurd i) p (λ z i. i)

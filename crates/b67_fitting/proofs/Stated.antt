@@ -1,5 +1,4 @@
--- Statements and declarations at which no rule is broken, where all that is declared are simple variables, arrays, files and procedures
--- whose parameters are simple ones or arrays.
+-- Statements and declarations at which no rule is broken, where each parameter is specified and no process is started.
 use Rattle.std.proofs.Common.{◌≡◌, ◌⊎◌, inl, inr, ℕ, ◌+◌, ◌≤◌, ◌==◌, ◌&&◌, not, Bool, true, false, List, [], ◌∷◌, ◌++◌, map, length, is_some, Option, Some, None, refl, sym, ap, subst, if◌then◌else◌}
 use Rattle.std.specs.List.{list_any}
 use Rattle.algol_tree.specs.declared.token.Spot.{Spot}
@@ -10,7 +9,7 @@ use Rattle.algol_tree.specs.declared.tree.Named.{Named}
 use Rattle.algol_tree.specs.Blocks.{Block, Begin, of_statement, of_procedure, number_at, around}
 use Rattle.algol_tree.specs.Checks.{wrong_types, not_assignable}
 use Rattle.algol_tree.specs.Classes as class
-use Rattle.algol_tree.specs.Classes.{Class, is_simple, is_array, is_label, is_file, is_procedure}
+use Rattle.algol_tree.specs.Classes.{Class, is_simple, is_array, is_file, is_procedure}
 use Rattle.algol_tree.specs.Counted.{exprs_count}
 use Rattle.algol_tree.specs.Names.{if_so}
 use Rattle.algol_tree.specs.Plain as tree
@@ -19,22 +18,22 @@ use Rattle.algol_tree.specs.Sites as parts
 use Rattle.algol_tree.specs.Sites.{sites, has_decls, here_stmt, inside_list, inside_actuals, inside_stmt, inside_decl, sites_in_stmts, sites_in_decls}
 use Rattle.algol_tree.specs.Sorts as sort
 use Rattle.algol_tree.specs.Sorts.{same_name, Sort, Declared, look_up, declare, is_named_in, sort_in, class_in, declared_parameters}
-use Rattle.algol_tree.specs.Surroundings.{Surroundings, class_of, formals_of_class, declared_as, body_of, heading_or, announced, knowing, knowing_all, inside, inside_procedure}
+use Rattle.algol_tree.specs.Surroundings.{Surroundings, class_of, formals_of_class, body_of, heading_or, announced, knowing, knowing_all, inside, inside_procedure}
 use Rattle.algol_tree.specs.Types.{element_type}
 use Rattle.b67_segment.specs.declared.code.Phrase.{Phrase}
 use Rattle.b67_templates.specs.Code as code
 use Rattle.b67_templates.specs.Code.{AreParts, AreDimensions, numbers_in}
 use Rattle.b67_templates.specs.Fitting.{PhrasesFit}
-use Rattle.b67_fitting.specs.Built.{HeadingBuilt, DeclBuilt, DeclsBuilt, StmtBuilt, StmtsBuilt}
+use Rattle.b67_fitting.specs.Alone.{HeadingSpecified, DeclAlone, DeclsAlone, StmtAlone, StmtsAlone}
 use Rattle.b67_fitting.specs.Texts.{StmtPlain, StmtsPlain, DeclPlain, DeclsPlain}
 use Rattle.b67_fitting.specs.Wholes.{AllWhole, StmtWhole, StmtsWhole, DeclWhole, DeclsWhole}
 use Rattle.b67_fitting.proofs.TypedBounds.{TypedPairs, typed_pairs}
 use Rattle.b67_fitting.proofs.Lists.{each_front, each_back, nil_front, nil_back}
-use Rattle.b67_fitting.proofs.Clean.{IsClean, AreClean, IsPlain, simple, array, file, procedure, KnowsPlain, plain_first, misnamed, none_such, none_happens, as_many, call_of, wrong, wrong_for, wrong_if, wrong_list}
+use Rattle.b67_fitting.proofs.Clean.{IsClean, AreClean, IsPlain, simple, array, file, label, event, task, procedure, KnowsPlain, plain_first, misnamed, label_of, IsEventful, eventful_of, as_many, call_of, wrong, wrong_for, wrong_if, wrong_list}
 use Rattle.b67_fitting.proofs.Declaring.{found_either, declared_is}
 use Rattle.b67_fitting.proofs.Formats.{fitting_line, fitting_phrases}
 use Rattle.b67_fitting.proofs.Typed.{IsOf, IsCalled, HasElements, TypedExpr, TypedLine, HasKind, of_kind, elements, typed, typed_actuals, typed_line}
-use Rattle.b67_fitting.proofs.Specified.{IsSpecified, as_value, as_name, as_array, AreSpecified, specified, SpecsWhole}
+use Rattle.b67_fitting.proofs.Specified.{IsSpecified, as_value, as_name, as_array, as_event, AreSpecified, specified, SpecsWhole}
 
 module _ (blocks : List Block) where
   -- the place is inside the procedure
@@ -67,7 +66,10 @@ module _ (blocks : List Block) where
     TypedStmt begin a (tree.case e ss) = TypedExpr a types.Number e × TypedStmts a ss
     TypedStmt begin a (tree.write n spot phrases es) =
         PhrasesFit phrases × ((parts : List Phrase) → AreParts phrases parts → numbers_in parts ≡ code.exprs_count es) × TypedLine a es
-    TypedStmt begin a _ = ⊥
+    TypedStmt begin a (tree.label n s) = (class_of a n ≡ class.label) × TypedStmt of_statement a s
+    TypedStmt begin a (tree.go_to n) = class_of a n ≡ class.label
+    TypedStmt begin a (tree.event act e) = IsEventful (class_of a e.name)
+    TypedStmt begin a (tree.process c named) = ⊥
 
     pub TypedStmts : Surroundings → PStmts → Type 0
     TypedStmts a tree.no_stmts = Unit {0}
@@ -78,9 +80,9 @@ module _ (blocks : List Block) where
     TypedDecl a first (tree.simple kind ns) = Unit {0}
     TypedDecl a first (tree.files ns) = Unit {0}
     TypedDecl a first (tree.arrays kind ns pairs) = AreDimensions pairs × TypedPairs (record a { known = first }) pairs × (1 ≤ length ns)
-    TypedDecl a first (tree.forward h) = HeadingBuilt h
-    TypedDecl a first (tree.procedure h s) = HeadingBuilt h × TypedStmt of_procedure (inside_procedure blocks h a) s × SpecsWhole h
-    TypedDecl a first _ = ⊥
+    TypedDecl a first (tree.forward h) = HeadingSpecified h
+    TypedDecl a first (tree.procedure h s) = HeadingSpecified h × TypedStmt of_procedure (inside_procedure blocks h a) s × SpecsWhole h
+    TypedDecl a first _ = Unit {0}
 
     -- the place is in front of them
     pub TypedDecls : Surroundings → List Declared → PDecls → Type 0
@@ -104,6 +106,9 @@ module _ (blocks : List Block) (a : Surroundings) (plain : KnowsPlain a) where
   left c n e listed h (simple kind) g = (kind, inl h)
   left c n e listed h (array kind rank) g = absurd (let clash : n.spot ∷ [] ≡ [] = rw h at g in cc)
   left c n e listed h file g = absurd (let clash : n.spot ∷ [] ≡ [] = rw h at g in cc)
+  left c n e listed h label g = absurd (let clash : n.spot ∷ [] ≡ [] = rw h at g in cc)
+  left c n e listed h event g = absurd (let clash : n.spot ∷ [] ≡ [] = rw h at g in cc)
+  left c n e listed h task g = absurd (let clash : n.spot ∷ [] ≡ [] = rw h at g in cc)
   left c n e listed h (procedure heading p) g =
       let r = both_true heading.kind (is_around blocks heading a) n.spot (rw h at g) in
       (r.0, inr (heading, h, r.1, r.2))
@@ -126,6 +131,9 @@ module _ (blocks : List Block) (a : Surroundings) (plain : KnowsPlain a) where
   controls c v (simple types.Truth) g h = absurd (let clash : v.spot ∷ [] ≡ [] = h in cc)
   controls c v (array kind rank) g h = absurd (let clash : v.spot ∷ [] ≡ [] = g in cc)
   controls c v file g h = absurd (let clash : v.spot ∷ [] ≡ [] = g in cc)
+  controls c v label g h = absurd (let clash : v.spot ∷ [] ≡ [] = g in cc)
+  controls c v event g h = absurd (let clash : v.spot ∷ [] ≡ [] = g in cc)
+  controls c v task g h = absurd (let clash : v.spot ∷ [] ≡ [] = g in cc)
   controls c v (procedure heading p) g h = absurd (let clash : v.spot ∷ [] ≡ [] = g in cc)
 
   looped : (begin : Begin) (v : Named) (x s l : PExpr) (b : PStmt) (listed : Bool) → IsClean blocks (here_stmt (tree.for v x s l b) listed a) → HasKind a x → HasKind a s → HasKind a l → TypedStmt blocks of_statement a b →
@@ -154,10 +162,6 @@ module _ (blocks : List Block) (a : Surroundings) (plain : KnowsPlain a) where
       let r = elements blocks a plain n es c.known (nil_front named numbers two) c.counted in
       (r.0, r.1, typed_line blocks a plain es w s (nil_back named numbers two), of_kind a r.0 e h (wrong_if r.0 (element_type (class_of a n)) e a (ap element_type r.1) (nil_back (named ++ numbers) value c.typed)))
 
-  -- no statement is on a label
-  no_label : (n : Named) → if_so (not (is_some (declared_as a n))) n.spot ++ [] ≡ [] → misnamed is_label (class_of a n) n.spot ≡ [] → ⊥
-  no_label n g h = none_such is_label (class_of a n) n.spot (λ k. refl) (λ k r. refl) refl (λ g. refl) (plain_first a plain n [] g) h
-
 -- what is declared is plain
 plain_found : (k : Sort) (c : Class) (block depth : ℕ) (ns : List Named) (known : List Declared) → IsPlain c → ((name : List ℕ) (d : Declared) → look_up known name ≡ Some d → IsPlain d.class) →
     (name : List ℕ) (d : Declared) → look_up (declare block depth k c ns ++ known) name ≡ Some d → IsPlain d.class
@@ -167,11 +171,11 @@ plain_found k c block depth ns known p f name d h = by (found_either (declare bl
     by (inl g) = subst IsPlain (sym (declared_is block depth k c ns name d g).0) p
     by (inr g) = f name d g
 
-pub built_body : (name : List ℕ) (h : Heading) (ds : PDecls) → HeadingBuilt h → DeclsBuilt ds → HeadingBuilt (heading_or h (body_of name ds))
+pub built_body : (name : List ℕ) (h : Heading) (ds : PDecls) → HeadingSpecified h → DeclsAlone ds → HeadingSpecified (heading_or h (body_of name ds))
 built_body name h tree.no_decls p b = p
 built_body name h (tree.decls (tree.procedure g s) ds) p b = by (same_name g.name.name name) (built_body name h ds p b.1)
   where
-    by : (t : Bool) → HeadingBuilt (heading_or h (body_of name ds)) → HeadingBuilt (heading_or h (if t then Some g else body_of name ds))
+    by : (t : Bool) → HeadingSpecified (heading_or h (body_of name ds)) → HeadingSpecified (heading_or h (if t then Some g else body_of name ds))
     by true later = b.0.0
     by false later = later
 built_body name h (tree.decls d ds) p b = built_body name h ds p b.1
@@ -181,6 +185,7 @@ specified_plain : (h : Heading) (n : Named) → IsSpecified h n → IsPlain (cla
 specified_plain h n (as_value k c v s) = subst IsPlain (sym c) (simple k)
 specified_plain h n (as_name k c v s) = subst IsPlain (sym c) (simple k)
 specified_plain h n (as_array shape c e s) = subst IsPlain (sym c) (array shape.kind (length shape.lows))
+specified_plain h n (as_event c e s) = subst IsPlain (sym c) event
 
 plain_parameters : (h : Heading) (block depth : ℕ) (ns : List Named) → AreSpecified h ns → (name : List ℕ) (d : Declared) →
     look_up (map (λ (n : Named). record { name = n.name; spot = n.spot; block = block; depth = depth; sort = sort_in h.specs (is_named_in h.values n.name) n.name; class = class_in h.specs n.name }) ns) name ≡ Some d → IsPlain d.class
@@ -200,7 +205,7 @@ plain_parameters h block depth (n ∷ ns) v name d g = by (same_name n.name name
     by false later f = later f
 
 module _ (blocks : List Block) where
-  plain_knowing : (d : PDecl) (ds : PDecls) (a : Surroundings) → DeclBuilt d → DeclsBuilt ds → KnowsPlain a → KnowsPlain (knowing blocks d ds a)
+  plain_knowing : (d : PDecl) (ds : PDecls) (a : Surroundings) → DeclAlone d → DeclsAlone ds → KnowsPlain a → KnowsPlain (knowing blocks d ds a)
   plain_knowing (tree.simple kind ns) ds a b c plain =
       record { each = plain_found sort.variable (class.simple kind) a.block a.depth ns a.known (simple kind) plain.each }
   plain_knowing (tree.files ns) ds a b c plain = record { each = plain_found sort.file class.file a.block a.depth ns a.known file plain.each }
@@ -215,9 +220,11 @@ module _ (blocks : List Block) where
       record {
         each = plain_found (sort.procedure (number_at blocks h.name.spot)) (class.procedure h) a.block a.depth (h.name ∷ []) a.known (procedure h b.0) plain.each;
       }
-  plain_knowing _ ds a b c plain = absurd b
+  plain_knowing (tree.events ns) ds a b c plain = record { each = plain_found sort.event class.event a.block a.depth ns a.known event plain.each }
+  plain_knowing (tree.tasks ns) ds a b c plain = record { each = plain_found sort.event class.task a.block a.depth ns a.known task plain.each }
+  plain_knowing (tree.labels ns) ds a b c plain = record { each = plain_found sort.label class.label a.block a.depth ns a.known label plain.each }
 
-  plain_all : (ds : PDecls) (a : Surroundings) → DeclsBuilt ds → KnowsPlain a → KnowsPlain (knowing_all blocks ds a)
+  plain_all : (ds : PDecls) (a : Surroundings) → DeclsAlone ds → KnowsPlain a → KnowsPlain (knowing_all blocks ds a)
   plain_all tree.no_decls a b plain = plain
   plain_all (tree.decls d ds) a b plain = plain_all ds (knowing blocks d ds a) b.1 (plain_knowing d ds a b.0 b.1 plain)
 
@@ -226,7 +233,7 @@ module _ (blocks : List Block) where
   plain_inside of_statement spot (tree.decls d ds) ss a plain = record { each = plain.each }
   plain_inside of_procedure spot ds ss a plain = plain
 
-  plain_procedure : (h : Heading) (a : Surroundings) → HeadingBuilt h → KnowsPlain a → KnowsPlain (inside_procedure blocks h a)
+  plain_procedure : (h : Heading) (a : Surroundings) → HeadingSpecified h → KnowsPlain a → KnowsPlain (inside_procedure blocks h a)
   plain_procedure h a b plain = record { each = λ name d g. by name d (found_either (declared_parameters (number_at blocks h.name.spot) (a.depth + 1) h) a.known name d g) }
     where
       by : (name : List ℕ) (d : Declared) → (look_up (declared_parameters (number_at blocks h.name.spot) (a.depth + 1) h) name ≡ Some d) ⊎ (look_up a.known name ≡ Some d) → IsPlain d.class
@@ -234,10 +241,11 @@ module _ (blocks : List Block) where
       by name d (inr g) = plain.each name d g
 
   mutual
-    stated : (begin : Begin) (a : Surroundings) → KnowsPlain a → (s : PStmt) (listed : Bool) → StmtBuilt s → StmtWhole s → StmtPlain s → IsClean blocks (here_stmt s listed a) →
+    stated : (begin : Begin) (a : Surroundings) → KnowsPlain a → (s : PStmt) (listed : Bool) → StmtAlone s → StmtWhole s → StmtPlain s → IsClean blocks (here_stmt s listed a) →
         AreClean blocks (inside_stmt blocks s begin listed a) → TypedStmt blocks begin a s
     stated begin a plain tree.empty listed b w t c i = tt
-    stated begin a plain (tree.label n s) listed b w t c i = absurd (no_label blocks a plain n c.known c.typed)
+    stated begin a plain (tree.label n s) listed b w t c i =
+        (label_of (class_of a n) n.spot (plain_first a plain n [] c.known) c.typed, stated of_statement a plain s listed b w t i.0 i.1)
     stated begin a plain (tree.assign (tree.subscripted n tree.none) e) listed b w t c i = assigned blocks a plain begin n e listed c (typed blocks a plain e w.1 i)
     stated begin a plain (tree.assign (tree.subscripted n (tree.more e es)) v) listed b w t c i =
         let those = inside_list (tree.more e es) a in
@@ -247,7 +255,7 @@ module _ (blocks : List Block) where
         let many = as_many (class_of a n) f.0 (exprs_count es) n.spot f.1 c.counted in
         let inside = subst (λ (d : Class). AreClean blocks (inside_actuals es (formals_of_class d) a)) f.1 i in
         (f.0, f.1, f.2, typed_actuals blocks a plain f.0 f.0.params (specified f.0 f.2) es w many inside)
-    stated begin a plain (tree.go_to n) listed b w t c i = absurd (no_label blocks a plain n c.known c.typed)
+    stated begin a plain (tree.go_to n) listed b w t c i = label_of (class_of a n) n.spot (plain_first a plain n [] c.known) c.typed
     stated begin a plain (tree.block (tree.body spot ds ss)) listed b w t c i =
         let start = inside blocks begin (tree.body spot ds ss) a in
         let within = knowing_all blocks ds start in
@@ -293,20 +301,20 @@ module _ (blocks : List Block) where
         (of_kind a types.Number e (typed blocks a plain e w.0 front) c.typed, stated of_statement a plain x false b w.1 t back.0 back.1)
     stated begin a plain (tree.case e ss) listed b w t c i =
         (of_kind a types.Number e (typed blocks a plain e w.0 (each_front (IsClean blocks) (sites e a) (sites_in_stmts blocks ss false a) i)) c.typed, all_stated a plain ss false b w.1 t (each_back (IsClean blocks) (sites e a) (sites_in_stmts blocks ss false a) i))
-    stated begin a plain (tree.process call task) listed b w t c i = absurd b
+    stated begin a plain (tree.process call named) listed b w t c i = absurd b
     stated begin a plain (tree.event act e) listed b w t c i =
-        absurd (none_happens e.task (class_of a e.name) e.name.spot (plain_first a plain e.name [] c.known) c.typed)
+        eventful_of e.task (class_of a e.name) e.name.spot (plain_first a plain e.name [] c.known) c.typed
     stated begin a plain (tree.write n spot phrases es) listed b w t c i =
         (fitting_phrases phrases es spot t c.lined c.narrow, fitting_line phrases es spot c.lined, typed_line blocks a plain es w i (nil_back (misnamed is_file (class_of a n) n.spot) (wrong_list types.Number es a) c.typed))
 
-    pub all_stated : (a : Surroundings) → KnowsPlain a → (ss : PStmts) (listed : Bool) → StmtsBuilt ss → StmtsWhole ss → StmtsPlain ss → AreClean blocks (sites_in_stmts blocks ss listed a) → TypedStmts blocks a ss
+    pub all_stated : (a : Surroundings) → KnowsPlain a → (ss : PStmts) (listed : Bool) → StmtsAlone ss → StmtsWhole ss → StmtsPlain ss → AreClean blocks (sites_in_stmts blocks ss listed a) → TypedStmts blocks a ss
     all_stated a plain tree.no_stmts listed b w t i = tt
     all_stated a plain (tree.stmts s ss) listed b w t i =
         let inside = inside_stmt blocks s of_statement listed a in
         let others = sites_in_stmts blocks ss listed a in
         (stated of_statement a plain s listed b.0 w.0 t.0 i.0 (each_front (IsClean blocks) inside others i.1), all_stated a plain ss listed b.1 w.1 t.1 (each_back (IsClean blocks) inside others i.1))
 
-    pub all_declared : (a : Surroundings) (first : List Declared) → KnowsPlain a → KnowsPlain (record a { known = first }) → (ds : PDecls) → DeclsBuilt ds → DeclsWhole ds → DeclsPlain ds →
+    pub all_declared : (a : Surroundings) (first : List Declared) → KnowsPlain a → KnowsPlain (record a { known = first }) → (ds : PDecls) → DeclsAlone ds → DeclsWhole ds → DeclsPlain ds →
         AreClean blocks (sites_in_decls blocks ds a first) → TypedDecls blocks a first ds
     all_declared a first plain at_begin tree.no_decls b w t i = tt
     all_declared a first plain at_begin (tree.decls d ds) b w t i =
@@ -319,11 +327,11 @@ module _ (blocks : List Block) where
           all_declared behind first plain_behind at_begin ds b.1 w.1 t.1 (each_back (IsClean blocks) within others i.1),
         )
 
-    declared : (a : Surroundings) (first : List Declared) → KnowsPlain a → KnowsPlain (record a { known = first }) → (d : PDecl) → DeclBuilt d → DeclWhole d → DeclPlain d →
+    declared : (a : Surroundings) (first : List Declared) → KnowsPlain a → KnowsPlain (record a { known = first }) → (d : PDecl) → DeclAlone d → DeclWhole d → DeclPlain d →
         AreClean blocks (inside_decl blocks d a first) → TypedDecl blocks a first d
     declared a first plain at_begin (tree.simple kind ns) b w t i = tt
     declared a first plain at_begin (tree.files ns) b w t i = tt
     declared a first plain at_begin (tree.arrays kind ns pairs) b w t i = (w.0.0, typed_pairs blocks (record a { known = first }) at_begin pairs w.0.1 i, w.1)
     declared a first plain at_begin (tree.forward h) b w t i = b
     declared a first plain at_begin (tree.procedure h s) b w t i = (b.0, stated of_procedure (inside_procedure blocks h a) (plain_procedure h a b.0 plain) s false b.1 w.1 t i.0 i.1, w.0)
-    declared a first plain at_begin _ b w t i = absurd b
+    declared a first plain at_begin _ b w t i = tt

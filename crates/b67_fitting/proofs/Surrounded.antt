@@ -21,10 +21,10 @@ use Rattle.algol_tree.specs.Sorts.{Sort, same_name, Declared, look_up, declare, 
 use Rattle.algol_tree.specs.Surroundings.{Surroundings, declared_as, class_of_declared, class_of, formals_at, announced, declare_procedure, knowing, knowing_all, inside_procedure}
 use Rattle.algol_paths.specs.Blocks.{IsSeen}
 use Rattle.algol_paths.specs.Texts.{InExpr, InExprs}
-use Rattle.b67_fitting.specs.Built.{DeclBuilt, DeclsBuilt}
+use Rattle.b67_fitting.specs.Alone.{DeclAlone, DeclsAlone}
 use Rattle.b67_fitting.proofs.Lists.{each_front, each_back, each_both, each_of, nil_front, nil_back, not_so, second_so}
 use Rattle.b67_fitting.proofs.Numbering.{IsThere}
-use Rattle.b67_fitting.proofs.Specified.{IsSpecified, as_value, as_name, as_array, AreSpecified, specified}
+use Rattle.b67_fitting.proofs.Specified.{IsSpecified, as_value, as_name, as_array, as_event, AreSpecified, specified}
 use Rattle.b67_fitting.proofs.Callees.{IsCallee, AreCallees, IsChain, is_among, chain_at}
 
 -- ---- what is known
@@ -38,6 +38,10 @@ module _ (blocks : List Block) where
     a_file : Means block sort.file class.file
     an_array : (kind : Kind) (count : ℕ) → Means block sort.array (class.array kind count)
     a_formal : (lows : List ℤ) (kind : Kind) (count : ℕ) → Means block (sort.formal_array lows) (class.array kind count)
+    an_event : Means block sort.event class.event
+    a_formal_event : Means block sort.formal_event class.event
+    a_task : Means block sort.event class.task
+    a_label : Means block sort.label class.label
     a_procedure : (h : Heading) → IsCallee blocks block h → Means block (sort.procedure (number_at blocks h.name.spot)) (class.procedure h)
 
   -- The declaration stands in the block j or in one around it, so many up.
@@ -67,6 +71,8 @@ module _ (blocks : List Block) where
   means_parameter k h n (as_array shape c a s) =
       subst (λ (z : Sort). Means k z (class_in h.specs n.name)) (sym s)
       (subst (λ (z : Class). Means k (sort.formal_array shape.lows) z) (sym c) (a_formal shape.lows shape.kind (length shape.lows)))
+  means_parameter k h n (as_event c a s) =
+      subst (λ (z : Sort). Means k z (class_in h.specs n.name)) (sym s) (subst (λ (z : Class). Means k sort.formal_event z) (sym c) a_formal_event)
 
   parameters_here : (k depth : ℕ) (h : Heading) (ns : List Named) → AreSpecified h ns → k < length blocks → length (around blocks k) ≡ depth →
       AllByRecursion (IsKnown k depth) (map (λ (n : Named). record { name = n.name; spot = n.spot; block = k; depth = depth; sort = sort_in h.specs (is_named_in h.values n.name) n.name; class = class_in h.specs n.name }) ns)
@@ -119,26 +125,30 @@ module _ (blocks : List Block) where
         knows (sort.procedure (number_at blocks h.name.spot)) (class.procedure h) (h.name ∷ []) a (a_procedure h its) r
 
     -- the place after a declaration, the later ones being these
-    pub knows_one : (d : PDecl) (ds : PDecls) (a : Surroundings) → DeclBuilt d → AreCallees blocks j (tree.decls d ds) → IsAround j outer a → IsAround j outer (knowing blocks d ds a)
+    pub knows_one : (d : PDecl) (ds : PDecls) (a : Surroundings) → DeclAlone d → AreCallees blocks j (tree.decls d ds) → IsAround j outer a → IsAround j outer (knowing blocks d ds a)
     knows_one (tree.simple kind ns) ds a b c r = knows sort.variable (class.simple kind) ns a (a_variable kind) r
     knows_one (tree.files ns) ds a b c r = knows sort.file class.file ns a a_file r
     knows_one (tree.arrays kind ns pairs) ds a b c r = knows sort.array (class.array kind (length pairs)) ns a (an_array kind (length pairs)) r
     knows_one (tree.forward h) ds a b c r = knows_procedure (announced h ds) a c.0 r
     knows_one (tree.procedure h t) ds a b c r = knows_procedure h a c.0 r
-    knows_one d ds a b c r = absurd b
+    knows_one (tree.events ns) ds a b c r = knows sort.event class.event ns a an_event r
+    knows_one (tree.tasks ns) ds a b c r = knows sort.event class.task ns a a_task r
+    knows_one (tree.labels ns) ds a b c r = knows sort.label class.label ns a a_label r
 
     -- the place after all of them
-    pub knows_all : (ds : PDecls) (a : Surroundings) → DeclsBuilt ds → AreCallees blocks j ds → IsAround j outer a → IsAround j outer (knowing_all blocks ds a)
+    pub knows_all : (ds : PDecls) (a : Surroundings) → DeclsAlone ds → AreCallees blocks j ds → IsAround j outer a → IsAround j outer (knowing_all blocks ds a)
     knows_all tree.no_decls a b c r = r
     knows_all (tree.decls (tree.simple kind ns) ds) a b c r =
         knows_all ds (knowing blocks (tree.simple kind ns) ds a) b.1 c (knows_one (tree.simple kind ns) ds a b.0 c r)
     knows_all (tree.decls (tree.files ns) ds) a b c r = knows_all ds (knowing blocks (tree.files ns) ds a) b.1 c (knows_one (tree.files ns) ds a b.0 c r)
+    knows_all (tree.decls (tree.events ns) ds) a b c r = knows_all ds (knowing blocks (tree.events ns) ds a) b.1 c (knows_one (tree.events ns) ds a b.0 c r)
+    knows_all (tree.decls (tree.tasks ns) ds) a b c r = knows_all ds (knowing blocks (tree.tasks ns) ds a) b.1 c (knows_one (tree.tasks ns) ds a b.0 c r)
+    knows_all (tree.decls (tree.labels ns) ds) a b c r = knows_all ds (knowing blocks (tree.labels ns) ds a) b.1 c (knows_one (tree.labels ns) ds a b.0 c r)
     knows_all (tree.decls (tree.arrays kind ns pairs) ds) a b c r =
         knows_all ds (knowing blocks (tree.arrays kind ns pairs) ds a) b.1 c (knows_one (tree.arrays kind ns pairs) ds a b.0 c r)
     knows_all (tree.decls (tree.forward h) ds) a b c r = knows_all ds (knowing blocks (tree.forward h) ds a) b.1 c.1 (knows_one (tree.forward h) ds a b.0 c r)
     knows_all (tree.decls (tree.procedure h t) ds) a b c r =
         knows_all ds (knowing blocks (tree.procedure h t) ds a) b.1 c.1 (knows_one (tree.procedure h t) ds a b.0 c r)
-    knows_all (tree.decls d ds) a b c r = absurd b.0
 
     -- the place after a BEGIN or the name of a procedure, at `spot` in the block j
     pub enters : (spot : Spot) (a : Surroundings) → number_at blocks spot < length blocks → around blocks (number_at blocks spot) ≡ map (number_at blocks) outer → IsAround j outer a →
@@ -266,6 +276,10 @@ module _ (sc : Scopes) (j : ℕ) (outer : List Spot) (a : Surroundings) (r : IsA
   left_as n d s c k a_file e i t = seen_use n (the_use n d) t k.found
   left_as n d s c k (an_array kind count) e i t = seen_use n (the_use n d) t k.found
   left_as n d s c k (a_formal lows kind count) e i t = seen_use n (the_use n d) t k.found
+  left_as n d s c k an_event e i t = seen_use n (the_use n d) t k.found
+  left_as n d s c k a_formal_event e i t = seen_use n (the_use n d) t k.found
+  left_as n d s c k a_task e i t = seen_use n (the_use n d) t k.found
+  left_as n d s c k a_label e i t = seen_use n (the_use n d) t k.found
   left_as n d s c k (a_procedure h callee) e i t =
       let own = number_at sc.blocks h.name.spot in
       let inside : is_among sc.blocks own (j ∷ around sc.blocks j) ≡ true = subst (λ (m : ℕ). is_among sc.blocks own (m ∷ around sc.blocks m) ≡ true) r.block_is (i h e) in

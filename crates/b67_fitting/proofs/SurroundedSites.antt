@@ -14,7 +14,7 @@ use Rattle.algol_tree.specs.Scopes.{scopes_of}
 use Rattle.algol_tree.specs.Sites.{Site, sites, other_formals, inside_expr, inside_list, inside_actuals, sites_in_pairs, here_stmt, inside_stmt, sites_in_stmts, sites_in_decls, has_decls}
 use Rattle.algol_tree.specs.Sorts.{Declared}
 use Rattle.algol_tree.specs.Surroundings.{Surroundings, outermost, formals_at, knowing, knowing_all, inside_begin, inside_procedure}
-use Rattle.b67_fitting.specs.Built.{DeclsBuilt, StmtBuilt, StmtsBuilt, IsBuilt}
+use Rattle.b67_fitting.specs.Alone.{DeclsAlone, StmtAlone, StmtsAlone, IsAlone}
 use Rattle.b67_fitting.proofs.Lists.{each_front, each_back, each_both, nil_front, nil_back, nil_map, nil_each}
 use Rattle.b67_fitting.proofs.Numbering.{IsNumbered, block_is, all_numbered, number_is}
 use Rattle.b67_fitting.proofs.Callees.{IsNamed, AreNamed, AreCallees, are_callees}
@@ -101,7 +101,7 @@ module _ (blocks : List Block) where
 
   -- `k`: the names of these parts are known where they stand
   mutual
-    in_stmt : (j : ℕ) (outer : List Spot) (a : Surroundings) (t : PStmt) (begin : Begin) (listed : Bool) → IsAround blocks j outer a → StmtBuilt t → AreNamed (inside_stmt blocks t begin listed a) →
+    in_stmt : (j : ℕ) (outer : List Spot) (a : Surroundings) (t : PStmt) (begin : Begin) (listed : Bool) → IsAround blocks j outer a → StmtAlone t → AreNamed (inside_stmt blocks t begin listed a) →
         Numbered (blocks_of t begin outer) → ArePlaced (inside_stmt blocks t begin listed a)
     in_stmt j outer a tree.empty g l r b k f = tt
     in_stmt j outer a (tree.label n t) g l r b k f = (surrounded j outer a r, in_stmt j outer a t of_statement l r b k.1 f)
@@ -170,7 +170,7 @@ module _ (blocks : List Block) where
     in_stmt j outer a (tree.event act e) g l r b k f = tt
     in_stmt j outer a (tree.write n spot phrases es) g l r b k f = in_list (IsSurrounded blocks) a (surrounded j outer a r) es
 
-    pub in_stmts : (j : ℕ) (outer : List Spot) (a : Surroundings) (ss : PStmts) (listed : Bool) → IsAround blocks j outer a → StmtsBuilt ss → AreNamed (sites_in_stmts blocks ss listed a) →
+    pub in_stmts : (j : ℕ) (outer : List Spot) (a : Surroundings) (ss : PStmts) (listed : Bool) → IsAround blocks j outer a → StmtsAlone ss → AreNamed (sites_in_stmts blocks ss listed a) →
         Numbered (blocks_in_stmts ss outer) → ArePlaced (sites_in_stmts blocks ss listed a)
     in_stmts j outer a tree.no_stmts l r b k f = tt
     in_stmts j outer a (tree.stmts t ss) l r b k f =
@@ -181,13 +181,19 @@ module _ (blocks : List Block) where
         (each_back (IsNumbered blocks) (blocks_of t of_statement outer) (blocks_in_stmts ss outer) f))
 
     -- `first`: what is known at the begin of the block, and so in its bounds
-    pub in_decls : (j : ℕ) (outer : List Spot) (a : Surroundings) (ds : PDecls) (first : List Declared) → IsAround blocks j outer (record a { known = first }) → IsAround blocks j outer a → DeclsBuilt ds → AreCallees blocks j ds →
+    pub in_decls : (j : ℕ) (outer : List Spot) (a : Surroundings) (ds : PDecls) (first : List Declared) → IsAround blocks j outer (record a { known = first }) → IsAround blocks j outer a → DeclsAlone ds → AreCallees blocks j ds →
         AreNamed (sites_in_decls blocks ds a first) → Numbered (blocks_in_decls ds outer) → ArePlaced (sites_in_decls blocks ds a first)
     in_decls j outer a tree.no_decls first e r b c k f = tt
     in_decls j outer a (tree.decls (tree.simple kind ns) ds) first e r b c k f =
         (surrounded j outer a r, in_decls j outer (knowing blocks (tree.simple kind ns) ds a) ds first e (knows_one blocks j outer (tree.simple kind ns) ds a b.0 c r) b.1 c k.1 f)
     in_decls j outer a (tree.decls (tree.files ns) ds) first e r b c k f =
         (surrounded j outer a r, in_decls j outer (knowing blocks (tree.files ns) ds a) ds first e (knows_one blocks j outer (tree.files ns) ds a b.0 c r) b.1 c k.1 f)
+    in_decls j outer a (tree.decls (tree.events ns) ds) first e r b c k f =
+        (surrounded j outer a r, in_decls j outer (knowing blocks (tree.events ns) ds a) ds first e (knows_one blocks j outer (tree.events ns) ds a b.0 c r) b.1 c k.1 f)
+    in_decls j outer a (tree.decls (tree.tasks ns) ds) first e r b c k f =
+        (surrounded j outer a r, in_decls j outer (knowing blocks (tree.tasks ns) ds a) ds first e (knows_one blocks j outer (tree.tasks ns) ds a b.0 c r) b.1 c k.1 f)
+    in_decls j outer a (tree.decls (tree.labels ns) ds) first e r b c k f =
+        (surrounded j outer a r, in_decls j outer (knowing blocks (tree.labels ns) ds a) ds first e (knows_one blocks j outer (tree.labels ns) ds a b.0 c r) b.1 c k.1 f)
     in_decls j outer a (tree.decls (tree.arrays kind ns pairs) ds) first e r b c k f =
         let after : Surroundings = knowing blocks (tree.arrays kind ns pairs) ds a in
         let at : Surroundings = record a { known = first } in
@@ -213,7 +219,6 @@ module _ (blocks : List Block) where
               (surrounded i (h.name.spot ∷ outer) d begun, in_stmt i (h.name.spot ∷ outer) d t of_procedure false begun b.0.1 named.1 (each_front (IsNumbered blocks) (blocks_of t of_procedure (h.name.spot ∷ outer)) (blocks_in_decls ds outer) f.1))
               (in_decls j outer after ds first e known b.1 c.1 (named_back its later k.1) (each_back (IsNumbered blocks) (blocks_of t of_procedure (h.name.spot ∷ outer)) (blocks_in_decls ds outer) f.1)),
         )
-    in_decls j outer a (tree.decls d ds) first e r b c k f = absurd b.0
 
 -- ---- the program
 
@@ -222,7 +227,7 @@ each_named : (p : PProgram) → Accepted p → AreNamed (sites_of p)
 unfolding scope_faults
 each_named p accepted = nil_each unknown_names (sites_of p) (nil_map _ _ (nil_front _ _ (nil_front _ _ (nil_front _ _ (nil_front _ _ (nil_front _ _ accepted.scoped))))))
 
-pub each_surrounded : (p : PProgram) → Accepted p → IsInOrder p → IsBuilt p → AllByRecursion (λ (x : Site). IsSurrounded (blocks_of_program p) x.around) (sites_of p)
+pub each_surrounded : (p : PProgram) → Accepted p → IsInOrder p → IsAlone p → AllByRecursion (λ (x : Site). IsSurrounded (blocks_of_program p) x.around) (sites_of p)
 unfolding blocks_of_program
 each_surrounded (tree.program (tree.body spot ds ss)) accepted order built =
     let outer = spot ∷ [] in
@@ -242,14 +247,14 @@ each_surrounded (tree.program (tree.body spot ds ss)) accepted order built =
     (in_stmts blocks first outer after ss (has_decls ds) (knows_all blocks first outer ds outermost built.0 called begun) built.1 (each_back IsNamed declared stated named) numbered_stmts)
 
 -- the names of each part are known, and their uses are found at their places
-pub each_good : (p : PProgram) → Accepted p → IsInOrder p → IsBuilt p → AreGood (scopes_of p) (sites_of p)
+pub each_good : (p : PProgram) → Accepted p → IsInOrder p → IsAlone p → AreGood (scopes_of p) (sites_of p)
 unfolding scopes_of blocks_of_program scope_faults
 each_good (tree.program (tree.body spot ds ss)) accepted order built =
     let up_to_levels = nil_front _ _ (nil_front _ _ (nil_front _ _ accepted.scoped)) in
     good_by spot ds ss order built.0 built.1 (nil_map _ _ (nil_front _ _ (nil_front _ _ up_to_levels)))
 
 -- a block has its number by its place
-pub each_number : (p : PProgram) → IsInOrder p → IsBuilt p → (j : ℕ) (b : Block) → slice_get (blocks_of_program p) j ≡ Some b →
+pub each_number : (p : PProgram) → IsInOrder p → IsAlone p → (j : ℕ) (b : Block) → slice_get (blocks_of_program p) j ≡ Some b →
     number_at (blocks_of_program p) b.spot ≡ j
 unfolding blocks_of_program
 each_number (tree.program (tree.body spot ds ss)) order built j b h =

@@ -16,7 +16,7 @@ use Rattle.algol_tree.specs.Surroundings.{Surroundings, formals_at, knowing, kno
 use Rattle.algol_paths.specs.Blocks.{IsSeen, IsInner}
 use Rattle.algol_paths.specs.Texts.{InStmt, InStmts}
 use Rattle.b67_templates.specs.Cells.{actuals_in_stmt, actuals_in_stmts}
-use Rattle.b67_fitting.specs.Built.{DeclsBuilt, StmtBuilt, StmtsBuilt}
+use Rattle.b67_fitting.specs.Alone.{DeclsAlone, StmtAlone, StmtsAlone}
 use Rattle.b67_fitting.specs.Nested.{AreParameters}
 use Rattle.b67_fitting.proofs.ActualsFew.{few_bounds, few_stmt, few_stmts}
 use Rattle.b67_fitting.proofs.Lists.{each_front, each_back, each_both}
@@ -32,10 +32,6 @@ same_number blocks (tree.decls d ds) a = same_number blocks ds (knowing blocks d
 
 heading_long : (h : Heading) → length (parameters_of h) ≡ length h.params
 heading_long h = length-map {B = Parameter} h.params (λ (n : Named). record { name = n.name; sort = sort_in h.specs (is_named_in h.values n.name) n.name })
-
-body_built : (t : PStmt) → StmtBuilt t → DeclsBuilt (decls_of t)
-body_built (tree.block (tree.body spot ds ss)) b = b.0
-body_built t b = tt
 
 abbrev IsNoBlock : PStmt → Type 0
 IsNoBlock (tree.block b) = ⊥
@@ -66,11 +62,11 @@ module _ (sc : Scopes) (all : List Site) (each : (k : ℕ) → k < length sc.blo
   text_in of_procedure j t p i = (i, tt)
 
   -- the body of a procedure has few actuals
-  few_alone : (j : ℕ) (outer : List Spot) (a : Surroundings) (t : PStmt) → IsAround sc.blocks j outer a → StmtBuilt t → AreGood sc (here_stmt t false a ∷ inside_stmt sc.blocks t of_statement false a) →
+  few_alone : (j : ℕ) (outer : List Spot) (a : Surroundings) (t : PStmt) → IsAround sc.blocks j outer a → StmtAlone t → AreGood sc (here_stmt t false a ∷ inside_stmt sc.blocks t of_statement false a) →
       length (actuals_in_stmts sc (tree.stmts t tree.no_stmts)) ≤ length (cells_of sc.blocks (here_stmt t false a ∷ inside_stmt sc.blocks t of_statement false a) a.block)
   few_alone j outer a t r b g = omega (arith, few_stmt sc each outermost j outer a r t false b g, length-append (actuals_in_stmt sc t) [])
 
-  few_body : (j : ℕ) (outer : List Spot) (a : Surroundings) (t : PStmt) → IsAround sc.blocks j outer a → StmtBuilt t → AreGood sc (stmt_sites t of_procedure false a) →
+  few_body : (j : ℕ) (outer : List Spot) (a : Surroundings) (t : PStmt) → IsAround sc.blocks j outer a → StmtAlone t → AreGood sc (stmt_sites t of_procedure false a) →
       AreCallees sc.blocks j (decls_of t) → FewInBody sc t a
   few_body j outer a (tree.block (tree.body spot ds ss)) r b g called =
       let declared = sites_in_decls sc.blocks ds a a.known in
@@ -103,13 +99,13 @@ module _ (sc : Scopes) (all : List Site) (each : (k : ℕ) → k < length sc.blo
   AreNestedIn j outer ss = InStmts (IsSeen sc j) (IsInner sc j) ss × Texts (blocks_in_stmts ss outer)
 
   -- the procedures of these declarations have blocks in the block j
-  pub callees : (j : ℕ) (outer : List Spot) (ds : PDecls) (a : Surroundings) (first : List Declared) → map (number_at sc.blocks) outer ≡ j ∷ around sc.blocks j → DeclsBuilt ds →
+  pub callees : (j : ℕ) (outer : List Spot) (ds : PDecls) (a : Surroundings) (first : List Declared) → map (number_at sc.blocks) outer ≡ j ∷ around sc.blocks j → DeclsAlone ds →
       Fine (blocks_in_decls ds outer) → Part (sites_in_decls sc.blocks ds a first) → AreCallees sc.blocks j ds
   callees j outer ds a first e b f h =
       are_callees sc.blocks j outer ds a first e b (fine_numbered sc all (blocks_in_decls ds outer) f) (part_named sc all (sites_in_decls sc.blocks ds a first) h)
 
   -- so have those that the body of a procedure declares
-  body_callees : (j : ℕ) (outer : List Spot) (t : PStmt) (a : Surroundings) → map (number_at sc.blocks) outer ≡ j ∷ around sc.blocks j → StmtBuilt t →
+  body_callees : (j : ℕ) (outer : List Spot) (t : PStmt) (a : Surroundings) → map (number_at sc.blocks) outer ≡ j ∷ around sc.blocks j → StmtAlone t →
       Fine (blocks_of t of_procedure outer) → Part (stmt_sites t of_procedure false a) → AreCallees sc.blocks j (decls_of t)
   body_callees j outer (tree.block (tree.body spot ds ss)) a e b f h =
       let declared = sites_in_decls sc.blocks ds a a.known in
@@ -119,7 +115,7 @@ module _ (sc : Scopes) (all : List Site) (each : (k : ℕ) → k < length sc.blo
   body_callees j outer t a e b f h = tt
 
   mutual
-    in_stmt : (j : ℕ) (outer : List Spot) (a : Surroundings) (t : PStmt) (begin : Begin) (listed : Bool) → IsAround sc.blocks j outer a → StmtBuilt t →
+    in_stmt : (j : ℕ) (outer : List Spot) (a : Surroundings) (t : PStmt) (begin : Begin) (listed : Bool) → IsAround sc.blocks j outer a → StmtAlone t →
         Part (stmt_sites t begin listed a) → Fine (blocks_of t begin outer) → IsNested begin j outer t
     in_stmt j outer a tree.empty g l r b h f = (text_in g j tree.empty tt tt, tt)
     in_stmt j outer a (tree.label n t) g l r b h f =
@@ -160,7 +156,7 @@ module _ (sc : Scopes) (all : List Site) (each : (k : ℕ) → k < length sc.blo
         subst (λ (m : ℕ). length (actuals_in_stmts sc ss) ≤ length (cells_of sc.blocks stated m)) known_behind.block_is
         (few_stmts sc each outermost k (spot ∷ outer) after known_behind ss true b.1 ((back sc all declared stated parts).good)) in
         let bounds = in_bounds sc k (spot ∷ outer) c (tree.decls d ds) c.known begun (early_inside sc j outer a r) b.0 part.good in
-        let its_text : IsTextOf sc all its = is_text sc all its f.0 b.0 called (omega (arith, as_many sc (tree.decls d ds) c c.known b.0 few_declared, few_stated, cells_both sc.blocks declared stated k, parts.less k)) bounds nested.0 in (
+        let its_text : IsTextOf sc all its = is_text sc all its f.0 called (omega (arith, as_many sc (tree.decls d ds) c c.known b.0 few_declared, few_stated, cells_both sc.blocks declared stated k, parts.less k)) bounds nested.0 in (
           is_inner sc all spot outer (tree.decls d ds) ss f.0 j r.chain_is,
           (its_text, each_both (IsTextOf sc all) (blocks_in_decls (tree.decls d ds) (spot ∷ outer)) (blocks_in_stmts ss (spot ∷ outer)) inner nested.1),
         )
@@ -228,7 +224,7 @@ module _ (sc : Scopes) (all : List Site) (each : (k : ℕ) → k < length sc.blo
         let good = h.good in
         (text_in g j (tree.write n spot phrases es) tt (in_list sc j outer a r es good.1), tt)
 
-    pub in_stmts : (j : ℕ) (outer : List Spot) (a : Surroundings) (ss : PStmts) (listed : Bool) → IsAround sc.blocks j outer a → StmtsBuilt ss →
+    pub in_stmts : (j : ℕ) (outer : List Spot) (a : Surroundings) (ss : PStmts) (listed : Bool) → IsAround sc.blocks j outer a → StmtsAlone ss →
         Part (sites_in_stmts sc.blocks ss listed a) → Fine (blocks_in_stmts ss outer) → AreNestedIn j outer ss
     in_stmts j outer a tree.no_stmts l r b h f = (tt, tt)
     in_stmts j outer a (tree.stmts t ss) l r b h f =
@@ -239,7 +235,7 @@ module _ (sc : Scopes) (all : List Site) (each : (k : ℕ) → k < length sc.blo
         ((first.0, others.0), each_both (IsTextOf sc all) (blocks_of t of_statement outer) (blocks_in_stmts ss outer) first.1 others.1)
 
     -- the procedures that are declared, and what stands in them
-    pub in_decls : (j : ℕ) (outer : List Spot) (a : Surroundings) (ds : PDecls) (first : List Declared) → IsAround sc.blocks j outer a → DeclsBuilt ds → AreCallees sc.blocks j ds →
+    pub in_decls : (j : ℕ) (outer : List Spot) (a : Surroundings) (ds : PDecls) (first : List Declared) → IsAround sc.blocks j outer a → DeclsAlone ds → AreCallees sc.blocks j ds →
         Part (sites_in_decls sc.blocks ds a first) → Fine (blocks_in_decls ds outer) → Texts (blocks_in_decls ds outer)
     in_decls j outer a tree.no_decls first r b c h f = tt
     in_decls j outer a (tree.decls (tree.simple kind ns) ds) first r b c h f =
@@ -248,6 +244,15 @@ module _ (sc : Scopes) (all : List Site) (each : (k : ℕ) → k < length sc.blo
     in_decls j outer a (tree.decls (tree.files ns) ds) first r b c h f =
         let after : Surroundings = knowing sc.blocks (tree.files ns) ds a in
         in_decls j outer after ds first (knows_one sc.blocks j outer (tree.files ns) ds a b.0 c r) b.1 c (rest sc all _ (sites_in_decls sc.blocks ds after first) h) f
+    in_decls j outer a (tree.decls (tree.events ns) ds) first r b c h f =
+        let after : Surroundings = knowing sc.blocks (tree.events ns) ds a in
+        in_decls j outer after ds first (knows_one sc.blocks j outer (tree.events ns) ds a b.0 c r) b.1 c (rest sc all _ (sites_in_decls sc.blocks ds after first) h) f
+    in_decls j outer a (tree.decls (tree.tasks ns) ds) first r b c h f =
+        let after : Surroundings = knowing sc.blocks (tree.tasks ns) ds a in
+        in_decls j outer after ds first (knows_one sc.blocks j outer (tree.tasks ns) ds a b.0 c r) b.1 c (rest sc all _ (sites_in_decls sc.blocks ds after first) h) f
+    in_decls j outer a (tree.decls (tree.labels ns) ds) first r b c h f =
+        let after : Surroundings = knowing sc.blocks (tree.labels ns) ds a in
+        in_decls j outer after ds first (knows_one sc.blocks j outer (tree.labels ns) ds a b.0 c r) b.1 c (rest sc all _ (sites_in_decls sc.blocks ds after first) h) f
     in_decls j outer a (tree.decls (tree.arrays kind ns pairs) ds) first r b c h f =
         let after : Surroundings = knowing sc.blocks (tree.arrays kind ns pairs) ds a in
         let bounds : List Site = sites_in_pairs pairs (record after { known = first }) in
@@ -274,6 +279,5 @@ module _ (sc : Scopes) (all : List Site) (each : (k : ℕ) → k < length sc.blo
         let called = body_callees k (g.name.spot ∷ outer) t d begun.chain_is b.0.1 fine_body part in
         let bounds = in_body sc k (g.name.spot ∷ outer) d t begun (early_procedure sc j outer after known g b.0.0) b.0.1 part.good in
         let its_text : IsTextOf sc all (procedure_block g t outer) =
-        is_text sc all (procedure_block g t outer) f.0 (body_built t b.0.1) called (omega (arith, heading_long g, procedure_many sc g t ds a d refl b.0.1 (few_body k (g.name.spot ∷ outer) d t begun b.0.1 part.good called), whole.less k)) bounds nested.0 in
+        is_text sc all (procedure_block g t outer) f.0 called (omega (arith, heading_long g, procedure_many sc g t ds a d refl b.0.1 (few_body k (g.name.spot ∷ outer) d t begun b.0.1 part.good called), whole.less k)) bounds nested.0 in
         (its_text, each_both (IsTextOf sc all) (blocks_of t of_procedure (g.name.spot ∷ outer)) (blocks_in_decls ds outer) nested.1 inner)
-    in_decls j outer a (tree.decls d ds) first r b c h f = absurd b.0

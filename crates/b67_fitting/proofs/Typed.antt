@@ -17,12 +17,12 @@ use Rattle.algol_tree.specs.Sorts.{is_named_in, class_in, formals_of}
 use Rattle.algol_tree.specs.Surroundings.{Surroundings, class_of, formals_of_class, declared_as}
 use Rattle.algol_tree.specs.Types.{given_by, taken_by, element_type, result_type, type_of}
 use Rattle.b67_templates.specs.Fragments.{IsWhole}
-use Rattle.b67_fitting.specs.Built.{HeadingBuilt}
+use Rattle.b67_fitting.specs.Alone.{HeadingSpecified}
 use Rattle.b67_fitting.specs.Wholes.{NumbersWhole, AllWhole}
 use Rattle.b67_fitting.proofs.Lists.{each_front, each_back, nil_front, nil_back}
-use Rattle.b67_fitting.proofs.Actuals.{IsArrayActual, array_actual}
-use Rattle.b67_fitting.proofs.Specified.{IsSpecified, as_value, as_name, as_array, AreSpecified, specified}
-use Rattle.b67_fitting.proofs.Clean.{IsClean, AreClean, KnowsPlain, plain_first, misnamed, none_happens, array_of, has_others, subscripts_as_many, as_many, none_taken, function_of, IsRead, read_kind, read_as, wrong, wrong_for, wrong_list, kind_wanted, wrong_if}
+use Rattle.b67_fitting.proofs.Actuals.{IsArrayActual, array_actual, IsEventActual, event_actual}
+use Rattle.b67_fitting.proofs.Specified.{IsSpecified, as_value, as_name, as_array, as_event, AreSpecified, specified}
+use Rattle.b67_fitting.proofs.Clean.{IsClean, AreClean, KnowsPlain, plain_first, misnamed, IsEventful, eventful_of, array_of, has_others, subscripts_as_many, as_many, none_taken, function_of, IsRead, read_kind, read_as, wrong, wrong_for, wrong_list, kind_wanted, wrong_if}
 
 -- a parameter as its call sees it
 abbrev pub as_formal : Heading → Named → Formal
@@ -71,14 +71,14 @@ module _ (a : Surroundings) where
     TypedExpr k (tree.two op x y) = (k ≡ given_by op) × TypedExpr (taken_by op) x × TypedExpr (taken_by op) y
     TypedExpr k (tree.if c x y spot) = TypedExpr types.Truth c × TypedExpr k x × TypedExpr k y
     TypedExpr k (tree.call (tree.called n es)) =
-        (h : Heading) × (class_of a n ≡ class.procedure h) × HeadingBuilt h × (h.kind ≡ Some k) × TypedActuals (formals_of h) es
-    TypedExpr k _ = ⊥
+        (h : Heading) × (class_of a n ≡ class.procedure h) × HeadingSpecified h × (h.kind ≡ Some k) × TypedActuals (formals_of h) es
+    TypedExpr k (tree.tested test e spot) = (k ≡ types.Truth) × IsEventful (class_of a e.name)
 
-    -- actuals of these parameters: of simple ones values, and names of arrays
+    -- actuals of these parameters: of simple ones values, and names of arrays and of events
     pub TypedActuals : List Formal → PExprs → Type 0
     TypedActuals [] tree.none = Unit {0}
     TypedActuals (f ∷ fs) (tree.more e es) =
-        (((k : Kind) × (f.class ≡ class.simple k) × TypedExpr k e) ⊎ IsArrayActual a f e) × TypedActuals fs es
+        (((k : Kind) × (f.class ≡ class.simple k) × TypedExpr k e) ⊎ (IsArrayActual a f e ⊎ IsEventActual a f e)) × TypedActuals fs es
     TypedActuals _ _ = ⊥
 
     pub TypedLine : PExprs → Type 0
@@ -87,11 +87,11 @@ module _ (a : Surroundings) where
 
   -- an actual of this parameter
   abbrev pub TypedActual : Formal → PExpr → Type 0
-  TypedActual f e = ((k : Kind) × (f.class ≡ class.simple k) × TypedExpr k e) ⊎ IsArrayActual a f e
+  TypedActual f e = ((k : Kind) × (f.class ≡ class.simple k) × TypedExpr k e) ⊎ (IsArrayActual a f e ⊎ IsEventActual a f e)
 
   -- a call that a statement makes
   abbrev pub IsCalled : Named → PExprs → Type 0
-  IsCalled n es = (h : Heading) × (class_of a n ≡ class.procedure h) × HeadingBuilt h × TypedActuals (formals_of h) es
+  IsCalled n es = (h : Heading) × (class_of a n ≡ class.procedure h) × HeadingSpecified h × TypedActuals (formals_of h) es
 
   pub record HasKind (e : PExpr) : Type 0 where
     pub kind : Kind
@@ -131,7 +131,8 @@ module _ (blocks : List Block) (a : Surroundings) (plain : KnowsPlain a) where
       IsClean blocks (record { part = actual_part e (Some (as_formal h n)); around = a }) → wrong_actual (Some (as_formal h n)) e a ≡ [] → TypedActual a (as_formal h n) e
   actual_typed h n (as_value k c v s) e typed own w = value_typed h n k c e typed own w
   actual_typed h n (as_name k c v s) e typed own w = value_typed h n k c e typed own w
-  actual_typed h n (as_array shape c e' s) e typed own w = inr (array_actual blocks a plain (as_formal h n) shape.kind (length shape.lows) c e w own)
+  actual_typed h n (as_array shape c e' s) e typed own w = inr (inl (array_actual blocks a plain (as_formal h n) shape.kind (length shape.lows) c e w own))
+  actual_typed h n (as_event c e' s) e typed own w = inr (inr (event_actual blocks a plain (as_formal h n) c e w own))
 
   mutual
     pub typed : (e : PExpr) → NumbersWhole e → AreClean blocks (sites e a) → HasKind a e
@@ -157,7 +158,11 @@ module _ (blocks : List Block) (a : Surroundings) (plain : KnowsPlain a) where
           is = ap result_type f.class_is ∙ f.kind_is;
           typed = (h, f.class_is, f.built, f.kind_is, typed_actuals h h.params (specified h f.built) (tree.more e es) w many inside);
         }
-    typed (tree.tested test e spot) w c = absurd (none_happens e.task (class_of a e.name) e.name.spot (plain_first a plain e.name [] c.0.known) c.0.typed)
+    typed (tree.tested test e spot) w c = record {
+      kind = types.Truth;
+      is = refl;
+      typed = (refl, eventful_of e.task (class_of a e.name) e.name.spot (plain_first a plain e.name [] c.0.known) c.0.typed);
+    }
     typed (tree.paren e spot) w c =
         let h = typed e w c.1 in
         record { kind = h.kind; is = h.is; typed = h.typed }

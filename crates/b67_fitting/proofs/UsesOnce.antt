@@ -14,7 +14,7 @@ use Rattle.algol_tree.specs.Sites.{Site, sites, first_formal, other_formals, wan
 use Rattle.algol_tree.specs.Sorts as sort
 use Rattle.algol_tree.specs.Sorts.{Sort, Declared}
 use Rattle.algol_tree.specs.Surroundings.{Surroundings, declared_as, formals_at, knowing, knowing_all, inside, inside_procedure}
-use Rattle.b67_fitting.specs.Built.{DeclsBuilt, StmtBuilt, StmtsBuilt}
+use Rattle.b67_fitting.specs.Alone.{DeclsAlone, StmtAlone, StmtsAlone}
 use Rattle.b67_fitting.proofs.Numbering.{here, times, times_both, places, places_both, use_place}
 
 -- what a name is used as stands at the name
@@ -133,7 +133,7 @@ module _ (s : Spot) where
     stmt_sites t begin listed a = here_stmt t listed a ∷ inside_stmt blocks t begin listed a
 
     mutual
-      in_stmt : (t : PStmt) (begin : Begin) (listed : Bool) (a : Surroundings) → StmtBuilt t → uses_in (stmt_sites t begin listed a) ≤ places s (spots_of_stmt t)
+      in_stmt : (t : PStmt) (begin : Begin) (listed : Bool) (a : Surroundings) → StmtAlone t → uses_in (stmt_sites t begin listed a) ≤ places s (spots_of_stmt t)
       in_stmt tree.empty g l a b = omega arith
       in_stmt (tree.label n t) g l a b = omega (arith, of_names a (n ∷ []), in_stmt t of_statement l a b)
       in_stmt (tree.assign (tree.subscripted n es) e) g l a b =
@@ -190,18 +190,24 @@ module _ (s : Spot) where
       in_stmt (tree.event act e) g l a b = omega (arith, of_names a (e.name ∷ []))
       in_stmt (tree.write n spot phrases es) g l a b = omega (arith, of_names a (n ∷ []), in_list a es)
 
-      pub in_stmts : (ss : PStmts) (listed : Bool) (a : Surroundings) → StmtsBuilt ss → uses_in (sites_in_stmts blocks ss listed a) ≤ places s (spots_of_stmts ss)
+      pub in_stmts : (ss : PStmts) (listed : Bool) (a : Surroundings) → StmtsAlone ss → uses_in (sites_in_stmts blocks ss listed a) ≤ places s (spots_of_stmts ss)
       in_stmts tree.no_stmts l a b = omega arith
       in_stmts (tree.stmts t ss) l a b =
           omega (arith, uses_both (stmt_sites t of_statement l a) (sites_in_stmts blocks ss l a), places_both s (spots_of_stmt t) (spots_of_stmts ss), in_stmt t of_statement l a b.0, in_stmts ss l a b.1)
 
       -- declarations use names only in bounds and in the bodies of procedures
-      pub in_decls : (ds : PDecls) (a : Surroundings) (first : List Declared) → DeclsBuilt ds → uses_in (sites_in_decls blocks ds a first) ≤ places s (spots_of_decls ds)
+      pub in_decls : (ds : PDecls) (a : Surroundings) (first : List Declared) → DeclsAlone ds → uses_in (sites_in_decls blocks ds a first) ≤ places s (spots_of_decls ds)
       in_decls tree.no_decls a first b = omega arith
       in_decls (tree.decls (tree.simple kind ns) ds) a first b =
           omega (arith, places_both s (spots_of_names ns) (spots_of_decls ds), in_decls ds (knowing blocks (tree.simple kind ns) ds a) first b.1)
       in_decls (tree.decls (tree.files ns) ds) a first b =
           omega (arith, places_both s (spots_of_names ns) (spots_of_decls ds), in_decls ds (knowing blocks (tree.files ns) ds a) first b.1)
+      in_decls (tree.decls (tree.events ns) ds) a first b =
+          omega (arith, places_both s (spots_of_names ns) (spots_of_decls ds), in_decls ds (knowing blocks (tree.events ns) ds a) first b.1)
+      in_decls (tree.decls (tree.tasks ns) ds) a first b =
+          omega (arith, places_both s (spots_of_names ns) (spots_of_decls ds), in_decls ds (knowing blocks (tree.tasks ns) ds a) first b.1)
+      in_decls (tree.decls (tree.labels ns) ds) a first b =
+          omega (arith, places_both s (spots_of_names ns) (spots_of_decls ds), in_decls ds (knowing blocks (tree.labels ns) ds a) first b.1)
       in_decls (tree.decls (tree.arrays kind ns pairs) ds) a first b =
           let after : Surroundings = knowing blocks (tree.arrays kind ns pairs) ds a in
           let bounds : Surroundings = record after { known = first } in
@@ -226,4 +232,3 @@ module _ (s : Spot) where
             in_stmt t of_procedure false c b.0.1,
             in_decls ds after first b.1,
           )
-      in_decls (tree.decls d ds) a first b = absurd b.0

@@ -1,26 +1,11 @@
--- Which programs are built: all that they declare are simple variables, files, arrays and procedures whose parameters are simple ones or
--- arrays, in whatever block, and no process is started.
-use Rattle.std.specs.Prelude.{◌≡◌, ◌⊎◌, true}
-use Rattle.std.specs.List.{All}
-use Rattle.algol_tree.specs.declared.tree.Heading.{Heading}
-use Rattle.algol_tree.specs.declared.tree.Named.{Named}
+-- Which programs are built: those that start no process.
 use Rattle.algol_tree.specs.Plain as tree
 use Rattle.algol_tree.specs.Plain.{PStmt, PStmts, PDecl, PDecls, PProgram}
-use Rattle.algol_tree.specs.Classes.{is_simple, is_array}
-use Rattle.algol_tree.specs.Sorts.{class_in}
-
--- each parameter is specified as a simple one, by value or by name, or as an array
-abbrev pub HeadingBuilt : Heading → Type 0
-HeadingBuilt h = All (λ (n : Named). (is_simple (class_in h.specs n.name) ≡ true) ⊎ (is_array (class_in h.specs n.name) ≡ true)) h.params
 
 abbrev mutual
   pub DeclBuilt : PDecl → Type 0
-  DeclBuilt (tree.simple kind ns) = Unit {0}
-  DeclBuilt (tree.files ns) = Unit {0}
-  DeclBuilt (tree.arrays kind ns pairs) = Unit {0}
-  DeclBuilt (tree.forward h) = HeadingBuilt h
-  DeclBuilt (tree.procedure h s) = HeadingBuilt h × StmtBuilt s
-  DeclBuilt d = ⊥
+  DeclBuilt (tree.procedure h s) = StmtBuilt s
+  DeclBuilt d = Unit {0}
 
   pub DeclsBuilt : PDecls → Type 0
   DeclsBuilt tree.no_decls = Unit {0}

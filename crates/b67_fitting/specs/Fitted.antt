@@ -1,5 +1,5 @@
--- An accepted program that is built has code: its trees fit.
-use Rattle.std.specs.Prelude.{◌≡◌, ℕ, ◌<◌, if◌then◌else◌, map, length, Option, Some, None}
+-- An accepted program of one process has code: its trees fit.
+use Rattle.std.specs.Prelude.{◌≡◌, ℕ, ◌<◌, if◌then◌else◌, false, map, length, Option, Some, None}
 use Rattle.std.specs.List.{flat_map}
 use Rattle.algol_tree.specs.declared.token.Spot.{Spot}
 use Rattle.algol_tree.specs.Plain.{PProgram}
@@ -7,18 +7,20 @@ use Rattle.algol_tree.specs.Accepted.{Accepted}
 use Rattle.algol_tree.specs.Ascending.{IsInOrder}
 use Rattle.algol_tree.specs.Blocks.{block_numbered, blocks_of_program}
 use Rattle.algol_tree.specs.Cells as cells
-use Rattle.algol_tree.specs.Cells.{level_of, is_by_name}
+use Rattle.algol_tree.specs.Cells.{level_at, level_of, is_by_name}
 use Rattle.algol_tree.specs.Classes as class
-use Rattle.algol_tree.specs.Classes.{Class, Formal}
+use Rattle.algol_tree.specs.Classes.{Class, Formal, is_label}
 use Rattle.algol_tree.specs.Couples.{Located, declaration_at, result_at, actual_at, known_at, known_there}
-use Rattle.algol_tree.specs.Scopes.{scopes_of}
+use Rattle.algol_tree.specs.Scopes.{Scopes, scopes_of}
 use Rattle.algol_tree.specs.Sites.{sites_by}
 use Rattle.algol_tree.specs.Sorts as sort
 use Rattle.algol_tree.specs.Sorts.{Sort, Declared, formals_of}
 use Rattle.algol_paths.specs.Arrays.{Lows, lows_at}
+use Rattle.algol_paths.specs.Segments.{segment_of}
 use Rattle.b67_ops.specs.declared.Couple.{Couple}
-use Rattle.b67_templates.specs.Fitting.{Meant, a_variable, a_name, a_procedure, another, Told, DeclsFit, StmtsFit}
-use Rattle.b67_fitting.specs.Built.{IsBuilt}
+use Rattle.b67_templates.specs.Labels.{label_number, table_place}
+use Rattle.b67_templates.specs.Fitting.{Meant, a_variable, a_name, a_procedure, an_event, another, Target, Told, DeclsFit, StmtsFit}
+use Rattle.b67_fitting.specs.Alone.{IsAlone}
 use Rattle.b67_fitting.specs.Texts.{HasPlainTexts}
 use Rattle.b67_fitting.specs.Wholes.{HasWholeNumbers}
 
@@ -44,14 +46,28 @@ AreLows p lows = (spot : Spot) (d : Located) → declaration_at p spot ≡ Some 
 unfoldable pub declared_at : PProgram → Spot → Option Declared
 declared_at p spot = known_there (flat_map (known_at (blocks_of_program p)) (sites_by p (blocks_of_program p))) spot
 
--- what a name is that is declared as this: of a procedure it is told which of its parameters are by name
+-- what a name is that is declared as this: of a procedure it is told which of its parameters are by name, of an event whether it is a parameter
 abbrev pub meant_as : Class → Sort → Meant
 meant_as (class.simple kind) s = if sort.is_by_name s then a_name else a_variable
 meant_as (class.procedure h) s = a_procedure (map (λ (f : Formal). is_by_name (Some f)) (formals_of h))
+meant_as class.event s = an_event (sort.is_formal s)
+meant_as class.task s = an_event false
 meant_as _ s = another
 
 abbrev pub AreMeant : PProgram → (Spot → Meant) → Type 0
 AreMeant p meant = (spot : Spot) (d : Declared) → declared_at p spot ≡ Some d → meant spot ≡ meant_as d.class d.sort
+
+-- where a label leads that has this number in its segment
+abbrev pub target_numbered : ℕ → ℕ → Option ℕ → Option Target
+target_numbered level segment None = None
+target_numbered level segment (Some number) = Some (record { level = level; segment = segment; entry = table_place number })
+
+-- .. that is declared as this, where it is one
+abbrev pub target_of : Scopes → Declared → Option Target
+target_of sc d = if is_label d.class then target_numbered (level_at d.depth) (segment_of sc.blocks d.block) (label_number sc d.block d.name) else None
+
+abbrev pub AreTargets : PProgram → (Spot → Option Target) → Type 0
+AreTargets p labels = (spot : Spot) (d : Declared) → declared_at p spot ≡ Some d → labels spot ≡ target_of (scopes_of p) d
 
 -- .. and the couple of each actual that has a cell, by the place where it begins
 abbrev pub AreActuals : PProgram → (Spot → Option Couple) → Type 0
@@ -63,6 +79,7 @@ pub record IsToldOf (p : PProgram) (told : Told) : Type 0 where
   pub results : AreResults p told.results
   pub lows : AreLows p told.lows
   pub meant : AreMeant p told.meant
+  pub labels : AreTargets p told.labels
   pub actuals : AreActuals p told.actuals
 
 -- the declarations and the statements of a block
@@ -73,5 +90,5 @@ pub record BlockFits (p : PProgram) (told : Told) (j : ℕ) : Type 0 where
 -- each block fits its level
 abbrev pub AcceptedProgramsFit : Type 0
 AcceptedProgramsFit =
-    (p : PProgram) (told : Told) → Accepted p → IsInOrder p → IsBuilt p → HasWholeNumbers p → HasPlainTexts p → IsToldOf p told → (j : ℕ) → j < length (scopes_of p).blocks →
+    (p : PProgram) (told : Told) → Accepted p → IsInOrder p → IsAlone p → HasWholeNumbers p → HasPlainTexts p → IsToldOf p told → (j : ℕ) → j < length (scopes_of p).blocks →
     BlockFits p told j

@@ -1,4 +1,4 @@
--- How the blocks of an accepted program that is built lie in one another.
+-- How the blocks of an accepted program of one process lie in one another.
 use Rattle.std.specs.Prelude.{◌≡◌, ℕ, ◌+◌, ◌<◌, ◌≤◌, true, List, [], ◌∷◌, length, None, Some, slice_get}
 use Rattle.algol_tree.specs.declared.TheConstants.{MOST_BLOCK_CELLS, MOST_LEVEL, MOST_PROCEDURES, MOST_SEGMENT_TOKENS}
 use Rattle.algol_tree.specs.declared.tree.Kind.{Kind}
@@ -17,7 +17,7 @@ use Rattle.algol_paths.specs.Laws.{ItemsKeepToText}
 use Rattle.algol_paths.specs.Segments.{is_procedure, procedures_before, segment_tokens}
 use Rattle.b67_templates.specs.Cells as wants
 use Rattle.b67_templates.specs.Cells.{Simple, parameter_cells, simple_cells, found_from, procedures, actuals_of, made_of}
-use Rattle.b67_fitting.specs.Built.{IsBuilt}
+use Rattle.b67_fitting.specs.Alone.{IsAlone}
 use Rattle.b67_fitting.specs.Names.{HasNames}
 
 -- the block of a procedure that the block with this number declares stands in it
@@ -26,25 +26,26 @@ pub record IsDeclared (sc : Scopes) (j : ℕ) (declared : Named) : Type 0 where
   pub around_is : around sc.blocks (number_at sc.blocks declared.spot) ≡ j ∷ around sc.blocks j
   pub procedure : is_procedure (block_numbered sc.blocks (number_at sc.blocks declared.spot)) ≡ true
 
--- The cell of a parameter by value or by name has its kind, that of an array its shape.
+-- The cell of a parameter by value or by name has its kind, that of an array its shape; that of an event stands for it.
 pub data IsTold (p : Parameter) (cell : Simple) : Type 0 where
   by_value : (kind : Kind) → cell.wanted ≡ wants.value kind → is_variable p.sort ≡ true → IsTold p cell
   by_name : (kind : Kind) → cell.wanted ≡ wants.by_name kind → p.sort ≡ sort.by_name → IsTold p cell
   an_array : (shape : Shape) → cell.wanted ≡ wants.array shape → p.sort ≡ sort.formal_array shape.lows → IsTold p cell
+  an_event : cell.wanted ≡ wants.event → p.sort ≡ sort.formal_event → IsTold p cell
 
 abbrev pub AreTold : List Parameter → List Simple → Type 0
 AreTold [] [] = Unit {0}
 AreTold (p ∷ ps) (c ∷ cells) = (p.name ≡ c.name) × IsTold p c × AreTold ps cells
 AreTold _ _ = ⊥
 
--- Each parameter of a block is simple or an array, and has a cell. Where the block gives a result, no parameter has the block's name
+-- Each parameter of a block is simple, an array or an event, and has a cell. Where the block gives a result, no parameter has the block's name
 -- (rule DeclaredTwice), so the first cell with that name is the result's.
 pub record AreParameters (sc : Scopes) (b : Block) : Type 0 where
   pub told : AreTold b.parameters (parameter_cells sc b)
   pub apart : (kind : Kind) → b.result ≡ Some kind → found_from 0 (parameter_cells sc b) b.name ≡ None
 
 -- Each block's text keeps to it: its names are seen from there, those in bounds from the block around it, but for parameters, and the
--- blocks in it stand in it. Its parameters are simple ones or arrays, it has no more cells than a block may have (rule TooManyCells), and a
+-- blocks in it stand in it. Its parameters are specified, it has no more cells than a block may have (rule TooManyCells), and a
 -- level that the machine has (rule TooManyLevels).
 pub record IsText (sc : Scopes) (j : ℕ) : Type 0 where
   pub items : ItemsKeepToText sc j (items_of (block_numbered sc.blocks j))
@@ -71,5 +72,5 @@ pub record LiesNested (p : PProgram) : Type 0 where
   pub nested : AreNested (scopes_of p)
   pub short : (k : ℕ) → segment_tokens p k ≤ MOST_SEGMENT_TOKENS
 
-abbrev pub BuiltProgramsLieNested : Type 0
-BuiltProgramsLieNested = (p : PProgram) → Accepted p → IsInOrder p → IsBuilt p → HasNames p → LiesNested p
+abbrev pub ProgramsLieNested : Type 0
+ProgramsLieNested = (p : PProgram) → Accepted p → IsInOrder p → IsAlone p → HasNames p → LiesNested p

@@ -20,9 +20,11 @@ use Rattle.b67_templates.specs.Cells as wants
 use Rattle.b67_templates.specs.Cells.{Wanted, parameter_wants, IsProcedure}
 use Rattle.b67_templates.specs.Code as code
 use Rattle.b67_templates.specs.Code.{ArrayActualAt, NameActualAt, ActualsAt}
+use Rattle.b67_templates.specs.Events as events
+use Rattle.b67_templates.specs.Events.{EventActualAt}
 use Rattle.b67_templates.specs.Depths.{line_depth}
-use Rattle.b67_standing.specs.Stepping.{Slot, operand, reference, mark, HasRoom, cell_named, actual as actual_held, of_array, of_variable, of_actual, push_reference, stuff, Leads, there, first}
-use Rattle.b67_standing.specs.Standing.{operands, given_slot, given_slots, AreGiven, CallsAt, array_passed, name_passed, Fills, Shows}
+use Rattle.b67_standing.specs.Stepping.{Slot, operand, reference, mark, HasRoom, cell_named, actual as actual_held, of_array, of_variable, of_event, of_actual, push_reference, stuff, Leads, there, first}
+use Rattle.b67_standing.specs.Standing.{operands, given_slot, given_slots, AreGiven, CallsAt, array_passed, name_passed, event_passed, Fills, Shows}
 use Rattle.b67_standing.proofs.Leading.{on, valued_at}
 use Rattle.b67_standing.proofs.Values.{variable_refers, own_names}
 
@@ -171,6 +173,47 @@ module _ (sc : Scopes) (context : Context) (ps : List Placed) (level most : ℕ)
             a.wants_are,
             a.fit,
             record { couple = c; passable = array_passed shape actual i agrees; lies = refl; stands = loads },
+            a.actuals,
+            a.room,
+          ),
+          a.enter,
+        );
+      })
+
+  -- an actual that is the name of an event
+  pub event_stands : (n : Named) (callee : ℕ) (couple : Couple) (gs : List Given) (before : List Wanted) (after : List Wanted) (sorts : List Sort) (es : PExprs)
+      (f m filled next : ℕ) (below : List Slot) (x : Named) → ActualAt n callee couple gs before wants.event after sorts es m filled next below →
+      EventActualAt sc context ps level x f m → ActualsOn n callee couple es sorts after m below next →
+      ComesFilled n callee (alone_of (procedure_in (sort_at sc x)) (is_formal (sort_at sc x)) gs x sorts es (settle_actuals sc es sorts)) f
+      (given_slots before gs (called_on couple below)) below next
+  event_stands n callee couple gs before after sorts es f m filled next below x a (events.refers c q i name stuffs) go =
+      let floor = given_slots before gs (called_on couple below) in
+      let settled : Sort → HalfGiven = λ s. alone_of (procedure_in s) (is_formal s) gs x sorts es (settle_actuals sc es sorts) in
+      let pushes = push_reference c name (omega (arith, a.room, given_slots-length before gs (called_on couple below))) in
+      subst (λ s. ComesFilled n callee (settled s) f floor below next) (sym i.sort_is)
+      (after_filled n callee (settle_actuals sc es sorts (gs ++ refers x ∷ [])) below next (first pushes (first (stuff (cell_named x) c (of_event x c i) name stuffs) there))
+      (actual_done n callee couple gs before wants.event after sorts es m filled next below (refers x) a ((c, i), tt) go))
+  event_stands n callee couple gs before after sorts es f m filled next below x a (events.passes c q i name loads) go =
+      let floor = given_slots before gs (called_on couple below) in
+      let settled : Sort → HalfGiven = λ s. alone_of (procedure_in s) (is_formal s) gs x sorts es (settle_actuals sc es sorts) in
+      let pushes = push_reference c name (omega (arith, a.room, given_slots-length before gs (called_on couple below))) in
+      subst (λ s. ComesFilled n callee (settled s) f floor below next) (sym i.sort_is)
+      (record {
+        at = q;
+        with_slots = reference c ∷ floor;
+        leads = first pushes there;
+        fills = (
+          filled,
+          (
+            couple,
+            before,
+            wants.event,
+            after,
+            m,
+            a.procedure,
+            a.wants_are,
+            a.fit,
+            record { couple = c; passable = event_passed i; lies = refl; stands = loads },
             a.actuals,
             a.room,
           ),

@@ -1,5 +1,6 @@
 -- What each head asks for is an action, and so it is where the machine stands for an expression.
 use Rattle.std.proofs.Common.{◌≡◌, ℕ, List, ◌∷◌}
+use Rattle.algol_tree.specs.declared.tree.EventAct.{EventAct}
 use Rattle.algol_tree.specs.declared.tree.Kind.{Kind}
 use Rattle.algol_tree.specs.declared.tree.Kind.TheVariants as types
 use Rattle.algol_tree.specs.declared.tree.Named.{Named}
@@ -10,7 +11,7 @@ use Rattle.algol_tree.specs.Scopes.{Scopes}
 use Rattle.algol_meaning.specs.Value.{Value}
 use Rattle.algol_meaning.specs.Rest as rests
 use Rattle.algol_meaning.specs.Rest.{Hole, Actuals, Aim, Place, Given, Answer}
-use Rattle.algol_meaning.specs.Asks.{nothing, indexes, resolves, passes, makes_arrays, reads_result, enters, leaves, stores, selects, turns, writes, enters_block, ask_hole, ask_actuals, ask_aim}
+use Rattle.algol_meaning.specs.Asks.{nothing, indexes, resolves, passes, makes_arrays, makes_event, acts, goes_to, reads_result, enters, leaves, stores, selects, turns, writes, enters_block, ask_hole, ask_actuals, ask_aim}
 use Rattle.b67_segment.specs.Operators.{Placed}
 use Rattle.b67_templates.specs.Contexts.{Context}
 use Rattle.b67_standing.specs.Stepping.{Slot, operand, reference, mark, ready}
@@ -46,6 +47,15 @@ result_asks name e = cc
 pub arrays_ask : (kind : Kind) (ns : List Named) (pairs : List PPair) (vs : List Value) → makes_arrays kind ns pairs vs ≡ nothing → ⊥
 arrays_ask kind ns pairs vs e = cc
 
+pub event_asks : (n : Named) → makes_event n ≡ nothing → ⊥
+event_asks n e = cc
+
+pub acts_asks : (act : EventAct) (n : Named) → acts act n ≡ nothing → ⊥
+acts_asks act n e = cc
+
+pub going_asks : (n : Named) → goes_to n ≡ nothing → ⊥
+going_asks n e = cc
+
 indexes_asks : (n : Named) (ks : List ℕ) (v : Value) → indexes n ks v ≡ nothing → ⊥
 indexes_asks n ks v e = cc
 
@@ -61,6 +71,7 @@ module _ (sc : Scopes) (context : Context) (ps : List Placed) (level most : ℕ)
   mutual
     pub holds_asks : (k : Kind) (h : Hole) (pc : ℕ) (slots below : List Slot) (to : ℕ) → Holds sc context ps level most k h pc slots below to → ask_hole h ≡ nothing → ⊥
     holds_asks k (rests.read n) pc slots below to s e = cc
+    holds_asks k (rests.happens n) pc slots below to s e = cc
     holds_asks k (rests.broken op v w fault) pc slots below to s e = cc
     holds_asks k (rests.enter n gs) pc slots below to s e = cc
     holds_asks k (rests.left op h b) pc slots below to s e = holds_asks (taken_by op) h pc slots below s.0 s.5 e

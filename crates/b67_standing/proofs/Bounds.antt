@@ -1,4 +1,4 @@
--- The bounds of arrays: each pair comes to lie above those before it, and those on the number of the arrays.
+-- The bounds of arrays: each pair comes to lie above those before it, and those on the number of the arrays. And the making of an event.
 use Rattle.std.proofs.Common.{◌≡◌, refl, sym, ap, ◌∙◌, subst, ℕ, ◌+◌, ◌*◌, ◌≤◌, arith, List, [], ◌∷◌, ◌++◌, length, length-append, append_assoc}
 use Rattle.std.proofs.lemmas.List.{append-nil}
 use Rattle.std.specs.Prelude.{pos}
@@ -14,16 +14,17 @@ use Rattle.algol_meaning.specs.Settle.{settle}
 use Rattle.algol_meaning.specs.Statements.{bound_of, settle_bounds}
 use Rattle.b67_ops.specs.declared.Operator.TheVariants as ops
 use Rattle.b67_ops.specs.declared.PlainKind.TheVariants as kinds
-use Rattle.b67_ops.specs.declared.intrinsic.Intrinsic.TheVariants.{Arrays}
+use Rattle.b67_ops.specs.declared.intrinsic.Intrinsic.TheVariants.{Arrays, Event}
 use Rattle.b67_segment.specs.Operators.{Placed}
 use Rattle.b67_templates.specs.Contexts.{Context}
 use Rattle.b67_templates.specs.Fragments.{IsWhole, Has, stop}
+use Rattle.b67_templates.specs.Events.{EventMadeAt}
 use Rattle.b67_templates.specs.Code.{AreDimensions, HasNoCounts, BoundsAt, ArraysAt}
 use Rattle.b67_templates.specs.Depths.{depth, bounds_depth, arrays_depth}
-use Rattle.b67_standing.specs.Stepping.{Slot, operand, HasRoom, push_number, call, there, first}
+use Rattle.b67_standing.specs.Stepping.{Slot, operand, intrinsic, mark, HasRoom, push_number, call, there, first}
 use Rattle.b67_standing.specs.Standing.{pend, AreNumbers, arrays_begun, extents, AreWholeLows, Follows, Shows, ComesTo}
 use Rattle.b67_standing.proofs.Leading.{depth-positive, pend-none}
-use Rattle.b67_standing.proofs.Asking.{arrays_ask}
+use Rattle.b67_standing.proofs.Asking.{arrays_ask, event_asks}
 use Rattle.b67_standing.proofs.Settling.{settle_at}
 use Rattle.b67_standing.proofs.Rests.{are_numbers-more, after_rest, stays_here, heads_ask, value_at}
 
@@ -138,3 +139,12 @@ module _ (sc : Scopes) (context : Context) (ps : List Placed) (level most : ℕ)
       (after_rest sc context ps level most
       (first (call Arrays h.intrinsic (omega (arith, room))) (first (push_number (pos (length ns)) h.number (omega (arith, room))) there))
       (bounds_at pairs kind ns pairs k h.numbered h.bounded o h.bounds [] [] refl refl tt (omega (arith, room))))
+
+  -- the making of an event, where nothing waits
+  pub event_at : (n : Named) (k : List Item) (f t : ℕ) → EventMadeAt sc context ps level f t → HasNoCounts k → Follows sc context ps level most k t → HasRoom most [] 2 →
+      Coming (rests.event n k) f (pend k)
+  event_at n k f t h none follows room =
+      subst (λ y. Coming (rests.event n k) f y) (sym (pend-none k none))
+      (after_rest sc context ps level most (first (call Event h.intrinsic (omega (arith, room))) there)
+      (stays_here sc context ps level most h.named (intrinsic Event ∷ mark ∷ []) (rests.event n k) (event_asks n)
+      (t, record { lies = refl; made = h.made; stands = h.enter; push = h.push }, none, follows)))

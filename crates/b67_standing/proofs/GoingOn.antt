@@ -2,6 +2,7 @@
 -- was entered, the rest goes on when that has left.
 use Rattle.std.proofs.Common.{◌≡◌, refl, sym, ap, ◌∙◌, subst, ℕ, zero, suc, ◌+◌, ◌*◌, ◌<◌, ◌≤◌, arith, Bool, true, false, List, [], ◌∷◌, length, Option, Some, None}
 use Rattle.std.specs.Prelude.{nat_abs}
+use Rattle.algol_tree.specs.declared.tree.EventAct.{EventAct}
 use Rattle.algol_tree.specs.declared.tree.Kind.{Kind}
 use Rattle.algol_tree.specs.declared.tree.Kind.TheVariants as types
 use Rattle.algol_tree.specs.declared.tree.Named.{Named}
@@ -15,7 +16,7 @@ use Rattle.algol_meaning.specs.Rest as rests
 use Rattle.algol_meaning.specs.Rest.{own, Given, Hole, Actuals, HalfGiven, Item, Rest, Answer}
 use Rattle.algol_meaning.specs.Settle.{half_of, is_typed, settle, put_actuals}
 use Rattle.algol_meaning.specs.Statements.{run_and, turn_and, assigned_of, aimed_at, chosen_of, looped_of, checked_of, counted_of, counted_body, selected_of, statement_called_of, item_of, bound_of, tested_of, differed_of, settle_line, settle_bounds, settle_stmt, settle_items}
-use Rattle.algol_meaning.specs.Asks.{nothing, reads_result, leaves, stores, selects, turns, writes, makes_arrays, ask, evaluated_of, located_of, nth_stmt, called, resume}
+use Rattle.algol_meaning.specs.Asks.{nothing, reads_result, leaves, stores, selects, turns, writes, makes_arrays, makes_event, acts, ask, evaluated_of, located_of, nth_stmt, called, resume}
 use Rattle.b67_ops.specs.declared.Operator.TheVariants as ops
 use Rattle.b67_ops.specs.declared.PlainKind.TheVariants as kinds
 use Rattle.b67_ops.specs.declared.BranchKind.TheVariants.{Brun}
@@ -110,6 +111,31 @@ module _ (sc : Scopes) (context : Context) (ps : List Placed) (level most : ℕ)
       answer (rests.cell c) at after l = absurd l
       answer (rests.place p) at after l = absurd l
       answer rests.entered at after l = absurd l
+
+  event_made : (n : Named) (k : List Item) (pc : ℕ) (slots : List Slot) → StandsFor sc context ps level most (rests.event n k) pc slots → Going (rests.event n k) pc slots
+  event_made n k pc slots s = record { action = (s.0, s.1); answered = answer; waits = λ at left wanted l. absurd l; returns = λ at left wanted l. absurd l }
+    where
+      answer : (a : Answer) (at : ℕ) (after : List Slot) → Acted sc context ps level most (makes_event n) pc slots (s.0, s.1) a at after → Coming (settle_items sc k) at after
+      answer rests.done at after l =
+          next_at sc context ps level most k (settle_items sc k) s.0 at after l.0 (l.1 ∙ sym (pend-none k s.2)) (items_at sc context ps level most k s.0 s.3)
+      answer (rests.value v) at after l = absurd l
+      answer (rests.cell c) at after l = absurd l
+      answer (rests.place p) at after l = absurd l
+      answer rests.entered at after l = absurd l
+
+  event_acted : (act : EventAct) (n : Named) (k : List Item) (pc : ℕ) (slots : List Slot) → StandsFor sc context ps level most (rests.acting act n k) pc slots →
+      Going (rests.acting act n k) pc slots
+  event_acted act n k pc slots s = record { action = (s.0, pend k, s.1); answered = answer; waits = λ at left wanted l. absurd l; returns = λ at left wanted l. absurd l }
+    where
+      answer : (a : Answer) (at : ℕ) (after : List Slot) → Acted sc context ps level most (acts act n) pc slots (s.0, pend k, s.1) a at after → Coming (settle_items sc k) at after
+      answer rests.done at after l = next_at sc context ps level most k (settle_items sc k) s.0 at after l.0 l.1 (items_at sc context ps level most k s.0 s.2)
+      answer (rests.value v) at after l = absurd l
+      answer (rests.cell c) at after l = absurd l
+      answer (rests.place p) at after l = absurd l
+      answer rests.entered at after l = absurd l
+
+  gone : (n : Named) (pc : ℕ) (slots : List Slot) → StandsFor sc context ps level most (rests.going n) pc slots → Going (rests.going n) pc slots
+  gone n pc slots s = record { action = s; answered = λ a at left l. absurd l; waits = λ at left wanted l. absurd l; returns = λ at left wanted l. absurd l }
 
   turned : (k : List Item) (pc : ℕ) (slots : List Slot) → StandsFor sc context ps level most (rests.turning k) pc slots → Going (rests.turning k) pc slots
   turned k pc slots s = record { action = (s.0, s.1, s.2); answered = answer; waits = λ at left wanted l. absurd l; returns = λ at left wanted l. absurd l }
@@ -297,6 +323,9 @@ module _ (sc : Scopes) (context : Context) (ps : List Placed) (level most : ℕ)
   goes_on_at (rests.turning k) pc slots s asks = turned k pc slots s
   goes_on_at (rests.line phrases vs k) pc slots s asks = written phrases vs k pc slots s
   goes_on_at (rests.arrays kind ns pairs vs k) pc slots s asks = arrays_made kind ns pairs vs k pc slots s
+  goes_on_at (rests.event n k) pc slots s asks = event_made n k pc slots s
+  goes_on_at (rests.acting act n k) pc slots s asks = event_acted act n k pc slots s
+  goes_on_at (rests.going n) pc slots s asks = gone n pc slots s
   goes_on_at (rests.giving_place p) pc slots s asks = place_given p pc slots s
   goes_on_at (rests.aiming x e k) pc slots s asks =
       by_aim sc context ps level most s.0 (pend k) s.1 (λ z. aimed_at z e (settle sc e) k) (assigns sc context ps level most s.0 e k s.1 s.2 s.3 s.5 s.6 s.7 s.8) x pc slots s.4 (λ y. refl)

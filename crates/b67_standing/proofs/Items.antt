@@ -17,7 +17,7 @@ use Rattle.b67_standing.proofs.Leading.{pend-length, leads_by}
 use Rattle.b67_standing.proofs.Asking.{leaves_asks, result_asks}
 use Rattle.b67_standing.proofs.Settling.{settle_at}
 use Rattle.b67_standing.proofs.Rests.{after_rest, stays_here, turning_at, checked_stands}
-use Rattle.b67_standing.proofs.Bounds.{arrays_at}
+use Rattle.b67_standing.proofs.Bounds.{arrays_at, event_at}
 use Rattle.b67_standing.proofs.Loops.{RoundRoom, repeated_at, again_at, differed_stands}
 use Rattle.b67_standing.proofs.Performing.{stmt_at}
 
@@ -70,7 +70,11 @@ module _ (sc : Scopes) (context : Context) (ps : List Placed) (level most : ℕ)
       let more : Follows sc context ps level most k h.1 = record { at = h.5; shallow = (s.shallow).1; counts = s.counts } in
       after_rest sc context ps level most (leads_by sc context ps level most h.2)
       (arrays_at sc context ps level most kind ns pairs k h.0 h.1 h.3 h.4 more (omega (arith, (s.shallow).0)))
-  items_at (rests.make_event n ∷ k) pc s = absurd s.at
+  items_at (rests.make_event n ∷ k) pc s =
+      let h = s.at in
+      let more : Follows sc context ps level most k h.1 = record { at = h.5; shallow = (s.shallow).1; counts = s.counts } in
+      after_rest sc context ps level most (leads_by sc context ps level most h.2)
+      (event_at sc context ps level most n k h.0 h.1 h.3 h.4 more (omega (arith, (s.shallow).0)))
 
 pub items_stand : ItemsStand
 items_stand sc context ps level most k pc s = items_at sc context ps level most k pc s

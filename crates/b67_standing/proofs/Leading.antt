@@ -91,7 +91,7 @@ module _ (sc : Scopes) (context : Context) (ps : List Placed) (level most : ℕ)
   before (rests.result name ∷ []) g s = (s.0, goes_on ps level g s.1, s.2)
   before (rests.result name ∷ item ∷ k) g s = absurd s
   before (rests.make_arrays kind ns pairs ∷ k) g s = (s.0, s.1, goes_on ps level g s.2, s.3, s.4, s.5)
-  before (rests.make_event n ∷ k) g s = absurd s
+  before (rests.make_event n ∷ k) g s = (s.0, s.1, goes_on ps level g s.2, s.3, s.4, s.5)
 
   pub follows_before : (k : List Item) {a b : ℕ} → Goes ps level a b → Follows sc context ps level most k b → Follows sc context ps level most k a
   follows_before k g f = record { at = before k g f.at; shallow = f.shallow; counts = f.counts }

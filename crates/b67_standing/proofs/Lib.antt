@@ -18,4 +18,5 @@ pub mod Aiming
 pub mod Routines
 pub mod GoingOn
 pub mod Starting
+pub mod Jumping
 pub mod Forward

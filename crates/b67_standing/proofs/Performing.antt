@@ -2,6 +2,8 @@
 use Rattle.std.proofs.Common.{◌≡◌, refl, sym, ap, subst, ℕ, ◌+◌, arith, List, [], ◌∷◌, length}
 use Rattle.std.specs.Prelude.{pos}
 use Rattle.algol_tree.specs.declared.tree.Kind.TheVariants as types
+use Rattle.algol_tree.specs.declared.tree.EventAct.{EventAct}
+use Rattle.algol_tree.specs.declared.tree.EventName.{EventName}
 use Rattle.algol_tree.specs.declared.tree.Named.{Named}
 use Rattle.algol_tree.specs.declared.token.Spot.{Spot}
 use Rattle.algol_tree.specs.declared.tree.PhraseText.{PhraseText}
@@ -9,21 +11,24 @@ use Rattle.algol_tree.specs.Plain as tree
 use Rattle.algol_tree.specs.Plain.{PExpr, PExprs, PStmt, PStmts, PDecl, PDecls}
 use Rattle.algol_tree.specs.Blocks.{block_numbered}
 use Rattle.algol_tree.specs.Scopes.{Scopes}
+use Rattle.algol_meaning.specs.Value.{number}
 use Rattle.algol_meaning.specs.Rest as rests
 use Rattle.algol_meaning.specs.Rest.{HalfGiven, Item, Rest}
 use Rattle.algol_meaning.specs.Settle.{sorts_of, block_of, settle, settle_actuals}
 use Rattle.algol_meaning.specs.Statements.{items, checked_of, statement_called_of, settle_stmt, settle_stmts}
-use Rattle.b67_ops.specs.declared.intrinsic.Intrinsic.TheVariants.{Write, Select}
+use Rattle.b67_ops.specs.declared.intrinsic.Intrinsic.TheVariants.{Write, Select, GoTo}
 use Rattle.b67_segment.specs.Operators.{Placed}
 use Rattle.b67_templates.specs.Contexts.{Context}
 use Rattle.b67_templates.specs.Fragments.{Goes, stop, over, code_at}
 use Rattle.b67_templates.specs.Cells.{parameter_wants}
+use Rattle.b67_templates.specs.Labels.{GoToAt}
+use Rattle.b67_templates.specs.Events.{intrinsic_for, OnEventAt}
 use Rattle.b67_templates.specs.Code.{FormatIs, CallStmtAt, StmtAt, StmtsAt, WriteAt}
 use Rattle.b67_templates.specs.Depths.{depth, stmt_depth, stmts_depth}
-use Rattle.b67_standing.specs.Stepping.{Slot, intrinsic, control, mark, HasRoom, push_number, call, announce, summon, there, first}
+use Rattle.b67_standing.specs.Stepping.{Slot, operand, reference, intrinsic, control, mark, HasRoom, push_number, push_reference, call, announce, summon, there, first}
 use Rattle.b67_standing.specs.Standing.{pend, Follows, WhileAt, ComesTo}
 use Rattle.b67_standing.proofs.Leading.{depth-positive, pend-length, leads_by, follows_before, follows_run}
-use Rattle.b67_standing.proofs.Asking.{enters_asks}
+use Rattle.b67_standing.proofs.Asking.{acts_asks, going_asks, enters_asks}
 use Rattle.b67_standing.proofs.Actuals.{ComesFilled, called_on}
 use Rattle.b67_standing.proofs.Settling.{settle_at, actuals_at}
 use Rattle.b67_standing.proofs.Rests.{after_rest, stays_here, follows_turn, turning_at, assign_at, chosen_stands, looped_stands, checked_stands, selected_stands, called_stands, line_at}
@@ -64,6 +69,41 @@ module _ (sc : Scopes) (context : Context) (ps : List Placed) (level most : ℕ)
       (first (call Write h.intrinsic (omega (arith, room))) (first (push_number (pos h.format) h.number (omega (arith, room))) there))
       (line_at sc context ps level most es phrases k h.format h.numbered h.valued t h.items h.enter (h.number).whole (follows_before sc context ps level most k g follows) []
       (subst (λ z. FormatIs sc context ps level h.format phrases z) (omega arith) h.is) tt (omega (arith, room)))
+
+  -- ---- events and labels
+
+  acted_at : (act : EventAct) (e : EventName) (f t u : ℕ) → OnEventAt sc context ps level (intrinsic_for act) e.name f t → Goes ps level t u → Doing (tree.event act e) f u
+  acted_at act e f t u h g k r follows room c =
+      let begun = intrinsic (intrinsic_for act) ∷ mark ∷ pend k in
+      after_rest sc context ps level most
+      (first (call (intrinsic_for act) h.intrinsic (omega (arith, room))) (first (push_reference h.couple h.reference (omega (arith, room))) there))
+      (stays_here sc context ps level most h.referred (reference h.couple ∷ begun) (rests.acting act e.name k) (acts_asks act e.name)
+      (t, record { couple = h.couple; is_event = h.is_event; lies = refl; stands = h.enter }, follows_before sc context ps level most k g follows))
+
+  -- what waits is dropped
+  gone_at : (n : Named) (f t u : ℕ) → GoToAt sc context ps level n f t → Doing (tree.go_to n) f u
+  gone_at n f t u h k r follows room c =
+      let begun = intrinsic GoTo ∷ mark ∷ pend k in
+      let leveled = operand (number (pos h.target)) ∷ begun in
+      let segmented = operand (number (pos h.segment)) ∷ leveled in
+      after_rest sc context ps level most
+      (first (call GoTo h.intrinsic (omega (arith, room))) (first (push_number (pos h.target) h.level_stands (omega (arith, room)))
+      (first (push_number (pos h.segment) h.segment_stands (omega (arith, room))) (first (push_number (pos h.entry) h.entry_stands (omega (arith, room))) there))))
+      (stays_here sc context ps level most h.placed (operand (number (pos h.entry)) ∷ segmented) (rests.going n) (going_asks n) (
+        t,
+        pend k,
+        record {
+          target = h.target;
+          segment = h.segment;
+          entry = h.entry;
+          label = h.label;
+          level_whole = (h.level_stands).whole;
+          segment_whole = (h.segment_stands).whole;
+          entry_whole = (h.entry_stands).whole;
+          lies = refl;
+          stands = h.enter;
+        },
+      ))
 
   -- ---- inner blocks
 
@@ -166,7 +206,10 @@ module _ (sc : Scopes) (context : Context) (ps : List Placed) (level most : ℕ)
         after_rest sc context ps level most (first (call Select h.3 (omega (arith, room))) d.leads)
         (selected_stands sc context ps level most (settle sc e) ss k d.at d.with_slots h.1 h.2 u d.shows h.5 h.6 follows (omega (arith, room, depth-positive e)))
     stmt_at (tree.write n spot phrases es) f t u h g k r follows room c = write_at n spot phrases es f t u h g k r follows room c
-    stmt_at _ f t u h g k r follows room c = absurd h
+    stmt_at (tree.label n s) f t u h g k r follows room c = stmt_at s f t u h.1 g k r follows room c
+    stmt_at (tree.go_to n) f t u h g k r follows room c = gone_at n f t u h k r follows room c
+    stmt_at (tree.event act e) f t u h g k r follows room c = acted_at act e f t u h g k r follows room c
+    stmt_at (tree.process x task) f t u h g k r follows room c = absurd h
 
     pub stmts_at : (ss : PStmts) (f t u : ℕ) → StmtsAt sc context ps level ss f t u → Goes ps level t u → DoingAll ss f u
     stmts_at tree.no_stmts f t u h g k r follows room c = after_rest sc context ps level most (leads_by sc context ps level most (subst (λ z. Goes ps level z u) (sym h) g)) c

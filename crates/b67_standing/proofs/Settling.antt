@@ -17,17 +17,19 @@ use Rattle.algol_meaning.specs.Settle.{left_of, negated_of, inverted_of, named_o
 use Rattle.b67_ops.specs.declared.Couple.{Couple}
 use Rattle.b67_ops.specs.declared.Operator.TheVariants as ops
 use Rattle.b67_ops.specs.declared.PlainKind.TheVariants as kinds
+use Rattle.b67_ops.specs.declared.intrinsic.Intrinsic.TheVariants.{Happened}
 use Rattle.b67_segment.specs.Operators.{Placed}
 use Rattle.b67_templates.specs.Contexts.{Context}
 use Rattle.b67_templates.specs.Fragments.{Has, Goes, stop, over}
 use Rattle.b67_templates.specs.Cells as wants
 use Rattle.b67_templates.specs.Cells.{Wanted, parameter_wants, IsProcedure, IsRead, of_variable, of_formal}
 use Rattle.b67_templates.specs.Code.{NameAt, reads, calls, ExprAt, ActualsAt}
+use Rattle.b67_templates.specs.Events.{OnEventAt}
 use Rattle.b67_templates.specs.Depths.{depth}
-use Rattle.b67_standing.specs.Stepping.{Slot, operand, reference, mark, HasRoom, push_number, push_truth, summon, there, first}
+use Rattle.b67_standing.specs.Stepping.{Slot, operand, reference, intrinsic, mark, HasRoom, push_number, push_truth, push_reference, call, summon, there, first}
 use Rattle.b67_standing.specs.Standing.{given_slots, AreGiven}
 use Rattle.b67_standing.proofs.Leading.{depth-positive}
-use Rattle.b67_standing.proofs.Actuals.{given_slots-length, Filled, ComesFilled, after_filled, called_on, ActualsOn, actual_stands, array_stands, name_stands}
+use Rattle.b67_standing.proofs.Actuals.{given_slots-length, Filled, ComesFilled, after_filled, called_on, ActualsOn, actual_stands, array_stands, event_stands, name_stands}
 use Rattle.b67_standing.proofs.Values.{variable_reads, formal_reads, procedure_enters}
 use Rattle.b67_standing.proofs.Halves.{Comes, here, after, of_kind, negated_at, inverted_at, left_at, condition_at}
 use Rattle.b67_standing.proofs.Subscripts.{begun_at, subscript_at}
@@ -73,6 +75,16 @@ module _ (sc : Scopes) (context : Context) (ps : List Placed) (level most : ℕ)
   called_stands k n callee (rests.wants x) pc slots below next to s e room g =
       here sc context ps level most k pc slots (busy (rests.argument n x)) below to (callee, s.0, next, e, s.1, s.2, g)
 
+  -- the test of an event
+  event_tested : (n : Named) (f t u : ℕ) → OnEventAt sc context ps level Happened n f t → Goes ps level t u → (below : List Slot) → HasRoom most below 3 →
+      Coming types.Truth f below (busy (rests.happens n)) below u
+  event_tested n f t u h g below room =
+      let begun = intrinsic Happened ∷ mark ∷ below in
+      after sc context ps level most types.Truth
+      (first (call Happened h.intrinsic (omega (arith, room))) (first (push_reference h.couple h.reference (omega (arith, room))) there))
+      (here sc context ps level most types.Truth h.referred (reference h.couple ∷ begun) (busy (rests.happens n)) below u
+      (t, refl, record { couple = h.couple; is_event = h.is_event; lies = refl; stands = h.enter }, g))
+
   mutual
     pub settle_at : (k : Kind) (e : PExpr) (f t u : ℕ) → ExprAt sc context ps level k e f t u → Goes ps level t u → (below : List Slot) → HasRoom most below (depth e) →
         Coming k f below (settle sc e) below u
@@ -114,7 +126,8 @@ module _ (sc : Scopes) (context : Context) (ps : List Placed) (level most : ℕ)
         subst (λ z. Coming k f below (called_of n (settled z)) below u) (sym (ap block_of (b.procedure).sort_is))
         (after sc context ps level most k (first (summon n h.0 b (omega (arith, room))) there)
         (after sc context ps level most k filled.leads (called_stands k n h.0 (settled h.0) filled.at filled.with_slots below t u filled.fills h.2 (omega (arith, room)) g)))
-    settle_at k _ f t u h g below room = absurd h
+    settle_at k (tree.tested tree.happened e spot) f t u h g below room =
+        of_kind sc context ps level most f below (busy (rests.happens e.name)) below u h.0 (event_tested e.name f t u h.1 g below room)
 
     -- the actuals come to lie there one after another
     pub actuals_at : (es : PExprs) (sorts : List Sort) (after : List Wanted) (n : Named) (callee : ℕ) (couple : Couple) (f filled next : ℕ) (below : List Slot) →
@@ -162,6 +175,15 @@ module _ (sc : Scopes) (context : Context) (ps : List Placed) (level most : ℕ)
         (name_stands sc context ps level most n callee couple gs before kind later sorts es f l.0 filled next below e
         (record { procedure = procedure; wants_are = wants_are; fit = fit; actuals = l.3; enter = enter; room = omega (arith, room, deep) })
         l.2 (actuals_at es sorts later n callee couple l.0 filled next below procedure l.3 enter))
+    actuals_at (tree.more (tree.variable (tree.subscripted x tree.none)) es) (sort ∷ sorts) (wants.event ∷ later) n callee couple f filled next below procedure l enter gs before
+        wants_are fit room =
+        let floor = given_slots before gs (called_on sc context ps level most couple below) in
+        let e = tree.variable (tree.subscripted x tree.none) in
+        let settled : Bool → HalfGiven = λ b. actual_of sc b e (settle sc e) gs sorts es (settle_actuals sc es sorts) in
+        subst (λ b. ComesFilled sc context ps level most n callee (settled b) f floor below next) (sym l.1)
+        (event_stands sc context ps level most n callee couple gs before later sorts es f l.0 filled next below x
+        (record { procedure = procedure; wants_are = wants_are; fit = fit; actuals = l.3; enter = enter; room = omega (arith, room) })
+        l.2 (actuals_at es sorts later n callee couple l.0 filled next below procedure l.3 enter))
     actuals_at tree.none [] (x ∷ later) n callee couple f filled next below procedure l enter gs before wants_are fit room = absurd l
     actuals_at tree.none (sort ∷ sorts) [] n callee couple f filled next below procedure l enter gs before wants_are fit room = absurd l
     actuals_at tree.none (sort ∷ sorts) (wants.value kind ∷ later) n callee couple f filled next below procedure l enter gs before wants_are fit room = absurd l
@@ -172,6 +194,6 @@ module _ (sc : Scopes) (context : Context) (ps : List Placed) (level most : ℕ)
     actuals_at (tree.more e es) [] [] n callee couple f filled next below procedure l enter gs before wants_are fit room = absurd l
     actuals_at (tree.more e es) [] (x ∷ later) n callee couple f filled next below procedure l enter gs before wants_are fit room = absurd l
     actuals_at (tree.more e es) (sort ∷ sorts) [] n callee couple f filled next below procedure l enter gs before wants_are fit room = absurd l
-    actuals_at (tree.more e es) (sort ∷ sorts) (wants.event ∷ later) n callee couple f filled next below procedure l enter gs before wants_are fit room = absurd l
     actuals_at (tree.more e es) (sort ∷ sorts) (wants.other ∷ later) n callee couple f filled next below procedure l enter gs before wants_are fit room = absurd l
     actuals_at (tree.more _ es) (sort ∷ sorts) (wants.array shape ∷ later) n callee couple f filled next below procedure l enter gs before wants_are fit room = absurd l
+    actuals_at (tree.more _ es) (sort ∷ sorts) (wants.event ∷ later) n callee couple f filled next below procedure l enter gs before wants_are fit room = absurd l

@@ -1,4 +1,4 @@
--- The items of a block follow where their code stands, and so do the arrays and the statements of an inner block.
+-- The items of a block follow where their code stands, and so do the arrays, the events and the statements of an inner block.
 use Rattle.std.proofs.Common.{◌≡◌, refl, sym, subst, ℕ, ◌≤◌, arith, List, [], ◌∷◌, ◌++◌, append_assoc, Option, Some, None}
 use Rattle.algol_tree.specs.declared.tree.Kind.{Kind}
 use Rattle.algol_tree.specs.declared.tree.Named.{Named}
@@ -12,10 +12,11 @@ use Rattle.algol_meaning.specs.Statements.{items, event_items, decl_items, decls
 use Rattle.b67_segment.specs.Operators.{Placed}
 use Rattle.b67_templates.specs.Contexts.{Context}
 use Rattle.b67_templates.specs.Fragments.{stop}
+use Rattle.b67_templates.specs.Events.{EventsMadeAt}
 use Rattle.b67_templates.specs.Code.{HasNoCounts, DeclsAt, KAt}
 use Rattle.b67_templates.specs.Depths.{decls_depth, stmts_depth, counts_in, AreShallow}
 use Rattle.b67_standing.specs.Standing.{AreCounts, Follows, ComesTo}
-use Rattle.b67_standing.specs.Laws.{BlocksStart, InnerBlocksStart, CountsHaveRoom}
+use Rattle.b67_standing.specs.Laws.{BlocksStart, InnerBlocksStart, InnerBlocksFollow, CountsHaveRoom}
 use Rattle.b67_standing.proofs.Leading.{pend-length, pend-none}
 use Rattle.b67_standing.proofs.Rests.{counts_within}
 use Rattle.b67_standing.proofs.Performing.{items_follow}
@@ -23,7 +24,7 @@ use Rattle.b67_standing.proofs.Items.{items_at}
 
 -- ---- nothing of a THRU is among statements and declarations
 
-items-uncounted : (ss : PStmts) (k : List Item) → HasNoCounts k → HasNoCounts (items ss k)
+pub items-uncounted : (ss : PStmts) (k : List Item) → HasNoCounts k → HasNoCounts (items ss k)
 items-uncounted tree.no_stmts k h = h
 items-uncounted (tree.stmts s ss) k h = items-uncounted ss k h
 
@@ -38,7 +39,7 @@ decl-uncounted (tree.tasks ns) k h = events-uncounted ns k h
 decl-uncounted _ k h = h
 
 -- the declarations of a block are those of the first, and then the others
-decls-split : (d : PDecl) (ds : PDecls) (k : List Item) → decls_items (tree.decls d ds) ++ k ≡ decl_items d ++ (decls_items ds ++ k)
+pub decls-split : (d : PDecl) (ds : PDecls) (k : List Item) → decls_items (tree.decls d ds) ++ k ≡ decl_items d ++ (decls_items ds ++ k)
 decls-split d ds k = append_assoc (decl_items d) (decls_items ds) k
 
 decls-uncounted : (ds : PDecls) (k : List Item) → HasNoCounts k → HasNoCounts (decls_items ds ++ k)
@@ -58,7 +59,7 @@ uncounted (rests.result name ∷ k) h = uncounted k h
 uncounted (rests.make_arrays kind ns pairs ∷ k) h = uncounted k h
 uncounted (rests.make_event n ∷ k) h = uncounted k h
 
-none_wait : (k : List Item) → HasNoCounts k → AreCounts k
+pub none_wait : (k : List Item) → HasNoCounts k → AreCounts k
 none_wait [] h = tt
 none_wait (rests.count n b ∷ k) h = absurd h
 none_wait (rests.run s ∷ k) h = none_wait k h
@@ -71,14 +72,14 @@ none_wait (rests.make_event n ∷ k) h = none_wait k h
 
 -- ---- they need no more words than there may be
 
-items-shallow : (most : ℕ) (ss : PStmts) (k : List Item) → HasNoCounts k → stmts_depth ss ≤ most → AreShallow most k → AreShallow most (items ss k)
+pub items-shallow : (most : ℕ) (ss : PStmts) (k : List Item) → HasNoCounts k → stmts_depth ss ≤ most → AreShallow most k → AreShallow most (items ss k)
 items-shallow most tree.no_stmts k h l a = a
 items-shallow most (tree.stmts s ss) k h l a =
     (omega (arith, l, uncounted (items ss k) (items-uncounted ss k h)), items-shallow most ss k h (omega (arith, l)) a)
 
-events-shallow : (most : ℕ) (ns : List Named) (k : List Item) → HasNoCounts k → AreShallow most k → AreShallow most (event_items ns ++ k)
-events-shallow most [] k h a = a
-events-shallow most (n ∷ ns) k h a = (omega (arith, uncounted (event_items ns ++ k) (events-uncounted ns k h)), events-shallow most ns k h a)
+events-shallow : (most : ℕ) (ns : List Named) (k : List Item) → HasNoCounts k → 2 ≤ most → AreShallow most k → AreShallow most (event_items ns ++ k)
+events-shallow most [] k h two a = a
+events-shallow most (n ∷ ns) k h two a = (omega (arith, two, uncounted (event_items ns ++ k) (events-uncounted ns k h)), events-shallow most ns k h two a)
 
 decls-shallow : (most : ℕ) (ds : PDecls) (k : List Item) → HasNoCounts k → decls_depth ds ≤ most → AreShallow most k → AreShallow most (decls_items ds ++ k)
 decls-shallow most tree.no_decls k h l a = a
@@ -86,10 +87,10 @@ decls-shallow most (tree.decls (tree.arrays kind ns pairs) ds) k h l a =
     (omega (arith, l, uncounted (decls_items ds ++ k) (decls-uncounted ds k h)), decls-shallow most ds k h (omega (arith, l)) a)
 decls-shallow most (tree.decls (tree.events ns) ds) k h l a =
     subst (AreShallow most) (sym (decls-split (tree.events ns) ds k))
-    (events-shallow most ns (decls_items ds ++ k) (decls-uncounted ds k h) (decls-shallow most ds k h l a))
+    (events-shallow most ns (decls_items ds ++ k) (decls-uncounted ds k h) (omega (arith, l)) (decls-shallow most ds k h (omega (arith, l)) a))
 decls-shallow most (tree.decls (tree.tasks ns) ds) k h l a =
     subst (AreShallow most) (sym (decls-split (tree.tasks ns) ds k))
-    (events-shallow most ns (decls_items ds ++ k) (decls-uncounted ds k h) (decls-shallow most ds k h l a))
+    (events-shallow most ns (decls_items ds ++ k) (decls-uncounted ds k h) (omega (arith, l)) (decls-shallow most ds k h (omega (arith, l)) a))
 decls-shallow most (tree.decls (tree.simple kind ns) ds) k h l a = decls-shallow most ds k h l a
 decls-shallow most (tree.decls (tree.files ns) ds) k h l a = decls-shallow most ds k h l a
 decls-shallow most (tree.decls (tree.labels ns) ds) k h l a = decls-shallow most ds k h l a
@@ -99,11 +100,11 @@ decls-shallow most (tree.decls (tree.procedure heading s) ds) k h l a = decls-sh
 -- ---- blocks
 
 -- what a block ends with needs a word at most, and nothing waits there
-record Ends (most : ℕ) (k : List Item) : Type 0 where
+pub record Ends (most : ℕ) (k : List Item) : Type 0 where
   pub none : HasNoCounts k
   pub shallow : AreShallow most k
 
-ends : (most : ℕ) (b : Block) (o : Option Kind) → b.result ≡ o → 1 ≤ most → Ends most (ending b)
+pub ends : (most : ℕ) (b : Block) (o : Option Kind) → b.result ≡ o → 1 ≤ most → Ends most (ending b)
 ends most b None e l =
     let last : ending b ≡ [] = rw e refl in subst (Ends most) (sym last) (record { none = tt; shallow = tt })
 ends most b (Some kind) e l =
@@ -111,7 +112,7 @@ ends most b (Some kind) e l =
     subst (Ends most) (sym last) (record { none = tt; shallow = (omega (arith, l), tt) })
 
 -- where nothing waits, nothing lies there
-bare_start : (sc : Scopes) (context : Context) (ps : List Placed) (level most : ℕ) (k : List Item) (pc : ℕ) → HasNoCounts k → Follows sc context ps level most k pc →
+pub bare_start : (sc : Scopes) (context : Context) (ps : List Placed) (level most : ℕ) (k : List Item) (pc : ℕ) → HasNoCounts k → Follows sc context ps level most k pc →
     ComesTo sc context ps level most (settle_items sc k) pc []
 bare_start sc context ps level most k pc h follows =
     subst (λ o. ComesTo sc context ps level most (settle_items sc k) pc o) (pend-none k h) (items_at sc context ps level most k pc follows)
@@ -128,14 +129,24 @@ blocks_start sc context ps level most b pc h l one =
       counts = none_wait (items_of b) all;
     })
 
--- the arrays stand before what comes after them
+-- events stand before what comes after them
+events_at : (sc : Scopes) (context : Context) (ps : List Placed) (level : ℕ) (ns : List Named) (k : List Item) (f t : ℕ) → HasNoCounts k →
+    EventsMadeAt sc context ps level ns f t → KAt sc context ps level k t → KAt sc context ps level (event_items ns ++ k) f
+events_at sc context ps level [] k f t none h s = subst (λ z. KAt sc context ps level k z) (sym h) s
+events_at sc context ps level (n ∷ ns) k f t none h s = (f, h.0, stop, h.1, events-uncounted ns k none, events_at sc context ps level ns k h.0 t none h.2 s)
+
+-- .. and so do all that declarations make
 decls_at : (sc : Scopes) (context : Context) (ps : List Placed) (level : ℕ) (ds : PDecls) (k : List Item) (f t : ℕ) → HasNoCounts k → DeclsAt sc context ps level ds f t →
     KAt sc context ps level k t → KAt sc context ps level (decls_items ds ++ k) f
 decls_at sc context ps level tree.no_decls k f t n h s = subst (λ z. KAt sc context ps level k z) (sym h) s
 decls_at sc context ps level (tree.decls (tree.arrays kind ns pairs) ds) k f t n h s =
     (f, h.0, stop, h.1, decls-uncounted ds k n, decls_at sc context ps level ds k h.0 t n h.2 s)
-decls_at sc context ps level (tree.decls (tree.events ns) ds) k f t n h s = absurd h
-decls_at sc context ps level (tree.decls (tree.tasks ns) ds) k f t n h s = absurd h
+decls_at sc context ps level (tree.decls (tree.events ns) ds) k f t n h s =
+    subst (λ o. KAt sc context ps level o f) (sym (decls-split (tree.events ns) ds k))
+    (events_at sc context ps level ns (decls_items ds ++ k) f h.0 (decls-uncounted ds k n) h.1 (decls_at sc context ps level ds k h.0 t n h.2 s))
+decls_at sc context ps level (tree.decls (tree.tasks ns) ds) k f t n h s =
+    subst (λ o. KAt sc context ps level o f) (sym (decls-split (tree.tasks ns) ds k))
+    (events_at sc context ps level ns (decls_items ds ++ k) f h.0 (decls-uncounted ds k n) h.1 (decls_at sc context ps level ds k h.0 t n h.2 s))
 decls_at sc context ps level (tree.decls (tree.simple kind ns) ds) k f t n h s = decls_at sc context ps level ds k f t n h s
 decls_at sc context ps level (tree.decls (tree.files ns) ds) k f t n h s = decls_at sc context ps level ds k f t n h s
 decls_at sc context ps level (tree.decls (tree.labels ns) ds) k f t n h s = decls_at sc context ps level ds k f t n h s
@@ -153,6 +164,13 @@ inner_blocks_start sc context ps level most ds ss pc from end over h i none exit
       shallow = decls-shallow most ds (items ss []) uncounts (omega (arith, l)) statements.shallow;
       counts = none_wait (decls_items ds ++ items ss []) all;
     })
+
+pub inner_blocks_follow : InnerBlocksFollow
+inner_blocks_follow sc context ps level ds ss pc from end over h i none exit =
+    let most : ℕ = stmts_depth ss in
+    let last : Follows sc context ps level most [] end = record { at = (end, over, none, stop, exit); shallow = tt; counts = tt } in
+    let statements = items_follow sc context ps level most ss [] from end end i stop last (omega arith) in
+    decls_at sc context ps level ds (items ss []) pc from (items-uncounted ss [] tt) h statements.at
 
 pub counts_have_room : CountsHaveRoom
 counts_have_room sc context ps level most k pc f = omega (arith, pend-length k, counts_within most k f.shallow)

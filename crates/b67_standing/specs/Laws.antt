@@ -4,7 +4,7 @@ use Rattle.algol_tree.specs.Blocks.{Block}
 use Rattle.algol_tree.specs.Scopes.{Scopes}
 use Rattle.algol_meaning.specs.Rest.{Item, Rest, Answer}
 use Rattle.algol_tree.specs.Plain.{PDecls, PStmts}
-use Rattle.algol_meaning.specs.Statements.{settle_items, items, decls_items, items_of}
+use Rattle.algol_meaning.specs.Statements.{settle_items, items, decls_items, items_of, items_from}
 use Rattle.algol_meaning.specs.Settle.{settle, settle_actual_place}
 use Rattle.algol_meaning.specs.Asks.{Ask, nothing, ask, evaluated_of, located_of}
 use Rattle.b67_segment.specs.Operators.{Placed}
@@ -14,6 +14,7 @@ use Rattle.b67_ops.specs.declared.Operator.TheVariants as ops
 use Rattle.b67_ops.specs.declared.PlainKind.TheVariants as kinds
 use Rattle.b67_templates.specs.Fragments.{Has}
 use Rattle.b67_templates.specs.Cells.{Actual, has_place}
+use Rattle.b67_templates.specs.Labels.{table_place, LabelAt}
 use Rattle.b67_templates.specs.Code.{DeclsAt, StmtsAt, KAt, in_routine, RoutineAt}
 use Rattle.b67_templates.specs.Depths.{depth, decls_depth, stmts_depth}
 use Rattle.b67_standing.specs.Stepping.{Slot, Step, Leads}
@@ -50,6 +51,21 @@ RoutinesGivePlaces =
     (sc : Scopes) (context : Context) (ps : List Placed) (level most : ℕ) (a : Actual) (at : ℕ) → RoutineAt sc context ps level a at → depth a.expr ≤ most →
     has_place a.expr ≡ true →
     ComesTo sc (in_routine (yielding.element a.kind) context) ps level most (located_of (settle_actual_place sc a.expr)) at (selected true true)
+
+-- what an inner block's code says is what is said of a block's: the items of the block stand there
+abbrev pub InnerBlocksFollow : Type 0
+InnerBlocksFollow =
+    (sc : Scopes) (context : Context) (ps : List Placed) (level : ℕ) (ds : PDecls) (ss : PStmts) (pc from end over : ℕ) →
+    DeclsAt sc context ps level ds pc from → StmtsAt sc context ps level ss from end end → context.yields ≡ yielding.nothing →
+    Has ps level end (ops.Plain kinds.Exit) over → KAt sc context ps level (decls_items ds ++ items ss []) pc
+
+-- from the branch for a label of a block, whose code stands anywhere, with nothing above the floor, to where it stands for the statements
+-- from the label on
+abbrev pub JumpsStand : Type 0
+JumpsStand =
+    (sc : Scopes) (context : Context) (ps : List Placed) (level most : ℕ) (b : Block) (name : List ℕ) (number pc : ℕ) →
+    KAt sc context ps level (items_of b) pc → LabelAt sc context ps level b name number → stmts_depth b.stmts ≤ most → 1 ≤ most →
+    ComesTo sc context ps level most (settle_items sc (items_from b name)) (table_place number) []
 
 -- wherever the machine stands for a rest whose head asks for an action, that stands there, and from where it leaves the machine it goes on
 abbrev pub RestsGoOn : Type 0

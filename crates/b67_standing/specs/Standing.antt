@@ -15,9 +15,9 @@ use Rattle.b67_num.specs.declared.NumFault.{NumFault}
 use Rattle.algol_meaning.specs.Value as cells
 use Rattle.algol_meaning.specs.Value.{Value, number, truth, Cell}
 use Rattle.algol_meaning.specs.Operators.{result_of}
-use Rattle.algol_meaning.specs.Rest.{Place, own, there, element_of, Hole, read, element, index, subscript, broken, left, right, negated, inverted, condition, Half, val, busy, Aim, resolve, place_index, place_subscript, Loop, Item, count, Rest, over, store, select, turning, line, arrays, bounding, aiming, storing, choosing, looping, checking, counting, differing, stepping, selecting, writing, calling, Given, valued, passed, refers, names, argument, Actuals, pass, in_value, enter, entering_block, entering, reading, giving, giving_place, evaluating, locating, Answer, done, value, cell, place, entered}
+use Rattle.algol_meaning.specs.Rest.{Place, own, there, element_of, Hole, read, element, index, subscript, happens, broken, left, right, negated, inverted, condition, Half, val, busy, Aim, resolve, place_index, place_subscript, Loop, Item, count, Rest, over, store, select, turning, going, acting, line, arrays, event, bounding, aiming, storing, choosing, looping, checking, counting, differing, stepping, selecting, writing, calling, Given, valued, passed, refers, names, argument, Actuals, pass, in_value, enter, entering_block, entering, reading, giving, giving_place, evaluating, locating, Answer, done, value, cell, place, entered}
 use Rattle.algol_meaning.specs.Statements.{difference_in, stepped}
-use Rattle.algol_meaning.specs.Asks.{Ask, nothing, reads, reads_element, indexes, resolves, passes, makes_arrays, reads_result, fails, enters, leaves, stores, selects, turns, writes, enters_block, ask, resume}
+use Rattle.algol_meaning.specs.Asks.{Ask, nothing, reads, reads_element, indexes, resolves, passes, asks_happened, makes_arrays, makes_event, acts, goes_to, reads_result, fails, enters, leaves, stores, selects, turns, writes, enters_block, ask, resume}
 use Rattle.algol_paths.specs.Arrays.{DeclaredArray, Shape, shape_of}
 use Rattle.b67_control.specs.Control.{Fits_pcw}
 use Rattle.b67_ops.specs.declared.Couple.{Couple}
@@ -25,13 +25,16 @@ use Rattle.b67_ops.specs.declared.TheConstants.{OUTER_LEVEL}
 use Rattle.b67_ops.specs.declared.Operator.TheVariants as ops
 use Rattle.b67_ops.specs.declared.PlainKind.TheVariants as kinds
 use Rattle.b67_ops.specs.declared.BranchKind.TheVariants.{Brfl, Brtr, Brun}
-use Rattle.b67_ops.specs.declared.intrinsic.Intrinsic.TheVariants.{Write, Select, Arrays}
+use Rattle.b67_ops.specs.declared.intrinsic.Intrinsic.{Intrinsic}
+use Rattle.b67_ops.specs.declared.intrinsic.Intrinsic.TheVariants.{Write, Select, Arrays, Event, GoTo, Happened}
 use Rattle.b67_segment.specs.Operators.{Placed}
 use Rattle.b67_templates.specs.Contexts as yielding
 use Rattle.b67_templates.specs.Contexts.{Yields, yields_of, Context}
 use Rattle.b67_templates.specs.Fragments.{IsWhole, HasKind, Has, moved, MovedAt, ReadyAt, BranchAt, TurnAt, Goes, code_at, operator_for, is_implication}
 use Rattle.b67_templates.specs.Cells as wants
-use Rattle.b67_templates.specs.Cells.{Wanted, parameter_wants, Agrees, procedures, IsVariable, IsFormalName, IsProcedure, IsDeclaredArray, IsFormalArray, IsArray, IsOwnActual}
+use Rattle.b67_templates.specs.Cells.{Wanted, parameter_wants, Agrees, procedures, IsVariable, IsFormalName, IsProcedure, IsDeclaredArray, IsFormalArray, IsArray, IsDeclaredEvent, IsFormalEvent, IsEvent, IsOwnActual}
+use Rattle.b67_templates.specs.Labels.{IsLabel}
+use Rattle.b67_templates.specs.Events.{intrinsic_for}
 use Rattle.b67_templates.specs.Code.{FormatIs, DroppedAt, ResultAt, AreDimensions, HasNoCounts, in_block, ReadAt, ExprAt, SecondAt, ActualsAt, BoundsAt, LineAt, TableAt, PastAt, StepAt, StmtAt, CasesAt, InnerAt, ThruAt, KAt, exprs_count, stmts_count}
 use Rattle.b67_templates.specs.Arguments.{arguments_in_decls, arguments_in_stmts}
 use Rattle.b67_templates.specs.Depths.{depth, line_depth, bounds_depth, decls_depth, loop_depth, stmt_depth, stmts_depth, AreShallow}
@@ -124,13 +127,15 @@ abbrev pub IsPassed : Wanted → Cell → Type 0
 IsPassed (wants.array shape) (cells.reference r) = Unit {0}
 IsPassed (wants.by_name kind) (cells.reference r) = Unit {0}
 IsPassed (wants.by_name kind) (cells.named a) = Unit {0}
+IsPassed wants.event (cells.reference r) = Unit {0}
 IsPassed _ _ = ⊥
 
--- At the text of this context the actual is what is wanted: a value of that kind; an array, and a declared one agrees with the shape; a variable
--- of that kind, or an actual that has a cell.
+-- At the text of this context the actual is what is wanted: a value of that kind; an array, and a declared one agrees with the shape; an event; a
+-- variable of that kind, or an actual that has a cell.
 abbrev pub IsGiven : Scopes → Context → Given → Wanted → Type 0
 IsGiven sc context (valued v) (wants.value kind) = HasKind kind v
 IsGiven sc context (refers n) (wants.array shape) = (d : DeclaredArray) × (c : Couple) × IsDeclaredArray sc context.level n d c × Agrees shape (shape_of d)
+IsGiven sc context (refers n) wants.event = (c : Couple) × IsDeclaredEvent sc context.level n c
 IsGiven sc context (refers n) (wants.by_name kind) = (c : Couple) × IsVariable sc context.level n kind c × (OUTER_LEVEL ≤ c.level)
 IsGiven sc context (names e) (wants.by_name kind) = (c : Couple) × IsOwnActual sc context.block context.level e kind c
 IsGiven sc context (passed c) wanted = IsPassed wanted c
@@ -207,6 +212,7 @@ module _ (sc : Scopes) (context : Context) (ps : List Placed) (level most : ℕ)
   pub data Passable (n : Named) (couple : Couple) : Wanted → Type 0 where
     array_passed : (shape actual : Shape) → IsFormalArray sc context.level n actual couple → Agrees shape actual → Passable n couple (wants.array shape)
     name_passed : (kind : Kind) → IsFormalName sc context.level n kind couple → Passable n couple (wants.by_name kind)
+    event_passed : IsFormalEvent sc context.level n couple → Passable n couple wants.event
 
   -- what LODT finds: the reference to the parameter's cell
   pub record PassesAt (n : Named) (wanted : Wanted) (pc next : ℕ) (slots below : List Slot) : Type 0 where
@@ -221,6 +227,34 @@ module _ (sc : Scopes) (context : Context) (ps : List Placed) (level most : ℕ)
     pub is_formal : IsFormalName sc context.level n kind couple
     pub lies : slots ≡ reference couple ∷ below
     pub stands : Has ps level pc (ops.Plain kinds.Eval) next
+
+  -- ---- events and labels
+
+  -- the reference of an event's cell, or of a parameter that stands for it, lies on that of an intrinsic, and that on a mark
+  pub record ActsAt (name : Intrinsic) (n : Named) (pc next : ℕ) (slots below : List Slot) : Type 0 where
+    pub couple : Couple
+    pub is_event : IsEvent sc context.level n couple
+    pub lies : slots ≡ reference couple ∷ intrinsic name ∷ mark ∷ below
+    pub stands : Has ps level pc (ops.Plain kinds.Entr) next
+
+  -- the reference of an intrinsic lies on a mark, with nothing below: after the entry PUSH makes a cell of the event's word
+  pub record MakesEventAt (pc next : ℕ) (slots : List Slot) : Type 0 where
+    pub lies : slots ≡ intrinsic Event ∷ mark ∷ []
+    pub made : ℕ
+    pub stands : Has ps level pc (ops.Plain kinds.Entr) made
+    pub push : Has ps level made (ops.Plain kinds.Push) next
+
+  -- the level of a label's block, the segment of its text, and the place of the label's branch there
+  pub record GoesToAt (n : Named) (pc next : ℕ) (slots below : List Slot) : Type 0 where
+    pub target : ℕ
+    pub segment : ℕ
+    pub entry : ℕ
+    pub label : IsLabel sc context.level n target segment entry
+    pub level_whole : IsWhole (pos target)
+    pub segment_whole : IsWhole (pos segment)
+    pub entry_whole : IsWhole (pos entry)
+    pub lies : slots ≡ operand (number (pos entry)) ∷ operand (number (pos segment)) ∷ operand (number (pos target)) ∷ intrinsic GoTo ∷ mark ∷ below
+    pub stands : Has ps level pc (ops.Plain kinds.Entr) next
 
   -- ---- subscripts
 
@@ -288,6 +322,7 @@ module _ (sc : Scopes) (context : Context) (ps : List Placed) (level most : ℕ)
         (next : ℕ) × ReadAt sc context ps level n k pc next × (slots ≡ below) × HasRoom most below 1 × Goes ps level next to
     Holds k (enter n gs) pc slots below to =
         (callee : ℕ) × (next : ℕ) × CallsAt n gs callee pc next slots below × ((block_numbered sc.blocks callee).result ≡ Some k) × HasRoom most below 2 × Goes ps level next to
+    Holds k (happens n) pc slots below to = (next : ℕ) × (k ≡ types.Truth) × ActsAt Happened n pc next slots below × Goes ps level next to
     Holds k (broken op v w fault) pc slots below to = (next : ℕ) × (k ≡ given_by op) × BreaksAt op v w fault pc next slots below
     Holds k (left op h b) pc slots below to =
         (m : ℕ) × (r : ℕ) × (n : ℕ) × (next : ℕ) × (k ≡ given_by op) × Holds (taken_by op) h pc slots below m × ReadyAt ps level (is_implication op) m r
@@ -391,6 +426,9 @@ module _ (sc : Scopes) (context : Context) (ps : List Placed) (level most : ℕ)
   StandsFor (select v ss k) pc slots =
       (table : ℕ) × (u : ℕ) × SelectAt v ss pc table slots (pend k) × CasesAt sc context ps level ss table u × Follows k u × HasRoom most (pend k) (stmts_depth ss)
   StandsFor (turning k) pc slots = (l : ℕ) × (next : ℕ) × TurnAt ps level pc l next × (slots ≡ pend k) × Follows k l
+  -- all that lies below is dropped
+  StandsFor (going n) pc slots = (next : ℕ) × (below : List Slot) × GoesToAt n pc next slots below
+  StandsFor (acting act n k) pc slots = (next : ℕ) × ActsAt (intrinsic_for act) n pc next slots (pend k) × Follows k next
   StandsFor (line phrases vs k) pc slots = (next : ℕ) × WriteAt phrases vs pc next slots (pend k) × Follows k next
   StandsFor (entering_block (tree.body spot ds ss) k) pc slots = (next : ℕ) × EntersAt spot ds ss pc next slots (pend k) × Follows k next
   StandsFor (entering n gs k) pc slots =
@@ -411,6 +449,7 @@ module _ (sc : Scopes) (context : Context) (ps : List Placed) (level most : ℕ)
       (kind : Kind) × (m : ℕ) × (r : ℕ) × (next : ℕ) × Aims kind x pc slots (pend k) m × ExprAt sc context ps level kind e m r r × Has ps level r (ops.Plain kinds.Stod) next
       × Follows k next × HasRoom most (pend k) (1 + depth e)
   StandsFor (arrays kind ns pairs vs k) pc slots = (next : ℕ) × MakesAt ns pairs vs pc next slots × HasNoCounts k × Follows k next
+  StandsFor (event n k) pc slots = (next : ℕ) × MakesEventAt pc next slots × HasNoCounts k × Follows k next
   -- vs are the values of the upper bounds before the head, and those before it are these
   StandsFor (bounding kind ns pairs vs h later k) pc slots =
       (before : List PPair) × (p : PPair) × (m : ℕ) × (b : ℕ) × (made : ℕ) × (next : ℕ) × (pairs ≡ before ++ p ∷ later) × (length vs ≡ length before)
@@ -488,6 +527,10 @@ module _ (sc : Scopes) (context : Context) (ps : List Placed) (level most : ℕ)
   ActionAt (stores (there r) v) pc slots = (next : ℕ) × (below : List Slot) × FoundStoreAt (there r) v pc next slots below
   ActionAt (stores (element_of r ks) v) pc slots = (next : ℕ) × (below : List Slot) × FoundStoreAt (element_of r ks) v pc next slots below
   ActionAt (makes_arrays kind ns pairs vs) pc slots = (next : ℕ) × MakesAt ns pairs vs pc next slots
+  ActionAt (makes_event n) pc slots = (next : ℕ) × MakesEventAt pc next slots
+  ActionAt (asks_happened n) pc slots = (next : ℕ) × (below : List Slot) × ActsAt Happened n pc next slots below
+  ActionAt (acts act n) pc slots = (next : ℕ) × (below : List Slot) × ActsAt (intrinsic_for act) n pc next slots below
+  ActionAt (goes_to n) pc slots = (next : ℕ) × (below : List Slot) × GoesToAt n pc next slots below
   ActionAt (passes n) pc slots = (wanted : Wanted) × (next : ℕ) × (below : List Slot) × PassesAt n wanted pc next slots below
   ActionAt (fails fault) pc slots =
       (op : Op) × (v : Value) × (w : Value) × (next : ℕ) × (below : List Slot) × BreaksAt op v w fault pc next slots below
@@ -511,7 +554,8 @@ module _ (sc : Scopes) (context : Context) (ps : List Placed) (level most : ℕ)
   ActionAt (enters_block (tree.body spot ds ss)) pc slots = (next : ℕ) × (below : List Slot) × EntersAt spot ds ss pc next slots below
   ActionAt _ pc slots = ⊥
 
-  -- where an action with this answer leaves the machine, and what then lies there; after a fault and an end nothing goes on
+  -- where an action with this answer leaves the machine, and what then lies there; after a fault and an end nothing goes on, nor does it after
+  -- GO TO, since the label's statement follows from what its block is
   abbrev pub Acted : (q : Ask) (pc : ℕ) (slots : List Slot) → ActionAt q pc slots → Answer → ℕ → List Slot → Type 0
   Acted (reads n) pc slots a (value v) at after = (at ≡ a.1) × (after ≡ operand v ∷ slots) × HasKind a.0 v
   Acted (reads_result name) pc slots a (value v) at after = (at ≡ a.0.valued) × (after ≡ operand v ∷ slots) × HasKind a.0.kind v
@@ -527,6 +571,9 @@ module _ (sc : Scopes) (context : Context) (ps : List Placed) (level most : ℕ)
   Acted (stores (there r) v) pc slots a done at after = (at ≡ a.0) × (after ≡ a.1)
   Acted (stores (element_of r ks) v) pc slots a done at after = (at ≡ a.0) × (after ≡ a.1)
   Acted (makes_arrays kind ns pairs vs) pc slots a done at after = (at ≡ a.0) × (after ≡ [])
+  Acted (makes_event n) pc slots a done at after = (at ≡ a.0) × (after ≡ [])
+  Acted (asks_happened n) pc slots a (value v) at after = (at ≡ a.0) × (after ≡ operand v ∷ a.1) × HasKind types.Truth v
+  Acted (acts act n) pc slots a done at after = (at ≡ a.0) × (after ≡ a.1)
   Acted (passes n) pc slots a (cell c) at after = (at ≡ a.1) × (after ≡ descriptor (passed_held a.0 c) ∷ a.2) × IsPassed a.0 c
   Acted turns pc slots a done at after = (at ≡ a.0) × (after ≡ slots)
   Acted (writes phrases vs) pc slots a done at after = (at ≡ a.0) × (after ≡ a.1)

@@ -23,7 +23,7 @@ use Rattle.b67_ops.specs.declared.intrinsic.Intrinsic.{Intrinsic}
 use Rattle.b67_segment.specs.Operators.{Placed}
 use Rattle.b67_templates.specs.Contexts.{Context}
 use Rattle.b67_templates.specs.Fragments.{IsWhole, HasKind, Has, NumberAt, moved, MovedAt, BranchAt, IntrinsicAt, EntryAt, code_at, operator_for, is_implication, truth_literal}
-use Rattle.b67_templates.specs.Cells.{Wanted, IsVariable, IsDeclaredArray, IsOwnActual}
+use Rattle.b67_templates.specs.Cells.{Wanted, IsVariable, IsDeclaredArray, IsDeclaredEvent, IsOwnActual}
 use Rattle.b67_templates.specs.Code.{BegunAt, CountAt, PastAt, StepSign, SignedAt}
 
 -- What a word on the stack stands for, where that is known of the world: the copy of a row's descriptor, of the array that a name means
@@ -62,6 +62,7 @@ pub data Slot : Type 0 where
 pub data Stuffable (sc : Scopes) (context : Context) : Held → Couple → Type 0 where
   of_array : (n : Named) (d : DeclaredArray) (c : Couple) → IsDeclaredArray sc context.level n d c → Stuffable sc context (cell_named n) c
   of_variable : (n : Named) (k : Kind) (c : Couple) → IsVariable sc context.level n k c → OUTER_LEVEL ≤ c.level → Stuffable sc context (cell_named n) c
+  of_event : (n : Named) (c : Couple) → IsDeclaredEvent sc context.level n c → Stuffable sc context (cell_named n) c
   of_actual : (e : PExpr) (k : Kind) (c : Couple) → IsOwnActual sc context.block context.level e k c → Stuffable sc context (actual e k) c
 
 -- the first operand of an operator as its code has it: of an implication it is inverted

@@ -6,7 +6,7 @@
 //! lead from one head to the next, as the silent steps of the meaning do.
 #![tactic(auto)]
 
-ghost use Rattle.b67_standing.specs.Laws.{ItemsStand, BlocksStart, InnerBlocksStart, RoutinesGiveValues, RoutinesGivePlaces, RestsGoOn, CountsHaveRoom, LeadsHaveRoom, ActionsHaveRoom, StepsGoForward};
+ghost use Rattle.b67_standing.specs.Laws.{ItemsStand, BlocksStart, InnerBlocksStart, InnerBlocksFollow, JumpsStand, RoutinesGiveValues, RoutinesGivePlaces, RestsGoOn, CountsHaveRoom, LeadsHaveRoom, ActionsHaveRoom, StepsGoForward};
 
 /// Law: from where the code of items stands, with the counts of THRU that wait among them, private operators lead to where the machine
 /// stands for these items after the silent steps. From the start of a block's code they do so with nothing above the floor, and so they do
@@ -15,6 +15,13 @@ pub fn items_stand()
     ensures items { ItemsStand }
     ensures block { BlocksStart }
     ensures inner { InnerBlocksStart }
+{}
+
+/// Law: from the branch in the table of a segment for a label of a block, whose code stands in that segment, private operators lead to where
+/// the machine stands for the statements from the label on. The code of an inner block is such code, too.
+pub fn jumps_stand()
+    ensures inner { InnerBlocksFollow }
+    ensures jumps { JumpsStand }
 {}
 
 /// Law: from the start of an actual's code, with the selector above the floor where the code may give a place, private operators lead to where

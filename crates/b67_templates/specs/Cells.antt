@@ -292,6 +292,25 @@ pub data IsArray (sc : Scopes) (level : ℕ) (n : Named) (shape : Shape) (couple
   declared : (d : DeclaredArray) → shape ≡ shape_of d → IsDeclaredArray sc level n d couple → IsArray sc level n shape couple
   formal : IsFormalArray sc level n shape couple → IsArray sc level n shape couple
 
+-- At this level the name is that of an event or of a task that a block declares, and this is the couple of the event's cell.
+pub record IsDeclaredEvent (sc : Scopes) (level : ℕ) (n : Named) (couple : Couple) : Type 0 where
+  pub sort_is : (use_of sc n).sort ≡ sort.event
+  pub made : IsMadeThere sc level n (an_event n.name) couple
+
+-- .. of a parameter that stands for an event, and this is the couple of its cell, which has a reference to the event's.
+pub record IsFormalEvent (sc : Scopes) (level : ℕ) (n : Named) (couple : Couple) : Type 0 where
+  pub sort_is : (use_of sc n).sort ≡ sort.formal_event
+  pub found : Found
+  pub there : found_from 0 (simple_cells sc (block_numbered sc.blocks ((use_of sc n).block))) n.name ≡ Some found
+  pub wanted_is : found.cell.wanted ≡ event
+  pub level_is : couple.level + (use_of sc n).up ≡ level
+  pub index_is : couple.index ≡ 2 + found.number
+
+-- the name stands for an event, in the one way or the other
+pub data IsEvent (sc : Scopes) (level : ℕ) (n : Named) (couple : Couple) : Type 0 where
+  declared_event : IsDeclaredEvent sc level n couple → IsEvent sc level n couple
+  formal_event : IsFormalEvent sc level n couple → IsEvent sc level n couple
+
 -- In the text of the block with this number, of this level, the actual has a cell, and this is the couple of it.
 pub record IsOwnActual (sc : Scopes) (block level : ℕ) (e : PExpr) (kind : Kind) (couple : Couple) : Type 0 where
   pub own : own_actual sc (by_name kind) e ≡ record { expr = e; kind = kind } ∷ []

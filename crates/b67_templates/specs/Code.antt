@@ -23,7 +23,7 @@ use Rattle.b67_ops.specs.declared.TheConstants.{OUTER_LEVEL}
 use Rattle.b67_ops.specs.declared.Operator.TheVariants as ops
 use Rattle.b67_ops.specs.declared.PlainKind.TheVariants as kinds
 use Rattle.b67_ops.specs.declared.BranchKind.TheVariants.{Brfl, Brtr, Brun}
-use Rattle.b67_ops.specs.declared.intrinsic.Intrinsic.TheVariants.{Write, Select, Arrays}
+use Rattle.b67_ops.specs.declared.intrinsic.Intrinsic.TheVariants.{Write, Select, Arrays, Happened}
 use Rattle.b67_segment.specs.Operators.{Placed}
 use Rattle.b67_segment.specs.declared.code.Phrase.{Phrase}
 use Rattle.b67_segment.specs.declared.code.Phrase.TheVariants as parts
@@ -32,6 +32,8 @@ use Rattle.b67_templates.specs.Fragments.{Has, AllAt, ControlsAt, NumberAt, Move
 use Rattle.algol_paths.specs.Arrays.{DeclaredArray, Shape, shape_of}
 use Rattle.b67_templates.specs.Cells as wants
 use Rattle.b67_templates.specs.Cells.{parameter_cells, Wanted, Agrees, parameter_wants, variables, control_segments, Actual, actuals_in_block, has_place, IsVariable, IsFormalName, IsRead, IsProcedure, IsDeclaredArray, IsFormalArray, IsArray, IsOwnActual}
+use Rattle.b67_templates.specs.Labels.{GoToAt}
+use Rattle.b67_templates.specs.Events.{intrinsic_for, OnEventAt, EventActualAt, EventMadeAt, EventsMadeAt}
 
 -- ---- context
 
@@ -175,7 +177,7 @@ module _ (sc : Scopes) (context : Context) (ps : List Placed) (level : ℕ) wher
         × Has ps level m (ops.Plain kinds.Nxlv) t
     ExprAt k (tree.call (tree.called n es)) f t u =
         (callee : ℕ) × CallAt n callee (ActualsAt (sorts_of ((block_numbered sc.blocks callee).parameters)) (parameter_wants sc callee) es) f t × ((block_numbered sc.blocks callee).result ≡ Some k)
-    ExprAt k _ f t u = ⊥
+    ExprAt k (tree.tested tree.happened e spot) f t u = (k ≡ types.Truth) × OnEventAt sc context ps level Happened e.name f t
 
     -- The last subscript, moved by its lower bound, lies under the reference of the array, or under the descriptor of its row, once the
     -- first subscript has led to that.
@@ -188,7 +190,7 @@ module _ (sc : Scopes) (context : Context) (ps : List Placed) (level : ℕ) wher
         × ((x : ℕ) × (y : ℕ) × ExprAt types.Number e' r x x × MovedAt ps level low' x y × Has ps level y (ops.Plain kinds.Exch) t)
     SubscriptsAt c _ _ f t = ⊥
 
-    -- actuals for parameters of these sorts, of which this is wanted: values, names of arrays, and what is given by name
+    -- actuals for parameters of these sorts, of which this is wanted: values, names of arrays and of events, and what is given by name
     pub ActualsAt : List Sort → List Wanted → PExprs → ℕ → ℕ → Type 0
     ActualsAt [] [] tree.none f t = f ≡ t
     ActualsAt (sort ∷ sorts) (wants.value kind ∷ wanted) (tree.more e es) f t =
@@ -197,6 +199,8 @@ module _ (sc : Scopes) (context : Context) (ps : List Placed) (level : ℕ) wher
         (m : ℕ) × (is_variable sort ≡ false) × ArrayActualAt shape n f m × ActualsAt sorts wanted es m t
     ActualsAt (sort ∷ sorts) (wants.by_name kind ∷ wanted) (tree.more e es) f t =
         (m : ℕ) × (is_variable sort ≡ false) × NameActualAt kind e f m × ActualsAt sorts wanted es m t
+    ActualsAt (sort ∷ sorts) (wants.event ∷ wanted) (tree.more (tree.variable (tree.subscripted n tree.none)) es) f t =
+        (m : ℕ) × (is_variable sort ≡ false) × EventActualAt sc context ps level n f m × ActualsAt sorts wanted es m t
     ActualsAt _ _ _ f t = ⊥
 
   -- the second subscript, where the descriptor of the row lies below it
@@ -247,12 +251,12 @@ module _ (sc : Scopes) (context : Context) (ps : List Placed) (level : ℕ) wher
     pub push : Has ps level made (ops.Plain kinds.Push) t
     pub some : 1 ≤ many
 
-  -- the arrays of declarations, in their order; events and tasks have no code
+  -- the arrays, the events and the tasks of declarations, in their order
   abbrev pub DeclsAt : PDecls → ℕ → ℕ → Type 0
   DeclsAt tree.no_decls f t = f ≡ t
   DeclsAt (tree.decls (tree.arrays kind ns pairs) ds) f t = (m : ℕ) × ArraysAt (length ns) pairs f m × DeclsAt ds m t
-  DeclsAt (tree.decls (tree.events ns) ds) f t = ⊥
-  DeclsAt (tree.decls (tree.tasks ns) ds) f t = ⊥
+  DeclsAt (tree.decls (tree.events ns) ds) f t = (m : ℕ) × EventsMadeAt sc context ps level ns f m × DeclsAt ds m t
+  DeclsAt (tree.decls (tree.tasks ns) ds) f t = (m : ℕ) × EventsMadeAt sc context ps level ns f m × DeclsAt ds m t
   DeclsAt (tree.decls d ds) f t = DeclsAt ds f t
 
   -- items of a line
@@ -404,7 +408,10 @@ module _ (sc : Scopes) where
     StmtAt context ps level (tree.case e ss) f t u =
         (a : ℕ) × (m : ℕ) × (table : ℕ) × IntrinsicAt ps level Select f a × ExprAt sc context ps level types.Number e a m m × TableAt sc context ps level (stmts_count ss) m table × CasesAt context ps level ss table u
     StmtAt context ps level (tree.write n spot phrases es) f t u = WriteAt sc context ps level phrases es f t
-    StmtAt context ps level _ f t u = ⊥
+    StmtAt context ps level (tree.label n s) f t u = (context.labels n.spot ≡ Some f) × StmtAt context ps level s f t u
+    StmtAt context ps level (tree.go_to n) f t u = GoToAt sc context ps level n f t
+    StmtAt context ps level (tree.event act e) f t u = OnEventAt sc context ps level (intrinsic_for act) e.name f t
+    StmtAt context ps level (tree.process c task) f t u = ⊥
 
     pub StmtsAt : Context → List Placed → ℕ → PStmts → ℕ → ℕ → ℕ → Type 0
     StmtsAt context ps level tree.no_stmts f t u = f ≡ t
@@ -417,7 +424,8 @@ module _ (sc : Scopes) where
     CasesAt context ps level (tree.stmts s ss) entry u =
         (p : ℕ) × (x : ℕ) × BranchAt ps level Brun entry p (entry + 3) × StmtAt context ps level s p x u × Goes ps level x u × CasesAt context ps level ss (entry + 3) u
 
-  -- the cells of an inner block, its arrays, its statements, EXIT, and somewhere the code of its actuals; the context is that of the block
+  -- the cells of an inner block, its arrays and events, its statements, EXIT, and somewhere the code of its actuals; the context is that of
+  -- the block
   abbrev pub InnerAt : Context → List Placed → ℕ → PDecls → PStmts → ℕ → Type 0
   InnerAt context ps level ds ss at =
       (ats : List ℕ) × (b : ℕ) × (d : ℕ) × (e : ℕ) × (v : ℕ) × RoutinesAt sc context ps (level + 1) (actuals_in_block sc ds ss) ats
@@ -452,4 +460,4 @@ module _ (sc : Scopes) (context : Context) (ps : List Placed) (level : ℕ) wher
   -- what is pushed before becomes cells as well, so nothing may lie there
   KAt (make_arrays kind ns pairs ∷ k) pc =
       (q : ℕ) × (t : ℕ) × Goes ps level pc q × ArraysAt sc context ps level (length ns) pairs q t × HasNoCounts k × KAt k t
-  KAt (make_event n ∷ k) pc = ⊥
+  KAt (make_event n ∷ k) pc = (q : ℕ) × (t : ℕ) × Goes ps level pc q × EventMadeAt sc context ps level q t × HasNoCounts k × KAt k t

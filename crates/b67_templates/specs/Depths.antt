@@ -22,6 +22,8 @@ abbrev mutual
   depth (tree.variable (tree.subscripted n (tree.more e es))) = 5 + line_depth (tree.more e es)
   -- a mark, a reference, the actuals
   depth (tree.call (tree.called n es)) = 2 + line_depth es
+  -- a mark, a reference, that of the event
+  depth (tree.tested t e spot) = 3
   depth _ = 1
 
   -- the items of a line, or the actuals of a call
@@ -43,9 +45,12 @@ bounds_depth (p ∷ pairs) = 1 + depth p.high + bounds_depth pairs
 abbrev pub arrays_depth : List Named → List PPair → ℕ
 arrays_depth ns pairs = 3 + bounds_depth pairs + length ns
 
+-- of an event a mark and a reference, and then its word
 abbrev pub decls_depth : PDecls → ℕ
 decls_depth tree.no_decls = 0
 decls_depth (tree.decls (tree.arrays kind ns pairs) ds) = arrays_depth ns pairs + decls_depth ds
+decls_depth (tree.decls (tree.events ns) ds) = 2 + decls_depth ds
+decls_depth (tree.decls (tree.tasks ns) ds) = 2 + decls_depth ds
 decls_depth (tree.decls d ds) = decls_depth ds
 
 -- the difference, the step, and two words more in their comparison with 0
@@ -54,6 +59,8 @@ loop_depth step last = 4 + depth step + depth last
 
 abbrev mutual
   pub stmt_depth : PStmt → ℕ
+  stmt_depth tree.empty = 0
+  stmt_depth (tree.label n s) = stmt_depth s
   stmt_depth (tree.assign (tree.subscripted n es) e) = place_depth es + 1 + depth e
   stmt_depth (tree.block b) = body_depth b
   stmt_depth (tree.call_of (tree.called n es)) = 2 + line_depth es
@@ -68,7 +75,12 @@ abbrev mutual
   stmt_depth (tree.case e ss) = 4 + depth e + stmts_depth ss
   -- a mark, a reference, the format's number, the items
   stmt_depth (tree.write n spot phrases es) = 3 + line_depth es
-  stmt_depth _ = 0
+  -- a mark, a reference, the level, the segment, the place
+  stmt_depth (tree.go_to n) = 5
+  -- a mark, a reference, that of the event
+  stmt_depth (tree.event act e) = 3
+  -- a mark, a reference, those of the procedure and of the task's event, the actuals
+  stmt_depth (tree.process (tree.called n es) task) = 4 + line_depth es
 
   pub stmts_depth : PStmts → ℕ
   stmts_depth tree.no_stmts = 0
@@ -90,7 +102,7 @@ item_depth (check b c) = stmt_depth b + depth c
 item_depth (test loop) = loop_depth loop.step loop.last + stmt_depth loop.body
 item_depth (result name) = 1
 item_depth (make_arrays kind ns pairs) = arrays_depth ns pairs
-item_depth (make_event n) = 0
+item_depth (make_event n) = 2
 
 -- a count lies on the stack while what comes before it is done
 abbrev pub counts_in : List Item → ℕ

@@ -1,5 +1,5 @@
--- Which trees have code: each part has the kind that its place wants, each name is a variable or a procedure whose couple is known, and
--- of a format no word is wider than a line, and each text can stand between quotes.
+-- Which trees have code: each part has the kind that its place wants, each name is a variable, an event or a procedure whose couple is known, or
+-- a label of which is known where it leads, and of a format no word is wider than a line, and each text can stand between quotes.
 use Rattle.std.specs.Prelude.{◌≡◌, ◌⊎◌, ℕ, ◌+◌, ◌≤◌, ℤ, not, Bool, true, false, IsTrue, Option, Some, None, is_some, List, [], ◌∷◌, length, map}
 use Rattle.std.specs.List.{All}
 use Rattle.algol_tree.specs.declared.token.Spot.{Spot}
@@ -24,9 +24,10 @@ use Rattle.b67_ops.specs.declared.Couple.{Couple}
 use Rattle.b67_ops.specs.declared.TheConstants.{MOST_LEVEL, OUTER_LEVEL}
 use Rattle.b67_segment.specs.declared.code.Phrase.{Phrase}
 use Rattle.b67_templates.specs.Fragments.{IsWhole}
-use Rattle.algol_paths.specs.Arrays.{Shape, Lows, arrays_of}
+use Rattle.algol_paths.specs.Arrays.{Shape, Lows}
 use Rattle.b67_templates.specs.Cells as wants
-use Rattle.b67_templates.specs.Cells.{Wanted, parameter_wants, Agrees, variables, procedures, actuals_in_block, IsVariable, IsFormalName, IsRead, IsProcedure, IsArray, IsOwnActual}
+use Rattle.b67_templates.specs.Cells.{Wanted, parameter_wants, Agrees, variables, procedures, actuals_in_block, made_of, IsVariable, IsFormalName, IsRead, IsProcedure, IsArray, IsDeclaredEvent, IsFormalEvent, IsOwnActual}
+use Rattle.b67_templates.specs.Labels.{IsLabel}
 use Rattle.b67_templates.specs.Code.{AreParts, AreDimensions, numbers_in, exprs_count}
 
 -- each byte of the text is printable and no quote
@@ -51,12 +52,18 @@ abbrev pub couple_on_left : Option Couple → Option Couple → Option Couple
 couple_on_left None own = own
 couple_on_left (Some c) own = Some c
 
--- what a name is: a variable, a parameter by name, a procedure, some of whose parameters are by name, or something else
+-- what a name is: a variable, a parameter by name, a procedure, some of whose parameters are by name, an event, which may be a parameter's, or
+-- something else
 pub data Meant : Type 0 where
   a_variable : Meant
   a_name : Meant
   a_procedure : List Bool → Meant
+  an_event : Bool → Meant
   another : Meant
+
+abbrev pub is_event : Meant → Bool
+is_event (an_event formal) = true
+is_event _ = false
 
 abbrev pub is_name : Meant → Bool
 is_name a_name = true
@@ -67,14 +74,21 @@ abbrev pub is_by_name : Wanted → Bool
 is_by_name (wants.by_name kind) = true
 is_by_name _ = false
 
+-- where GO TO leads: the level of a label's block, the segment of its text, and the place of the label's branch in the table there
+pub record Target : Type 0 where
+  pub level : ℕ
+  pub segment : ℕ
+  pub entry : ℕ
+
 -- What is told of the names of a program, by their places in the text: their couples, those of the results of the typed procedures that they
--- mean, the lower bounds of the arrays and whether they are parameters, and what they are; and the couples of the actuals that have cells, by
--- the places where they begin.
+-- mean, the lower bounds of the arrays and whether they are parameters, what they are, and where the labels lead; and the couples of the
+-- actuals that have cells, by the places where they begin.
 pub record Told : Type 0 where
   pub couples : Spot → Option Couple
   pub results : Spot → Option Couple
   pub lows : Spot → Option Lows
   pub meant : Spot → Meant
+  pub labels : Spot → Option Target
   pub actuals : Spot → Option Couple
 
 -- the couple on the left of the name that stands there
@@ -116,6 +130,15 @@ module _ (sc : Scopes) (told : Told) (level : ℕ) where
     pub array : IsArray sc level n shape couple
     pub lows_are : told.lows n.spot ≡ Some (record { list = shape.lows; formal = is_formal ((use_of sc n).sort) })
 
+  -- the name of an event, and the couple of its cell; it is known whether it is a parameter
+  pub data EventFits (n : Named) : Type 0 where
+    its_own : (c : Couple) → told.couples n.spot ≡ Some c → told.meant n.spot ≡ an_event false → IsDeclaredEvent sc level n c → EventFits n
+    its_actual : (c : Couple) → told.couples n.spot ≡ Some c → told.meant n.spot ≡ an_event true → IsFormalEvent sc level n c → EventFits n
+
+  -- the name of a label, and where it leads
+  abbrev pub LabelFits : Named → Type 0
+  LabelFits n = (t : Target) × (told.labels n.spot ≡ Some t) × IsLabel sc level n t.level t.segment t.entry
+
   -- in the text of the block with this number
   module _ (block : ℕ) where
     -- what is given for a parameter by name: a variable, another such parameter, or an actual that has a cell
@@ -130,7 +153,7 @@ module _ (sc : Scopes) (told : Told) (level : ℕ) where
       pub ExprFits : Kind → PExpr → Type 0
       ExprFits k (tree.number z spot) = (k ≡ types.Number) × IsWhole z
       ExprFits k (tree.truth b spot) = k ≡ types.Truth
-      ExprFits k (tree.variable (tree.subscripted n tree.none)) = (ReadFits k n ⊎ CallFits k n) × (told.lows n.spot ≡ None)
+      ExprFits k (tree.variable (tree.subscripted n tree.none)) = (ReadFits k n ⊎ CallFits k n) × (told.lows n.spot ≡ None) × (is_event (told.meant n.spot) ≡ false)
       ExprFits k (tree.variable (tree.subscripted n (tree.more e es))) =
           (a : Shape) × ArrayFits n a × (a.kind ≡ k) × SubscriptsFit a.lows (tree.more e es)
       ExprFits k (tree.paren e spot) = ExprFits k e
@@ -141,7 +164,7 @@ module _ (sc : Scopes) (told : Told) (level : ℕ) where
       ExprFits k (tree.if c x y spot) = ExprFits types.Truth c × ExprFits k x × ExprFits k y
       ExprFits k (tree.call (tree.called n es)) =
           (callee : ℕ) × ProcedureFits n callee × ActualsFit (sorts_of ((block_numbered sc.blocks callee).parameters)) (parameter_wants sc callee) es × ((block_numbered sc.blocks callee).result ≡ Some k)
-      ExprFits k _ = ⊥
+      ExprFits k (tree.tested tree.happened e spot) = (k ≡ types.Truth) × EventFits e.name
 
       -- a subscript for each of these lower bounds
       pub SubscriptsFit : List ℤ → PExprs → Type 0
@@ -150,8 +173,8 @@ module _ (sc : Scopes) (told : Told) (level : ℕ) where
           IsWhole low × ExprFits types.Number e × IsWhole low' × ExprFits types.Number e'
       SubscriptsFit _ _ = ⊥
 
-      -- actuals for parameters of these sorts, of which this is wanted: values, names of arrays, and what is given by name, which has a
-      -- value too
+      -- actuals for parameters of these sorts, of which this is wanted: values, names of arrays and of events, and what is given by name, which
+      -- has a value too
       pub ActualsFit : List Sort → List Wanted → PExprs → Type 0
       ActualsFit [] [] tree.none = Unit {0}
       ActualsFit (sort ∷ sorts) (wants.value kind ∷ wanted) (tree.more e es) = (is_variable sort ≡ true) × ExprFits kind e × ActualsFit sorts wanted es
@@ -159,6 +182,8 @@ module _ (sc : Scopes) (told : Told) (level : ℕ) where
           (is_variable sort ≡ false) × ((a : Shape) × ArrayFits n a × Agrees shape a) × ActualsFit sorts wanted es
       ActualsFit (sort ∷ sorts) (wants.by_name kind ∷ wanted) (tree.more e es) =
           (is_variable sort ≡ false) × NameActualFits kind e × ExprFits kind e × ActualsFit sorts wanted es
+      ActualsFit (sort ∷ sorts) (wants.event ∷ wanted) (tree.more (tree.variable (tree.subscripted n tree.none)) es) =
+          (is_variable sort ≡ false) × EventFits n × ActualsFit sorts wanted es
       ActualsFit _ _ _ = ⊥
 
     -- the call that a statement makes
@@ -175,12 +200,10 @@ module _ (sc : Scopes) (told : Told) (level : ℕ) where
     BoundsFit [] = Unit {0}
     BoundsFit (p ∷ pairs) = IsWhole p.low × ExprFits types.Number p.high × BoundsFit pairs
 
-    -- the arrays of declarations, each of which has a name; there are no events and tasks
+    -- the arrays of declarations, each of which has a name; events and tasks need nothing
     abbrev pub DeclsFit : PDecls → Type 0
     DeclsFit tree.no_decls = Unit {0}
     DeclsFit (tree.decls (tree.arrays kind ns pairs) ds) = AreDimensions pairs × BoundsFit pairs × DeclsFit ds × (1 ≤ length ns)
-    DeclsFit (tree.decls (tree.events ns) ds) = ⊥
-    DeclsFit (tree.decls (tree.tasks ns) ds) = ⊥
     DeclsFit (tree.decls d ds) = DeclsFit ds
 
     abbrev pub LineFits : PExprs → Type 0
@@ -191,11 +214,11 @@ module _ (sc : Scopes) (told : Told) (level : ℕ) where
     abbrev pub WriteFits : List PhraseText → PExprs → Type 0
     WriteFits phrases es = PhrasesFit phrases × ((parts : List Phrase) → AreParts phrases parts → numbers_in parts ≡ exprs_count es) × LineFits es
 
--- An inner block has a level that the machine has, and no more variables, procedures, actuals that have cells and arrays than a block may
--- have cells.
+-- An inner block has a level that the machine has, and no more variables, procedures, actuals that have cells, arrays, events and tasks than a
+-- block may have cells.
 abbrev pub BlockFits : Scopes → ℕ → PDecls → PStmts → Type 0
 BlockFits sc level ds ss =
-    (level + 1 ≤ MOST_LEVEL) × (length (variables ds) + length (procedures ds) + length (actuals_in_block sc ds ss) + length (arrays_of ds) ≤ MOST_BLOCK_CELLS)
+    (level + 1 ≤ MOST_LEVEL) × (length (variables ds) + length (procedures ds) + length (actuals_in_block sc ds ss) + length (made_of ds) ≤ MOST_BLOCK_CELLS)
 
 module _ (sc : Scopes) (told : Told) where
   abbrev mutual
@@ -219,7 +242,10 @@ module _ (sc : Scopes) (told : Told) where
     StmtFits level block (tree.thru e b) = ExprFits sc told level block types.Number e × StmtFits level block b
     StmtFits level block (tree.case e ss) = ExprFits sc told level block types.Number e × StmtsFit level block ss
     StmtFits level block (tree.write n spot phrases es) = WriteFits sc told level block phrases es
-    StmtFits level block _ = ⊥
+    StmtFits level block (tree.label n s) = LabelFits sc told level n × StmtFits level block s
+    StmtFits level block (tree.go_to n) = LabelFits sc told level n
+    StmtFits level block (tree.event act e) = EventFits sc told level e.name
+    StmtFits level block (tree.process c task) = ⊥
 
     pub StmtsFit : ℕ → ℕ → PStmts → Type 0
     StmtsFit level block tree.no_stmts = Unit {0}

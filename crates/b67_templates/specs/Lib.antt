@@ -1,6 +1,8 @@
 pub mod Contexts
 pub mod Fragments
 pub mod Cells
+pub mod Labels
+pub mod Events
 pub mod Code
 pub mod Arguments
 pub mod Depths

@@ -14,6 +14,7 @@ use Rattle.b67_segment.specs.declared.code.Segment.{Segment}
 use Rattle.b67_templates.specs.Contexts.{yields_of, Context}
 use Rattle.b67_templates.specs.Fragments.{Goes}
 use Rattle.b67_templates.specs.Cells.{zero_cells, actuals_of}
+use Rattle.b67_templates.specs.Labels.{label_number, LabelAt}
 use Rattle.b67_templates.specs.Code.{RoutinesAt, CellsAt, control_pcws, KAt}
 
 module _ (sc : Scopes) (context : Context) (ps : List Placed) (level : ℕ) where
@@ -50,10 +51,14 @@ context_of code texts sc j =
     }
 
 -- The code of a program has a segment for the program's text and one for each procedure, in the order of the text. In it stands, from the
--- start, the code of the outer block or of the procedure's.
+-- start, the code of the outer block or of the procedure's, and in its table a branch for each label of a block in its text.
 pub record ProgramAt (code : Code) (p : PProgram) : Type 0 where
   pub many : length code.segments ≡ 1 + length (filter is_procedure (scopes_of p).blocks)
   pub texts : Texts
   pub spells : (k : ℕ) (segment : Segment) → slice_get code.segments k ≡ Some segment → Spells (texts.placed k) segment
   pub bodies : (j : ℕ) → j < length (scopes_of p).blocks → (j ≡ 0) ⊎ (is_procedure (block_numbered (scopes_of p).blocks j) ≡ true) →
       BodyAt (scopes_of p) (context_of code texts (scopes_of p) j) (text_of texts (scopes_of p) j) (level_of (block_numbered (scopes_of p).blocks j)) (block_numbered (scopes_of p).blocks j) 0
+  pub labels :
+      (j number : ℕ) (name : List ℕ) → j < length (scopes_of p).blocks → label_number (scopes_of p) j name ≡ Some number →
+      LabelAt (scopes_of p) (context_of code texts (scopes_of p) j) (text_of texts (scopes_of p) j) (level_of (block_numbered (scopes_of p).blocks j)) (block_numbered (scopes_of p).blocks j)
+      name number
