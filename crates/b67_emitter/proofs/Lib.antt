@@ -6,3 +6,5 @@ pub mod Entries
 pub mod Calls
 pub mod Bounds
 pub mod Moves
+pub mod Seen
+pub mod OnEvents

@@ -25,17 +25,20 @@ pub use Rattle.algol_lows.specs.Lows.{told, lows_told}
 use Rattle.b67_ops.specs.declared.Couple.{Couple}
 use Rattle.b67_ops.specs.declared.Operator.TheVariants as ops
 use Rattle.b67_ops.specs.declared.PlainKind.TheVariants as kinds
+use Rattle.b67_ops.specs.declared.intrinsic.Intrinsic.{Intrinsic}
 use Rattle.b67_segment.specs.Operators.{size}
 use Rattle.b67_segment.specs.Building.{Built}
 use Rattle.b67_templates.specs.Contexts.{Context}
 use Rattle.b67_templates.specs.Fragments.{Has}
 use Rattle.b67_templates.specs.Cells.{parameter_wants, IsArray}
 use Rattle.b67_templates.specs.Code.{ExprAt, SubscriptsAt, PlaceAt, CallAt, ActualsAt, RoutineAt}
+use Rattle.b67_templates.specs.Events.{OnEventAt}
 use Rattle.b67_templates.specs.Emitting.{Emitted, EmittedWithExits}
-use Rattle.b67_templates.specs.Fitting.{Meant, a_variable, a_name, a_procedure, another, Told, on_left, PlaceFits, ExprFits, ProcedureFits, ActualsFit, ArrayFits, SubscriptsFit}
+use Rattle.b67_templates.specs.Fitting.{Meant, a_variable, a_name, a_procedure, an_event, another, is_event, Target, Told, on_left, PlaceFits, ExprFits, ProcedureFits, ActualsFit, ArrayFits, EventFits, SubscriptsFit}
 use Rattle.b67_templates.specs.Paying.{inline}
 use Rattle.b67_emitter.specs.declared.meanings.Given.{Given}
 use Rattle.b67_emitter.specs.declared.names.Names.{Names}
+use Rattle.b67_emitter.specs.declared.names.Target as kept
 
 -- ---- couples
 
@@ -67,6 +70,19 @@ lows_found s (Some d) = lows_told (get ghosts.cmp s.lows d.spot)
 abbrev pub lows : Names → Spot → Option arrays.Lows
 lows s spot = lows_found s (declaration_of s.scopes.now spot)
 
+-- what is kept of a label
+abbrev pub target_told : Option kept.Target → Option Target
+target_told None = None
+target_told (Some t) = Some (record { level = t.level; segment = t.segment; entry = t.entry })
+
+abbrev pub labels_found : Names → Option Declared → Option Target
+labels_found s None = None
+labels_found s (Some d) = target_told (get ghosts.cmp s.labels d.spot)
+
+-- where the label leads that the name there means; none where it means none
+abbrev pub labels : Names → Spot → Option Target
+labels s spot = labels_found s (declaration_of s.scopes.now spot)
+
 -- ---- what is told of the names
 
 -- what is declared as that sort, a procedure with parameters of these
@@ -74,6 +90,9 @@ abbrev pub meant_sorted : Option (List Sort) → Sort → Meant
 meant_sorted ps (sorts.Variable kind) = a_variable
 meant_sorted ps (sorts.ByName kind) = a_name
 meant_sorted (Some ps) (sorts.Procedure kind) = a_procedure (map is_by_name ps)
+meant_sorted ps sorts.Event = an_event false
+meant_sorted ps sorts.Task = an_event false
+meant_sorted ps sorts.FormalEvent = an_event true
 meant_sorted ps s = another
 
 abbrev pub meant_declared : table.Scopes → Option Declared → Meant
@@ -84,22 +103,29 @@ meant_declared s (Some d) = meant_sorted (parameters_of s d.spot) d.sort
 abbrev pub meant : Names → Spot → Meant
 meant s spot = meant_declared s.scopes.now (declaration_of s.scopes.now spot)
 
+-- whether an event is a parameter; none of what is no event
+abbrev pub event_in : Meant → Option Bool
+event_in (an_event formal) = Some formal
+event_in _ = None
+
 -- the couple of the actual that begins there, none where it has no cell
 abbrev pub actuals : Names → Spot → Option Couple
 actuals s spot = couple_found (actual_of s.scopes.now spot)
 
 abbrev pub meanings : Names → Told
-meanings s = record { couples = couples s; results = results s; lows = lows s; meant = meant s; actuals = actuals s }
+meanings s = record { couples = couples s; results = results s; lows = lows s; meant = meant s; labels = labels s; actuals = actuals s }
 
 -- the couple of the name that stands there on the left of an assignment
 abbrev pub lefts : Names → Spot → Option Couple
 lefts s spot = on_left (meanings s) spot
 
--- each cell lies among the first of its frame, as many as a block may have, after the frame's two words
+-- Each cell lies among the first of its frame, as many as a block may have, after the frame's two words. And what has lower bounds is no
+-- event.
 pub record AreNear (s : Names) : Type 0 where
   pub own : (spot : Spot) (c : Couple) → couples s spot ≡ Some c → c.index < 2 + MOST_BLOCK_CELLS
   pub result : (spot : Spot) (c : Couple) → results s spot ≡ Some c → c.index < 2 + MOST_BLOCK_CELLS
   pub actual : (spot : Spot) (c : Couple) → actuals s spot ≡ Some c → c.index < 2 + MOST_BLOCK_CELLS
+  pub apart : (spot : Spot) (l : arrays.Lows) → lows s spot ≡ Some l → is_event (meant s spot) ≡ false
 
 -- ---- what is given for a parameter by name
 
@@ -169,6 +195,21 @@ pub record CallEmitted (s : Names) (level : ℕ) (before after : Built) (c : PCa
       Emitted before after (λ qs. CallAt scopes context qs level n callee
       (ActualsAt scopes context qs level (sorts_of ((block_numbered scopes.blocks callee).parameters)) (parameter_wants scopes callee) es)
       (size before.operators) (size after.operators))
+
+-- ---- events
+
+-- an intrinsic on the event has code at that level: the name fits there or further out, in whatever program names have this meaning
+pub record HasEvent (s : Names) (level : ℕ) (n : Named) : Type 0 where
+  pub scopes : Scopes
+  pub own : ℕ
+  pub outer : own ≤ level
+  pub fits : EventFits scopes (meanings s) own n
+
+-- From the first builder to the second the code of the intrinsic on the event was appended.
+pub record EventEmitted (s : Names) (level : ℕ) (before after : Built) (name : Intrinsic) (n : Named) : Type 0 where
+  pub code :
+      (scopes : Scopes) (context : Context) → EventFits scopes (meanings s) context.level n →
+      Emitted before after (λ qs. OnEventAt scopes context qs level name n (size before.operators) (size after.operators))
 
 -- ---- the code of actuals
 

@@ -1,4 +1,5 @@
-//! The beginning of a call, an array among its actuals, and what a statement does with its result.
+//! The beginning of a call, of a procedure or of an intrinsic, an array or an event among its actuals, and what a statement does with its
+//! result.
 
 ghost use Rattle.std.specs.Prelude.{◌≡◌, ℕ, ◌+◌, ◌≤◌, Option, is_some, IsSome, OnOk};
 ghost use Rattle.algol_tree.specs.declared.tree.Kind.{Kind};
@@ -11,12 +12,14 @@ ghost use Rattle.b67_segment.specs.declared.TheConstants.{MOST_SEGMENT_SYLLABLES
 ghost use Rattle.b67_segment.specs.Operators.{size};
 ghost use Rattle.b67_segment.specs.Building.{level_set};
 ghost use Rattle.b67_templates.specs.Contexts.{Context};
-ghost use Rattle.b67_templates.specs.Cells.{Agrees, IsArray, IsProcedure};
+ghost use Rattle.b67_templates.specs.Cells.{Agrees, IsArray, IsEvent, IsProcedure};
 ghost use Rattle.b67_templates.specs.Code.{ArrayActualAt, BegunAt, DroppedAt};
+ghost use Rattle.b67_templates.specs.Events.{EventActualAt};
+ghost use Rattle.b67_templates.specs.Fragments.{IntrinsicAt};
 ghost use Rattle.b67_templates.specs.Emitting.{Emitted};
 
 use crate::appending::{append_plain, append_reference};
-use b67_ops::{Couple, PlainKind};
+use b67_ops::{Couple, Intrinsic, PlainKind};
 use b67_segment::Builder;
 use std::alloc::AllocError;
 
@@ -34,15 +37,30 @@ pub fn append_begun(out: &mut Builder, couple: Couple) -> Result<(), AllocError>
     append_reference(out, couple)
 }
 
-/// Appends the actual of an array parameter. The reference to the cell of a declared array becomes one that is read alike everywhere; the
-/// cell of a parameter has one.
-pub fn append_array(out: &mut Builder, couple: Couple, formal: bool) -> Result<(), AllocError>
+/// Appends a mark, and the reference of an intrinsic.
+pub fn append_intrinsic(out: &mut Builder, intrinsic: Intrinsic) -> Result<(), AllocError>
+    requires set { IsSome out.old.level }
+    requires room { size out.old.operators + 3 ≤ MOST_SEGMENT_SYLLABLES }
+    ensures code { OnOk result (Emitted out.old out.new (λ qs. IntrinsicAt qs (level_set out.old) intrinsic (size out.old.operators) (size out.new.operators))) }
+    ensures level { OnOk result (out.new.level ≡ out.old.level) }
+    ensures size { OnOk result (size out.new.operators ≡ size out.old.operators + 3) }
+{
+    append_plain(out, PlainKind::Mkst)?;
+    append_reference(out, intrinsic.couple())
+}
+
+/// Appends the actual of an array or an event parameter. The reference to the cell of a declared array or event becomes one that is read
+/// alike everywhere; the cell of a parameter has one.
+pub fn append_passed(out: &mut Builder, couple: Couple, formal: bool) -> Result<(), AllocError>
     requires set { IsSome out.old.level }
     requires seen { IsSeen (level_set out.old) couple }
     requires room { size out.old.operators + 3 ≤ MOST_SEGMENT_SYLLABLES }
-    ensures code { OnOk result ((sc : names.Scopes) (context : Context) (shape a : Shape) (n : Named) → IsArray sc context.level n a couple →
+    ensures array { OnOk result ((sc : names.Scopes) (context : Context) (shape a : Shape) (n : Named) → IsArray sc context.level n a couple →
         formal ≡ is_formal ((names.use_of sc n).sort) → Agrees shape a →
         Emitted out.old out.new (λ qs. ArrayActualAt sc context qs (level_set out.old) shape n (size out.old.operators) (size out.new.operators))) }
+    ensures event { OnOk result ((sc : names.Scopes) (context : Context) (n : Named) → IsEvent sc context.level n couple →
+        formal ≡ is_formal ((names.use_of sc n).sort) →
+        Emitted out.old out.new (λ qs. EventActualAt sc context qs (level_set out.old) n (size out.old.operators) (size out.new.operators))) }
     ensures level { OnOk result (out.new.level ≡ out.old.level) }
     ensures size { OnOk result (size out.new.operators ≡ size out.old.operators + 3) }
 {

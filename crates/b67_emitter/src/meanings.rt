@@ -1,4 +1,5 @@
-//! What names mean where they are given for parameters by name, and which actuals have cells.
+//! What names mean where they are given for parameters by name or where GO TO names them, which actuals have cells, and which names are
+//! those of events.
 
 ghost use Rattle.std.specs.Prelude.{◌≡◌, false, Some, IsSome, option_copied};
 ghost use Rattle.algol_tree.specs.Image.{expr};
@@ -6,10 +7,10 @@ ghost use Rattle.algol_tree.specs.Cells.{first_spot};
 ghost use Rattle.algol_meaning.specs.Settle.{name_alone};
 ghost use Rattle.b67_templates.specs.Fitting.{is_name};
 ghost use Rattle.b67_templates.specs.Paying.{mode_at, stands, has_cell};
-ghost use Rattle.b67_emitter.specs.Values.{couples, meant, actuals, meanings, given_as, given_alone, given};
+ghost use Rattle.b67_emitter.specs.Values.{couples, meant, actuals, meanings, labels, target_told, event_in, given_as, given_alone, given};
 
 use crate::expressions::couple_of;
-use crate::names::Names;
+use crate::names::{Names, Target};
 use algol_rules::{exprs_in, first_spot};
 use algol_scope::Declared;
 use algol_sorts::Sort;
@@ -51,6 +52,35 @@ pub fn takes_name(names: &Names, callee: &Named, number: usize) -> bool
             None => false,
         },
         _ => false,
+    }
+}
+
+/// Whether the event that a name means is a parameter; none where it means no event.
+pub fn event_of(names: &Names, name: &Named) -> Option<bool>
+    ensures { result ≡ event_in (meant names.now name.now.spot) }
+{
+    match names.scopes.declaration(name.spot) {
+        Some(declared) => match declared.sort {
+            Sort::Event => Some(false),
+            Sort::Task => Some(false),
+            Sort::FormalEvent => Some(true),
+            _ => None,
+        },
+        None => None,
+    }
+}
+
+/// Where GO TO leads that names this label.
+pub fn target_of(names: &Names, name: &Named) -> Target
+    requires { IsSome (labels names.now name.now.spot) }
+    ensures { labels names.now name.now.spot ≡ target_told (Some result) }
+{
+    match names.scopes.declaration(name.spot) {
+        Some(declared) => match names.labels.get(&declared.spot) {
+            Some(target) => *target,
+            None => unreachable!(),
+        },
+        None => unreachable!(),
     }
 }
 
