@@ -29,7 +29,8 @@ abbrev Suits : Wanted → Sort → Type 0
 Suits (wants.value kind) sort = is_variable sort ≡ true
 Suits (wants.array shape) sort = is_variable sort ≡ false
 Suits (wants.by_name kind) sort = is_variable sort ≡ false
-Suits _ sort = ⊥
+Suits wants.event sort = is_variable sort ≡ false
+Suits wants.other sort = ⊥
 
 module _ (s : Names) (scopes : Scopes) (level block : ℕ) (sort : Sort) (ss : List Sort) (ws : List Wanted) (rest : PExprs) where
   first_array : (shape : Shape) (e : PExpr) → ActualsFit scopes (meanings s) level block (sort ∷ ss) (wants.array shape ∷ ws) (tree.more e rest) →
@@ -37,12 +38,17 @@ module _ (s : Names) (scopes : Scopes) (level block : ℕ) (sort : Sort) (ss : L
   first_array shape (tree.variable (tree.subscripted n tree.none)) fit = (fit.0, (n, refl, fit.1), fit.2)
   first_array shape e fit = absurd fit
 
+  first_event : (e : PExpr) → ActualsFit scopes (meanings s) level block (sort ∷ ss) (wants.event ∷ ws) (tree.more e rest) →
+      Suits wants.event sort × ActualFits s scopes level block wants.event e × ActualsFit scopes (meanings s) level block ss ws rest
+  first_event (tree.variable (tree.subscripted n tree.none)) fit = (fit.0, (n, refl, fit.1), fit.2)
+  first_event e fit = absurd fit
+
   first_fits : (w : Wanted) (e : PExpr) → ActualsFit scopes (meanings s) level block (sort ∷ ss) (w ∷ ws) (tree.more e rest) →
       Suits w sort × ActualFits s scopes level block w e × ActualsFit scopes (meanings s) level block ss ws rest
   first_fits (wants.value kind) e fit = fit
   first_fits (wants.array shape) e fit = first_array shape e fit
   first_fits (wants.by_name kind) e fit = (fit.0, (fit.1, fit.2), fit.3)
-  first_fits wants.event e fit = absurd fit
+  first_fits wants.event e fit = first_event e fit
   first_fits wants.other e fit = absurd fit
 
   first_at : (context : Context) (qs : List Placed) (w : Wanted) (e : PExpr) (f m t : ℕ) → Suits w sort → ActualAt scopes context qs level w e f m →
@@ -52,7 +58,9 @@ module _ (s : Names) (scopes : Scopes) (level block : ℕ) (sort : Sort) (ss : L
       let A : PExpr → Type 0 = λ x. ActualsAt scopes context qs level (sort ∷ ss) (wants.array shape ∷ ws) (tree.more x rest) f t in
       subst A (sym is) (m, suits, h, k)
   first_at context qs (wants.by_name kind) e f m t suits h k = (m, suits, h, k)
-  first_at context qs wants.event e f m t suits h k = absurd suits
+  first_at context qs wants.event e f m t suits (n, is, h) k =
+      let A : PExpr → Type 0 = λ x. ActualsAt scopes context qs level (sort ∷ ss) (wants.event ∷ ws) (tree.more x rest) f t in
+      subst A (sym is) (m, suits, h, k)
   first_at context qs wants.other e f m t suits h k = absurd suits
 
 -- ---- those that are left

@@ -1,6 +1,8 @@
 -- The forms of expression, each as it is matched.
 use Rattle.std.proofs.Common.{◌≡◌, ℕ, Result, Ok, Err, List, refl, sym, ap, ◌∙◌, subst}
 use Rattle.std.specs.Result.{OnOk}
+use Rattle.algol_tree.specs.declared.token.Spot.{Spot}
+use Rattle.algol_tree.specs.declared.tree.EventName.{EventName}
 use Rattle.algol_tree.specs.declared.tree.Expr.{Expr}
 use Rattle.algol_tree.specs.declared.tree.Expr as expressions
 use Rattle.algol_tree.specs.declared.tree.Variable.{Variable}
@@ -9,12 +11,13 @@ use Rattle.algol_tree.specs.Counts.{expr_tokens, variable_tokens, call_tokens}
 use Rattle.algol_tree.specs.Image.{expr, exprs, variable, call}
 use Rattle.algol_tree.specs.Plain as tree
 use Rattle.algol_tree.specs.Plain.{PExpr}
+use Rattle.b67_ops.specs.declared.intrinsic.Intrinsic.TheVariants.{Happened}
 use Rattle.b67_segment.specs.Building.{Built}
 use Rattle.b67_templates.specs.Paying.{inline}
 use Rattle.b67_emitter.specs.declared.names.Names.{Names}
-use Rattle.b67_emitter.specs.Values.{meanings, HasCode, ValueEmitted, ValueWithExits, HasCall, CallEmitted}
-use Rattle.b67_emit_expr.proofs.Shapes.{naming_is, call_is, calling_is}
-use Rattle.b67_emit_expr.proofs.Forms.{listed_as, variable_form, call_form}
+use Rattle.b67_emitter.specs.Values.{meanings, HasCode, ValueEmitted, ValueWithExits, HasCall, CallEmitted, HasEvent, EventEmitted}
+use Rattle.b67_emit_expr.proofs.Shapes.{naming_is, call_is, calling_is, happened_is}
+use Rattle.b67_emit_expr.proofs.Forms.{listed_as, variable_form, happened_form, call_form}
 
 pub on_ok_both : {T E P Q R : Type 0} (r : Result T E) → (P → Q → R) → OnOk r P → OnOk r Q → OnOk r R
 on_ok_both (Ok x) f p q = f p q
@@ -77,3 +80,19 @@ module _ (s : Names) (level : ℕ) where
     pub call_arm : (a b : Built) (xs ys : List ℕ) → ys ≡ xs → CallEmitted s level a b (call c) → ValueWithExits s level a b xs ys (expr e)
     call_arm a b xs ys same h =
         emitted_as a b xs ys e (tree.call (call c)) calling (listed_as s level a b xs xs xs ys (tree.call (call c)) refl (sym same) (call_form s level a b xs (call c) h))
+
+  -- the test of an event
+  module _ (e : Expr) (event : EventName) (spot : Spot) (is : e ≡ expressions.Happened event spot) where
+    testing : expr e ≡ tree.tested tree.happened event spot
+    testing = ap expr is ∙ happened_is event spot
+
+    pub event_syllables : inline (meanings s) (expr e) ≡ 12
+    event_syllables = ap (inline (meanings s)) testing
+
+    pub event_has : HasCode s level (expr e) → HasEvent s level event.name
+    event_has h =
+        let has = has_as e (tree.tested tree.happened event spot) testing h in
+        record { scopes = has.scopes; own = has.own; outer = has.outer; fits = has.fits.1 }
+
+    pub event_arm : (a b : Built) (xs : List ℕ) → EventEmitted s level a b Happened event.name → ValueWithExits s level a b xs xs (expr e)
+    event_arm a b xs h = emitted_as a b xs xs e (tree.tested tree.happened event spot) testing (happened_form s level a b xs event spot h)

@@ -28,9 +28,10 @@ use Rattle.b67_templates.specs.Fitting.{Told, is_by_name, ProcedureFits, Actuals
 use Rattle.b67_templates.specs.Paying.{modes_of, if_known, mode_at, given_syllables, inline, inline_given}
 use Rattle.b67_emitter.specs.declared.names.Names.{Names}
 use Rattle.b67_emitter.specs.Values.{couples, meant, meanings, AreNear, HasCall, CallEmitted}
+use Rattle.b67_emitter.proofs.Seen.{seen_further}
 use Rattle.b67_emit_expr.specs.Passing.{HasActual, ActualEmitted}
 use Rattle.b67_emit_expr.proofs.Shapes.{call_is}
-use Rattle.b67_emit_expr.proofs.Couples.{known_procedure, seen_procedure, seen_further}
+use Rattle.b67_emit_expr.proofs.Couples.{known_procedure, seen_procedure}
 use Rattle.b67_emit_expr.proofs.Calls.{call_part}
 use Rattle.b67_emit_expr.proofs.Actuals.{Left, all_left, none_left, next_has, next_left}
 use Rattle.b67_emit_expr.proofs.Listed.{nowhere}
@@ -57,7 +58,7 @@ module _ (s : Names) (level : ℕ) (c : Call) (h : HasCall s level (call c)) whe
 
   pub seen_call : (couple : Couple) → AreNear s → couples s c.name.spot ≡ Some couple → IsSeen level couple
   seen_call couple near is =
-      seen_further s level h.own couple h.outer (near.own c.name.spot couple is) (seen_procedure s h.own h.scopes c.name h.callee couple near is own_procedure)
+      seen_further level h.own couple h.outer (near.own c.name.spot couple is) (seen_procedure s h.own h.scopes c.name h.callee couple near is own_procedure)
 
   pub actuals_fit : ActualsFit h.scopes (meanings s) h.own h.block (sorts_of ((block_numbered h.scopes.blocks h.callee).parameters)) (parameter_wants h.scopes h.callee) (exprs c.actuals)
   actuals_fit =

@@ -1,7 +1,6 @@
 -- What fits at a level, and names whose couples can stand there.
-use Rattle.std.proofs.Common.{◌≡◌, ℕ, ◌+◌, ◌^◌, ◌<◌, ◌≤◌, Option, Some, None, inl, inr, refl, sym, subst, arith}
+use Rattle.std.proofs.Common.{◌≡◌, ℕ, ◌+◌, ◌<◌, Option, Some, None, inl, inr, sym, subst}
 use Rattle.std.specs.Prelude.{IsSome}
-use Rattle.std.proofs.Math.Pow.{pow_mono}
 use Rattle.algol_tree.specs.declared.TheConstants.{MOST_BLOCK_CELLS}
 use Rattle.algol_tree.specs.declared.tree.Kind.{Kind}
 use Rattle.algol_tree.specs.declared.tree.Named.{Named}
@@ -12,14 +11,14 @@ use Rattle.algol_tree.specs.Types.{taken_by}
 use Rattle.algol_tree.specs.Scopes.{Scopes, use_of}
 use Rattle.algol_paths.specs.Arrays.{Shape}
 use Rattle.b67_ops.specs.declared.Couple.{Couple}
-use Rattle.b67_ops.specs.Spelling.{index_bits, IsSeen}
-use Rattle.b67_ops.proofs.Couples.{level_bits-within}
+use Rattle.b67_ops.specs.Spelling.{IsSeen}
 use Rattle.b67_segment.specs.Building.{Built}
 use Rattle.b67_templates.specs.Cells.{IsRead, of_variable, of_formal, IsArray, declared, formal}
 use Rattle.b67_templates.specs.Fitting as fitting
 use Rattle.b67_templates.specs.Fitting.{couple_on_left, PlaceFits, ProcedureFits, ArrayFits}
 use Rattle.b67_emitter.specs.declared.names.Names.{Names}
 use Rattle.b67_emitter.specs.Values.{couples, results, lefts, meanings, AreNear, HasCode}
+use Rattle.b67_emitter.proofs.Seen.{some, seen_up, seen_further}
 use Rattle.b67_emit_expr.specs.Naming.{NameMeans, NameHasCode}
 
 -- ---- expressions
@@ -30,9 +29,6 @@ code_on s l m e same h = let H : ℕ → Type 0 = λ n. HasCode s n e in subst H
 -- the level is set as long as it is the same
 pub set_after : (a b : Built) → b.level ≡ a.level → IsSome a.level → IsSome b.level
 set_after a b same h = let S : Option ℕ → Type 0 = λ o. IsSome o in subst S (sym same) h
-
-pub some : {A : Type 0} (o : Option A) (x : A) → o ≡ Some x → IsSome o
-some {A} o x e = let S : Option A → Type 0 = λ y. IsSome y in subst S (sym e) refl
 
 module _ (s : Names) (level : ℕ) where
   -- the first of two operands
@@ -45,25 +41,6 @@ module _ (s : Names) (level : ℕ) where
 
   -- ---- names
 
-  wide_index : 2 + MOST_BLOCK_CELLS ≤ 2 ^ index_bits level
-  wide_index =
-      let bits = level_bits-within level in
-      let least : 9 ≤ index_bits level = omega arith in
-      let more : 2 ^ 9 ≤ 2 ^ index_bits level = pow_mono {i = 9} {j = index_bits level} least in
-      omega arith
-
-  -- a couple of a level up from here can stand there
-  pub seen_up : (c : Couple) (up : ℕ) → c.index < 2 + MOST_BLOCK_CELLS → c.level + up ≡ level → IsSeen level c
-  seen_up c up close is =
-      let wide = wide_index in
-      record { level_seen = omega (arith, is); index_fits = omega arith }
-
-  -- .. and so can one that can stand further out
-  pub seen_further : (own : ℕ) (c : Couple) → own ≤ level → c.index < 2 + MOST_BLOCK_CELLS → IsSeen own c → IsSeen level c
-  seen_further own c outer close seen =
-      let wide = wide_index in
-      record { level_seen = omega (arith, seen.level_seen, outer); index_fits = omega arith }
-
   pub known_procedure : (scopes : Scopes) (n : Named) (callee : ℕ) → ProcedureFits scopes (meanings s) level n callee → IsSome (couples s n.spot)
   known_procedure scopes n callee p = some (couples s n.spot) p.couple p.known_is
 
@@ -72,7 +49,7 @@ module _ (s : Names) (level : ℕ) where
   seen_procedure scopes n callee c near is p =
       let same : p.couple ≡ c = cc (p.known_is, is) in
       let I : Couple → Type 0 = λ d. IsSeen level d in
-      subst I same (seen_up p.couple (use_of scopes n).up (near.own n.spot p.couple p.known_is) p.procedure.level_is)
+      subst I same (seen_up level p.couple (use_of scopes n).up (near.own n.spot p.couple p.known_is) p.procedure.level_is)
 
   -- the couple of an array is of a level that many up, whichever way its name stands for it
   level_up : (scopes : Scopes) (n : Named) (shape : Shape) (c : Couple) → IsArray scopes level n shape c → c.level + (use_of scopes n).up ≡ level
@@ -87,7 +64,7 @@ module _ (s : Names) (level : ℕ) where
   seen_array scopes n shape c near is f =
       let same : f.couple ≡ c = cc (f.known_is, is) in
       let I : Couple → Type 0 = λ d. IsSeen level d in
-      subst I same (seen_up f.couple (use_of scopes n).up (near.own n.spot f.couple f.known_is) (level_up scopes n shape f.couple f.array))
+      subst I same (seen_up level f.couple (use_of scopes n).up (near.own n.spot f.couple f.known_is) (level_up scopes n shape f.couple f.array))
 
   -- .. of what is read, too
   read_up : (scopes : Scopes) (k : Kind) (n : Named) (c : Couple) → IsRead scopes level n k c → c.level + (use_of scopes n).up ≡ level
@@ -102,7 +79,7 @@ module _ (s : Names) (level : ℕ) where
   name_seen scopes kind n c near is (inl ((d, known, v), none)) =
       let same : d ≡ c = cc (known, is) in
       let I : Couple → Type 0 = λ x. IsSeen level x in
-      subst I same (seen_up d (use_of scopes n).up (near.own n.spot d known) (read_up scopes kind n d v))
+      subst I same (seen_up level d (use_of scopes n).up (near.own n.spot d known) (read_up scopes kind n d v))
   name_seen scopes kind n c near is (inr (callee, p, none, typed)) = seen_procedure scopes n callee c near is p
 
   -- the couple of a name on the left is that of its own cell or of a result
@@ -115,7 +92,7 @@ module _ (s : Names) (level : ℕ) where
   seen_left n c d up near is known at =
       let same : d ≡ c = cc (known, is) in
       let I : Couple → Type 0 = λ x. IsSeen level x in
-      subst I same (seen_up d up (left_near (couples s n.spot) (results s n.spot) d (near.own n.spot) (near.result n.spot) known) at)
+      subst I same (seen_up level d up (left_near (couples s n.spot) (results s n.spot) d (near.own n.spot) (near.result n.spot) known) at)
 
   pub known_place : (scopes : Scopes) (kind : Kind) (n : Named) → PlaceFits scopes (meanings s) level kind n → IsSome (lefts s n.spot)
   known_place scopes kind n (fitting.own (d, known, v) off) = some (lefts s n.spot) d known
@@ -130,4 +107,4 @@ module _ (s : Names) (level : ℕ) where
   known_name n h = name_known s h.own h.scopes h.kind n h.fits
 
   pub seen_name : (n : Named) (c : Couple) → AreNear s → couples s n.spot ≡ Some c → NameHasCode s level n → IsSeen level c
-  seen_name n c near is h = seen_further s level h.own c h.outer (near.own n.spot c is) (name_seen s h.own h.scopes h.kind n c near is h.fits)
+  seen_name n c near is h = seen_further level h.own c h.outer (near.own n.spot c is) (name_seen s h.own h.scopes h.kind n c near is h.fits)

@@ -30,7 +30,7 @@ use Rattle.b67_emitter.specs.declared.names.Names.{Names}
 use Rattle.b67_emitter.specs.Values.{couples, meant, actuals, meanings, given_as, given_alone, given, AreNear}
 use Rattle.b67_emitter.proofs.Composing.{then, weaker}
 use Rattle.b67_emit_expr.specs.Passing.{reaching, ActualFits, HasActual, ActualEmitted, ActualAt}
-use Rattle.b67_emit_expr.proofs.Couples.{some, seen_up, seen_further}
+use Rattle.b67_emitter.proofs.Seen.{some, seen_up, seen_further}
 
 -- ---- an actual that has a cell is no variable or parameter by itself
 
@@ -54,9 +54,9 @@ no_cell false a off is = let clash : [] ≡ a ∷ [] = is in cc
 module _ (s : Names) (scopes : Scopes) (level block : ℕ) (kind : Kind) where
   procedure_alone : (n : Named) (c : Couple) → IsOwnActual scopes block level (alone n) kind c → ExprFits scopes (meanings s) level block kind (alone n) →
       (modes : List Bool) × (meant s n.spot ≡ a_procedure modes)
-  procedure_alone n c own (inl ((d, known, v), none), unknown) =
+  procedure_alone n c own (inl ((d, known, v), none), unknown, plain) =
       absurd (no_cell (is_some (procedure_in ((use_of scopes n).sort))) (record { expr = alone n; kind = kind }) (read_no_procedure scopes level n kind d v) own.own)
-  procedure_alone n c own (inr (callee, p, alone_is, is), unknown) = (map is_by_name (parameter_wants scopes callee), p.modes)
+  procedure_alone n c own (inr (callee, p, alone_is, is), unknown, plain) = (map is_by_name (parameter_wants scopes callee), p.modes)
 
   cell_given : (e : PExpr) (c : Couple) → IsOwnActual scopes block level e kind c → ExprFits scopes (meanings s) level block kind e → given s e ≡ given_as false (actuals s (first_spot e))
   cell_given (tree.variable (tree.subscripted n tree.none)) c own fits =
@@ -91,16 +91,16 @@ module _ (s : Names) (scopes : Scopes) (level block : ℕ) (kind : Kind) where
   seen_as e g c loads is found further outer close seen =
       let same : record { couple = c; loads = loads } ≡ g = cc (is, found) in
       let I : Given → Type 0 = λ x. IsSeen further x.couple in
-      subst I same (seen_further s further level c outer close seen)
+      subst I same (seen_further further level c outer close seen)
 
   pub seen_given : (e : PExpr) (g : Given) (further : ℕ) → level ≤ further → AreNear s → given s e ≡ Some g → NameActualFits scopes (meanings s) level block kind e →
       ExprFits scopes (meanings s) level block kind e → IsSeen further g.couple
   seen_given e g further outer near is (fitting.refers_to n c alone_is meant_is known v there) fits =
-      seen_as e g c false is (variable_given e n c alone_is meant_is known) further outer (near.own n.spot c known) (seen_up s level c (use_of scopes n).up (near.own n.spot c known) v.level_is)
+      seen_as e g c false is (variable_given e n c alone_is meant_is known) further outer (near.own n.spot c known) (seen_up level c (use_of scopes n).up (near.own n.spot c known) v.level_is)
   seen_given e g further outer near is (fitting.passes_on n c alone_is meant_is known v) fits =
-      seen_as e g c true is (name_given e n c alone_is meant_is known) further outer (near.own n.spot c known) (seen_up s level c (use_of scopes n).up (near.own n.spot c known) v.level_is)
+      seen_as e g c true is (name_given e n c alone_is meant_is known) further outer (near.own n.spot c known) (seen_up level c (use_of scopes n).up (near.own n.spot c known) v.level_is)
   seen_given e g further outer near is (fitting.names c known own) fits =
-      seen_as e g c false is (actual_given e c known own fits) further outer (near.actual (first_spot e) c known) (seen_up s level c 0 (near.actual (first_spot e) c known) (omega (arith, own.level_is)))
+      seen_as e g c false is (actual_given e c known own fits) further outer (near.actual (first_spot e) c known) (seen_up level c 0 (near.actual (first_spot e) c known) (omega (arith, own.level_is)))
 
 -- ---- its code
 
@@ -136,7 +136,7 @@ named_fits : (s : Names) (scopes : Scopes) (level block : ℕ) (wanted : Wanted)
 named_fits s scopes level block (cells.by_name kind) e on fits = (kind, refl, fits.0, fits.1)
 named_fits s scopes level block (cells.value kind) e on fits = absurd (let clash : false ≡ true = on in cc)
 named_fits s scopes level block (cells.array shape) e on fits = absurd (let clash : false ≡ true = on in cc)
-named_fits s scopes level block cells.event e on fits = absurd fits
+named_fits s scopes level block cells.event e on fits = absurd (let clash : false ≡ true = on in cc)
 named_fits s scopes level block cells.other e on fits = absurd fits
 
 module _ (s : Names) (level : ℕ) (e : PExpr) (h : HasActual s level true e) where

@@ -23,8 +23,9 @@ use Rattle.b67_emitter.specs.declared.names.Names.{Names}
 use Rattle.b67_emitter.specs.Values.{couples, results, lefts, meant, meanings, AreNear}
 use Rattle.b67_emitter.proofs.Appends.{same_level}
 use Rattle.b67_emitter.proofs.Composing.{then, weaker}
+use Rattle.b67_emitter.proofs.Seen.{seen_further}
 use Rattle.b67_emit_expr.specs.Naming.{NameMeans, NameEmitted, NameHasPlace, PlaceEmitted}
-use Rattle.b67_emit_expr.proofs.Couples.{known_place, seen_place, seen_further, left_near}
+use Rattle.b67_emit_expr.proofs.Couples.{known_place, seen_place, left_near}
 use Rattle.b67_emit_expr.proofs.Calls.{emitted_none, call_part}
 
 -- what has no result is not typed
@@ -70,7 +71,7 @@ module _ (s : Names) (level : ℕ) (n : Named) (h : NameHasPlace s level n) wher
 
   pub seen_left : (c : Couple) → AreNear s → lefts s n.spot ≡ Some c → IsSeen level c
   seen_left c near is =
-      seen_further s level h.own c h.outer (left_near s level (couples s n.spot) (results s n.spot) c (near.own n.spot) (near.result n.spot) is)
+      seen_further level h.own c h.outer (left_near s level (couples s n.spot) (results s n.spot) c (near.own n.spot) (near.result n.spot) is)
       (seen_place s h.own h.scopes h.kind n c near is h.fits)
 
 module _ (s : Names) (n : Named) (c : Couple) (known : lefts s n.spot ≡ Some c) (a b : Built)

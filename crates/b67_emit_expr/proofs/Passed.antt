@@ -1,36 +1,33 @@
--- An actual is a value, or an array's name by itself: by the lower bounds that are known of names it is told which.
-use Rattle.std.proofs.Common.{◌≡◌, ℕ, ◌<◌, true, false, [], length, Bool, Option, Some, None, is_some, option_copied, refl, sym, ap, ◌∙◌, subst, if◌then◌else◌}
+-- An actual is a value, or the name by itself of an array or of an event: what is known of names tells which.
+use Rattle.std.proofs.Common.{◌≡◌, ◌⊎◌, inl, inr, ℕ, Bool, true, false, Option, Some, None, is_some, refl, sym, ap, ◌∙◌, subst, if◌then◌else◌}
 use Rattle.std.specs.Prelude.{IsSome}
-use Rattle.std.specs.Borrow.{Bor}
 use Rattle.algol_tree.specs.declared.tree.Kind.{Kind}
 use Rattle.algol_tree.specs.declared.tree.Named.{Named}
-use Rattle.algol_tree.specs.declared.tree.Variable.{Variable}
 use Rattle.algol_tree.specs.Plain as tree
-use Rattle.algol_tree.specs.Image.{variable}
-use Rattle.algol_tree.specs.Plain.{PExpr, PVariable}
+use Rattle.algol_tree.specs.Plain.{PExpr}
 use Rattle.algol_tree.specs.Scopes.{Scopes, use_of}
 use Rattle.algol_tree.specs.Sorts.{is_formal}
 use Rattle.algol_meaning.specs.Settle.{name_alone}
-use Rattle.algol_paths.specs.Arrays as arrays
-use Rattle.algol_paths.specs.Arrays.{Shape}
+use Rattle.algol_paths.specs.Arrays.{Lows, Shape}
 use Rattle.b67_ops.specs.declared.Couple.{Couple}
 use Rattle.b67_ops.specs.Spelling.{IsSeen}
 use Rattle.b67_segment.specs.Operators.{size}
 use Rattle.b67_segment.specs.Building.{Built}
 use Rattle.b67_templates.specs.Contexts.{Context}
 use Rattle.b67_templates.specs.Cells as wants
-use Rattle.b67_templates.specs.Cells.{Wanted, Agrees, IsArray}
+use Rattle.b67_templates.specs.Cells.{Wanted, Agrees, IsArray, IsEvent}
 use Rattle.b67_templates.specs.Code.{ArrayActualAt}
+use Rattle.b67_templates.specs.Events.{EventActualAt}
 use Rattle.b67_templates.specs.Emitting.{Emitted}
-use Rattle.b67_templates.specs.Fitting.{is_by_name, ArrayFits, ExprFits}
+use Rattle.b67_templates.specs.Fitting.{Meant, a_variable, a_name, a_procedure, an_event, another, is_by_name, is_event, ArrayFits, EventFits, its_own, its_actual, ExprFits}
 use Rattle.b67_templates.specs.Paying.{inline}
-use Rattle.algol_lows.specs.declared.bounds.Lows.{Lows}
 use Rattle.b67_emitter.specs.declared.names.Names.{Names}
-use Rattle.b67_emitter.specs.Values.{couples, lows, told, lows_told, meanings, AreNear, HasCode, ValueEmitted}
+use Rattle.b67_emitter.specs.Values.{couples, lows, meant, event_in, meanings, AreNear, HasCode, ValueEmitted}
 use Rattle.b67_emitter.proofs.Composing.{weaker}
-use Rattle.b67_emit_expr.specs.Passing.{if_array, array_alone, ActualFits, ActualAt, HasActual, ActualEmitted}
-use Rattle.b67_emit_expr.proofs.Couples.{some, known_array, seen_array, seen_further}
-use Rattle.b67_emit_expr.proofs.Elements.{IsElement, is_element, is_alone}
+use Rattle.b67_emitter.proofs.OnEvents.{event_there, event_found, event_seen}
+use Rattle.b67_emitter.proofs.Seen.{some, seen_further}
+use Rattle.b67_emit_expr.specs.Passing.{passed_as, passed, if_passed, passed_alone, ActualFits, ActualAt, HasActual, ActualEmitted}
+use Rattle.b67_emit_expr.proofs.Couples.{known_array, seen_array}
 
 -- ---- a name by itself
 
@@ -38,24 +35,35 @@ alone_is : (e : PExpr) (n : Named) → name_alone e ≡ Some n → e ≡ tree.va
 alone_is (tree.variable (tree.subscripted m tree.none)) n is = let same : m ≡ n = cc in ap (λ (x : Named). tree.variable (tree.subscripted x tree.none)) same
 alone_is e n is = absurd (let clash : None ≡ Some n = is in cc)
 
+-- what is meant is no event
+no_event : (m : Meant) → is_event m ≡ false → event_in m ≡ None
+no_event a_variable off = refl
+no_event a_name off = refl
+no_event (a_procedure modes) off = refl
+no_event (an_event formal) off = absurd (let clash : true ≡ false = off in cc)
+no_event another off = refl
+
+some_passed : (o : Option Bool) (l : Lows) → IsSome (passed_as o (Some l))
+some_passed None l = refl
+some_passed (Some formal) l = refl
+
 module _ (s : Names) where
-  -- what was found is a name of which lower bounds are known
-  found_alone : (e : PExpr) (n : Named) → array_alone s e ≡ Some n → (name_alone e ≡ Some n) × IsSome (lows s n.spot)
+  -- what was found is the name of an array or of an event
+  found_alone : (e : PExpr) (n : Named) → passed_alone s e ≡ Some n → (name_alone e ≡ Some n) × IsSome (passed s n)
   found_alone e n is = by (name_alone e) is
     where
-      by : (o : Option Named) → if_array s o ≡ Some n → (o ≡ Some n) × IsSome (lows s n.spot)
+      by : (o : Option Named) → if_passed s o ≡ Some n → (o ≡ Some n) × IsSome (passed s n)
       by None h = absurd (let clash : None ≡ Some n = h in cc)
-      by (Some m) h = test (lows s m.spot) refl h
+      by (Some m) h = test (passed s m) refl h
         where
-          test : (l : Option arrays.Lows) → lows s m.spot ≡ l → (if is_some l then Some m else None) ≡ Some n → (Some m ≡ Some n) × IsSome (lows s n.spot)
+          test : (l : Option Bool) → passed s m ≡ l → (if is_some l then Some m else None) ≡ Some n → (Some m ≡ Some n) × IsSome (passed s n)
           test None k g = absurd (let clash : None ≡ Some n = g in cc)
-          test (Some l) k g = (g, some (lows s n.spot) l (let same : m ≡ n = cc in ap (λ (x : Named). lows s x.spot) (sym same) ∙ k))
+          test (Some l) k g = (g, some (passed s n) l (let same : m ≡ n = cc in ap (λ (x : Named). passed s x) (sym same) ∙ k))
 
-  -- of a name of which some are known it was found
-  not_found : (e : PExpr) (n : Named) (l : arrays.Lows) → e ≡ tree.variable (tree.subscripted n tree.none) → lows s n.spot ≡ Some l → array_alone s e ≡ None → ⊥
-  not_found e n l is known none =
-      let clash : None ≡ Some n =
-      sym none ∙ ap (λ (x : PExpr). array_alone s x) is ∙ ap (λ (o : Option arrays.Lows). if is_some o then Some n else None) known in
+  -- the name of an array or of an event was found
+  not_found : (e : PExpr) (n : Named) → e ≡ tree.variable (tree.subscripted n tree.none) → IsSome (passed s n) → passed_alone s e ≡ None → ⊥
+  not_found e n is known none =
+      let clash : None ≡ Some n = sym none ∙ ap (λ (x : PExpr). passed_alone s x) is ∙ ap (λ (b : Bool). if b then Some n else None) known in
       cc
 
   -- ---- at which level
@@ -74,79 +82,128 @@ module _ (s : Names) where
   pub actual_as : (level : ℕ) (a b : Built) (mode mode' : Bool) (e : PExpr) → mode ≡ mode' → ActualEmitted s level a b mode' e → ActualEmitted s level a b mode e
   actual_as level a b mode mode' e same h = let V : Bool → Type 0 = λ m. ActualEmitted s level a b m e in subst V (sym same) h
 
+  -- ---- arrays and events
+
+  module _ (scopes : Scopes) (level : ℕ) (n : Named) where
+    array_passed : (shape : Shape) → ArrayFits scopes (meanings s) level n shape → IsSome (passed s n)
+    array_passed shape fits =
+        let l : Lows = record { list = shape.lows; formal = is_formal ((use_of scopes n).sort) } in
+        let P : Option Lows → Type 0 = λ o. IsSome (passed_as (event_in (meant s n.spot)) o) in
+        subst P (sym fits.lows_are) (some_passed (event_in (meant s n.spot)) l)
+
+    -- an array is no event, so its lower bounds tell whether it is a parameter
+    array_formal : (shape : Shape) (formal : Bool) → AreNear s → passed s n ≡ Some formal → ArrayFits scopes (meanings s) level n shape → formal ≡ is_formal ((use_of scopes n).sort)
+    array_formal shape formal near known fits =
+        let l : Lows = record { list = shape.lows; formal = is_formal ((use_of scopes n).sort) } in
+        let other = no_event (meant s n.spot) (near.apart n.spot l fits.lows_are) in
+        let own : passed s n ≡ Some l.formal = ap (λ (o : Option Bool). passed_as o (lows s n.spot)) other ∙ ap (λ (o : Option Lows). passed_as None o) fits.lows_are in
+        cc (own, known)
+
+    event_passed : EventFits scopes (meanings s) level n → passed s n ≡ Some (is_formal ((use_of scopes n).sort))
+    event_passed (its_own c known is own) =
+        ap (λ (m : Meant). passed_as (event_in m) (lows s n.spot)) is ∙ ap (λ sort. Some (is_formal sort)) (sym own.sort_is)
+    event_passed (its_actual c known is own) =
+        ap (λ (m : Meant). passed_as (event_in m) (lows s n.spot)) is ∙ ap (λ sort. Some (is_formal sort)) (sym own.sort_is)
+
 -- ---- what is wanted of an actual, as it was found
 
 module _ (s : Names) (level block : ℕ) (e : PExpr) where
-  -- an array
-  wanted_array : (scopes : Scopes) (wanted : Wanted) (n : Named) → is_by_name wanted ≡ false → array_alone s e ≡ Some n → ActualFits s scopes level block wanted e →
-      (shape : Shape) × (wanted ≡ wants.array shape) × ((a : Shape) × ArrayFits scopes (meanings s) level n a × Agrees shape a)
-  wanted_array scopes (wants.value kind) n off is fits =
+  -- the name is that of an array of a shape that agrees with this, or of an event
+  abbrev IsPassed : Scopes → Wanted → Named → Type 0
+  IsPassed scopes wanted n =
+      ((shape : Shape) × (wanted ≡ wants.array shape) × ((a : Shape) × ArrayFits scopes (meanings s) level n a × Agrees shape a))
+      ⊎ ((wanted ≡ wants.event) × EventFits scopes (meanings s) level n)
+
+  -- an array or an event
+  wanted_passed : (scopes : Scopes) (wanted : Wanted) (n : Named) → is_by_name wanted ≡ false → passed_alone s e ≡ Some n → ActualFits s scopes level block wanted e → IsPassed scopes wanted n
+  wanted_passed scopes (wants.value kind) n off is fits =
       let found = found_alone s e n is in
       let F : PExpr → Type 0 = λ x. ActualFits s scopes level block (wants.value kind) x in
       let own : F (tree.variable (tree.subscripted n tree.none)) = subst F (alone_is e n found.0) fits in
-      let S : Option arrays.Lows → Type 0 = λ o. IsSome o in
-      absurd (let none : S None = subst S own.1 found.1 in cc)
-  wanted_array scopes (wants.array shape) n off is (m, same, fits) =
+      let none : passed s n ≡ None = ap (λ (o : Option Lows). passed_as (event_in (meant s n.spot)) o) own.1 ∙ ap (λ (o : Option Bool). passed_as o None) (no_event (meant s n.spot) own.2) in
+      let S : Option Bool → Type 0 = λ o. IsSome o in
+      absurd (let clash : S None = subst S none found.1 in cc)
+  wanted_passed scopes (wants.array shape) n off is (m, same, fits) =
       let found = found_alone s e n is in
       let one : m ≡ n = cc (sym same ∙ alone_is e n found.0) in
       let F : Named → Type 0 = λ x. (a : Shape) × ArrayFits scopes (meanings s) level x a × Agrees shape a in
-      (shape, refl, subst F one fits)
-  wanted_array scopes (wants.by_name kind) n off is fits = absurd (let clash : true ≡ false = off in cc)
-  wanted_array scopes wants.event n off is fits = absurd fits
-  wanted_array scopes wants.other n off is fits = absurd fits
+      inl (shape, refl, subst F one fits)
+  wanted_passed scopes wants.event n off is (m, same, fits) =
+      let found = found_alone s e n is in
+      let one : m ≡ n = cc (sym same ∙ alone_is e n found.0) in
+      let F : Named → Type 0 = λ x. EventFits scopes (meanings s) level x in
+      inr (refl, subst F one fits)
+  wanted_passed scopes (wants.by_name kind) n off is fits = absurd (let clash : true ≡ false = off in cc)
+  wanted_passed scopes wants.other n off is fits = absurd fits
 
   -- a value
-  wanted_value : (scopes : Scopes) (wanted : Wanted) → is_by_name wanted ≡ false → array_alone s e ≡ None → ActualFits s scopes level block wanted e →
+  wanted_value : (scopes : Scopes) (wanted : Wanted) → is_by_name wanted ≡ false → passed_alone s e ≡ None → ActualFits s scopes level block wanted e →
       (kind : Kind) × (wanted ≡ wants.value kind) × ExprFits scopes (meanings s) level block kind e
   wanted_value scopes (wants.value kind) off none fits = (kind, refl, fits)
-  wanted_value scopes (wants.array shape) off none (n, same, (a, fits, agrees)) =
-      absurd (not_found s e n (record { list = a.lows; formal = is_formal ((use_of scopes n).sort) }) same fits.lows_are none)
+  wanted_value scopes (wants.array shape) off none (n, same, (a, fits, agrees)) = absurd (not_found s e n same (array_passed s scopes level n a fits) none)
+  wanted_value scopes wants.event off none (n, same, fits) =
+      absurd (not_found s e n same (some (passed s n) (is_formal ((use_of scopes n).sort)) (event_passed s scopes level n fits)) none)
   wanted_value scopes (wants.by_name kind) off none fits = absurd (let clash : true ≡ false = off in cc)
-  wanted_value scopes wants.event off none fits = absurd fits
   wanted_value scopes wants.other off none fits = absurd fits
 
 module _ (s : Names) (level : ℕ) (e : PExpr) where
-  -- ---- an array
+  -- ---- an array or an event
 
-  module _ (n : Named) (is : array_alone s e ≡ Some n) where
-    pub known_bounds : IsSome (lows s n.spot)
-    known_bounds = let found = found_alone s e n is in found.1
+  module _ (n : Named) (is : passed_alone s e ≡ Some n) where
+    pub known_passed : IsSome (passed s n)
+    known_passed = let found = found_alone s e n is in found.1
 
     pub known_actual : HasActual s level false e → IsSome (couples s n.spot)
-    known_actual h =
-        let own = wanted_array s h.own h.block e h.scopes h.wanted n h.mode is h.fits in
-        known_array s h.own h.scopes n own.2.0 own.2.1
+    known_actual h = by (wanted_passed s h.own h.block e h.scopes h.wanted n h.mode is h.fits)
+      where
+        by : IsPassed s h.own h.block e h.scopes h.wanted n → IsSome (couples s n.spot)
+        by (inl (shape, wish, (a, fits, agrees))) = known_array s h.own h.scopes n a fits
+        by (inr (wish, fits)) =
+            let own = event_there s h.scopes h.own n fits in
+            some (couples s n.spot) own.0 own.1
 
     pub seen_actual : (c : Couple) → AreNear s → couples s n.spot ≡ Some c → HasActual s level false e → IsSeen level c
-    seen_actual c near known h =
-        let own = wanted_array s h.own h.block e h.scopes h.wanted n h.mode is h.fits in
-        seen_further s level h.own c h.outer (near.own n.spot c known) (seen_array s h.own h.scopes n own.2.0 c near known own.2.1)
+    seen_actual c near known h = seen_further level h.own c h.outer (near.own n.spot c known) (by (wanted_passed s h.own h.block e h.scopes h.wanted n h.mode is h.fits))
+      where
+        by : IsPassed s h.own h.block e h.scopes h.wanted n → IsSeen h.own c
+        by (inl (shape, wish, (a, fits, agrees))) = seen_array s h.own h.scopes n a c near known fits
+        by (inr (wish, fits)) = event_seen s h.scopes h.own n c near known fits
 
     pub actual_syllables : inline (meanings s) e ≡ 12
     actual_syllables = let found = found_alone s e n is in ap (inline (meanings s)) (alone_is e n found.0)
 
-    pub array_form : (a b : Built) (c : Couple) (l : Lows) → couples s n.spot ≡ Some c → lows s n.spot ≡ Some (told l) →
-        ((scopes : Scopes) (context : Context) (shape x : Shape) (m : Named) → IsArray scopes context.level m x c → l.formal ≡ is_formal ((use_of scopes m).sort) → Agrees shape x →
-        Emitted a b (λ qs. ArrayActualAt scopes context qs level shape m (size a.operators) (size b.operators))) → ActualEmitted s level a b false e
-    array_form a b c l known bounds h = record { code = λ scopes context wanted mode fits. by scopes context wanted (wanted_array s context.level context.block e scopes wanted n mode is fits) }
+    pub passed_form : (a b : Built) (c : Couple) (own : Bool) → AreNear s → couples s n.spot ≡ Some c → passed s n ≡ Some own →
+        ((scopes : Scopes) (context : Context) (shape x : Shape) (m : Named) → IsArray scopes context.level m x c → own ≡ is_formal ((use_of scopes m).sort) → Agrees shape x →
+        Emitted a b (λ qs. ArrayActualAt scopes context qs level shape m (size a.operators) (size b.operators))) →
+        ((scopes : Scopes) (context : Context) (m : Named) → IsEvent scopes context.level m c → own ≡ is_formal ((use_of scopes m).sort) →
+        Emitted a b (λ qs. EventActualAt scopes context qs level m (size a.operators) (size b.operators))) → ActualEmitted s level a b false e
+    passed_form a b c own near known told array event = record {
+      code = λ scopes context wanted mode fits. by scopes context wanted (wanted_passed s context.level context.block e scopes wanted n mode is fits);
+    }
       where
-        by : (scopes : Scopes) (context : Context) (wanted : Wanted) →
-            (shape : Shape) × (wanted ≡ wants.array shape) × ((x : Shape) × ArrayFits scopes (meanings s) context.level n x × Agrees shape x) →
+        by : (scopes : Scopes) (context : Context) (wanted : Wanted) → IsPassed s context.level context.block e scopes wanted n →
             Emitted a b (λ qs. ActualAt scopes context qs level wanted e (size a.operators) (size b.operators))
-        by scopes context wanted (shape, wish, (x, fits, agrees)) =
+        by scopes context wanted (inl (shape, wish, (x, fits, agrees))) =
             let found = found_alone s e n is in
             let same : fits.couple ≡ c = cc (fits.known_is, known) in
             let I : Couple → Type 0 = λ d. IsArray scopes context.level n x d in
-            let both : told l ≡ record { list = x.lows; formal = is_formal ((use_of scopes n).sort) } = cc (fits.lows_are, bounds) in
             let W : Wanted → Type 0 = λ w. Emitted a b (λ qs. ActualAt scopes context qs level w e (size a.operators) (size b.operators)) in
             subst W (sym wish)
             (weaker (λ qs. ActualAt scopes context qs level (wants.array shape) e (size a.operators) (size b.operators))
-            (h scopes context shape x n (subst I same fits.array) (ap (λ (z : arrays.Lows). z.formal) both) agrees)
+            (array scopes context shape x n (subst I same fits.array) (array_formal s scopes context.level n x own near told fits) agrees)
+            (λ qs p. (n, alone_is e n found.0, p)))
+        by scopes context wanted (inr (wish, fits)) =
+            let found = found_alone s e n is in
+            let formal : own ≡ is_formal ((use_of scopes n).sort) = cc (event_passed s scopes context.level n fits, told) in
+            let W : Wanted → Type 0 = λ w. Emitted a b (λ qs. ActualAt scopes context qs level w e (size a.operators) (size b.operators)) in
+            subst W (sym wish)
+            (weaker (λ qs. ActualAt scopes context qs level wants.event e (size a.operators) (size b.operators))
+            (event scopes context n (event_found s scopes context.level n c known fits) formal)
             (λ qs p. (n, alone_is e n found.0, p)))
 
   -- ---- a value
 
-  module _ (none : array_alone s e ≡ None) where
+  module _ (none : passed_alone s e ≡ None) where
     pub actual_code : HasActual s level false e → HasCode s level e
     actual_code h =
         let own = wanted_value s h.own h.block e h.scopes h.wanted h.mode none h.fits in
@@ -159,25 +216,3 @@ module _ (s : Names) (level : ℕ) (e : PExpr) where
           let W : Wanted → Type 0 = λ w. Emitted a b (λ qs. ActualAt scopes context qs level w e (size a.operators) (size b.operators)) in
           subst W (sym own.1) (h.code scopes context own.0 own.2);
     }
-
--- ---- a variable
-
--- what was found by reference is there
-pub found_is : {A : Type 0} (r : Option (Bor A)) (found : Bool) → found ≡ is_some r → found ≡ false → is_some (option_copied r) ≡ false
-found_is None found is off = refl
-found_is (Some x) found is off = sym is ∙ off
-
-module _ (s : Names) (v : Variable) where
-  -- an element is no name by itself
-  pub element_alone : 0 < length v.subs → None ≡ array_alone s (tree.variable (variable v))
-  element_alone some = by (variable v) (is_element v some)
-    where
-      by : (w : PVariable) → IsElement w → None ≡ array_alone s (tree.variable w)
-      by (tree.subscripted n tree.none) is = absurd is
-      by (tree.subscripted n (tree.more e es)) is = refl
-
-  -- a name of which no lower bounds are known is no array's
-  pub unknown_alone : (o : Option Lows) → v.subs ≡ [] → lows_told o ≡ lows s v.name.spot → is_some o ≡ false → None ≡ array_alone s (tree.variable (variable v))
-  unknown_alone None none known off =
-      ap (λ (l : Option arrays.Lows). if is_some l then Some v.name else None) known ∙ ap (λ (w : PVariable). array_alone s (tree.variable w)) (sym (is_alone v none))
-  unknown_alone (Some l) none known off = absurd (let clash : true ≡ false = off in cc)

@@ -10,6 +10,7 @@ use Rattle.algol_tree.specs.declared.tree.Variable.{Variable}
 use Rattle.algol_tree.specs.declared.tree.Variable as variables
 use Rattle.algol_tree.specs.declared.tree.Call.{Call}
 use Rattle.algol_tree.specs.declared.tree.Call as calls
+use Rattle.algol_tree.specs.declared.tree.EventName.{EventName}
 use Rattle.algol_tree.specs.declared.tree.Named.{Named}
 use Rattle.algol_tree.specs.Counts.{call_tokens, exprs_tokens}
 use Rattle.algol_tree.specs.Image.{expr, exprs, call, variable}
@@ -41,6 +42,9 @@ call_is c = search (rules, calls.the_lemmas)
 
 pub calling_is : (c : Call) → expr (expressions.Call c) ≡ tree.call (call c)
 calling_is c = search (rules, expressions.the_lemmas)
+
+pub happened_is : (e : EventName) (spot : Spot) → expr (expressions.Happened e spot) ≡ tree.tested tree.happened e spot
+happened_is e spot = search (rules, expressions.the_lemmas)
 
 pub paren_is : (x : Box Expr Global) (spot : Spot) → expr (expressions.Paren x spot) ≡ tree.paren (expr x.value) spot
 paren_is x spot = search (rules, expressions.the_lemmas)

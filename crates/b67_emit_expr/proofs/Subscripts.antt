@@ -32,9 +32,10 @@ use Rattle.b67_emitter.specs.declared.names.Names.{Names}
 use Rattle.b67_emitter.specs.Values.{couples, lows, told, meanings, AreNear, HasCode, ElementFits}
 use Rattle.b67_emitter.proofs.Appends.{same_level}
 use Rattle.b67_emitter.proofs.Composing.{then, weaker}
+use Rattle.b67_emitter.proofs.Seen.{some, seen_further}
 use Rattle.b67_emit_expr.specs.Subscripting.{SubscriptEmitted, HasSubscripts, SubscriptsEmitted}
 use Rattle.b67_emit_expr.proofs.Shapes.{variable_is, own_name, own_subscripts}
-use Rattle.b67_emit_expr.proofs.Couples.{seen_further, some, known_array, seen_array}
+use Rattle.b67_emit_expr.proofs.Couples.{known_array, seen_array}
 
 -- ---- tokens, and syllables
 
@@ -216,7 +217,7 @@ module _ (s : Names) (level : ℕ) (v : Variable) where
 
     pub seen_element : (m : ℕ) (c : Couple) → m ≡ level → AreNear s → couples s v.name.spot ≡ Some c → IsSeen m c
     seen_element m c same near is = let I : ℕ → Type 0 = λ l. IsSeen l c in
-        subst I (sym same) (seen_further s level h.own c h.outer (near.own v.name.spot c is) (seen_array s h.own h.scopes v.name h.shape c near is own))
+        subst I (sym same) (seen_further level h.own c h.outer (near.own v.name.spot c is) (seen_array s h.own h.scopes v.name h.shape c near is own))
 
     -- its subscripts and the lower bounds, as they were found
     module _ (ls : List ℤ) (xs : List Expr) (bounds : list_told (lows s v.name.spot) ≡ Some ls) (whole : xs ≡ v.subs) where

@@ -17,13 +17,13 @@ ghost use Rattle.b67_emit_expr.specs.Subscripting.{SubscriptEmitted, HasSubscrip
 use crate::by_name::append_given;
 use crate::naming::append_name;
 use crate::operators::{append_ready, operator_for, truth_literal};
-use crate::passing::array_alone;
+use crate::passing::{is_formal, passed_alone};
 use algol_tree::{Call, Expr, Op, Variable};
 use b67_emitter::{
-    Names, aim, aim_exits, append_array, append_begun, append_branch, append_exit, append_moved,
-    append_number, append_plain, append_reference, couple_of, lows_of, takes_name,
+    Names, aim, aim_exits, append_begun, append_branch, append_exit, append_moved, append_number,
+    append_on_event, append_passed, append_plain, append_reference, couple_of, lows_of, takes_name,
 };
-use b67_ops::{BranchKind, PlainKind};
+use b67_ops::{BranchKind, Intrinsic, PlainKind};
 use b67_segment::Builder;
 use std::alloc::AllocError;
 
@@ -98,7 +98,7 @@ fn calculated(
     append_plain(out, operator_for(op))
 }
 
-/// An actual that is not given by name: the value of an expression, or the reference to an array's cell.
+/// An actual that is not given by name: the value of an expression, or the reference to the cell of an array or of an event.
 #[cycle(values)]
 fn valued(
     e: &Expr,
@@ -115,8 +115,8 @@ fn valued(
     ensures size { OnOk result (size out.new.operators ≤ size out.old.operators + inline (meanings names.now) (expr e.now)) }
     ensures exits { OnOk result (exits.new.items ≡ exits.old.items) }
 {
-    match array_alone(e, names) {
-        Some(name) => append_array(out, couple_of(names, name), lows_of(names, name).formal),
+    match passed_alone(e, names) {
+        Some(name) => append_passed(out, couple_of(names, name), is_formal(names, name)),
         None => operand(e, names, out, exits),
     }
 }
@@ -314,6 +314,6 @@ fn value_with_exits(
         Expr::Two(op, a, b) => calculated(*op, a, b, names, out, exits),
         Expr::If(condition, x, y, _) => chosen(condition, x, y, names, out, exits),
         Expr::Call(c) => called(c, names, out, exits),
-        Expr::Happened(_, _) => unreachable!(),
+        Expr::Happened(event, _) => append_on_event(Intrinsic::Happened, &event.name, names, out),
     }
 }

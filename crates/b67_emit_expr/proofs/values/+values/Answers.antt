@@ -18,9 +18,9 @@ use Rattle.b67_emit_expr.proofs.Couples.{code_on, first_code, second_code, set_a
 use Rattle.b67_emit_expr.proofs.Forms.{listed_as, plain_as, number_form, truth_form, moved_form, paren_form, plus_form, neg_form, not_form, applied_form, exits_aimed, operands_form, calculated_form, chosen_form}
 use Rattle.b67_emit_expr.proofs.Listed.{nowhere, list_grown, exits_lie, exits_back, hole_lies}
 use Rattle.b67_emit_expr.proofs.Called.{known_call, seen_call, call_syllables, begin_left, next_is, next_tokens, next_syllables, next_wanted, next_one, called_form}
-use Rattle.b67_emit_expr.proofs.Passed.{wanted_on, actual_on, wanted_as, actual_as, known_bounds, known_actual, seen_actual, actual_syllables, array_form, actual_code, value_form}
+use Rattle.b67_emit_expr.proofs.Passed.{wanted_on, actual_on, wanted_as, actual_as, known_passed, known_actual, seen_actual, actual_syllables, passed_form, actual_code, value_form}
 use Rattle.b67_emit_expr.proofs.Modes.{own_modes, given_named, given_valued}
-use Rattle.b67_emit_expr.proofs.Arms.{on_ok_both, emitted_as, variable_as, variable_syllables, variable_has, variable_arm, calling_tokens, calling_syllables, call_has, call_arm}
+use Rattle.b67_emit_expr.proofs.Arms.{on_ok_both, emitted_as, variable_as, variable_syllables, variable_has, variable_arm, calling_tokens, calling_syllables, call_has, call_arm, event_syllables, event_has, event_arm}
 use Rattle.b67_emit_expr.proofs.Subscripts.{first_tokens, both_tokens, first_syllables, both_syllables, subscripts_fewer, read_back, told_list, known_lows, known_element, seen_element, some_subscripts, as_many_lows, own_syllables, first_has, first_back, first_whole, second_has, second_back, second_whole, one_form, two_form}
 use Rattle.b67_emit_expr.proofs.Elements.{is_element, some_in, none_in, element_has, element_form, alone_has, alone_form}
 use Rattle.b67_emit_expr.proofs.values.+values.Goals as goal
@@ -129,47 +129,47 @@ given-returns-else-by_name-clause-size t c =
 
 pub valued-couple_of-requires : goal.valued-couple_of-requires
 valued-couple_of-requires t c =
-    let is = sym c.array_alone.ensures ∙ ap option_copied c.in-Some.is in
+    let is = sym c.passed_alone.ensures ∙ ap option_copied c.in-Some.is in
     known_actual c.args.names.now (level_set c.args.out.now) (expr c.args.e.now) c.in-Some.name.now is c.requires.code
 
-pub valued-lows_of-requires : goal.valued-lows_of-requires
-valued-lows_of-requires t c =
-    let is = sym c.array_alone.ensures ∙ ap option_copied c.in-Some.is in
-    known_bounds c.args.names.now (level_set c.args.out.now) (expr c.args.e.now) c.in-Some.name.now is
+pub valued-is_formal-requires : goal.valued-is_formal-requires
+valued-is_formal-requires t c =
+    let is = sym c.passed_alone.ensures ∙ ap option_copied c.in-Some.is in
+    known_passed c.args.names.now (level_set c.args.out.now) (expr c.args.e.now) c.in-Some.name.now is
 
-pub valued-append_array-requires-clause-seen : goal.valued-append_array-requires-clause-seen
-valued-append_array-requires-clause-seen t c =
-    let is = sym c.array_alone.ensures ∙ ap option_copied c.in-Some.is in
+pub valued-append_passed-requires-clause-seen : goal.valued-append_passed-requires-clause-seen
+valued-append_passed-requires-clause-seen t c =
+    let is = sym c.passed_alone.ensures ∙ ap option_copied c.in-Some.is in
     seen_actual c.args.names.now (level_set c.args.out.now) (expr c.args.e.now) c.in-Some.name.now is c.couple_of.result c.requires.near c.couple_of.ensures c.requires.code
 
-pub valued-append_array-requires-clause-room : goal.valued-append_array-requires-clause-room
-valued-append_array-requires-clause-room t c =
-    let is = sym c.array_alone.ensures ∙ ap option_copied c.in-Some.is in
+pub valued-append_passed-requires-clause-room : goal.valued-append_passed-requires-clause-room
+valued-append_passed-requires-clause-room t c =
+    let is = sym c.passed_alone.ensures ∙ ap option_copied c.in-Some.is in
     omega (arith, actual_syllables c.args.names.now (level_set c.args.out.now) (expr c.args.e.now) c.in-Some.name.now is, c.requires.room)
 
 pub valued-operand-requires : goal.valued-operand-requires
 valued-operand-requires t c =
-    let none = sym c.array_alone.ensures ∙ ap option_copied c.in-None.is in
+    let none = sym c.passed_alone.ensures ∙ ap option_copied c.in-None.is in
     let smaller : 3 * expr_tokens (expr c.args.e.now) + 1 < t = omega (arith, c.decreases) in
     (smaller, (c.requires.set, (c.requires.near, (actual_code c.args.names.now (level_set c.args.out.now) (expr c.args.e.now) none c.requires.code, c.requires.room))))
 
 pub valued-returns-in-Some-clause-code : goal.valued-returns-in-Some-clause-code
 valued-returns-in-Some-clause-code t c =
-    let is = sym c.array_alone.ensures ∙ ap option_copied c.in-Some.is in
-    on_ok_weaker c.append_array.result
-    (array_form c.args.names.now (level_set c.args.out.now) (expr c.args.e.now) c.in-Some.name.now is c.args.out.now c.append_array.new.out c.couple_of.result
-    c.lows_of.result.now c.couple_of.ensures c.lows_of.ensures)
-    c.append_array.ensures.code
+    let is = sym c.passed_alone.ensures ∙ ap option_copied c.in-Some.is in
+    on_ok_both c.append_passed.result
+    (passed_form c.args.names.now (level_set c.args.out.now) (expr c.args.e.now) c.in-Some.name.now is c.args.out.now c.append_passed.new.out c.couple_of.result
+    c.is_formal.result c.requires.near c.couple_of.ensures c.is_formal.ensures)
+    c.append_passed.ensures.array c.append_passed.ensures.event
 
 pub valued-returns-in-Some-clause-size : goal.valued-returns-in-Some-clause-size
 valued-returns-in-Some-clause-size t c =
-    let is = sym c.array_alone.ensures ∙ ap option_copied c.in-Some.is in
-    on_ok_weaker c.append_array.result
-    (λ wide. omega (arith, actual_syllables c.args.names.now (level_set c.args.out.now) (expr c.args.e.now) c.in-Some.name.now is, wide)) c.append_array.ensures.size
+    let is = sym c.passed_alone.ensures ∙ ap option_copied c.in-Some.is in
+    on_ok_weaker c.append_passed.result
+    (λ wide. omega (arith, actual_syllables c.args.names.now (level_set c.args.out.now) (expr c.args.e.now) c.in-Some.name.now is, wide)) c.append_passed.ensures.size
 
 pub valued-returns-in-None-clause-code : goal.valued-returns-in-None-clause-code
 valued-returns-in-None-clause-code t c =
-    let none = sym c.array_alone.ensures ∙ ap option_copied c.in-None.is in
+    let none = sym c.passed_alone.ensures ∙ ap option_copied c.in-None.is in
     on_ok_weaker c.operand.result
     (value_form c.args.names.now (level_set c.args.out.now) (expr c.args.e.now) none c.args.out.now c.operand.new.out) c.operand.ensures.code
 
@@ -651,3 +651,24 @@ value_with_exits-returns-in-Call-clause-code t c =
     (λ h same. call_arm c.args.names.now (level_set c.args.out.now) c.args.e.now c.in-Call.c c.in-Call.is c.args.out.now c.called.new.out c.args.exits.now.items
     c.called.new.exits.items same h)
     c.called.ensures.code c.called.ensures.exits
+
+pub value_with_exits-append_on_event-requires-clause-code : goal.value_with_exits-append_on_event-requires-clause-code
+value_with_exits-append_on_event-requires-clause-code t c =
+    event_has c.args.names.now (level_set c.args.out.now) c.args.e.now c.in-Happened.event c.in-Happened.field-1 c.in-Happened.is c.requires.code
+
+pub value_with_exits-append_on_event-requires-clause-room : goal.value_with_exits-append_on_event-requires-clause-room
+value_with_exits-append_on_event-requires-clause-room t c =
+    omega (arith, event_syllables c.args.names.now (level_set c.args.out.now) c.args.e.now c.in-Happened.event c.in-Happened.field-1 c.in-Happened.is, c.requires.room)
+
+pub value_with_exits-returns-in-Happened-clause-code : goal.value_with_exits-returns-in-Happened-clause-code
+value_with_exits-returns-in-Happened-clause-code t c =
+    on_ok_weaker c.append_on_event.result
+    (event_arm c.args.names.now (level_set c.args.out.now) c.args.e.now c.in-Happened.event c.in-Happened.field-1 c.in-Happened.is c.args.out.now c.append_on_event.new.out
+    c.args.exits.now.items)
+    c.append_on_event.ensures.code
+
+pub value_with_exits-returns-in-Happened-clause-size : goal.value_with_exits-returns-in-Happened-clause-size
+value_with_exits-returns-in-Happened-clause-size t c =
+    on_ok_weaker c.append_on_event.result
+    (λ wide. omega (arith, event_syllables c.args.names.now (level_set c.args.out.now) c.args.e.now c.in-Happened.event c.in-Happened.field-1 c.in-Happened.is, wide))
+    c.append_on_event.ensures.size
