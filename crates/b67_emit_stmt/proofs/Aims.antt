@@ -1,9 +1,8 @@
 -- Branches that are aimed after a loop's body or after the first part of an IF.
 use Rattle.std.proofs.Common.{◌≡◌, ℕ, ◌≤◌, List, [], ◌∷◌, length, take, drop, sym, subst, arith}
 use Rattle.algol_tree.specs.Plain.{PStmt}
-use Rattle.b67_emit_stmt.specs.Places.{Place, StmtAt}
+use Rattle.b67_emit_stmt.specs.Places.{Later, Place, StmtAt}
 use Rattle.b67_ops.specs.declared.BranchKind.{BranchKind}
-use Rattle.b67_segment.specs.declared.code.Format.{Format}
 use Rattle.b67_segment.specs.Operators.{Placed, size}
 use Rattle.b67_segment.specs.Building.{Built, level_set}
 use Rattle.b67_templates.specs.Fragments.{BranchAt}
@@ -12,24 +11,24 @@ use Rattle.b67_templates.specs.Emitting.{AreExits, EmittedWithExits}
 use Rattle.b67_emitter.specs.Aiming.{Aimed}
 use Rattle.b67_emit_stmt.specs.declared.draft.Draft.{Draft}
 use Rattle.b67_emit_stmt.specs.declared.draft.Known.{Known}
-use Rattle.b67_emit_stmt.specs.Drafts.{Emits}
+use Rattle.b67_emit_stmt.specs.Drafts.{Emits, noted}
 use Rattle.b67_emit_stmt.proofs.Arms.{Closed, Stands}
 use Rattle.b67_emit_stmt.proofs.Drafts.{closed, emits_weaker, exits_there}
 
 -- the exits of a body go to the place after it
 pub body_closed : (s : Known) (sc : Place) (level : ℕ) (x : PStmt) (a b d : Draft) (first : ℕ) → first ≡ length a.exits.items → Emits (stmt_syllables s x) a b (Stands sc level x a b) →
-    Aimed (drop first b.exits.items) b.out d.out → d.exits.items ≡ take first b.exits.items → d.formats.items ≡ b.formats.items →
+    Aimed (drop first b.exits.items) b.out d.out → d.exits.items ≡ take first b.exits.items → noted d ≡ noted b →
     Emits (stmt_syllables s x) a d (Closed sc level x a d)
 body_closed s sc level x a b d first is h aimed es fs =
     let A : ℕ → Type 0 = λ n. Aimed (drop n b.exits.items) b.out d.out in
     let E : ℕ → Type 0 = λ n. d.exits.items ≡ take n b.exits.items in
-    let S : List Format → List Placed → ℕ → Type 0 = λ formats qs at. StmtAt sc formats qs level x (size a.out.operators) at at in
+    let S : Later → List Placed → ℕ → Type 0 = λ later qs at. StmtAt sc later qs level x (size a.out.operators) at at in
     let there = subst A is aimed in
     emits_weaker (Closed sc level x a d) (closed h there (subst E is es) fs) (omega arith)
-    (λ formats qs target hi p. subst (S formats qs) (sym there.place) p)
+    (λ later qs target hi p. subst (S later qs) (sym there.place) p)
 
 -- the exits that were added can be aimed
-pub exits_lie : {n : ℕ} {P : List Format → List Placed → ℕ → Type 0} (a b : Draft) (first : ℕ) → first ≡ length a.exits.items → Emits n a b P →
+pub exits_lie : {n : ℕ} {P : Later → List Placed → ℕ → Type 0} (a b : Draft) (first : ℕ) → first ≡ length a.exits.items → Emits n a b P →
     (first ≤ length b.exits.items) × AreExits b.out.operators (drop first b.exits.items) 0 (size b.out.operators)
 exits_lie {n} {P} a b first is h =
     let lie = exits_there h in

@@ -10,10 +10,9 @@ use Rattle.algol_tree.specs.declared.tree.Stmt.TheVariants as shapes
 use Rattle.algol_tree.specs.Image.{decls, stmt, stmts}
 use Rattle.algol_tree.specs.Plain as tree
 use Rattle.algol_tree.specs.Plain.{PStmt, PStmts}
-use Rattle.b67_emit_stmt.specs.Places.{Place, StmtAt, inside}
+use Rattle.b67_emit_stmt.specs.Places.{Later, Place, StmtAt, inside}
 use Rattle.b67_emit_stmt.specs.declared.draft.Known.{Known}
 use Rattle.b67_ops.specs.declared.TheConstants.{MOST_LEVEL}
-use Rattle.b67_segment.specs.declared.code.Format.{Format}
 use Rattle.b67_segment.specs.Operators.{Placed, size}
 use Rattle.b67_segment.specs.Building.{level_set}
 use Rattle.algol_tree.specs.Blocks.{number_at}
@@ -71,10 +70,10 @@ module _ (s : Known) (sc : Place) (level : ℕ) (spot : Spot) (ss : PStmts) wher
   declared t [] e h fit = absurd (let clash : true ≡ false = sym e ∙ h in cc)
   declared t (d ∷ ds) e h fit = (fit.0, fit.1, (fit.2, fit.3, fit.4))
 
-  entered : (t : Bool) (ds : List Decl) (formats : List Format) (qs : List Placed) (from to target : ℕ) → t ≡ (length ds == 0) → t ≡ false →
-      InnerAt within formats qs level (decls ds) ss from to → StmtAt sc formats qs level (tree.block (tree.body spot (decls ds) ss)) from to target
-  entered t [] formats qs from to target e h p = absurd (let clash : true ≡ false = sym e ∙ h in cc)
-  entered t (d ∷ ds) formats qs from to target e h p = p
+  entered : (t : Bool) (ds : List Decl) (later : Later) (qs : List Placed) (from to target : ℕ) → t ≡ (length ds == 0) → t ≡ false →
+      InnerAt within later qs level (decls ds) ss from to → StmtAt sc later qs level (tree.block (tree.body spot (decls ds) ss)) from to target
+  entered t [] later qs from to target e h p = absurd (let clash : true ≡ false = sym e ∙ h in cc)
+  entered t (d ∷ ds) later qs from to target e h p = p
 
 -- what the call of the block needs, where it is matched
 module _ (s : Known) (a : Draft) (x : Stmt) (body : Body) (ss : List Stmt) (ds : List Decl) (t : Bool) (n : ℕ) (is : x ≡ shapes.Block body) (same : ss ≡ body.stmts)
@@ -130,5 +129,5 @@ module _ (s : Known) (a : Draft) (x : Stmt) (body : Body) (ss : List Stmt) (ds :
       (λ sc fit.
       let all = declared s sc (level_set a.out) body.spot (stmts ss) t body.decls tested h fit in
       emits_weaker (Stands sc (level_set a.out) p a b) (there (in_it sc) all.1 all.2) room
-      (λ formats qs target hi q.
-      entered s sc (level_set a.out) body.spot (stmts ss) t body.decls formats qs (size a.out.operators) (size b.out.operators) target tested h q))
+      (λ later qs target hi q.
+      entered s sc (level_set a.out) body.spot (stmts ss) t body.decls later qs (size a.out.operators) (size b.out.operators) target tested h q))

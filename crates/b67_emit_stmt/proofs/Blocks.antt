@@ -24,7 +24,7 @@ use Rattle.b67_emit_stmt.specs.declared.draft.Draft.{Draft}
 use Rattle.b67_emit_stmt.specs.declared.draft.Known.{Known}
 use Rattle.b67_emit_stmt.specs.Actuals.{images, exprs_of, AreInner, HaveValues}
 use Rattle.b67_emit_stmt.specs.Bodies.{AreActuals, BeginAt, BlockAt, EmitsBegin, EmitsBlock, EmitsEnded, EmitsInner, EmitsInside, EmitsRoutines, EndedAt, HaveFitInside, HaveInside, InnerAt, InsideAt, IsSmall, block_syllables, ended_syllables, inner_syllables, inside_syllables, variables_in}
-use Rattle.b67_emit_stmt.specs.Drafts.{Emits, IsAt, IsReady}
+use Rattle.b67_emit_stmt.specs.Drafts.{Emits, IsAt, IsReady, noted}
 use Rattle.b67_emit_stmt.specs.Emits.{EmitsStmts, HaveFit}
 use Rattle.b67_emit_stmt.specs.Fits.{InsideFits, StmtsFit}
 use Rattle.b67_emit_stmt.specs.Lengths.{begin_syllables, celled_in, routines_syllables, stmts_syllables}
@@ -80,7 +80,7 @@ module _ (s : Known) (inner : AreInner (meanings s.names.now)) (level : ℕ) (sc
 module _ (s : Known) (level many : ℕ) (ds : PDecls) (ss : PStmts) (es : List PExpr) (ats : List ℕ) (a b : Draft) (at : IsAt level a) (fits : HaveInside s level ds ss)
     (begun : EmitsBegin s level a b many ds es ats) where
   begun_there : Emits (begin_syllables s many ds es) a b
-      (λ formats qs target. BeginAt fits.0 formats qs level many ds (some_of es) ats (size a.out.operators) (size b.out.operators))
+      (λ later qs target. BeginAt fits.0 later qs level many ds (some_of es) ats (size a.out.operators) (size b.out.operators))
   begun_there = begun fits.0 (some_of es) fits.1 (some_are es) fits.2.0 fits.2.1
 
   behind_begin : level_set b.out ≡ level
@@ -97,16 +97,16 @@ module _ (s : Known) (level many : ℕ) (ds : PDecls) (ss : PStmts) (es : List P
 
   module _ (c : Draft) (first : ℕ) (is : first ≡ length a.exits.items) (behind : EmitsStmts s b c ss) where
     performed : (sc : Place) → InsideFits sc s level ds ss → Emits (stmts_syllables s ss) b c
-        (λ formats qs target. StmtsAt sc formats qs level ss (size b.out.operators) (size c.out.operators) target)
+        (λ later qs target. StmtsAt sc later qs level ss (size b.out.operators) (size c.out.operators) target)
     performed sc fit =
         let F : ℕ → Type 0 = λ l. StmtsFit sc s l ss in
-        at_level {b = b} {c = c} level (λ l formats qs target. StmtsAt sc formats qs l ss (size b.out.operators) (size c.out.operators) target) behind_begin (behind sc (subst F (sym behind_begin) fit.2))
+        at_level {b = b} {c = c} level (λ l later qs target. StmtsAt sc later qs l ss (size b.out.operators) (size c.out.operators) target) behind_begin (behind sc (subst F (sym behind_begin) fit.2))
 
     -- what leaves the statements can be aimed
     pub block_exits : (first ≤ length c.exits.items) × AreExits c.out.operators (drop first c.exits.items) 0 (size c.out.operators)
     block_exits = exits_lie a c first is (emits_then begun_there (performed fits.0 fits.2))
 
-    module _ (d : Draft) (aimed : Aimed (drop first c.exits.items) c.out d.out) (es' : d.exits.items ≡ take first c.exits.items) (fs : d.formats.items ≡ c.formats.items) where
+    module _ (d : Draft) (aimed : Aimed (drop first c.exits.items) c.out d.out) (es' : d.exits.items ≡ take first c.exits.items) (fs : noted d ≡ noted c) where
       -- with the exits of the statements aimed
       pub inside_stands : EmitsInside s level a d many ds ss es ats
       inside_stands = λ sc actuals same are fit.
@@ -114,10 +114,10 @@ module _ (s : Known) (level many : ℕ) (ds : PDecls) (ss : PStmts) (es : List P
           let E : ℕ → Type 0 = λ n. d.exits.items ≡ take n c.exits.items in
           let through = closed (emits_then (begun sc actuals same are fit.0 fit.1) (performed sc fit)) (subst A is aimed) (subst E is es') fs in
           emits_weaker
-          (λ formats qs target. InsideAt sc formats qs level many ds ss actuals ats (size a.out.operators) (size d.out.operators))
+          (λ later qs target. InsideAt sc later qs level many ds ss actuals ats (size a.out.operators) (size d.out.operators))
           through (omega arith)
-          (λ formats qs target hi p.
-          let S : ℕ → Type 0 = λ e. StmtsAt sc formats qs level ss (size b.out.operators) e e in
+          (λ later qs target hi p.
+          let S : ℕ → Type 0 = λ e. StmtsAt sc later qs level ss (size b.out.operators) e e in
           (p.0.0, size b.out.operators, p.0.1, p.0.2, subst S (sym aimed.place) p.1))
 
       -- no exit is left
@@ -143,7 +143,7 @@ module _ (s : Known) (level : ℕ) (ds : PDecls) (ss : PStmts) (es : List PExpr)
 
   module _ (ats : List ℕ) (d : Draft) (at : IsAt level a) (fits : HaveInside s level ds ss) (inside : EmitsInside s level a d many ds ss es ats) where
     inside_there : Emits (inside_syllables s many ds ss es) a d
-        (λ formats qs target. InsideAt fits.0 formats qs level many ds ss (some_of es) ats (size a.out.operators) (size d.out.operators))
+        (λ later qs target. InsideAt fits.0 later qs level many ds ss (some_of es) ats (size a.out.operators) (size d.out.operators))
     inside_there = inside fits.0 (some_of es) fits.1 (some_are es) fits.2
 
     pub exit_set : IsSome a.out.level → IsSome d.out.level
@@ -152,7 +152,7 @@ module _ (s : Known) (level : ℕ) (ds : PDecls) (ss : PStmts) (es : List PExpr)
     pub exit_room : IsReady s a (ended_syllables s ds ss es) → size d.out.operators + 1 ≤ MOST_SEGMENT_SYLLABLES
     exit_room ready = omega (arith, ended_room, inside_there.short, ready.room)
 
-    pub ended_stands : (begin : ℕ) → begin ≡ size a.out.operators → (e : Draft) → e.exits.items ≡ d.exits.items → e.formats.items ≡ d.formats.items →
+    pub ended_stands : (begin : ℕ) → begin ≡ size a.out.operators → (e : Draft) → e.exits.items ≡ d.exits.items → noted e ≡ noted d →
         Emitted d.out e.out (λ qs. Has qs (level_set d.out) (size d.out.operators) (ops.Plain kinds.Exit) (size e.out.operators)) →
         size e.out.operators ≡ size d.out.operators + 1 → EmitsEnded s level a e ds ss es ats begin
     ended_stands begin begin_is e es' fs' exit wide = record {
@@ -160,11 +160,11 @@ module _ (s : Known) (level : ℕ) (ds : PDecls) (ss : PStmts) (es : List PExpr)
       within = omega (arith, begin_is, wide, inside_there.code.grown);
       code = λ sc actuals same are fit.
           let front = inside sc actuals same are fit in
-          let last : Emits 1 d e (λ formats qs target. Has qs level (size d.out.operators) (ops.Plain kinds.Exit) (size e.out.operators)) =
-          piece {n = 1} {d = d} {e = e} es' fs' front.few (λ formats. plain_at kinds.Exit level (level_after front ∙ level_at a at) exit) (omega (arith, wide)) in
-          emits_weaker (λ formats qs target. EndedAt sc formats qs level ds ss actuals ats (size a.out.operators) (size e.out.operators)) (emits_then front last) ended_room
-          (λ formats qs target hi p.
-          let I : ℕ → Type 0 = λ n. InsideAt sc formats qs level n ds ss actuals ats (size a.out.operators) (size d.out.operators) in
+          let last : Emits 1 d e (λ later qs target. Has qs level (size d.out.operators) (ops.Plain kinds.Exit) (size e.out.operators)) =
+          piece {n = 1} {d = d} {e = e} es' fs' front.few (λ later. plain_at kinds.Exit level (level_after front ∙ level_at a at) exit) (omega (arith, wide)) in
+          emits_weaker (λ later qs target. EndedAt sc later qs level ds ss actuals ats (size a.out.operators) (size e.out.operators)) (emits_then front last) ended_room
+          (λ later qs target hi p.
+          let I : ℕ → Type 0 = λ n. InsideAt sc later qs level n ds ss actuals ats (size a.out.operators) (size d.out.operators) in
           (size d.out.operators, subst I is p.0, p.1));
     }
 
@@ -187,7 +187,7 @@ module _ (s : Known) (inner : AreInner (meanings s.names.now)) (level : ℕ) (ds
 
   module _ (ats : List ℕ) (r : Draft) (routines : EmitsRoutines s level a r es ats) where
     first_code : (sc : Place) → InsideFits sc s level ds ss →
-        Emits (routines_syllables s es) a r (λ formats qs target. RoutinesAt sc formats qs level (actuals_in_block sc.scopes ds ss) ats)
+        Emits (routines_syllables s es) a r (λ later qs target. RoutinesAt sc later qs level (actuals_in_block sc.scopes ds ss) ats)
     first_code sc fit = routines sc (actuals_in_block sc.scopes ds ss) (actuals_there sc fit)
 
     pub ended_level : HaveInside s level ds ss → IsAt level r
@@ -200,9 +200,9 @@ module _ (s : Known) (inner : AreInner (meanings s.names.now)) (level : ℕ) (ds
     block_stands d begin ended = λ sc same fit.
         let front = first_code sc fit in
         let behind = ended.code sc (actuals_in_block sc.scopes ds ss) same (actuals_there sc fit).same fit in
-        emits_weaker (λ formats qs target. BlockAt sc formats qs level ds ss begin) (emits_then front behind) most_room
-        (λ formats qs target hi p.
-        let C : ℕ → Type 0 = λ from. CellsAt sc formats qs level (variables_in ds) (control_segments sc.scopes ds) (actuals_in_block sc.scopes ds ss) ats from p.1.1.0 in (
+        emits_weaker (λ later qs target. BlockAt sc later qs level ds ss begin) (emits_then front behind) most_room
+        (λ later qs target hi p.
+        let C : ℕ → Type 0 = λ from. CellsAt sc later qs level (variables_in ds) (control_segments sc.scopes ds) (actuals_in_block sc.scopes ds ss) ats from p.1.1.0 in (
           ats,
           p.1.1.0,
           p.1.1.1,
@@ -224,7 +224,7 @@ pub inner_coded : (s : Known) (ds : PDecls) (ss : PStmts) (a d : Draft) (inner o
 inner_coded s ds ss a d inner outer level begin set i o h = λ sc same fit.
     let q : level_set a.out ≡ level = ap (λ (l : Option ℕ). unwrap_or l 0) set in
     let F : ℕ → Type 0 = λ l. InsideFits sc s (l + 1) ds ss in
-    let I : ℕ → Type 0 = λ l. Emits (block_syllables s ds ss) a (record d { out = outer }) (λ formats qs target. BlockAt sc formats qs (l + 1) ds ss begin) in
+    let I : ℕ → Type 0 = λ l. Emits (block_syllables s ds ss) a (record d { out = outer }) (λ later qs target. BlockAt sc later qs (l + 1) ds ss begin) in
     let there : I level =
     set_back a d inner outer (Some (level + 1)) i (o ∙ ap (λ (l : Option ℕ). record d.out { level = l }) (sym set)) (h sc same (subst F q fit)) in
     subst I (sym q) there
@@ -233,7 +233,7 @@ module _ (s : Known) (ds : PDecls) (ss : PStmts) (a b : Draft) (over_level : b.o
   pub inside_fit : HaveFitInside s a ds ss → HaveFitInside s b ds ss
   inside_fit fits = let F : ℕ → Type 0 = λ l. InsideFits fits.0 s (l + 1) ds ss in (fits.0, fits.1, subst F (sym (level_same a.out b.out over_level)) fits.2)
 
-  pub block_ready : b.formats.items ≡ a.formats.items → IsReady s a (inner_syllables s ds ss) → IsReady s b (block_syllables s ds ss)
+  pub block_ready : noted b ≡ noted a → IsReady s a (inner_syllables s ds ss) → IsReady s b (block_syllables s ds ss)
   block_ready fs r = ready_behind s a b (inner_syllables s ds ss) (block_syllables s ds ss) r over_level fs (omega (arith, wide)) (omega (arith, wide))
 
   -- the branch over the code, which is aimed after it
@@ -243,7 +243,7 @@ module _ (s : Known) (ds : PDecls) (ss : PStmts) (a b : Draft) (over_level : b.o
     there : EmittedWithExits a.out b.out [] (place ∷ []) (λ qs target. BranchAt qs (level_set a.out) Brun (size a.out.operators) target (size b.out.operators))
     there = hole_as Brun a.out b.out (level_set a.out) place refl place_is hole
 
-    inside_code : (fits : HaveFitInside s a ds ss) → Emits (block_syllables s ds ss) b c (λ formats qs target. BlockAt fits.0 formats qs (level_set b.out + 1) ds ss begin)
+    inside_code : (fits : HaveFitInside s a ds ss) → Emits (block_syllables s ds ss) b c (λ later qs target. BlockAt fits.0 later qs (level_set b.out + 1) ds ss begin)
     unfolding inside_fit
     inside_code fits = code fits.0 fits.1 (inside_fit fits).2
 
@@ -264,23 +264,23 @@ module _ (s : Known) (ds : PDecls) (ss : PStmts) (a b : Draft) (over_level : b.o
       pub entry_place : HaveFitInside s a ds ss → IsReady s a (inner_syllables s ds ss) → begin < size c.out.operators → begin < MOST_SEGMENT_SYLLABLES
       entry_place fits r begun = omega (arith, begun, (inside_code fits).short, wide, r.room)
 
-      pub inner_stands : (e : Draft) → b.exits.items ≡ a.exits.items → b.formats.items ≡ a.formats.items → d.exits.items ≡ c.exits.items →
-          d.formats.items ≡ c.formats.items → e.exits.items ≡ d.exits.items → e.formats.items ≡ d.formats.items →
+      pub inner_stands : (e : Draft) → b.exits.items ≡ a.exits.items → noted b ≡ noted a → d.exits.items ≡ c.exits.items →
+          noted d ≡ noted c → e.exits.items ≡ d.exits.items → noted e ≡ noted d →
           Emitted d.out e.out (λ qs. EntryAt qs (level_set d.out) s.segment begin (size d.out.operators) (size e.out.operators)) →
           size e.out.operators ≤ size d.out.operators + 14 → EmitsInner s a e ds ss
       inner_stands e es fs es' fs' es'' fs'' entry short = λ sc same fit.
           let level = level_set a.out in
           let q : level_set b.out ≡ level = level_same a.out b.out over_level in
           let F : ℕ → Type 0 = λ n. InsideFits sc s (n + 1) ds ss in
-          let I : ℕ → Type 0 = λ n. Emits (block_syllables s ds ss) b c (λ formats qs target. BlockAt sc formats qs (n + 1) ds ss begin) in
+          let I : ℕ → Type 0 = λ n. Emits (block_syllables s ds ss) b c (λ later qs target. BlockAt sc later qs (n + 1) ds ss begin) in
           let made : I level = subst I q (code sc same (subst F (sym q) fit)) in
           let round = hole_closed 3 there (omega (arith, wide)) es fs made aimed es' fs' in
           let r : level_set d.out ≡ level = level_same a.out d.out (aimed.level ∙ made.code.level ∙ over_level) in
-          let last : Emits 14 d e (λ formats qs target. EntryAt qs level s.segment begin (size d.out.operators) (size e.out.operators)) =
+          let last : Emits 14 d e (λ later qs target. EntryAt qs level s.segment begin (size d.out.operators) (size e.out.operators)) =
           piece {n = 14} {d = d} {e = e} es'' fs'' round.few
-          (λ formats. leveled (λ l qs. EntryAt qs l s.segment begin (size d.out.operators) (size e.out.operators)) level r entry) short in
-          emits_weaker (λ formats qs target. InnerAt sc formats qs level ds ss (size a.out.operators) (size e.out.operators)) (emits_then round last) (omega arith)
-          (λ formats qs target hi p.
+          (λ later. leveled (λ l qs. EntryAt qs l s.segment begin (size d.out.operators) (size e.out.operators)) level r entry) short in
+          emits_weaker (λ later qs target. InnerAt sc later qs level ds ss (size a.out.operators) (size e.out.operators)) (emits_then round last) (omega arith)
+          (λ later qs target hi p.
           let B : ℕ → Type 0 = λ o. BranchAt qs level Brun (size a.out.operators) o (size b.out.operators) in
           let N : ℕ → Type 0 = λ k. EntryAt qs level k begin (size d.out.operators) (size e.out.operators) in
           (size d.out.operators, begin, over (size b.out.operators) (subst B (sym aimed.place) p.0.0) stop, p.0.1, subst N (sym same) p.1))

@@ -5,12 +5,11 @@ use Rattle.std.proofs.lemmas.Bool.{ne_eqb, eq-eqb}
 use Rattle.std.proofs.lemmas.List.{append-nil}
 use Rattle.algol_tree.specs.declared.tree.Stmt.{Stmt}
 use Rattle.algol_tree.specs.Image.{stmt, stmts}
-use Rattle.b67_emit_stmt.specs.Places.{Place, StmtAt, CasesAt}
+use Rattle.b67_emit_stmt.specs.Places.{Later, Place, StmtAt, CasesAt}
 use Rattle.b67_ops.specs.declared.Operator.{Operator}
 use Rattle.b67_ops.specs.declared.Operator.TheVariants.{Branch}
 use Rattle.b67_ops.specs.declared.BranchKind.{BranchKind}
 use Rattle.b67_ops.specs.declared.BranchKind.TheVariants.{Brun}
-use Rattle.b67_segment.specs.declared.code.Format.{Format}
 use Rattle.b67_segment.specs.Operators.{Placed, StandsAmong, size}
 use Rattle.b67_templates.specs.Fragments.{Has, BranchAt, Goes, over, stop}
 use Rattle.b67_templates.specs.Emitting.{Keeps, Emitted, is_among, Leaves, AreExits}
@@ -18,10 +17,10 @@ use Rattle.b67_emitter.specs.Aiming.{Aimed}
 use Rattle.b67_emitter.proofs.Exits.{next-behind, is_among-append, or-left, or-right, none_before, none_behind, exits_kept, exits-append}
 use Rattle.b67_emit_stmt.specs.declared.draft.Draft.{Draft}
 use Rattle.b67_emit_stmt.specs.declared.draft.Known.{Known}
-use Rattle.b67_emit_stmt.specs.Drafts.{AreListed, IsFront, HasFew, Emits}
+use Rattle.b67_emit_stmt.specs.Drafts.{Agrees, AreListed, Grows, HasFew, Emits, noted}
 use Rattle.b67_emit_stmt.specs.Cases.{EntriesAt}
 use Rattle.b67_emit_stmt.specs.Lengths.{stmt_syllables, stmts_syllables}
-use Rattle.b67_emit_stmt.proofs.Drafts.{front_equal, front_trans, listed_equal}
+use Rattle.b67_emit_stmt.proofs.Notes.{agrees_front, agrees_same, formats_same, grows_equal, grows_then, listed_equal}
 use Rattle.b67_emit_stmt.proofs.Lists.{syllables-append}
 
 -- ---- tables
@@ -48,17 +47,17 @@ entries_more ps level (suc many) f m t h k e = (h.0, entries_more ps level many 
 
 -- ---- statements after a table
 
-pub cases-append : (sc : Place) (formats : List Format) (qs : List Placed) (level : ℕ) (xs : List Stmt) (y : Stmt) (entry u p x : ℕ) →
-    CasesAt sc formats qs level (stmts xs) entry u → BranchAt qs level Brun (entry + 3 * length xs) p (entry + 3 * length xs + 3) →
-    StmtAt sc formats qs level (stmt y) p x u → Goes qs level x u → CasesAt sc formats qs level (stmts (xs ++ y ∷ [])) entry u
-cases-append sc formats qs level [] y entry u p x h b s g =
+pub cases-append : (sc : Place) (later : Later) (qs : List Placed) (level : ℕ) (xs : List Stmt) (y : Stmt) (entry u p x : ℕ) →
+    CasesAt sc later qs level (stmts xs) entry u → BranchAt qs level Brun (entry + 3 * length xs) p (entry + 3 * length xs + 3) →
+    StmtAt sc later qs level (stmt y) p x u → Goes qs level x u → CasesAt sc later qs level (stmts (xs ++ y ∷ [])) entry u
+cases-append sc later qs level [] y entry u p x h b s g =
     let B : ℕ → Type 0 = λ e. BranchAt qs level Brun e p (e + 3) in
     let same : entry + 3 * 0 ≡ entry = omega arith in
     (p, x, subst B same b, s, g, tt)
-cases-append sc formats qs level (z ∷ xs) y entry u p x h b s g =
+cases-append sc later qs level (z ∷ xs) y entry u p x h b s g =
     let B : ℕ → Type 0 = λ e. BranchAt qs level Brun e p (e + 3) in
     let same : entry + 3 * length (z ∷ xs) ≡ entry + 3 + 3 * length xs = omega arith in
-    (h.0, h.1, h.2, h.3, h.4, cases-append sc formats qs level xs y (entry + 3) u p x h.5 (subst B same b) s g)
+    (h.0, h.1, h.2, h.3, h.4, cases-append sc later qs level xs y (entry + 3) u p x h.5 (subst B same b) s g)
 
 single_out : (x at : ℕ) → x ≢ at → is_among (x ∷ []) at ≡ false
 single_out x at h = let e : nat_eq x at ≡ false = ne_eqb x at h in rw e refl
@@ -82,7 +81,7 @@ pub record Midcase (known : Known) (sc : Place) (level : ℕ) (done : List Stmt)
   pub begun : size a.out.operators ≤ size t.out.operators
   pub grown : size t.out.operators ≤ size c.out.operators
   pub short : size c.out.operators + 3 * length done ≤ size t.out.operators + stmts_syllables known (stmts done)
-  pub formats : IsFront a.formats.items c.formats.items
+  pub notes : Grows (size a.out.operators) (noted a) (noted c)
   pub few : HasFew c
   pub more : length c.formats.items + size a.out.operators ≤ length a.formats.items + size c.out.operators
   pub listed : AreListed a.formats.items → AreListed c.formats.items
@@ -92,11 +91,11 @@ pub record Midcase (known : Known) (sc : Place) (level : ℕ) (done : List Stmt)
   pub are : AreExits c.out.operators exits (size t.out.operators) (size c.out.operators)
   pub pending : EntriesAt c.out.operators level left (size a.out.operators + 3 * length done) (size t.out.operators)
   pub claimed :
-      (formats : List Format) → IsFront c.formats.items formats → (qs : List Placed) (target : ℕ) → size c.out.operators ≤ target →
+      (later : Later) → Agrees (noted c) later → (qs : List Placed) (target : ℕ) → size c.out.operators ≤ target →
       Partly exits target (size a.out.operators) (size a.out.operators + 3 * length done) (size t.out.operators) (size c.out.operators) c.out.operators qs →
-      CasesAt sc formats qs level (stmts done) (size a.out.operators) target
+      CasesAt sc later qs level (stmts done) (size a.out.operators) target
 
-pub midcase-first : (known : Known) (sc : Place) (level many : ℕ) (a t : Draft) → HasFew a → t.exits.items ≡ a.exits.items → t.formats.items ≡ a.formats.items →
+pub midcase-first : (known : Known) (sc : Place) (level many : ℕ) (a t : Draft) → HasFew a → t.exits.items ≡ a.exits.items → noted t ≡ noted a →
     Emitted a.out t.out (λ qs. EntriesAt qs level many (size a.out.operators) (size t.out.operators)) → Midcase known sc level [] many a t t
 midcase-first known sc level many a t few es fs h =
     let here = h.claimed t.out.operators (λ at level next op lo hi s. s) in
@@ -106,23 +105,23 @@ midcase-first known sc level many a t few es fs h =
       begun = h.grown;
       grown = omega arith;
       short = omega arith;
-      formats = front_equal fs;
-      few = omega (arith, few, ap length fs, h.grown);
-      more = omega (arith, ap length fs, h.grown);
+      notes = grows_equal fs;
+      few = omega (arith, few, formats_same fs, h.grown);
+      more = omega (arith, formats_same fs, h.grown);
       listed = listed_equal fs;
       kept = h.kept;
       exits = [];
       added = es ∙ sym (append-nil a.exits.items);
       are = tt;
       pending = subst E (omega arith) here;
-      claimed = λ formats k qs target hi l. tt;
+      claimed = λ later k qs target hi l. tt;
     }
 
 module _ (known : Known) (sc : Place) (level : ℕ) (done : List Stmt) (left : ℕ) (a t c d e f : Draft) (s : Stmt) (entry n : ℕ) (m : Midcase known sc level done (suc left) a t c)
-    (is : entry ≡ size a.out.operators + 3 * length done) (aim : Aimed (entry ∷ []) c.out d.out) (es : d.exits.items ≡ c.exits.items) (fs : d.formats.items ≡ c.formats.items)
+    (is : entry ≡ size a.out.operators + 3 * length done) (aim : Aimed (entry ∷ []) c.out d.out) (es : d.exits.items ≡ c.exits.items) (fs : noted d ≡ noted c)
     (g : Emits n d f
-    (λ formats qs target.
-    StmtAt sc formats qs level (stmt s) (size d.out.operators) (size e.out.operators) target × BranchAt qs level Brun (size e.out.operators) target (size f.out.operators)))
+    (λ later qs target.
+    StmtAt sc later qs level (stmt s) (size d.out.operators) (size e.out.operators) target × BranchAt qs level Brun (size e.out.operators) target (size f.out.operators)))
     (narrow : n ≤ stmt_syllables known (stmt s) + 3) where
   x : ℕ
   x = size a.out.operators + 3 * length done
@@ -208,30 +207,28 @@ module _ (known : Known) (sc : Place) (level : ℕ) (done : List Stmt) (left : �
           forward = omega (arith, within, m.grown, aim.place);
         }
 
-    stand : (formats : List Format) → IsFront f.formats.items formats → size f.out.operators ≤ target →
-        CasesAt sc formats qs level (stmts (done ++ s ∷ [])) (size a.out.operators) target
+    stand : (later : Later) → Agrees (noted f) later → size f.out.operators ≤ target →
+        CasesAt sc later qs level (stmts (done ++ s ∷ [])) (size a.out.operators) target
     unfolding x
-    stand formats k hi =
-        let part = g.code.claimed qs target hi behind formats k in
-        let first = m.claimed formats
-        (front_trans c.formats.items f.formats.items formats (front_trans c.formats.items d.formats.items f.formats.items (front_equal fs) g.formats) k) qs target
+    stand later k hi =
+        let part = g.code.claimed qs target hi behind later k in
+        let first = m.claimed later (agrees_same fs (agrees_front g.notes k)) qs target
         (omega (arith, aim.place, g.code.grown)) before in
-        cases-append sc formats qs level done s (size a.out.operators) target (size d.out.operators) (size e.out.operators) first branch part.0
+        cases-append sc later qs level done s (size a.out.operators) target (size d.out.operators) (size e.out.operators) first branch part.0
         (over (size f.out.operators) part.1 stop)
 
   pub midcase-more : Midcase known sc level (done ++ s ∷ []) left a t f
   unfolding x
   midcase-more =
       let E : ℕ → Type 0 = λ from. EntriesAt f.out.operators level left from (size t.out.operators) in
-      let more = front_trans c.formats.items d.formats.items f.formats.items (front_equal fs) g.formats in
       record {
         level_is = g.code.level ∙ aim.level ∙ m.level_is;
         begun = m.begun;
         grown = omega (arith, m.grown, aim.place, g.code.grown);
         short = omega (arith, m.short, g.short, aim.place, narrow, length-append done (s ∷ []), syllables-append known done s []);
-        formats = front_trans a.formats.items c.formats.items f.formats.items m.formats more;
+        notes = grows_then (omega (arith, m.begun, m.grown)) m.notes (grows_then (omega (arith, aim.place)) (grows_equal {n = size c.out.operators} fs) g.notes);
         few = g.few;
-        more = omega (arith, m.more, ap length fs, aim.place, g.more);
+        more = omega (arith, m.more, formats_same fs, aim.place, g.more);
         listed = λ l. g.listed (listed_equal fs (m.listed l));
         kept = λ at l next op lo hi st.
             let behind = next-behind a.out.operators at l next op st in
@@ -242,13 +239,13 @@ module _ (known : Known) (sc : Place) (level : ℕ) (done : List Stmt) (left : �
         pending = subst E (sym long)
             (entries_kept c.out.operators f.out.operators level left (x + 3) (size t.out.operators)
             (λ at next op lo hi st. through at level next op (λ q. omega (arith, q)) (omega (arith, m.grown)) st) m.pending.1);
-        claimed = λ formats k qs target hi l. stand qs target l formats k hi;
+        claimed = λ later k qs target hi l. stand qs target l later k hi;
       }
 
 -- all statements are done
 pub midcase-last : (known : Known) (sc : Place) (level : ℕ) (done : List Stmt) (a t c : Draft) (n : ℕ) → Midcase known sc level done zero a t c →
     size c.out.operators ≤ size a.out.operators + n →
-    Emits n a c (λ formats qs target. CasesAt sc formats qs level (stmts done) (size a.out.operators) target)
+    Emits n a c (λ later qs target. CasesAt sc later qs level (stmts done) (size a.out.operators) target)
 midcase-last known sc level done a t c n m short =
     let all : size t.out.operators ≡ size a.out.operators + 3 * length done = sym m.pending in
     record {
@@ -260,14 +257,14 @@ midcase-last known sc level done a t c n m short =
         added = m.added;
         are = exits_kept c.out.operators c.out.operators m.exits (size t.out.operators) (size c.out.operators) (size a.out.operators) (size c.out.operators) m.begun (omega arith)
             (λ at l next old kind lo hi st. (old, st)) m.are;
-        claimed = λ qs target hi l formats k. m.claimed formats k qs target hi (record {
+        claimed = λ qs target hi l later k. m.claimed later k qs target hi (record {
           table = λ at level' next op out lo up hi st. l.others at level' next op out lo hi st;
           code = λ at level' next op out lo hi st. l.others at level' next op out (omega (arith, m.begun)) hi st;
           aimed = λ at level' next old kind among lo hi st. l.aimed at level' next old kind among (omega (arith, m.begun)) hi st;
         });
       };
       short = short;
-      formats = m.formats;
+      notes = m.notes;
       few = m.few;
       more = m.more;
       listed = m.listed;

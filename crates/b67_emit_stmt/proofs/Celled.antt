@@ -64,9 +64,9 @@ module _ (sc : Scopes) (told : Told) (level block : ℕ) (k : Kind) (n : Named) 
   own_as false false is = absurd (let clash : false ≡ true = is in cc)
 
   alone_celled : NameActualFits sc told level block k (alone n) → ExprFits sc told level block k (alone n) → exprs_of (own_actual sc (wants.by_name k) (alone n)) ≡ celled told true (alone n)
-  alone_celled f (inl ((c, known, v), none), unknown) =
+  alone_celled f (inl ((c, known, v), none), unknown, apart) =
       own_as (is_some (procedure_in ((use_of sc n).sort))) (stands (told.meant n.spot)) (read_no_procedure c v ∙ sym (ap (λ (b : Bool). not b) (read_stands c v f)))
-  alone_celled f (inr (callee, p, none, is), unknown) =
+  alone_celled f (inr (callee, p, none, is), unknown, apart) =
       own_as (is_some (procedure_in ((use_of sc n).sort))) (stands (told.meant n.spot))
       (ap (λ (x : Sort). is_some (procedure_in x)) p.procedure.sort_is ∙ sym (ap (λ (m : Meant). not (stands m)) p.modes))
 
@@ -93,7 +93,7 @@ module _ (sc : Scopes) (told : Told) (level block : ℕ) where
         subst (λ (j : ℕ). exprs_of (actuals_given sc (parameter_wants sc j) es) ≡ cells_given told (modes_of (told.meant n.spot)) es) (sym (ap block_of ((f.1).procedure).sort_is))
         (subst (λ (m : Meant). exprs_of (actuals_given sc (parameter_wants sc f.0) es) ≡ cells_given told (modes_of m) es) (sym (f.1).modes)
         (celled_given (sorts_of ((block_numbered sc.blocks f.0).parameters)) (parameter_wants sc f.0) es f.2))
-    celled_in k (tree.tested t e spot) f = absurd f
+    celled_in k (tree.tested tree.happened e spot) f = refl
 
     celled_among : (ls : List ℤ) (es : PExprs) → SubscriptsFit sc told level block ls es → exprs_of (actuals_among sc es) ≡ cells_among told es
     celled_among (low ∷ []) (tree.more e tree.none) f = both _ _ (celled_in types.Number e f.1) refl
@@ -105,6 +105,7 @@ module _ (sc : Scopes) (told : Told) (level block : ℕ) where
     celled_given (s ∷ ss) (wants.value kind ∷ ws) (tree.more e es) f = both _ _ (celled_in kind e f.1) (celled_given ss ws es f.2)
     celled_given (s ∷ ss) (wants.array shape ∷ ws) (tree.more (tree.variable (tree.subscripted n tree.none)) es) f = celled_given ss ws es f.2
     celled_given (s ∷ ss) (wants.by_name kind ∷ ws) (tree.more e es) f = both _ _ (both _ _ (name_celled kind e f.1 f.2) (celled_in kind e f.2)) (celled_given ss ws es f.3)
+    celled_given (s ∷ ss) (wants.event ∷ ws) (tree.more (tree.variable (tree.subscripted n tree.none)) es) f = celled_given ss ws es f.2
     celled_given _ _ _ f = absurd f
 
   pub celled_called : (n : Named) (es : PExprs) (callee : ℕ) → ProcedureFits sc told level n callee →
@@ -122,8 +123,8 @@ module _ (sc : Scopes) (told : Told) (level block : ℕ) where
   pub celled_decls : (ds : PDecls) → DeclsFit sc told level block ds → exprs_of (actuals_in_decls sc ds) ≡ cells_in_decls told ds
   celled_decls tree.no_decls f = refl
   celled_decls (tree.decls (tree.arrays kind ns pairs) ds) f = both _ _ (celled_bounds pairs f.1) (celled_decls ds f.2)
-  celled_decls (tree.decls (tree.events ns) ds) f = absurd f
-  celled_decls (tree.decls (tree.tasks ns) ds) f = absurd f
+  celled_decls (tree.decls (tree.events ns) ds) f = celled_decls ds f
+  celled_decls (tree.decls (tree.tasks ns) ds) f = celled_decls ds f
   celled_decls (tree.decls (tree.simple kind ns) ds) f = celled_decls ds f
   celled_decls (tree.decls (tree.files ns) ds) f = celled_decls ds f
   celled_decls (tree.decls (tree.labels ns) ds) f = celled_decls ds f
@@ -164,7 +165,10 @@ module _ (sc : Place) (s : Known) where
     celled_stmt level (tree.thru e b) f = both _ _ (at level types.Number e f.0) (celled_stmt level b f.1)
     celled_stmt level (tree.case e ss) f = both _ _ (at level types.Number e f.0) (celled_stmts level ss f.1)
     celled_stmt level (tree.write n spot phrases es) f = celled_line sc.scopes told level sc.block es f.2
-    celled_stmt level _ f = absurd f
+    celled_stmt level (tree.label n x) f = celled_stmt level x f.1
+    celled_stmt level (tree.go_to n) f = refl
+    celled_stmt level (tree.event act e) f = refl
+    celled_stmt level (tree.process c task) f = absurd f
 
     celled_stmts : (level : ℕ) (ss : PStmts) → StmtsFit sc s level ss → exprs_of (actuals_in_stmts sc.scopes ss) ≡ cells_in_stmts told ss
     celled_stmts level tree.no_stmts f = refl

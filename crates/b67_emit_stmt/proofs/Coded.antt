@@ -1,6 +1,6 @@
 -- The code of actuals, one after another.
 use Rattle.std.proofs.Common.{◌≡◌, ℕ, zero, suc, ◌+◌, ◌≤◌, Bool, true, false, List, [], ◌∷◌, ◌++◌, length, map, drop, refl, sym, ap, ◌∙◌, subst, arith, append-nil, append_assoc}
-use Rattle.std.specs.Prelude.{◌==◌, Option, Some, unwrap_or}
+use Rattle.std.specs.Prelude.{◌==◌, Option, Some}
 use Rattle.std.specs.Borrow.{Bor}
 use Rattle.std.specs.List.{All}
 use Rattle.std.proofs.Math.ListN.{drop_of_length-le}
@@ -11,28 +11,23 @@ use Rattle.algol_tree.specs.declared.tree.Kind.{Kind}
 use Rattle.algol_tree.specs.Image.{expr}
 use Rattle.algol_tree.specs.Plain.{PExpr}
 use Rattle.b67_ops.specs.declared.TheConstants.{MOST_LEVEL}
-use Rattle.b67_ops.specs.declared.BranchKind.TheVariants.{Brun}
-use Rattle.b67_segment.specs.declared.code.Format.{Format}
 use Rattle.b67_segment.specs.Operators.{Placed, size}
 use Rattle.b67_segment.specs.Building.{Built, level_set}
 use Rattle.b67_templates.specs.Cells.{Actual, has_place}
 use Rattle.b67_templates.specs.Code as code
-use Rattle.b67_templates.specs.Emitting.{AreExits, Emitted, EmittedWithExits}
+use Rattle.b67_templates.specs.Emitting.{Emitted}
 use Rattle.b67_templates.specs.Fitting.{ExprFits}
-use Rattle.b67_templates.specs.Fragments.{BranchAt, Goes, over, stop}
 use Rattle.b67_templates.specs.Paying.{routine_code}
-use Rattle.b67_emitter.specs.Aiming.{Aimed}
 use Rattle.b67_emitter.specs.Values.{HasCode, RoutineEmitted, meanings}
 use Rattle.b67_emitter.proofs.Composing.{then, weaker}
 use Rattle.b67_emit_stmt.specs.declared.draft.Draft.{Draft}
 use Rattle.b67_emit_stmt.specs.declared.draft.Known.{Known}
 use Rattle.b67_emit_stmt.specs.Actuals.{exprs_of, images, HaveValues}
-use Rattle.b67_emit_stmt.specs.Bodies.{AreActuals, CodesEmitted, EmitsRoutines, EmitsTextRoutines, over_syllables}
+use Rattle.b67_emit_stmt.specs.Bodies.{AreActuals, CodesEmitted, EmitsRoutines}
 use Rattle.b67_emit_stmt.specs.Drafts.{Emits, HasFew, IsAt}
 use Rattle.b67_emit_stmt.specs.Lengths.{expr_syllables, routines_syllables}
-use Rattle.b67_emit_stmt.specs.Places.{Place, RoutinesAt, context_in}
-use Rattle.b67_emit_stmt.proofs.Aims.{hole_as}
-use Rattle.b67_emit_stmt.proofs.Drafts.{emits_none, emits_weaker, hole_closed, hole_there, level_same, piece}
+use Rattle.b67_emit_stmt.specs.Places.{Later, Place, RoutinesAt, context_in}
+use Rattle.b67_emit_stmt.proofs.Drafts.{emits_none, emits_weaker, level_same, piece}
 use Rattle.b67_emit_stmt.proofs.Levels.{set_back}
 use Rattle.b67_emit_stmt.proofs.Parts.{emitted_none}
 
@@ -122,53 +117,53 @@ module _ (s : Known) (level : ℕ) (xs : List (Bor Expr)) where
   -- from the first builder to the second the code of actuals was appended that, with that of those from a number on, is the code of all
   abbrev pub CodesLeft : ℕ → Built → Built → List ℕ → Type 0
   CodesLeft i a b places =
-      (sc : Place) (formats : List Format) (own : List Actual) → AreActuals sc s level (images xs) own →
-      Emitted a b (λ qs. (more : List ℕ) → code.RoutinesAt sc.scopes (context_in sc formats level) qs (level_set a) (drop i own) more →
-      code.RoutinesAt sc.scopes (context_in sc formats level) qs (level_set a) own (places ++ more))
+      (sc : Place) (later : Later) (own : List Actual) → AreActuals sc s level (images xs) own →
+      Emitted a b (λ qs. (more : List ℕ) → code.RoutinesAt sc.scopes (context_in sc later level) qs (level_set a) (drop i own) more →
+      code.RoutinesAt sc.scopes (context_in sc later level) qs (level_set a) own (places ++ more))
 
   pub codes_begun : (a : Built) (places : List ℕ) → places ≡ [] → CodesLeft 0 a a places
-  codes_begun a places none = λ sc formats own are.
+  codes_begun a places none = λ sc later own are.
       emitted_none a
-      (λ qs. (more : List ℕ) → code.RoutinesAt sc.scopes (context_in sc formats level) qs (level_set a) (drop 0 own) more →
-      code.RoutinesAt sc.scopes (context_in sc formats level) qs (level_set a) own (places ++ more))
-      (λ qs more k. subst (λ (l : List ℕ). code.RoutinesAt sc.scopes (context_in sc formats level) qs (level_set a) own (l ++ more)) (sym none) k)
+      (λ qs. (more : List ℕ) → code.RoutinesAt sc.scopes (context_in sc later level) qs (level_set a) (drop 0 own) more →
+      code.RoutinesAt sc.scopes (context_in sc later level) qs (level_set a) own (places ++ more))
+      (λ qs more k. subst (λ (l : List ℕ). code.RoutinesAt sc.scopes (context_in sc later level) qs (level_set a) own (l ++ more)) (sym none) k)
 
   pub codes_more : (i : ℕ) (x : Bor Expr) (rest : List (Bor Expr)) → drop i xs ≡ x ∷ rest → (a b d : Built) (places after : List ℕ) (place : ℕ) → after ≡ places ++ place ∷ [] → b.level ≡ a.level →
       place ≡ size b.operators → CodesLeft i a b places → RoutineEmitted s.names.now (level_set b) b d (expr x.now) → CodesLeft (i + 1) a d after
-  codes_more i x rest is a b d places after place listed same at h r = λ sc formats own are.
-      let E : List ℕ → Type 0 = λ ats. Emitted a d (λ qs. (more : List ℕ) → code.RoutinesAt sc.scopes (context_in sc formats level) qs (level_set a) (drop (i + 1) own) more →
-      code.RoutinesAt sc.scopes (context_in sc formats level) qs (level_set a) own (ats ++ more)) in
+  codes_more i x rest is a b d places after place listed same at h r = λ sc later own are.
+      let E : List ℕ → Type 0 = λ ats. Emitted a d (λ qs. (more : List ℕ) → code.RoutinesAt sc.scopes (context_in sc later level) qs (level_set a) (drop (i + 1) own) more →
+      code.RoutinesAt sc.scopes (context_in sc later level) qs (level_set a) own (ats ++ more)) in
       subst E (sym listed)
-      (by sc formats own are (drop i own) refl (left_as own xs i are.same ∙ ap images is) (left_have s sc level own i are.values))
+      (by sc later own are (drop i own) refl (left_as own xs i are.same ∙ ap images is) (left_have s sc level own i are.values))
     where
-      by : (sc : Place) (formats : List Format) (own : List Actual) → AreActuals sc s level (images xs) own → (left : List Actual) → drop i own ≡ left →
+      by : (sc : Place) (later : Later) (own : List Actual) → AreActuals sc s level (images xs) own → (left : List Actual) → drop i own ≡ left →
           exprs_of left ≡ expr x.now ∷ images rest → HaveValues sc.scopes (meanings s.names.now) level sc.block left →
-          Emitted a d (λ qs. (more : List ℕ) → code.RoutinesAt sc.scopes (context_in sc formats level) qs (level_set a) (drop (i + 1) own) more →
-          code.RoutinesAt sc.scopes (context_in sc formats level) qs (level_set a) own ((places ++ place ∷ []) ++ more))
-      by sc formats own are [] left trees have = absurd (let clash : [] ≡ expr x.now ∷ images rest = trees in cc)
-      by sc formats own are (o ∷ os) left trees have =
-          let R : List Placed → List Actual → List ℕ → Type 0 = λ qs as' ats. code.RoutinesAt sc.scopes (context_in sc formats level) qs (level_set a) as' ats in
+          Emitted a d (λ qs. (more : List ℕ) → code.RoutinesAt sc.scopes (context_in sc later level) qs (level_set a) (drop (i + 1) own) more →
+          code.RoutinesAt sc.scopes (context_in sc later level) qs (level_set a) own ((places ++ place ∷ []) ++ more))
+      by sc later own are [] left trees have = absurd (let clash : [] ≡ expr x.now ∷ images rest = trees in cc)
+      by sc later own are (o ∷ os) left trees have =
+          let R : List Placed → List Actual → List ℕ → Type 0 = λ qs as' ats. code.RoutinesAt sc.scopes (context_in sc later level) qs (level_set a) as' ats in
           let there : o.expr ∷ exprs_of os ≡ expr x.now ∷ images rest = trees in
           let named : o.expr ≡ expr x.now = cc in
           let F : PExpr → Type 0 = λ e. ExprFits sc.scopes (meanings s.names.now) level sc.block o.kind e in
-          let own_code = r.code sc.scopes (context_in sc formats level) o.kind (subst F named have.0) in
-          let E : PExpr → ℕ → Type 0 = λ e l. Emitted b d (λ qs. code.RoutineAt sc.scopes (context_in sc formats level) qs l (record { expr = e; kind = o.kind }) (size b.operators)) in
+          let own_code = r.code sc.scopes (context_in sc later level) o.kind (subst F named have.0) in
+          let E : PExpr → ℕ → Type 0 = λ e l. Emitted b d (λ qs. code.RoutineAt sc.scopes (context_in sc later level) qs l (record { expr = e; kind = o.kind }) (size b.operators)) in
           let at_own : E o.expr (level_set a) = subst (E o.expr) (level_same a b same) (subst (λ e. E e (level_set b)) (sym named) own_code) in
           weaker
           (λ qs. (more : List ℕ) → R qs (drop (i + 1) own) more → R qs own ((places ++ place ∷ []) ++ more))
-          (then (h sc formats own are) at_own)
+          (then (h sc later own are) at_own)
           (λ qs p more k.
           let T : List Actual → Type 0 = λ l. R qs l (place ∷ more) in
           let L : List Actual → Type 0 = λ l. R qs l more in
-          let A : ℕ → Type 0 = λ f. code.RoutineAt sc.scopes (context_in sc formats level) qs (level_set a) o f in
+          let A : ℕ → Type 0 = λ f. code.RoutineAt sc.scopes (context_in sc later level) qs (level_set a) o f in
           let next : R qs (o ∷ os) (place ∷ more) = (place, more, refl, subst A (sym at) p.1, subst L (behind own i o os left) k) in
           subst (R qs own) (sym (append_assoc places (place ∷ []) more)) (p.0 (place ∷ more) (subst T (sym left) next)))
 
   pub codes_ended : (i : ℕ) (a b : Built) (places : List ℕ) → length xs ≤ i → CodesLeft i a b places → CodesEmitted s level a b (images xs) places
-  codes_ended i a b places all h = λ sc formats own are.
-      let R : List Placed → List Actual → List ℕ → Type 0 = λ qs as' ats. code.RoutinesAt sc.scopes (context_in sc formats level) qs (level_set a) as' ats in
+  codes_ended i a b places all h = λ sc later own are.
+      let R : List Placed → List Actual → List ℕ → Type 0 = λ qs as' ats. code.RoutinesAt sc.scopes (context_in sc later level) qs (level_set a) as' ats in
       let none : drop i own ≡ [] = drop_of_length-le own (omega (arith, as_many own xs are.same, all)) in
-      weaker (λ qs. R qs own places) (h sc formats own are)
+      weaker (λ qs. R qs own places) (h sc later own are)
       (λ qs p. subst (R qs own) (append-nil places) (p [] (subst (λ (l : List Actual). R qs l []) (sym none) refl)))
 
 -- ---- in a draft
@@ -180,15 +175,9 @@ none_own (a ∷ own) xs none same = absurd (omega (arith, as_many (a ∷ own) xs
 module _ (s : Known) (level : ℕ) (xs : List (Bor Expr)) (a : Draft) where
   pub none_emitted : length xs ≡ 0 → HasFew a → EmitsRoutines s level a a (images xs) []
   none_emitted none few = λ sc own are.
-      let R : List Format → List Placed → ℕ → Type 0 = λ formats qs target. RoutinesAt sc formats qs level own [] in
+      let R : Later → List Placed → ℕ → Type 0 = λ later qs target. RoutinesAt sc later qs level own [] in
       emits_weaker R (emits_none a few) (omega arith)
-      (λ formats qs target hi p. subst (λ (l : List Actual). RoutinesAt sc formats qs level l []) (sym (none_own own xs none are.same)) refl)
-
-  -- .. also where there would be a branch over it
-  pub none_in_text : length xs ≡ 0 → HasFew a → EmitsTextRoutines s level a a (images xs) []
-  none_in_text none few = λ sc own are.
-      emits_weaker (λ formats qs target. Goes qs level (size a.out.operators) (size a.out.operators) × RoutinesAt sc formats qs level own []) (emits_none a few) (omega arith)
-      (λ formats qs target hi p. (stop, subst (λ (l : List Actual). RoutinesAt sc formats qs level l []) (sym (none_own own xs none are.same)) refl))
+      (λ later qs target hi p. subst (λ (l : List Actual). RoutinesAt sc later qs level l []) (sym (none_own own xs none are.same)) refl)
 
   -- the level is one higher for a while
   module _ (inner : Built) (d' outer : Built) (places : List ℕ) (at : IsAt level a) (i : inner ≡ record a.out { level = Some (level + 1) }) (few : HasFew a)
@@ -198,35 +187,9 @@ module _ (s : Known) (level : ℕ) (xs : List (Bor Expr)) (a : Draft) where
     some_emitted = λ sc own are.
         let d : Draft = record a { out = d' } in
         let set : level_set inner ≡ level + 1 = ap (λ (b : Built). level_set b) i in
-        let R : List Format → List Placed → ℕ → Type 0 = λ formats qs target. RoutinesAt sc formats qs level own places in
-        let C : List Format → ℕ → Type 0 = λ formats l. Emitted inner d' (λ qs. code.RoutinesAt sc.scopes (context_in sc formats level) qs l own places) in
+        let R : Later → List Placed → ℕ → Type 0 = λ later qs target. RoutinesAt sc later qs level own places in
+        let C : Later → ℕ → Type 0 = λ later l. Emitted inner d' (λ qs. code.RoutinesAt sc.scopes (context_in sc later level) qs l own places) in
         let lots : HasFew (record a { out = inner }) = omega (arith, few, ap (λ (b : Built). size b.operators) i) in
         let there : Emits (routines_syllables s (images xs)) (record a { out = inner }) d R =
-        piece {n = routines_syllables s (images xs)} {d = record a { out = inner }} {e = d} refl refl lots (λ formats. subst (C formats) set (codes sc formats own are)) short in
+        piece {n = routines_syllables s (images xs)} {d = record a { out = inner }} {e = d} refl refl lots (λ later. subst (C later) set (codes sc later own are)) short in
         set_back a d inner outer (Some (level + 1)) i (o ∙ ap (λ (l : Option ℕ). record d' { level = l }) (sym at.set)) there
-
--- ---- with a branch over it
-
-pub over_three : (xs : List (Bor Expr)) → 1 ≤ length xs → over_syllables (images xs) ≡ 3
-over_three [] some = absurd (omega (arith, some))
-over_three (x ∷ xs) some = refl
-
-module _ (s : Known) (level : ℕ) (xs : List (Bor Expr)) (a b : Draft) (place : ℕ) (at : IsAt level a) (over_level : b.out.level ≡ a.out.level)
-    (wide : size b.out.operators ≡ size a.out.operators + 3) (place_is : place ≡ size a.out.operators)
-    (hole : EmittedWithExits a.out b.out [] (size a.out.operators ∷ []) (λ qs target. BranchAt qs (level_set a.out) Brun (size a.out.operators) target (size b.out.operators)))
-    (c : Draft) (places : List ℕ) (codes : EmitsRoutines s level b c (images xs) places) where
-  there : EmittedWithExits a.out b.out [] (place ∷ []) (λ qs target. BranchAt qs level Brun (size a.out.operators) target (size b.out.operators))
-  there = hole_as Brun a.out b.out level place (ap (λ (o : Option ℕ). unwrap_or o 0) at.set) place_is hole
-
-  pub over_lies : (sc : Place) (own : List Actual) → AreActuals sc s level (images xs) own → AreExits c.out.operators (place ∷ []) 0 (size c.out.operators)
-  over_lies sc own are = hole_there (place ∷ []) a {b = b} there (codes sc own are)
-
-  pub text_emitted : (most : ℕ) → most ≡ 3 + routines_syllables s (images xs) → (d : Draft) → b.exits.items ≡ a.exits.items → b.formats.items ≡ a.formats.items → Aimed (place ∷ []) c.out d.out → d.exits.items ≡ c.exits.items →
-      d.formats.items ≡ c.formats.items → (sc : Place) (own : List Actual) → AreActuals sc s level (images xs) own →
-      Emits most a d (λ formats qs target. Goes qs level (size a.out.operators) (size d.out.operators) × RoutinesAt sc formats qs level own places)
-  text_emitted most is d es fs aimed es' fs' sc own are =
-      let round = hole_closed 3 there (omega (arith, wide)) es fs (codes sc own are) aimed es' fs' in
-      emits_weaker (λ formats qs target. Goes qs level (size a.out.operators) (size d.out.operators) × RoutinesAt sc formats qs level own places) round (omega (arith, is))
-      (λ formats qs target hi p.
-      let B : ℕ → Type 0 = λ o. BranchAt qs level Brun (size a.out.operators) o (size b.out.operators) in
-      (over (size b.out.operators) (subst B (sym aimed.place) p.0) stop, p.1))

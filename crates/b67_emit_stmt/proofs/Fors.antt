@@ -8,7 +8,6 @@ use Rattle.algol_tree.specs.Plain as tree
 use Rattle.algol_tree.specs.Plain.{PExpr, PStmt}
 use Rattle.algol_meaning.specs.Statements.{alone}
 use Rattle.b67_segment.specs.declared.TheConstants.{MOST_SEGMENT_SYLLABLES}
-use Rattle.b67_segment.specs.declared.code.Format.{Format}
 use Rattle.b67_segment.specs.Operators.{size}
 use Rattle.b67_segment.specs.Building.{Built, level_set}
 use Rattle.b67_emit_stmt.specs.Lengths.{expr_syllables, stmt_syllables}
@@ -18,7 +17,7 @@ use Rattle.b67_emit_stmt.specs.declared.draft.Known.{Known}
 use Rattle.b67_emit_stmt.specs.Drafts.{Emits, IsAt, IsReady}
 use Rattle.b67_emit_stmt.specs.Emits.{EmitsBody, HasFit}
 use Rattle.b67_emit_stmt.specs.Fits.{AssignFits, ExprFits, ReadFits, StmtFits, VariableFits}
-use Rattle.b67_emit_stmt.specs.Places.{Place, AssignAt, ExprAt, StepAt}
+use Rattle.b67_emit_stmt.specs.Places.{Later, Place, AssignAt, ExprAt, StepAt}
 use Rattle.b67_emit_stmt.proofs.Arms.{Closed}
 use Rattle.b67_emit_stmt.proofs.Drafts.{emits_then, level_after, level_same}
 use Rattle.b67_emit_stmt.proofs.Levels.{at_after}
@@ -28,11 +27,11 @@ use Rattle.b67_emit_stmt.proofs.Ready.{body_piece, fit_after, ready_after}
 
 module _ (s : Known) (sc : Place) (v : Named) (first p l : PExpr) (x : PStmt) (a : Draft) (b' d' : Built) (fits : StmtFits sc s (level_set a.out) (tree.for v first p l x))
     (ready : IsReady s a (stmt_syllables s (tree.for v first p l x)))
-    (assign : (sc' : Place) (formats : List Format) → AssignFits sc' s (level_set a.out) v first →
-    Emitted a.out b' (λ qs. AssignAt sc' formats qs (level_set a.out) v first (size a.out.operators) (size b'.operators)))
+    (assign : (sc' : Place) (later : Later) → AssignFits sc' s (level_set a.out) v first →
+    Emitted a.out b' (λ qs. AssignAt sc' later qs (level_set a.out) v first (size a.out.operators) (size b'.operators)))
     (assign_level : b'.level ≡ a.out.level) (assign_short : size b'.operators ≤ size a.out.operators + (4 + expr_syllables s first))
-    (difference : (sc' : Place) (formats : List Format) → ReadFits sc' s (level_set b') types.Number v → ExprFits sc' s (level_set b') types.Number l →
-    Emitted b' d' (λ qs. ExprAt sc' formats qs (level_set b') types.Number (tree.two operators.Sub (alone v) l) (size b'.operators) (size d'.operators) (size d'.operators)))
+    (difference : (sc' : Place) (later : Later) → ReadFits sc' s (level_set b') types.Number v → ExprFits sc' s (level_set b') types.Number l →
+    Emitted b' d' (λ qs. ExprAt sc' later qs (level_set b') types.Number (tree.two operators.Sub (alone v) l) (size b'.operators) (size d'.operators) (size d'.operators)))
     (difference_level : d'.level ≡ b'.level) (difference_short : size d'.operators ≤ size b'.operators + (3 + expr_syllables s l)) where
   abbrev b : Draft
   b = record a { out = b' }
@@ -43,11 +42,11 @@ module _ (s : Known) (sc : Place) (v : Named) (first p l : PExpr) (x : PStmt) (a
   abbrev level : ℕ
   level = level_set a.out
 
-  begun : Emits (4 + expr_syllables s first) a b (λ formats qs target. AssignAt sc formats qs level v first (size a.out.operators) (size b'.operators))
+  begun : Emits (4 + expr_syllables s first) a b (λ later qs target. AssignAt sc later qs level v first (size a.out.operators) (size b'.operators))
   begun = matched.assigned s sc level v first a b refl refl refl ready.few assign assign_short (types.Number, fits.0.1, fits.1)
 
   tested : Emits (3 + expr_syllables s l) b d
-      (λ formats qs target. ExprAt sc formats qs level types.Number (tree.two operators.Sub (alone v) l) (size b'.operators) (size d'.operators) (size d'.operators))
+      (λ later qs target. ExprAt sc later qs level types.Number (tree.two operators.Sub (alone v) l) (size b'.operators) (size d'.operators) (size d'.operators))
   tested = matched.compared s sc level v l b d (level_same a.out b' assign_level) refl refl begun.few difference difference_short fits.0.0 fits.3
 
   behind_test : level_set d' ≡ level
@@ -58,8 +57,8 @@ module _ (s : Known) (sc : Place) (v : Named) (first p l : PExpr) (x : PStmt) (a
 
   module _ (e : Draft)
       (step : (sc' : Place) → ExprFits sc' s (level_set d') types.Number p →
-      Emits (13 + expr_syllables s p) d e (λ formats qs target. StepAt sc' formats qs (level_set d') p (size d'.operators) target (size e.out.operators))) where
-    stepped : Emits (13 + expr_syllables s p) d e (λ formats qs target. StepAt sc formats qs level p (size d'.operators) target (size e.out.operators))
+      Emits (13 + expr_syllables s p) d e (λ later qs target. StepAt sc' later qs (level_set d') p (size d'.operators) target (size e.out.operators))) where
+    stepped : Emits (13 + expr_syllables s p) d e (λ later qs target. StepAt sc later qs level p (size d'.operators) target (size e.out.operators))
     stepped = matched.stepped s sc level p d e behind_test step fits.2
 
     pub body_needs : (own : ℕ) → IsAt own a → IsReady s e (stmt_syllables s x) × HasFit s e x × IsAt own e
@@ -86,8 +85,8 @@ module _ (s : Known) (sc : Place) (v : Named) (first p l : PExpr) (x : PStmt) (a
       )
 
       module _ (n' : Built)
-          (advance : (sc' : Place) (formats : List Format) → VariableFits sc' s (level_set f.out) v → ExprFits sc' s (level_set f.out) types.Number p →
-          Emitted f.out n' (λ qs. AssignAt sc' formats qs (level_set f.out) v (tree.two operators.Add (alone v) p) (size f.out.operators) (size n'.operators)))
+          (advance : (sc' : Place) (later : Later) → VariableFits sc' s (level_set f.out) v → ExprFits sc' s (level_set f.out) types.Number p →
+          Emitted f.out n' (λ qs. AssignAt sc' later qs (level_set f.out) v (tree.two operators.Add (alone v) p) (size f.out.operators) (size n'.operators)))
           (advance_level : n'.level ≡ f.out.level) (advance_short : size n'.operators ≤ size f.out.operators + (7 + expr_syllables s p)) where
         pub turn_needs : (start : ℕ) → start ≡ size b'.operators → IsSome n'.level × (start ≤ size n'.operators) × (size n'.operators + 3 ≤ MOST_SEGMENT_SYLLABLES)
         turn_needs start is =

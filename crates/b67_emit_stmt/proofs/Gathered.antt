@@ -27,7 +27,7 @@ use Rattle.b67_templates.specs.Cells.{has_place}
 use Rattle.b67_templates.specs.Fitting.{Told}
 use Rattle.b67_templates.specs.Paying.{if_known}
 use Rattle.b67_emit_stmt.specs.Actuals.{celled, cells_in, cells_among, cells_given, cells_in_pairs, cells_in_decls, cells_in_stmt}
-use Rattle.b67_emit_stmt.proofs.ArrayLists.{left_is, makes_no, makes_none}
+use Rattle.b67_emit_stmt.proofs.Made.{arrays_are, makes_no, makes_none}
 use Rattle.b67_emit_stmt.proofs.Shapes.{assign_as, block_as}
 
 -- ---- first those of one part, and then those of another
@@ -74,13 +74,6 @@ variable_as e v es is same =
     own v = search (rules, exprs'.the_lemmas)
 
 -- ---- forms of statements
-
-pub for_as : (p : Stmt) (v : Named) (a t l : Expr) (b : Box Stmt Global) (x : Stmt) → p ≡ shapes.For v a t l b → x ≡ b.value →
-    stmt p ≡ tree.for v (expr a) (expr t) (expr l) (stmt x)
-for_as p v a t l b x is same = ap stmt is ∙ own v a t l b ∙ ap (λ (z : Stmt). tree.for v (expr a) (expr t) (expr l) (stmt z)) (sym same)
-  where
-    own : (v : Named) (a t l : Expr) (b : Box Stmt Global) → stmt (shapes.For v a t l b) ≡ tree.for v (expr a) (expr t) (expr l) (stmt b.value)
-    own v a t l b = search (rules, stmts'.the_lemmas)
 
 pub if_then_as : (p : Stmt) (e : Expr) (b : Box Stmt Global) (o : Option (Box Stmt Global)) (x : Stmt) → p ≡ shapes.If e b o → o ≡ None → x ≡ b.value →
     stmt p ≡ tree.if_then (expr e) (stmt x)
@@ -178,4 +171,4 @@ module _ (told : Told) where
   pub decls_arrays : (d : Decl) (left rest : List Decl) → left ≡ d ∷ rest → (kind : Kind) (ns : List Named) (ps : List Pair) → d ≡ declarations.Arrays kind ns ps →
       (qs : List Pair) → qs ≡ ps → cells_in_decls told (decls left) ≡ cells_in_pairs told (pairs qs) ++ cells_in_decls told (decls rest)
   decls_arrays d left rest is kind ns ps arrays qs same =
-      ap (λ (l : PDecls). cells_in_decls told l) (left_is d left rest is kind ns ps arrays) ∙ ap (λ (l : List Pair). cells_in_pairs told (pairs l) ++ cells_in_decls told (decls rest)) (sym same)
+      ap (λ (l : List Decl). cells_in_decls told (decls l)) is ∙ ap (λ (e : PDecl). cells_in_decls told (tree.decls e (decls rest))) (arrays_are d kind ns ps arrays) ∙ ap (λ (l : List Pair). cells_in_pairs told (pairs l) ++ cells_in_decls told (decls rest)) (sym same)

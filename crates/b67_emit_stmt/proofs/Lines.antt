@@ -6,8 +6,7 @@ use Rattle.algol_tree.specs.Image.{expr, exprs}
 use Rattle.algol_tree.specs.declared.tree.Expr.{Expr}
 use Rattle.algol_tree.specs.declared.tree.Kind.TheVariants as types
 use Rattle.b67_emit_stmt.specs.declared.draft.Known.{Known}
-use Rattle.b67_emit_stmt.specs.Places.{Place, ExprAt, LineAt}
-use Rattle.b67_segment.specs.declared.code.Format.{Format}
+use Rattle.b67_emit_stmt.specs.Places.{Later, Place, ExprAt, LineAt}
 use Rattle.b67_segment.specs.Operators.{Placed, size}
 use Rattle.b67_segment.specs.Building.{Built}
 use Rattle.b67_templates.specs.Emitting.{Emitted}
@@ -45,18 +44,18 @@ pub line_syllables : (s : Known) (xs : List Expr) (y : Expr) (ys : List Expr) �
 line_syllables s [] y ys = omega arith
 line_syllables s (x ∷ xs) y ys = omega (arith, line_syllables s xs y ys)
 
-pub line-append : (sc : Place) (formats : List Format) (qs : List Placed) (level : ℕ) (xs : List Expr) (y : Expr) (f m t : ℕ) → LineAt sc formats qs level (exprs xs) f m →
-    ExprAt sc formats qs level types.Number (expr y) m t t → LineAt sc formats qs level (exprs (xs ++ y ∷ [])) f t
-line-append sc formats qs level [] y f m t h k =
-    let E : ℕ → Type 0 = λ from. ExprAt sc formats qs level types.Number (expr y) from t t in (t, subst E (sym h) k, refl)
-line-append sc formats qs level (x ∷ xs) y f m t h k = (h.0, h.1, line-append sc formats qs level xs y h.0 m t h.2 k)
+pub line-append : (sc : Place) (later : Later) (qs : List Placed) (level : ℕ) (xs : List Expr) (y : Expr) (f m t : ℕ) → LineAt sc later qs level (exprs xs) f m →
+    ExprAt sc later qs level types.Number (expr y) m t t → LineAt sc later qs level (exprs (xs ++ y ∷ [])) f t
+line-append sc later qs level [] y f m t h k =
+    let E : ℕ → Type 0 = λ from. ExprAt sc later qs level types.Number (expr y) from t t in (t, subst E (sym h) k, refl)
+line-append sc later qs level (x ∷ xs) y f m t h k = (h.0, h.1, line-append sc later qs level xs y h.0 m t h.2 k)
 
-pub line_part : (sc : Place) (formats : List Format) (level : ℕ) (xs : List Expr) (y : Expr) (zs : List Expr) (a b c : Built) → zs ≡ xs ++ y ∷ [] →
-    Emitted a b (λ qs. LineAt sc formats qs level (exprs xs) (size a.operators) (size b.operators)) →
-    Emitted b c (λ qs. ExprAt sc formats qs level types.Number (expr y) (size b.operators) (size c.operators) (size c.operators)) →
-    Emitted a c (λ qs. LineAt sc formats qs level (exprs zs) (size a.operators) (size c.operators))
-line_part sc formats level xs y zs a b c e h k =
-    let Z : List Expr → Type 0 = λ l. Emitted a c (λ qs. LineAt sc formats qs level (exprs l) (size a.operators) (size c.operators)) in
+pub line_part : (sc : Place) (later : Later) (level : ℕ) (xs : List Expr) (y : Expr) (zs : List Expr) (a b c : Built) → zs ≡ xs ++ y ∷ [] →
+    Emitted a b (λ qs. LineAt sc later qs level (exprs xs) (size a.operators) (size b.operators)) →
+    Emitted b c (λ qs. ExprAt sc later qs level types.Number (expr y) (size b.operators) (size c.operators) (size c.operators)) →
+    Emitted a c (λ qs. LineAt sc later qs level (exprs zs) (size a.operators) (size c.operators))
+line_part sc later level xs y zs a b c e h k =
+    let Z : List Expr → Type 0 = λ l. Emitted a c (λ qs. LineAt sc later qs level (exprs l) (size a.operators) (size c.operators)) in
     subst Z (sym e)
-    (weaker (λ qs. LineAt sc formats qs level (exprs (xs ++ y ∷ [])) (size a.operators) (size c.operators)) (then h k)
-    (λ qs p. line-append sc formats qs level xs y (size a.operators) (size b.operators) (size c.operators) p.0 p.1))
+    (weaker (λ qs. LineAt sc later qs level (exprs (xs ++ y ∷ [])) (size a.operators) (size c.operators)) (then h k)
+    (λ qs p. line-append sc later qs level xs y (size a.operators) (size b.operators) (size c.operators) p.0 p.1))

@@ -2,26 +2,25 @@
 use Rattle.std.proofs.Common.{◌≡◌, ℕ, ◌+◌, ◌≤◌, ◌<◌, List, [], length, take, drop, get_or, refl, sym, ap, ◌∙◌, subst, arith}
 use Rattle.algol_tree.specs.declared.tree.Stmt.{Stmt}
 use Rattle.algol_tree.specs.Image.{stmt, stmts}
-use Rattle.b67_emit_stmt.specs.Places.{Place, StmtAt, StmtsAt}
+use Rattle.b67_emit_stmt.specs.Places.{Later, Place, StmtAt, StmtsAt}
 use Rattle.b67_emit_stmt.specs.declared.draft.Known.{Known}
-use Rattle.b67_segment.specs.declared.code.Format.{Format}
 use Rattle.b67_segment.specs.Operators.{Placed, size}
 use Rattle.b67_segment.specs.Building.{level_set}
 use Rattle.b67_emit_stmt.specs.Lengths.{stmt_syllables, stmts_syllables}
 use Rattle.b67_emit_stmt.specs.Fits.{StmtFits, StmtsFit}
 use Rattle.b67_emitter.specs.Aiming.{Aimed}
 use Rattle.b67_emit_stmt.specs.declared.draft.Draft.{Draft}
-use Rattle.b67_emit_stmt.specs.Drafts.{Emits, HasFew, IsReady}
+use Rattle.b67_emit_stmt.specs.Drafts.{Emits, HasFew, IsReady, noted}
 use Rattle.b67_emit_stmt.specs.Emits.{EmitsStmt}
 use Rattle.b67_emit_stmt.proofs.Drafts.{closed, emits_none, emits_then, emits_weaker, level_after, set_after}
 use Rattle.b67_emit_stmt.proofs.Lists.{around, fits-append, front_more, stands-append, syllables-append}
 use Rattle.b67_emit_stmt.proofs.Ready.{stmt_piece}
 
-abbrev pub StandTogether : Place → ℕ → List Stmt → Draft → Draft → List Format → List Placed → ℕ → Type 0
-StandTogether sc level xs a b formats qs target = StmtsAt sc formats qs level (stmts xs) (size a.out.operators) (size b.out.operators) target
+abbrev pub StandTogether : Place → ℕ → List Stmt → Draft → Draft → Later → List Placed → ℕ → Type 0
+StandTogether sc level xs a b later qs target = StmtsAt sc later qs level (stmts xs) (size a.out.operators) (size b.out.operators) target
 
 pub together_none : (s : Known) (sc : Place) (level : ℕ) (xs : List Stmt) (a : Draft) → HasFew a → Emits (stmts_syllables s (stmts (take 0 xs))) a a (StandTogether sc level (take 0 xs) a a)
-together_none s sc level xs a few = emits_weaker (StandTogether sc level (take 0 xs) a a) (emits_none a few) (omega arith) (λ formats qs target hi p. refl)
+together_none s sc level xs a few = emits_weaker (StandTogether sc level (take 0 xs) a a) (emits_none a few) (omega arith) (λ later qs target hi p. refl)
 
 -- the next statement fits
 pub next_fits : (s : Known) (sc : Place) (level : ℕ) (xs : List Stmt) (i : ℕ) (x : Stmt) → i < length xs → x ≡ get_or xs i x → StmtsFit sc s level (stmts xs) →
@@ -43,9 +42,9 @@ more_syllables s xs i x h e =
 
 module _ (s : Known) (sc : Place) (level : ℕ) (xs : List Stmt) (i : ℕ) (x : Stmt) (lo : i < length xs) (is : x ≡ get_or xs i x) (a b d : Draft) (first : ℕ)
     (at : first ≡ length a.exits.items) (h : Emits (stmts_syllables s (stmts (take i xs))) a b (StandTogether sc level (take i xs) a b))
-    (aimed : Aimed (drop first b.exits.items) b.out d.out) (es : d.exits.items ≡ take first b.exits.items) (fs : d.formats.items ≡ b.formats.items) where
+    (aimed : Aimed (drop first b.exits.items) b.out d.out) (es : d.exits.items ≡ take first b.exits.items) (fs : noted d ≡ noted b) where
   -- the exits of those that are done go to the next
-  done : Emits (stmts_syllables s (stmts (take i xs))) a d (λ formats qs target. StandTogether sc level (take i xs) a b formats qs (size b.out.operators))
+  done : Emits (stmts_syllables s (stmts (take i xs))) a d (λ later qs target. StandTogether sc level (take i xs) a b later qs (size b.out.operators))
   done =
       let A : ℕ → Type 0 = λ n. Aimed (drop n b.exits.items) b.out d.out in
       let E : ℕ → Type 0 = λ n. d.exits.items ≡ take n b.exits.items in
@@ -71,13 +70,13 @@ module _ (s : Known) (sc : Place) (level : ℕ) (xs : List Stmt) (i : ℕ) (x : 
   pub together_more : (e : Draft) → level_set a.out ≡ level → StmtFits sc s level (stmt x) → EmitsStmt s d e (stmt x) →
       Emits (stmts_syllables s (stmts (take (i + 1) xs))) a e (StandTogether sc level (take (i + 1) xs) a e)
   together_more e q fit k =
-      let S : List Stmt → List Format → List Placed → ℕ → Type 0 = λ l formats qs target. StandTogether sc level l a e formats qs target in
+      let S : List Stmt → Later → List Placed → ℕ → Type 0 = λ l later qs target. StandTogether sc level l a e later qs target in
       let more = front_more xs i x lo is in
-      let B : List Format → List Placed → ℕ → ℕ → Type 0 = λ formats qs target from. StmtAt sc formats qs level (stmt x) from (size e.out.operators) target in
+      let B : Later → List Placed → ℕ → ℕ → Type 0 = λ later qs target from. StmtAt sc later qs level (stmt x) from (size e.out.operators) target in
       emits_weaker (S (take (i + 1) xs)) (emits_then done (stmt_piece s sc (stmt x) d e level (done_level ∙ q) k fit))
       (omega (arith, more_syllables s xs i x lo is))
-      (λ formats qs target hi p.
-      let T : List Stmt → Type 0 = λ l. S l formats qs target in
+      (λ later qs target hi p.
+      let T : List Stmt → Type 0 = λ l. S l later qs target in
       subst T (sym more)
-      (stands-append sc formats qs level (take i xs) x (size a.out.operators) (size b.out.operators) (size e.out.operators) target p.0
-      (subst (B formats qs target) aimed.place p.1)))
+      (stands-append sc later qs level (take i xs) x (size a.out.operators) (size b.out.operators) (size e.out.operators) target p.0
+      (subst (B later qs target) aimed.place p.1)))

@@ -4,8 +4,7 @@ use Rattle.std.proofs.lemmas.List.{take-append-drop, drop_more, take_more}
 use Rattle.algol_tree.specs.declared.tree.Stmt.{Stmt}
 use Rattle.algol_tree.specs.Image.{stmt, stmts}
 use Rattle.b67_emit_stmt.specs.declared.draft.Known.{Known}
-use Rattle.b67_emit_stmt.specs.Places.{Place, StmtAt, StmtsAt}
-use Rattle.b67_segment.specs.declared.code.Format.{Format}
+use Rattle.b67_emit_stmt.specs.Places.{Later, Place, StmtAt, StmtsAt}
 use Rattle.b67_segment.specs.Operators.{Placed}
 use Rattle.b67_emit_stmt.specs.Fits.{StmtFits, StmtsFit}
 use Rattle.b67_emit_stmt.specs.Lengths.{stmt_syllables, stmts_syllables}
@@ -34,10 +33,10 @@ fits-append sc known level (x ∷ xs) y ys h = fits-append sc known level xs y y
 
 -- ---- code
 
-pub stands-append : (sc : Place) (formats : List Format) (qs : List Placed) (level : ℕ) (xs : List Stmt) (y : Stmt) (f m t u : ℕ) →
-    StmtsAt sc formats qs level (stmts xs) f m m → StmtAt sc formats qs level (stmt y) m t u → StmtsAt sc formats qs level (stmts (xs ++ y ∷ [])) f t u
-stands-append sc formats qs level [] y f m t u h k =
-    let S : ℕ → Type 0 = λ x. StmtAt sc formats qs level (stmt y) x t u in subst S (sym h) k
-stands-append sc formats qs level (x ∷ []) y f m t u h k = (m, h, k)
-stands-append sc formats qs level (x ∷ x' ∷ xs) y f m t u h k =
-    (h.0, h.1, stands-append sc formats qs level (x' ∷ xs) y h.0 m t u h.2 k)
+pub stands-append : (sc : Place) (later : Later) (qs : List Placed) (level : ℕ) (xs : List Stmt) (y : Stmt) (f m t u : ℕ) →
+    StmtsAt sc later qs level (stmts xs) f m m → StmtAt sc later qs level (stmt y) m t u → StmtsAt sc later qs level (stmts (xs ++ y ∷ [])) f t u
+stands-append sc later qs level [] y f m t u h k =
+    let S : ℕ → Type 0 = λ x. StmtAt sc later qs level (stmt y) x t u in subst S (sym h) k
+stands-append sc later qs level (x ∷ []) y f m t u h k = (m, h, k)
+stands-append sc later qs level (x ∷ x' ∷ xs) y f m t u h k =
+    (h.0, h.1, stands-append sc later qs level (x' ∷ xs) y h.0 m t u h.2 k)

@@ -7,7 +7,7 @@ use Rattle.algol_tree.specs.declared.tree.Op.TheVariants as operators
 use Rattle.algol_tree.specs.declared.tree.Named.{Named}
 use Rattle.algol_tree.specs.Plain as tree
 use Rattle.algol_tree.specs.Plain.{PExpr}
-use Rattle.b67_emit_stmt.specs.Places.{Place, context_in, AssignAt, ExprAt, ReadAt, PlaceAt}
+use Rattle.b67_emit_stmt.specs.Places.{Later, Place, context_in, AssignAt, ExprAt, ReadAt, PlaceAt}
 use Rattle.b67_templates.specs.Code.{own, reads}
 use Rattle.b67_emit_stmt.specs.declared.draft.Known.{Known}
 use Rattle.algol_meaning.specs.Statements.{alone}
@@ -17,7 +17,6 @@ use Rattle.b67_ops.specs.declared.PlainKind.{PlainKind}
 use Rattle.b67_ops.specs.declared.PlainKind.TheVariants as kinds
 use Rattle.b67_ops.specs.declared.intrinsic.Intrinsic.{Intrinsic}
 use Rattle.b67_ops.specs.Intrinsics.{couple_of_intrinsic}
-use Rattle.b67_segment.specs.declared.code.Format.{Format}
 use Rattle.b67_segment.specs.Operators.{Placed, size}
 use Rattle.b67_segment.specs.Building.{Built, level_set}
 use Rattle.b67_templates.specs.Fragments.{Has, IntrinsicAt}
@@ -48,13 +47,13 @@ code_at s level' level sc k e q fit =
 pub variable_at : (s : Known) (level' level : ℕ) (sc : Place) (n : Named) → level' ≡ level → VariableFits sc s level n → VariableFits sc s level' n
 variable_at s level' level sc n q fit = let F : ℕ → Type 0 = λ l. VariableFits sc s l n in subst F (sym q) fit
 
-pub value_at : (s : Known) (b c : Built) (level : ℕ) (sc : Place) (formats : List Format) (k : Kind) (e : PExpr) → level_set b ≡ level →
+pub value_at : (s : Known) (b c : Built) (level : ℕ) (sc : Place) (later : Later) (k : Kind) (e : PExpr) → level_set b ≡ level →
     ValueEmitted s.names.now (level_set b) b c e → ExprFits sc s level k e →
-    Emitted b c (λ qs. ExprAt sc formats qs level k e (size b.operators) (size c.operators) (size c.operators))
-value_at s b c level sc formats k e q v fit =
+    Emitted b c (λ qs. ExprAt sc later qs level k e (size b.operators) (size c.operators) (size c.operators))
+value_at s b c level sc later k e q v fit =
     let F : ℕ → Type 0 = λ l. ExprFits sc s l k e in
-    leveled (λ l qs. ExprAt sc formats qs l k e (size b.operators) (size c.operators) (size c.operators)) level q
-    (v.code sc.scopes (context_in sc formats (level_set b)) k (subst F (sym q) fit))
+    leveled (λ l qs. ExprAt sc later qs l k e (size b.operators) (size c.operators) (size c.operators)) level q
+    (v.code sc.scopes (context_in sc later (level_set b)) k (subst F (sym q) fit))
 
 -- ---- parts of statements
 
@@ -67,46 +66,46 @@ intrinsic_part name a b c e h k =
     (then h (leveled (λ l qs. Has qs l (size b.operators) (ops.Namc (couple_of_intrinsic name)) (size c.operators)) (level_set a) (level_same a b e) k))
     (λ qs p. (size b.operators, p.0, p.1))
 
-pub reference_part : (sc : Place) (formats : List Format) (k : Kind) (n : Named) (c : Couple) (a b : Built) → IsVariable sc.scopes (level_set a) n k c →
+pub reference_part : (sc : Place) (later : Later) (k : Kind) (n : Named) (c : Couple) (a b : Built) → IsVariable sc.scopes (level_set a) n k c →
     Emitted a b (λ qs. Has qs (level_set a) (size a.operators) (ops.Namc c) (size b.operators)) →
-    Emitted a b (λ qs. PlaceAt sc formats qs (level_set a) n k (size a.operators) (size b.operators))
-reference_part sc formats k n c a b v h =
-    weaker (λ qs. PlaceAt sc formats qs (level_set a) n k (size a.operators) (size b.operators)) h (λ qs p. own (c, v, p))
+    Emitted a b (λ qs. PlaceAt sc later qs (level_set a) n k (size a.operators) (size b.operators))
+reference_part sc later k n c a b v h =
+    weaker (λ qs. PlaceAt sc later qs (level_set a) n k (size a.operators) (size b.operators)) h (λ qs p. own (c, v, p))
 
-pub read_part : (sc : Place) (formats : List Format) (k : Kind) (n : Named) (c : Couple) (a b : Built) → IsRead sc.scopes (level_set a) n k c →
+pub read_part : (sc : Place) (later : Later) (k : Kind) (n : Named) (c : Couple) (a b : Built) → IsRead sc.scopes (level_set a) n k c →
     Emitted a b (λ qs. Has qs (level_set a) (size a.operators) (ops.Valc c) (size b.operators)) →
-    Emitted a b (λ qs. ReadAt sc formats qs (level_set a) n k (size a.operators) (size b.operators))
-read_part sc formats k n c a b v h =
-    weaker (λ qs. ReadAt sc formats qs (level_set a) n k (size a.operators) (size b.operators)) h (λ qs p. (c, v, p))
+    Emitted a b (λ qs. ReadAt sc later qs (level_set a) n k (size a.operators) (size b.operators))
+read_part sc later k n c a b v h =
+    weaker (λ qs. ReadAt sc later qs (level_set a) n k (size a.operators) (size b.operators)) h (λ qs p. (c, v, p))
 
-module _ (sc : Place) (formats : List Format) (level : ℕ) where
+module _ (sc : Place) (later : Later) (level : ℕ) where
   pub assign_part : (k : Kind) (n : Named) (e : PExpr) (a b c d : Built) →
-      Emitted a b (λ qs. PlaceAt sc formats qs level n k (size a.operators) (size b.operators)) →
-      Emitted b c (λ qs. ExprAt sc formats qs level k e (size b.operators) (size c.operators) (size c.operators)) →
+      Emitted a b (λ qs. PlaceAt sc later qs level n k (size a.operators) (size b.operators)) →
+      Emitted b c (λ qs. ExprAt sc later qs level k e (size b.operators) (size c.operators) (size c.operators)) →
       Emitted c d (λ qs. Has qs level (size c.operators) (ops.Plain kinds.Stod) (size d.operators)) →
-      Emitted a d (λ qs. AssignAt sc formats qs level n e (size a.operators) (size d.operators))
+      Emitted a d (λ qs. AssignAt sc later qs level n e (size a.operators) (size d.operators))
   assign_part k n e a b c d h i j =
-      weaker (λ qs. AssignAt sc formats qs level n e (size a.operators) (size d.operators)) (then (then h i) j)
+      weaker (λ qs. AssignAt sc later qs level n e (size a.operators) (size d.operators)) (then (then h i) j)
       (λ qs p. (k, size b.operators, size c.operators, p.0.0, p.0.1, p.1))
 
   pub difference_part : (n : Named) (e : PExpr) (a b c d : Built) →
-      Emitted a b (λ qs. ReadAt sc formats qs level n types.Number (size a.operators) (size b.operators)) →
-      Emitted b c (λ qs. ExprAt sc formats qs level types.Number e (size b.operators) (size c.operators) (size c.operators)) →
+      Emitted a b (λ qs. ReadAt sc later qs level n types.Number (size a.operators) (size b.operators)) →
+      Emitted b c (λ qs. ExprAt sc later qs level types.Number e (size b.operators) (size c.operators) (size c.operators)) →
       Emitted c d (λ qs. Has qs level (size c.operators) (ops.Plain kinds.Subt) (size d.operators)) →
-      Emitted a d (λ qs. ExprAt sc formats qs level types.Number (tree.two operators.Sub (alone n) e) (size a.operators) (size d.operators) (size d.operators))
+      Emitted a d (λ qs. ExprAt sc later qs level types.Number (tree.two operators.Sub (alone n) e) (size a.operators) (size d.operators) (size d.operators))
   difference_part n e a b c d h i j =
-      weaker (λ qs. ExprAt sc formats qs level types.Number (tree.two operators.Sub (alone n) e) (size a.operators) (size d.operators) (size d.operators)) (then (then h i) j)
+      weaker (λ qs. ExprAt sc later qs level types.Number (tree.two operators.Sub (alone n) e) (size a.operators) (size d.operators) (size d.operators)) (then (then h i) j)
       (λ qs p. (size b.operators, size b.operators, size c.operators, refl, reads p.0.0, refl, p.0.1, p.1))
 
   pub advance_part : (n : Named) (e : PExpr) (a b c d x y : Built) →
-      Emitted a b (λ qs. PlaceAt sc formats qs level n types.Number (size a.operators) (size b.operators)) →
-      Emitted b c (λ qs. ReadAt sc formats qs level n types.Number (size b.operators) (size c.operators)) →
-      Emitted c d (λ qs. ExprAt sc formats qs level types.Number e (size c.operators) (size d.operators) (size d.operators)) →
+      Emitted a b (λ qs. PlaceAt sc later qs level n types.Number (size a.operators) (size b.operators)) →
+      Emitted b c (λ qs. ReadAt sc later qs level n types.Number (size b.operators) (size c.operators)) →
+      Emitted c d (λ qs. ExprAt sc later qs level types.Number e (size c.operators) (size d.operators) (size d.operators)) →
       Emitted d x (λ qs. Has qs level (size d.operators) (ops.Plain kinds.Add) (size x.operators)) →
       Emitted x y (λ qs. Has qs level (size x.operators) (ops.Plain kinds.Stod) (size y.operators)) →
-      Emitted a y (λ qs. AssignAt sc formats qs level n (tree.two operators.Add (alone n) e) (size a.operators) (size y.operators))
+      Emitted a y (λ qs. AssignAt sc later qs level n (tree.two operators.Add (alone n) e) (size a.operators) (size y.operators))
   advance_part n e a b c d x y h i j k l =
-      weaker (λ qs. AssignAt sc formats qs level n (tree.two operators.Add (alone n) e) (size a.operators) (size y.operators))
+      weaker (λ qs. AssignAt sc later qs level n (tree.two operators.Add (alone n) e) (size a.operators) (size y.operators))
       (then h (then (then (then i j) k) l))
       (λ qs p.
       (types.Number, size b.operators, size x.operators, p.0, (size c.operators, size c.operators, size d.operators, refl, reads p.1.0.0.0, refl, p.1.0.0.1, p.1.0.1), p.1.1))

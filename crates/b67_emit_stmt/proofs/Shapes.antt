@@ -7,6 +7,8 @@ use Rattle.algol_tree.specs.declared.tree.Call.{Call}
 use Rattle.algol_tree.specs.declared.tree.Call as calls
 use Rattle.algol_tree.specs.declared.tree.Body.{Body}
 use Rattle.algol_tree.specs.declared.tree.Body as bodies
+use Rattle.algol_tree.specs.declared.tree.EventAct.{EventAct}
+use Rattle.algol_tree.specs.declared.tree.EventName.{EventName}
 use Rattle.algol_tree.specs.declared.tree.Expr.{Expr}
 use Rattle.algol_tree.specs.declared.tree.Named.{Named}
 use Rattle.algol_tree.specs.declared.tree.PhraseText.{PhraseText}
@@ -46,7 +48,25 @@ call_is c = search (rules, calls.the_lemmas)
 call_of_is : (c : Call) → stmt (shapes.Call c) ≡ tree.call_of (call c)
 call_of_is c = search (rules, stmts'.the_lemmas)
 
+label_is : (n : Named) (b : Box Stmt Global) → stmt (shapes.Label n b) ≡ tree.label n (stmt b.value)
+label_is n b = search (rules, stmts'.the_lemmas)
+
+go_to_is : (n : Named) → stmt (shapes.GoTo n) ≡ tree.go_to n
+go_to_is n = search (rules, stmts'.the_lemmas)
+
+event_is : (act : EventAct) (e : EventName) → stmt (shapes.Event act e) ≡ tree.event act e
+event_is act e = search (rules, stmts'.the_lemmas)
+
 -- ---- the same where a part is named otherwise
+
+pub label_as : (s p : Stmt) (n : Named) (b : Box Stmt Global) → s ≡ shapes.Label n b → p ≡ b.value → stmt s ≡ tree.label n (stmt p)
+label_as s p n b is same = ap stmt is ∙ label_is n b ∙ ap (λ (x : Stmt). tree.label n (stmt x)) (sym same)
+
+pub go_to_as : (s : Stmt) (n : Named) → s ≡ shapes.GoTo n → stmt s ≡ tree.go_to n
+go_to_as s n is = ap stmt is ∙ go_to_is n
+
+pub event_as : (s : Stmt) (act : EventAct) (e : EventName) → s ≡ shapes.Event act e → stmt s ≡ tree.event act e
+event_as s act e is = ap stmt is ∙ event_is act e
 
 pub call_as : (s : Stmt) (c : Call) → s ≡ shapes.Call c → stmt s ≡ tree.call_of (tree.called c.name (exprs c.actuals))
 call_as s c is = ap stmt is ∙ call_of_is c ∙ ap tree.call_of (call_is c)

@@ -5,7 +5,6 @@ use Rattle.algol_tree.specs.declared.tree.Named.{Named}
 use Rattle.b67_ops.specs.declared.Couple.{Couple}
 use Rattle.b67_ops.specs.declared.Operator.TheVariants as ops
 use Rattle.b67_ops.specs.declared.PlainKind.TheVariants as kinds
-use Rattle.b67_segment.specs.declared.code.Format.{Format}
 use Rattle.b67_segment.specs.Operators.{size}
 use Rattle.b67_segment.specs.Building.{Built, level_set}
 use Rattle.b67_templates.specs.Code as codes
@@ -17,11 +16,11 @@ use Rattle.b67_emitter.specs.Values.{lefts, meant}
 use Rattle.b67_emitter.proofs.Composing.{then, weaker}
 use Rattle.b67_emit_stmt.specs.declared.draft.Known.{Known}
 use Rattle.b67_emit_stmt.specs.Fits.{PlaceFits}
-use Rattle.b67_emit_stmt.specs.Places.{Place, PlaceAt}
+use Rattle.b67_emit_stmt.specs.Places.{Later, Place, PlaceAt}
 use Rattle.b67_emit_stmt.proofs.Drafts.{level_same}
 
 module _ (s : Known) (n : Named) (c : Couple) (known : lefts s.names.now n.spot ≡ Some c) (a b : Built)
-    (h : Emitted a b (λ qs. Has qs (level_set a) (size a.operators) (ops.Namc c) (size b.operators))) (sc : Place) (k : Kind) (formats : List Format) where
+    (h : Emitted a b (λ qs. Has qs (level_set a) (size a.operators) (ops.Namc c) (size b.operators))) (sc : Place) (k : Kind) (later : Later) where
   named_as : (d : Couple) → lefts s.names.now n.spot ≡ Some d → Emitted a b (λ qs. Has qs (level_set a) (size a.operators) (ops.Namc d) (size b.operators))
   named_as d is =
       let same : c ≡ d = cc (is, known) in
@@ -29,16 +28,16 @@ module _ (s : Known) (n : Named) (c : Couple) (known : lefts s.names.now n.spot 
       subst H same h
 
   pub own_place : is_name (meant s.names.now n.spot) ≡ false → PlaceFits sc s (level_set a) k n →
-      Emitted a b (λ qs. PlaceAt sc formats qs (level_set a) n k (size a.operators) (size b.operators))
+      Emitted a b (λ qs. PlaceAt sc later qs (level_set a) n k (size a.operators) (size b.operators))
   own_place off (fitting.own (d, is, v) unnamed) =
-      weaker (λ qs. PlaceAt sc formats qs (level_set a) n k (size a.operators) (size b.operators)) (named_as d is) (λ qs x. codes.own (d, v, x))
+      weaker (λ qs. PlaceAt sc later qs (level_set a) n k (size a.operators) (size b.operators)) (named_as d is) (λ qs x. codes.own (d, v, x))
   own_place off (fitting.resolved d is named v) = absurd (let clash : true ≡ false = sym named ∙ off in cc)
 
   pub resolved_place : is_name (meant s.names.now n.spot) ≡ true → (e : Built) → b.level ≡ a.level →
       Emitted b e (λ qs. Has qs (level_set b) (size b.operators) (ops.Plain kinds.Eval) (size e.operators)) → PlaceFits sc s (level_set a) k n →
-      Emitted a e (λ qs. PlaceAt sc formats qs (level_set a) n k (size a.operators) (size e.operators))
+      Emitted a e (λ qs. PlaceAt sc later qs (level_set a) n k (size a.operators) (size e.operators))
   resolved_place on e l x (fitting.own f unnamed) = absurd (let clash : true ≡ false = sym on ∙ unnamed in cc)
   resolved_place on e l x (fitting.resolved d is named v) =
       let K : ℕ → Type 0 = λ i. Emitted b e (λ qs. Has qs i (size b.operators) (ops.Plain kinds.Eval) (size e.operators)) in
-      weaker (λ qs. PlaceAt sc formats qs (level_set a) n k (size a.operators) (size e.operators)) (then (named_as d is) (subst K (level_same a b l) x))
+      weaker (λ qs. PlaceAt sc later qs (level_set a) n k (size a.operators) (size e.operators)) (then (named_as d is) (subst K (level_same a b l) x))
       (λ qs y. codes.resolved d (size b.operators) v y.0 y.1)

@@ -5,13 +5,12 @@ use Rattle.algol_tree.specs.declared.tree.Named.{Named}
 use Rattle.algol_tree.specs.declared.tree.Op.TheVariants as operators
 use Rattle.algol_tree.specs.Plain as tree
 use Rattle.algol_tree.specs.Plain.{PExpr, PStmt}
-use Rattle.b67_emit_stmt.specs.Places.{Place, AssignAt, ExprAt, StepAt}
+use Rattle.b67_emit_stmt.specs.Places.{Later, Place, AssignAt, ExprAt, StepAt}
 use Rattle.b67_emit_stmt.specs.declared.draft.Known.{Known}
 use Rattle.algol_meaning.specs.Statements.{alone}
 use Rattle.b67_ops.specs.declared.Operator.TheVariants as ops
 use Rattle.b67_ops.specs.declared.BranchKind.TheVariants.{Brtr}
 use Rattle.b67_ops.specs.declared.PlainKind.TheVariants as kinds
-use Rattle.b67_segment.specs.declared.code.Format.{Format}
 use Rattle.b67_segment.specs.Operators.{size}
 use Rattle.b67_segment.specs.Building.{Built, level_set}
 use Rattle.b67_emit_stmt.specs.Lengths.{expr_syllables}
@@ -85,23 +84,23 @@ module _ (s : Known) (p : PExpr) (x : PStmt) (a n : Draft) (b' d' e' f' o' : Bui
       let round = turn_piece sc b n o start level start_is z refl refl part.few turn turn_wide in
       let there : level_set j.out ≡ level = level_same o.out j.out aimed.level ∙ level_same n.out o.out turn_level ∙ z in
       let lots : HasFew j = omega (arith, round.few, aimed.place) in
-      let last = piece {n = 1} {d = j} {e = k} refl refl lots (λ formats. plain_at kinds.Dlet level there h) (omega (arith, wide)) in
+      let last = piece {n = 1} {d = j} {e = k} refl refl lots (λ later. plain_at kinds.Dlet level there h) (omega (arith, wide)) in
       thru_arm sc level s p x a b d e f n o j k (over ∷ []) v test (hole_as Brtr d.out e.out level over r over_is branch) (omega (arith, branch_wide)) refl refl minus part round aimed refl refl last
 
 -- ---- FOR
 
 pub for_emitted : (s : Known) (v : Named) (first p l : PExpr) (x : PStmt) (a e f : Draft) (b' d' n' o' : Built) (start : ℕ) → HasFew a →
-    ((sc : Place) (formats : List Format) → AssignFits sc s (level_set a.out) v first →
-    Emitted a.out b' (λ qs. AssignAt sc formats qs (level_set a.out) v first (size a.out.operators) (size b'.operators))) →
+    ((sc : Place) (later : Later) → AssignFits sc s (level_set a.out) v first →
+    Emitted a.out b' (λ qs. AssignAt sc later qs (level_set a.out) v first (size a.out.operators) (size b'.operators))) →
     b'.level ≡ a.out.level → size b'.operators ≤ size a.out.operators + (4 + expr_syllables s first) → start ≡ size b'.operators →
-    ((sc : Place) (formats : List Format) → ReadFits sc s (level_set b') types.Number v → ExprFits sc s (level_set b') types.Number l →
-    Emitted b' d' (λ qs. ExprAt sc formats qs (level_set b') types.Number (tree.two operators.Sub (alone v) l) (size b'.operators) (size d'.operators) (size d'.operators))) →
+    ((sc : Place) (later : Later) → ReadFits sc s (level_set b') types.Number v → ExprFits sc s (level_set b') types.Number l →
+    Emitted b' d' (λ qs. ExprAt sc later qs (level_set b') types.Number (tree.two operators.Sub (alone v) l) (size b'.operators) (size d'.operators) (size d'.operators))) →
     d'.level ≡ b'.level → size d'.operators ≤ size b'.operators + (3 + expr_syllables s l) →
     ((sc : Place) → ExprFits sc s (level_set d') types.Number p →
-    Emits (13 + expr_syllables s p) (record a { out = d' }) e (λ formats qs target. StepAt sc formats qs (level_set d') p (size d'.operators) target (size e.out.operators))) →
+    Emits (13 + expr_syllables s p) (record a { out = d' }) e (λ later qs target. StepAt sc later qs (level_set d') p (size d'.operators) target (size e.out.operators))) →
     EmitsBody s e f x →
-    ((sc : Place) (formats : List Format) → VariableFits sc s (level_set f.out) v → ExprFits sc s (level_set f.out) types.Number p →
-    Emitted f.out n' (λ qs. AssignAt sc formats qs (level_set f.out) v (tree.two operators.Add (alone v) p) (size f.out.operators) (size n'.operators))) →
+    ((sc : Place) (later : Later) → VariableFits sc s (level_set f.out) v → ExprFits sc s (level_set f.out) types.Number p →
+    Emitted f.out n' (λ qs. AssignAt sc later qs (level_set f.out) v (tree.two operators.Add (alone v) p) (size f.out.operators) (size n'.operators))) →
     n'.level ≡ f.out.level → size n'.operators ≤ size f.out.operators + (7 + expr_syllables s p) →
     Emitted n' o' (λ qs. TurnAt qs (level_set n') (size n'.operators) start (size o'.operators)) → size o'.operators ≡ size n'.operators + 3 →
     EmitsStmt s a (record f { out = o' }) (tree.for v first p l x)

@@ -75,7 +75,7 @@ module _ (sc : Scopes) (told : Told) (inner : AreInner told) (level block : ℕ)
     have_in k (tree.call (tree.called n es)) f =
         subst (λ (j : ℕ). Have (actuals_given sc (parameter_wants sc j) es)) (sym (ap block_of ((f.1).procedure).sort_is))
         (have_given (sorts_of ((block_numbered sc.blocks f.0).parameters)) (parameter_wants sc f.0) es f.2)
-    have_in k (tree.tested t e spot) f = absurd f
+    have_in k (tree.tested tree.happened e spot) f = tt
 
     have_among : (ls : List ℤ) (es : PExprs) → SubscriptsFit sc told level block ls es → Have (actuals_among sc es)
     have_among (low ∷ []) (tree.more e tree.none) f = have_both (actuals_in sc e) [] (have_in types.Number e f.1) tt
@@ -90,6 +90,7 @@ module _ (sc : Scopes) (told : Told) (inner : AreInner told) (level block : ℕ)
     have_given (s ∷ ss) (wants.by_name kind ∷ ws) (tree.more e es) f =
         have_both (own_actual sc (wants.by_name kind) e ++ actuals_in sc e) (actuals_given sc ws es)
         (have_both (own_actual sc (wants.by_name kind) e) (actuals_in sc e) (own_has kind e f.1 f.2) (have_in kind e f.2)) (have_given ss ws es f.3)
+    have_given (s ∷ ss) (wants.event ∷ ws) (tree.more (tree.variable (tree.subscripted n tree.none)) es) f = have_given ss ws es f.2
     have_given _ _ _ f = absurd f
 
   pub have_called : (n : Named) (es : PExprs) (callee : ℕ) → ProcedureFits sc told level n callee →
@@ -105,8 +106,8 @@ module _ (sc : Scopes) (told : Told) (inner : AreInner told) (level block : ℕ)
   pub have_decls : (ds : PDecls) → DeclsFit sc told level block ds → Have (actuals_in_decls sc ds)
   have_decls tree.no_decls f = tt
   have_decls (tree.decls (tree.arrays kind ns pairs) ds) f = have_both (actuals_in_pairs sc pairs) (actuals_in_decls sc ds) (have_bounds pairs f.1) (have_decls ds f.2)
-  have_decls (tree.decls (tree.events ns) ds) f = absurd f
-  have_decls (tree.decls (tree.tasks ns) ds) f = absurd f
+  have_decls (tree.decls (tree.events ns) ds) f = have_decls ds f
+  have_decls (tree.decls (tree.tasks ns) ds) f = have_decls ds f
   have_decls (tree.decls (tree.simple kind ns) ds) f = have_decls ds f
   have_decls (tree.decls (tree.files ns) ds) f = have_decls ds f
   have_decls (tree.decls (tree.labels ns) ds) f = have_decls ds f
@@ -160,7 +161,10 @@ module _ (sc : Place) (s : Known) (inner : AreInner (meanings s.names.now)) wher
     have_stmt level (tree.thru e b) f = two level (of_expr e) (of_stmt b) (at level types.Number e f.0) (have_stmt level b f.1)
     have_stmt level (tree.case e ss) f = two level (of_expr e) (actuals_in_stmts sc.scopes ss) (at level types.Number e f.0) (have_stmts level ss f.1)
     have_stmt level (tree.write n spot phrases es) f = have_line sc.scopes told inner level sc.block es f.2
-    have_stmt level _ f = absurd f
+    have_stmt level (tree.label n x) f = have_stmt level x f.1
+    have_stmt level (tree.go_to n) f = tt
+    have_stmt level (tree.event act e) f = tt
+    have_stmt level (tree.process c task) f = absurd f
 
     have_stmts : (level : ℕ) (ss : PStmts) → StmtsFit sc s level ss → In level (actuals_in_stmts sc.scopes ss)
     have_stmts level tree.no_stmts f = tt

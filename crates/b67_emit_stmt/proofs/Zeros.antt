@@ -6,15 +6,14 @@ use Rattle.b67_ops.specs.declared.Operator.TheVariants as ops
 use Rattle.b67_ops.specs.declared.PlainKind.TheVariants as kinds
 use Rattle.b67_segment.specs.Operators.{Placed, size}
 use Rattle.b67_segment.specs.Building.{Built}
-use Rattle.b67_segment.specs.declared.code.Format.{Format}
 use Rattle.b67_templates.specs.Fragments.{Has, AllAt, ControlsAt, code_at, procedure_controls}
 use Rattle.b67_templates.specs.Cells.{Actual}
 use Rattle.b67_templates.specs.Code.{routine_controls}
 use Rattle.b67_templates.specs.Emitting.{Emitted}
 use Rattle.b67_emitter.proofs.Composing.{then, weaker}
 use Rattle.b67_emit_stmt.specs.declared.draft.Draft.{Draft}
-use Rattle.b67_emit_stmt.specs.Drafts.{Emits, HasFew}
-use Rattle.b67_emit_stmt.specs.Places.{Place, CellsAt, MadeAt}
+use Rattle.b67_emit_stmt.specs.Drafts.{Emits, HasFew, noted}
+use Rattle.b67_emit_stmt.specs.Places.{Later, Place, CellsAt, MadeAt}
 use Rattle.b67_emit_stmt.proofs.Drafts.{piece}
 
 zeros_more : (qs : List Placed) (level n f m t : ℕ) → AllAt qs level (replicate n kinds.Zero) f m → Has qs level m (ops.Plain kinds.Zero) t →
@@ -32,9 +31,9 @@ zeros_next level n a b d h k =
     let E : ℕ → Type 0 = λ m. AllAt qs level (replicate m kinds.Zero) (size a.operators) (size d.operators) in
     subst E next (zeros_more qs level n (size a.operators) (size b.operators) (size d.operators) p.0 p.1))
 
-pushed : (sc : Place) (formats : List Format) (qs : List Placed) (level many m t : ℕ) → 1 ≤ many → Has qs level m (ops.Plain kinds.Push) t → MadeAt sc formats qs level many m t
-pushed sc formats qs level zero m t h k = absurd (omega arith)
-pushed sc formats qs level (suc n) m t h k = k
+pushed : (sc : Place) (later : Later) (qs : List Placed) (level many m t : ℕ) → 1 ≤ many → Has qs level m (ops.Plain kinds.Push) t → MadeAt sc later qs level many m t
+pushed sc later qs level zero m t h k = absurd (omega arith)
+pushed sc later qs level (suc n) m t h k = k
 
 -- the control words of procedures, and after them those of actuals
 words_then : (qs : List Placed) (level segment : ℕ) (segments : List ℕ) (actuals : List Actual) (ats : List ℕ) (f m t : ℕ) → ControlsAt qs level (procedure_controls level segments) f m →
@@ -63,28 +62,28 @@ controls_long segment level segments actuals ats same =
     let procedures : length (procedure_controls level segments) ≡ length segments = length-map segments (λ (segment : ℕ). code_at segment 0 (level + 1)) in
     omega (arith, length-append (procedure_controls level segments) (routine_controls segment level actuals ats), procedures, routines_long segment level actuals ats same)
 
-module _ (sc : Place) (level many : ℕ) (segments : List ℕ) (actuals : List Actual) (ats : List ℕ) (as_long : length ats ≡ length actuals) (most : ℕ) (a d : Draft) (b e : Built) (es : d.exits.items ≡ a.exits.items) (fs : d.formats.items ≡ a.formats.items) (few : HasFew a)
+module _ (sc : Place) (level many : ℕ) (segments : List ℕ) (actuals : List Actual) (ats : List ℕ) (as_long : length ats ≡ length actuals) (most : ℕ) (a d : Draft) (b e : Built) (es : d.exits.items ≡ a.exits.items) (fs : noted d ≡ noted a) (few : HasFew a)
     (zeros : Emitted a.out b (λ qs. AllAt qs level (replicate many kinds.Zero) (size a.out.operators) (size b.operators)))
     (words : Emitted b e (λ qs. ControlsAt qs level (procedure_controls level segments ++ routine_controls sc.segment level actuals ats) (size b.operators) (size e.operators)))
     (short : size d.out.operators ≤ size a.out.operators + most) where
   pub cells_pushed : 1 ≤ many + length segments + length actuals → Emitted e d.out (λ qs. Has qs level (size e.operators) (ops.Plain kinds.Push) (size d.out.operators)) →
-      Emits most a d (λ formats qs target. CellsAt sc formats qs level many segments actuals ats (size a.out.operators) (size d.out.operators))
+      Emits most a d (λ later qs target. CellsAt sc later qs level many segments actuals ats (size a.out.operators) (size d.out.operators))
   cells_pushed some k =
       piece {n = most} {d = a} {e = d} es fs few
-      (λ formats.
-      weaker (λ qs. CellsAt sc formats qs level many segments actuals ats (size a.out.operators) (size d.out.operators)) (then (then zeros words) k)
-      (λ qs p. (size b.operators, size e.operators, p.0.0, p.0.1, pushed sc formats qs level (many + length (procedure_controls level segments ++ routine_controls sc.segment level actuals ats)) (size e.operators) (size d.out.operators) (omega (arith, some, controls_long sc.segment level segments actuals ats as_long)) p.1)))
+      (λ later.
+      weaker (λ qs. CellsAt sc later qs level many segments actuals ats (size a.out.operators) (size d.out.operators)) (then (then zeros words) k)
+      (λ qs p. (size b.operators, size e.operators, p.0.0, p.0.1, pushed sc later qs level (many + length (procedure_controls level segments ++ routine_controls sc.segment level actuals ats)) (size e.operators) (size d.out.operators) (omega (arith, some, controls_long sc.segment level segments actuals ats as_long)) p.1)))
       short
 
-  pub no_cells : many + length segments + length actuals ≡ 0 → d.out ≡ e → Emits most a d (λ formats qs target. CellsAt sc formats qs level many segments actuals ats (size a.out.operators) (size d.out.operators))
+  pub no_cells : many + length segments + length actuals ≡ 0 → d.out ≡ e → Emits most a d (λ later qs target. CellsAt sc later qs level many segments actuals ats (size a.out.operators) (size d.out.operators))
   no_cells none same =
       let E : Built → Type 0 = λ x. Emitted b x (λ qs. ControlsAt qs level (procedure_controls level segments ++ routine_controls sc.segment level actuals ats) (size b.operators) (size x.operators)) in
       piece {n = most} {d = a} {e = d} es fs few
-      (λ formats.
-      weaker (λ qs. CellsAt sc formats qs level many segments actuals ats (size a.out.operators) (size d.out.operators)) (then zeros (subst E (sym same) words))
+      (λ later.
+      weaker (λ qs. CellsAt sc later qs level many segments actuals ats (size a.out.operators) (size d.out.operators)) (then zeros (subst E (sym same) words))
       (λ qs p.
       let nothing : 0 ≡ many + length (procedure_controls level segments ++ routine_controls sc.segment level actuals ats) =
       omega (arith, none, controls_long sc.segment level segments actuals ats as_long) in
-      let M : ℕ → Type 0 = λ m. MadeAt sc formats qs level m (size d.out.operators) (size d.out.operators) in
+      let M : ℕ → Type 0 = λ m. MadeAt sc later qs level m (size d.out.operators) (size d.out.operators) in
       (size b.operators, size d.out.operators, p.0, p.1, subst M nothing refl)))
       short

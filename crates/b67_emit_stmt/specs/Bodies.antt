@@ -1,19 +1,17 @@
--- The code of blocks and of texts.
+-- The code of blocks.
 use Rattle.std.specs.Prelude.{◌≡◌, ℕ, ◌+◌, ◌<◌, ◌≤◌, Option, Some, None, List, [], ◌∷◌, map, length}
 use Rattle.algol_tree.specs.declared.TheConstants.{MOST_BLOCK_CELLS}
 use Rattle.algol_tree.specs.declared.tree.Kind.{Kind}
 use Rattle.algol_tree.specs.declared.tree.Named.{Named}
 use Rattle.algol_tree.specs.Plain.{PExpr, PDecls, PStmts}
-use Rattle.algol_paths.specs.Arrays.{arrays_of}
 use Rattle.b67_ops.specs.declared.Couple.{Couple}
 use Rattle.b67_ops.specs.declared.Operator.TheVariants as ops
 use Rattle.b67_ops.specs.declared.PlainKind.TheVariants as kinds
 use Rattle.b67_segment.specs.Operators.{Placed, size}
 use Rattle.b67_segment.specs.Building.{Built, level_set}
 use Rattle.b67_segment.specs.Syllables.{Spells}
-use Rattle.b67_segment.specs.declared.code.Format.{Format}
 use Rattle.b67_segment.specs.declared.code.Segment.{Segment}
-use Rattle.b67_templates.specs.Cells.{Actual, variables, procedures, control_segments, actuals_in_block}
+use Rattle.b67_templates.specs.Cells.{Actual, variables, procedures, control_segments, actuals_in_block, made_of}
 use Rattle.b67_templates.specs.Code as code
 use Rattle.b67_templates.specs.Code.{routine_controls}
 use Rattle.b67_templates.specs.Emitting.{Emitted}
@@ -23,7 +21,7 @@ use Rattle.b67_emit_stmt.specs.declared.draft.Draft.{Draft}
 use Rattle.b67_emit_stmt.specs.declared.draft.Known.{Known}
 use Rattle.b67_emit_stmt.specs.Drafts.{Emits}
 use Rattle.b67_emit_stmt.specs.Fits.{AreNumbered, DeclsFit, InsideFits, number_in}
-use Rattle.b67_emit_stmt.specs.Places.{Place, CellsAt, RoutinesAt, DeclsAt, StmtsAt, context_in}
+use Rattle.b67_emit_stmt.specs.Places.{Later, Place, CellsAt, RoutinesAt, DeclsAt, StmtsAt, context_in}
 use Rattle.b67_emit_stmt.specs.Actuals.{exprs_of, HaveValues}
 use Rattle.b67_emit_stmt.specs.Lengths.{routines_syllables, cells_syllables, begin_syllables, stmts_syllables, celled_in}
 
@@ -33,9 +31,9 @@ use Rattle.b67_emit_stmt.specs.Lengths.{routines_syllables, cells_syllables, beg
 abbrev pub variables_in : PDecls → ℕ
 variables_in ds = length (variables ds)
 
--- so many cells of 0 and those of procedures, of actuals and of arrays are no more than a block may have
+-- so many cells of 0 and those of procedures, of actuals, of arrays, of events and of tasks are no more than a block may have
 abbrev pub IsSmall : ℕ → PDecls → List PExpr → Type 0
-IsSmall many ds es = many + length (procedures ds) + length es + length (arrays_of ds) ≤ MOST_BLOCK_CELLS
+IsSmall many ds es = many + length (procedures ds) + length es + length (made_of ds) ≤ MOST_BLOCK_CELLS
 
 -- the numbers that are known of procedures
 abbrev pub numbers_of : Known → List Named → List ℕ
@@ -49,25 +47,14 @@ pub record AreActuals (sc : Place) (s : Known) (level : ℕ) (es : List PExpr) (
 -- the code of these actuals was appended, and begins at these places
 abbrev pub CodesEmitted : Known → ℕ → Built → Built → List PExpr → List ℕ → Type 0
 CodesEmitted s level before after es ats =
-    (sc : Place) (formats : List Format) (actuals : List Actual) → AreActuals sc s level es actuals →
-    Emitted before after (λ qs. code.RoutinesAt sc.scopes (context_in sc formats level) qs (level_set before) actuals ats)
+    (sc : Place) (later : Later) (actuals : List Actual) → AreActuals sc s level es actuals →
+    Emitted before after (λ qs. code.RoutinesAt sc.scopes (context_in sc later level) qs (level_set before) actuals ats)
 
 -- .. was added to a draft, one level further in
 abbrev pub EmitsRoutines : Known → ℕ → Draft → Draft → List PExpr → List ℕ → Type 0
 EmitsRoutines s level before after es ats =
     (sc : Place) (actuals : List Actual) → AreActuals sc s level es actuals →
-    Emits (routines_syllables s es) before after (λ formats qs target. RoutinesAt sc formats qs level actuals ats)
-
--- .. with a branch over it, where there is any
-abbrev pub over_syllables : List PExpr → ℕ
-over_syllables [] = 0
-over_syllables (e ∷ es) = 3
-
-abbrev pub EmitsTextRoutines : Known → ℕ → Draft → Draft → List PExpr → List ℕ → Type 0
-EmitsTextRoutines s level before after es ats =
-    (sc : Place) (actuals : List Actual) → AreActuals sc s level es actuals →
-    Emits (over_syllables es + routines_syllables s es) before after
-    (λ formats qs target. Goes qs level (size before.out.operators) (size after.out.operators) × RoutinesAt sc formats qs level actuals ats)
+    Emits (routines_syllables s es) before after (λ later qs target. RoutinesAt sc later qs level actuals ats)
 
 -- the control words of actuals whose code begins at these places
 abbrev pub WordsEmitted : Known → ℕ → Built → Built → List PExpr → List ℕ → Type 0
@@ -79,28 +66,28 @@ abbrev pub EmitsCells : Known → ℕ → Draft → Draft → ℕ → PDecls →
 EmitsCells s level before after many ds es ats =
     (sc : Place) (actuals : List Actual) → sc.segment ≡ s.segment → exprs_of actuals ≡ es → AreNumbered sc.scopes s level (procedures ds) →
     Emits (cells_syllables s many ds es) before after
-    (λ formats qs target. CellsAt sc formats qs level many (control_segments sc.scopes ds) actuals ats (size before.out.operators) (size after.out.operators))
+    (λ later qs target. CellsAt sc later qs level many (control_segments sc.scopes ds) actuals ats (size before.out.operators) (size after.out.operators))
 
 -- ---- what a block begins with
 
 -- the cells, and after them the arrays
-abbrev pub BeginAt : Place → List Format → List Placed → ℕ → ℕ → PDecls → List Actual → List ℕ → ℕ → ℕ → Type 0
-BeginAt sc formats ps level many ds actuals ats f t =
-    (b : ℕ) × CellsAt sc formats ps level many (control_segments sc.scopes ds) actuals ats f b × DeclsAt sc formats ps level ds b t
+abbrev pub BeginAt : Place → Later → List Placed → ℕ → ℕ → PDecls → List Actual → List ℕ → ℕ → ℕ → Type 0
+BeginAt sc later ps level many ds actuals ats f t =
+    (b : ℕ) × CellsAt sc later ps level many (control_segments sc.scopes ds) actuals ats f b × DeclsAt sc later ps level ds b t
 
 abbrev pub EmitsBegin : Known → ℕ → Draft → Draft → ℕ → PDecls → List PExpr → List ℕ → Type 0
 EmitsBegin s level before after many ds es ats =
     (sc : Place) (actuals : List Actual) → sc.segment ≡ s.segment → exprs_of actuals ≡ es → AreNumbered sc.scopes s level (procedures ds) → DeclsFit sc s level ds →
     Emits (begin_syllables s many ds es) before after
-    (λ formats qs target. BeginAt sc formats qs level many ds actuals ats (size before.out.operators) (size after.out.operators))
+    (λ later qs target. BeginAt sc later qs level many ds actuals ats (size before.out.operators) (size after.out.operators))
 
 -- ---- a block up to its end
 
 -- the cells, the arrays, and the statements, whose exits go to the place after them
-abbrev pub InsideAt : Place → List Format → List Placed → ℕ → ℕ → PDecls → PStmts → List Actual → List ℕ → ℕ → ℕ → Type 0
-InsideAt sc formats ps level many ds ss actuals ats f e =
-    (b : ℕ) × (d : ℕ) × CellsAt sc formats ps level many (control_segments sc.scopes ds) actuals ats f b × DeclsAt sc formats ps level ds b d
-    × StmtsAt sc formats ps level ss d e e
+abbrev pub InsideAt : Place → Later → List Placed → ℕ → ℕ → PDecls → PStmts → List Actual → List ℕ → ℕ → ℕ → Type 0
+InsideAt sc later ps level many ds ss actuals ats f e =
+    (b : ℕ) × (d : ℕ) × CellsAt sc later ps level many (control_segments sc.scopes ds) actuals ats f b × DeclsAt sc later ps level ds b d
+    × StmtsAt sc later ps level ss d e e
 
 abbrev pub inside_syllables : Known → ℕ → PDecls → PStmts → List PExpr → ℕ
 inside_syllables s many ds ss es = begin_syllables s many ds es + stmts_syllables s ss
@@ -109,12 +96,12 @@ abbrev pub EmitsInside : Known → ℕ → Draft → Draft → ℕ → PDecls �
 EmitsInside s level before after many ds ss es ats =
     (sc : Place) (actuals : List Actual) → sc.segment ≡ s.segment → exprs_of actuals ≡ es → InsideFits sc s level ds ss →
     Emits (inside_syllables s many ds ss es) before after
-    (λ formats qs target. InsideAt sc formats qs level many ds ss actuals ats (size before.out.operators) (size after.out.operators))
+    (λ later qs target. InsideAt sc later qs level many ds ss actuals ats (size before.out.operators) (size after.out.operators))
 
 -- .. and EXIT
-abbrev pub EndedAt : Place → List Format → List Placed → ℕ → PDecls → PStmts → List Actual → List ℕ → ℕ → ℕ → Type 0
-EndedAt sc formats ps level ds ss actuals ats f t =
-    (e : ℕ) × InsideAt sc formats ps level (variables_in ds) ds ss actuals ats f e × Has ps level e (ops.Plain kinds.Exit) t
+abbrev pub EndedAt : Place → Later → List Placed → ℕ → PDecls → PStmts → List Actual → List ℕ → ℕ → ℕ → Type 0
+EndedAt sc later ps level ds ss actuals ats f t =
+    (e : ℕ) × InsideAt sc later ps level (variables_in ds) ds ss actuals ats f e × Has ps level e (ops.Plain kinds.Exit) t
 
 abbrev pub ended_syllables : Known → PDecls → PStmts → List PExpr → ℕ
 ended_syllables s ds ss es = inside_syllables s (variables_in ds) ds ss es + 1
@@ -125,13 +112,13 @@ pub record EmitsEnded (s : Known) (level : ℕ) (before after : Draft) (ds : PDe
   pub within : begin < size after.out.operators
   pub code : (sc : Place) (actuals : List Actual) → sc.segment ≡ s.segment → exprs_of actuals ≡ es → InsideFits sc s level ds ss →
       Emits (ended_syllables s ds ss es) before after
-      (λ formats qs target. EndedAt sc formats qs level ds ss actuals ats (size before.out.operators) (size after.out.operators))
+      (λ later qs target. EndedAt sc later qs level ds ss actuals ats (size before.out.operators) (size after.out.operators))
 
 -- ---- a block within another
 
 -- the cells, the arrays, the statements, EXIT
-abbrev pub BlockAt : Place → List Format → List Placed → ℕ → PDecls → PStmts → ℕ → Type 0
-BlockAt sc formats ps level ds ss at = code.InnerAt sc.scopes (context_in sc formats level) ps level ds ss at
+abbrev pub BlockAt : Place → Later → List Placed → ℕ → PDecls → PStmts → ℕ → Type 0
+BlockAt sc later ps level ds ss at = code.InnerAt sc.scopes (context_in sc later level) ps level ds ss at
 
 -- the code of its actuals, the block up to its end, and EXIT
 abbrev pub block_syllables : Known → PDecls → PStmts → ℕ
@@ -141,7 +128,7 @@ block_syllables s ds ss = routines_syllables s (celled_in s ds ss) + ended_sylla
 abbrev pub EmitsBlock : Known → ℕ → Draft → Draft → PDecls → PStmts → ℕ → Type 0
 EmitsBlock s level before after ds ss begin =
     (sc : Place) → sc.segment ≡ s.segment → InsideFits sc s level ds ss →
-    Emits (block_syllables s ds ss) before after (λ formats qs target. BlockAt sc formats qs level ds ss begin)
+    Emits (block_syllables s ds ss) before after (λ later qs target. BlockAt sc later qs level ds ss begin)
 
 -- it fits in some place of the segment that is known
 abbrev pub HaveInside : Known → ℕ → PDecls → PStmts → Type 0
@@ -156,79 +143,12 @@ abbrev pub inner_syllables : Known → PDecls → PStmts → ℕ
 inner_syllables s ds ss = 3 + block_syllables s ds ss + 14
 
 -- the code of a block one level further in, which stands before its entry
-abbrev pub InnerAt : Place → List Format → List Placed → ℕ → PDecls → PStmts → ℕ → ℕ → Type 0
-InnerAt sc formats ps level ds ss f t =
-    (o : ℕ) × (at : ℕ) × Goes ps level f o × BlockAt sc formats ps (level + 1) ds ss at × EntryAt ps level sc.segment at o t
+abbrev pub InnerAt : Place → Later → List Placed → ℕ → PDecls → PStmts → ℕ → ℕ → Type 0
+InnerAt sc later ps level ds ss f t =
+    (o : ℕ) × (at : ℕ) × Goes ps level f o × BlockAt sc later ps (level + 1) ds ss at × EntryAt ps level sc.segment at o t
 
 abbrev pub EmitsInner : Known → Draft → Draft → PDecls → PStmts → Type 0
 EmitsInner s before after ds ss =
     (sc : Place) → sc.segment ≡ s.segment → InsideFits sc s (level_set before.out + 1) ds ss →
     Emits (inner_syllables s ds ss) before after
-    (λ formats qs target. InnerAt sc formats qs (level_set before.out) ds ss (size before.out.operators) (size after.out.operators))
-
--- ---- a text
-
--- the index of the result's cell, where there is a result: it lies after the frame's two words and so many parameters
-abbrev pub result_index : Option Kind → ℕ → Option ℕ
-result_index None parameters = None
-result_index (Some kind) parameters = Some (2 + parameters)
-
--- the result's cell, if there is one, lies among those that a block may have
-abbrev pub IsNear : Option ℕ → Type 0
-IsNear None = Unit {0}
-IsNear (Some index) = index < 2 + MOST_BLOCK_CELLS
-
-abbrev pub result_couple : ℕ → ℕ → Couple
-result_couple level index = record { level = level; index = index }
-
--- EXIT, or the result, whose cell has this index, is given back
-abbrev pub EndingAt : Option ℕ → List Placed → ℕ → ℕ → Type 0
-EndingAt None ps level at = (over : ℕ) × Has ps level at (ops.Plain kinds.Exit) over
-EndingAt (Some index) ps level at = (m : ℕ) × (over : ℕ) × Has ps level at (ops.Valc (result_couple level index)) m × Has ps level m (ops.Plain kinds.Retn) over
-
--- a cell for the result
-abbrev pub zeros_for : Option ℕ → PDecls → ℕ
-zeros_for None ds = variables_in ds
-zeros_for (Some index) ds = 1 + variables_in ds
-
--- a branch over the code of its actuals, that code, the text up to its end, and the end
-abbrev pub text_syllables : Known → Option ℕ → PDecls → PStmts → ℕ
-text_syllables s returned ds ss =
-    3 + routines_syllables s (celled_in s ds ss) + inside_syllables s (zeros_for returned ds) ds ss (celled_in s ds ss) + 3
-
--- the text up to its end, and the end
-abbrev pub TextEndAt : Place → List Format → List Placed → ℕ → Option ℕ → PDecls → PStmts → List Actual → List ℕ → ℕ → Type 0
-TextEndAt sc formats ps level returned ds ss actuals ats f =
-    (e : ℕ) × InsideAt sc formats ps level (zeros_for returned ds) ds ss actuals ats f e × EndingAt returned ps level e
-
-abbrev pub text_end_syllables : Known → Option ℕ → PDecls → PStmts → List PExpr → ℕ
-text_end_syllables s returned ds ss es = inside_syllables s (zeros_for returned ds) ds ss es + 3
-
-abbrev pub EmitsTextEnd : Known → ℕ → Draft → Draft → Option ℕ → PDecls → PStmts → List PExpr → List ℕ → Type 0
-EmitsTextEnd s level before after returned ds ss es ats =
-    (sc : Place) (actuals : List Actual) → sc.segment ≡ s.segment → exprs_of actuals ≡ es → InsideFits sc s level ds ss →
-    Emits (text_end_syllables s returned ds ss es) before after
-    (λ formats qs target. TextEndAt sc formats qs level returned ds ss actuals ats (size before.out.operators))
-
--- .. with a branch over the code of its actuals, and that code, before it
-abbrev pub TextAt : Place → List Format → List Placed → ℕ → Option ℕ → PDecls → PStmts → ℕ → Type 0
-TextAt sc formats ps level returned ds ss f =
-    (begin : ℕ) × (ats : List ℕ) × Goes ps level f begin × RoutinesAt sc formats ps level (actuals_in_block sc.scopes ds ss) ats
-    × TextEndAt sc formats ps level returned ds ss (actuals_in_block sc.scopes ds ss) ats begin
-
-abbrev pub EmitsText : Known → ℕ → Draft → Draft → Option ℕ → PDecls → PStmts → Type 0
-EmitsText s level before after returned ds ss =
-    (sc : Place) → sc.segment ≡ s.segment → InsideFits sc s level ds ss →
-    Emits (text_syllables s returned ds ss) before after (λ formats qs target. TextAt sc formats qs level returned ds ss (size before.out.operators))
-
--- the code of a text in a segment of its own
-pub record Stands (sc : Place) (formats : List Format) (segment : Segment) (level : ℕ) (returned : Option ℕ) (ds : PDecls) (ss : PStmts) : Type 0 where
-  pub operators : List Placed
-  pub spells : Spells operators segment
-  pub begin : ℕ
-  pub end : ℕ
-  pub ats : List ℕ
-  pub over : Goes operators level 0 begin
-  pub routines : RoutinesAt sc formats operators level (actuals_in_block sc.scopes ds ss) ats
-  pub code : InsideAt sc formats operators level (zeros_for returned ds) ds ss (actuals_in_block sc.scopes ds ss) ats begin end
-  pub ending : EndingAt returned operators level end
+    (λ later qs target. InnerAt sc later qs (level_set before.out) ds ss (size before.out.operators) (size after.out.operators))

@@ -25,37 +25,37 @@ abbrev pub EmitsStmt : Known → Draft → Draft → PStmt → Type 0
 EmitsStmt scopes before after s =
     (sc : Place) → StmtFits sc scopes (level_set before.out) s →
     Emits (stmt_syllables scopes s) before after
-    (λ formats qs target. StmtAt sc formats qs (level_set before.out) s (size before.out.operators) (size after.out.operators) target)
+    (λ later qs target. StmtAt sc later qs (level_set before.out) s (size before.out.operators) (size after.out.operators) target)
 
 -- the code of statements one after another
 abbrev pub EmitsStmts : Known → Draft → Draft → PStmts → Type 0
 EmitsStmts scopes before after ss =
     (sc : Place) → StmtsFit sc scopes (level_set before.out) ss →
     Emits (stmts_syllables scopes ss) before after
-    (λ formats qs target. StmtsAt sc formats qs (level_set before.out) ss (size before.out.operators) (size after.out.operators) target)
+    (λ later qs target. StmtsAt sc later qs (level_set before.out) ss (size before.out.operators) (size after.out.operators) target)
 
 -- the table of CASE, and the statements after it
 abbrev pub EmitsCases : Known → Draft → Draft → PStmts → Type 0
 EmitsCases scopes before after ss =
     (sc : Place) → StmtsFit sc scopes (level_set before.out) ss →
     Emits (stmts_syllables scopes ss) before after
-    (λ formats qs target. CasesAt sc formats qs (level_set before.out) ss (size before.out.operators) target)
+    (λ later qs target. CasesAt sc later qs (level_set before.out) ss (size before.out.operators) target)
 
 -- the code of a statement whose exits go to the place after it
 abbrev pub EmitsBody : Known → Draft → Draft → PStmt → Type 0
 EmitsBody scopes before after s =
     (sc : Place) → StmtFits sc scopes (level_set before.out) s →
     Emits (stmt_syllables scopes s) before after
-    (λ formats qs target. StmtAt sc formats qs (level_set before.out) s (size before.out.operators) (size after.out.operators) (size after.out.operators))
+    (λ later qs target. StmtAt sc later qs (level_set before.out) s (size before.out.operators) (size after.out.operators) (size after.out.operators))
 
 -- the code of IF with ELSE up to its second statement
 abbrev pub EmitsThen : Known → Draft → Draft → PExpr → PStmt → Type 0
 EmitsThen scopes before after c x =
     (sc : Place) → ExprFits sc scopes (level_set before.out) types.Truth c → StmtFits sc scopes (level_set before.out) x →
     Emits (expr_syllables scopes c + stmt_syllables scopes x + 6) before after
-    (λ formats qs target.
-    (m : ℕ) × (m' : ℕ) × (n : ℕ) × ExprAt sc formats qs (level_set before.out) types.Truth c (size before.out.operators) m m
-    × BranchAt qs (level_set before.out) Brfl m (size after.out.operators) m' × StmtAt sc formats qs (level_set before.out) x m' n target
+    (λ later qs target.
+    (m : ℕ) × (m' : ℕ) × (n : ℕ) × ExprAt sc later qs (level_set before.out) types.Truth c (size before.out.operators) m m
+    × BranchAt qs (level_set before.out) Brfl m (size after.out.operators) m' × StmtAt sc later qs (level_set before.out) x m' n target
     × BranchAt qs (level_set before.out) Brun n target (size after.out.operators))
 
 abbrev pub HasFitThen : Known → Draft → PExpr → PStmt → Type 0

@@ -82,6 +82,12 @@ module _ (sc : Place) (s : Known) (level : ℕ) where
   abbrev pub DeclsFit : PDecls → Type 0
   DeclsFit ds = fitting.DeclsFit sc.scopes (meanings s.names.now) level sc.block ds
 
+  abbrev pub LabelFits : Named → Type 0
+  LabelFits n = fitting.LabelFits sc.scopes (meanings s.names.now) level n
+
+  abbrev pub EventFits : Named → Type 0
+  EventFits n = fitting.EventFits sc.scopes (meanings s.names.now) level n
+
   -- the call that a statement makes
   abbrev pub CallStmtFits : Named → PExprs → Type 0
   CallStmtFits n es = fitting.CallStmtFits sc.scopes (meanings s.names.now) level sc.block n es
@@ -110,7 +116,10 @@ module _ (scopes : Scopes) (segment : ℕ) (s : Known) where
     Fits level block (tree.thru e b) = ExprFits (place block) s level types.Number e × Fits level block b
     Fits level block (tree.case e ss) = ExprFits (place block) s level types.Number e × AllFit level block ss
     Fits level block (tree.write n spot phrases es) = WriteFits (place block) s level phrases es
-    Fits level block _ = ⊥
+    Fits level block (tree.label n x) = LabelFits (place block) s level n × Fits level block x
+    Fits level block (tree.go_to n) = LabelFits (place block) s level n
+    Fits level block (tree.event act e) = EventFits (place block) s level e.name
+    Fits level block (tree.process c task) = ⊥
 
     AllFit : ℕ → ℕ → PStmts → Type 0
     AllFit level block tree.no_stmts = Unit {0}

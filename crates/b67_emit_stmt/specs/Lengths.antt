@@ -43,13 +43,15 @@ module _ (s : Known) where
   bounds_syllables [] = 0
   bounds_syllables (p ∷ pairs) = 12 + expr_syllables p.high + bounds_syllables pairs
 
-  -- a mark, a reference, how many arrays, their bounds, the entry, and PUSH
+  -- a mark, a reference, how many arrays, their bounds, the entry, and PUSH; and of an event all but the bounds and how many
   abbrev pub arrays_syllables : List PPair → ℕ
   arrays_syllables pairs = 17 + bounds_syllables pairs
 
   abbrev pub decls_syllables : PDecls → ℕ
   decls_syllables tree.no_decls = 0
   decls_syllables (tree.decls (tree.arrays kind ns pairs) ds) = arrays_syllables pairs + decls_syllables ds
+  decls_syllables (tree.decls (tree.events ns) ds) = 5 * length ns + decls_syllables ds
+  decls_syllables (tree.decls (tree.tasks ns) ds) = 5 * length ns + decls_syllables ds
   decls_syllables (tree.decls d ds) = decls_syllables ds
 
   -- a zero for each of so many, the control words of procedures and of actuals, their making into cells
@@ -81,6 +83,11 @@ module _ (s : Known) where
     stmt_syllables (tree.thru e b) = expr_syllables e + 8 + stmt_syllables b + 4
     stmt_syllables (tree.case e ss) = 19 + expr_syllables e + stmts_syllables ss
     stmt_syllables (tree.write n spot phrases es) = write_syllables es
+    stmt_syllables (tree.label n x) = stmt_syllables x
+    -- a mark, a reference, three numbers and the entry
+    stmt_syllables (tree.go_to n) = 40
+    -- a mark, two references and the entry
+    stmt_syllables (tree.event act e) = 6
     stmt_syllables _ = 0
 
     -- where they are those of a CASE, with an entry of its table and a branch for each

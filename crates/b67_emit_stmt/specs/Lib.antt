@@ -1,11 +1,9 @@
-pub mod Texts
-pub mod Programs
 pub mod Places
 pub mod Actuals
+pub mod Labels
 pub mod Lengths
 pub mod Fits
 pub mod Drafts
 pub mod Emits
 pub mod Cases
 pub mod Bodies
-pub mod Segments

@@ -164,7 +164,7 @@ fn in_stmts<'a>(ss: &'a [Stmt], names: &Names, to: &mut Vec<&'a Expr>) -> Result
 }
 
 /// Those of a block with these declarations and statements.
-pub(crate) fn actuals<'a>(
+pub fn actuals_of<'a>(
     alloc: Global,
     ds: &'a [Decl],
     ss: &'a [Stmt],

@@ -7,14 +7,13 @@ ghost use Rattle.b67_ops.specs.declared.TheConstants.{MOST_LEVEL};
 ghost use Rattle.b67_segment.specs.declared.TheConstants.{MOST_SEGMENT_SYLLABLES};
 ghost use Rattle.b67_segment.specs.Operators.{size};
 ghost use Rattle.b67_segment.specs.Building.{level_set};
-ghost use Rattle.b67_faithful.specs.Lines.{stmts_lines};
-ghost use Rattle.b67_emit_stmt.specs.Drafts.{Adds, IsAt, IsReady};
+ghost use Rattle.b67_emit_stmt.specs.Drafts.{AddsStmts, IsAt, IsReady};
 ghost use Rattle.b67_emit_stmt.specs.Actuals.{images};
 ghost use Rattle.b67_emit_stmt.specs.Bodies.{EmitsBlock, EmitsEnded, EmitsInner, EmitsInside, HaveFitInside, HaveInside, IsSmall, block_syllables, ended_syllables, inner_syllables, inside_syllables, variables_in};
 ghost use Rattle.b67_emit_stmt.specs.Lengths.{celled_in};
 
-use crate::actuals::actuals;
-use crate::cells::variables;
+use crate::actuals::actuals_of;
+use crate::cells::variables_of;
 use crate::draft::{Draft, StmtEmitter};
 use algol_tree::{Decl, Expr, Stmt};
 use b67_emitter::{ExprEmitter, aim, aim_exits, append_branch, append_entry, append_plain};
@@ -25,7 +24,7 @@ impl<'a, E: ExprEmitter> StmtEmitter<'a, E> {
     /// The code of a block up to its end, at the level that is set: what it begins with, where the code of its actuals begins at these
     /// places, and its statements, whose exits go to the place after them.
     #[cycle(statements)]
-    pub(crate) fn inside(
+    pub fn inside(
         &self,
         ss: &[Stmt],
         ds: &[Decl],
@@ -43,7 +42,7 @@ impl<'a, E: ExprEmitter> StmtEmitter<'a, E> {
         requires fits { HaveInside self.now.known.now self.now.level (decls ds.now) (stmts ss.now) }
         ensures code { OnOk result (EmitsInside self.now.known.now self.now.level to.old to.new many (decls ds.now) (stmts ss.now) (images actuals.now) places.now) }
         ensures exits { OnOk result (to.new.exits.items ≡ to.old.exits.items) }
-        ensures lines { OnOk result (Adds to.old to.new (stmts_lines (stmts ss.now))) }
+        ensures lines { OnOk result (AddsStmts to.old to.new (stmts ss.now)) }
     {
         let first = to.exits.len();
         self.begin(many, ds, actuals, places, to)?;
@@ -70,10 +69,10 @@ impl<'a, E: ExprEmitter> StmtEmitter<'a, E> {
         requires places { All (λ (at : ℕ). at < MOST_SEGMENT_SYLLABLES) places.now }
         requires fits { HaveInside self.now.known.now self.now.level (decls ds.now) (stmts ss.now) }
         ensures code { IfOk result (EmitsEnded self.now.known.now self.now.level to.old to.new (decls ds.now) (stmts ss.now) (images actuals.now) places.now) }
-        ensures lines { OnOk result (Adds to.old to.new (stmts_lines (stmts ss.now))) }
+        ensures lines { OnOk result (AddsStmts to.old to.new (stmts ss.now)) }
     {
         let begin = to.out.place();
-        self.inside(ss, ds, variables(ds), actuals, places, to)?;
+        self.inside(ss, ds, variables_of(ds), actuals, places, to)?;
         append_plain(&mut to.out, PlainKind::Exit)?;
         Ok(begin)
     }
@@ -87,9 +86,9 @@ impl<'a, E: ExprEmitter> StmtEmitter<'a, E> {
         requires fits { HaveInside self.now.known.now self.now.level (decls ds.now) (stmts ss.now) }
         ensures code { IfOk result (EmitsBlock self.now.known.now self.now.level to.old to.new (decls ds.now) (stmts ss.now)) }
         ensures begin { IfOk result (λ begin. begin < size to.new.out.operators) }
-        ensures lines { OnOk result (Adds to.old to.new (stmts_lines (stmts ss.now))) }
+        ensures lines { OnOk result (AddsStmts to.old to.new (stmts ss.now)) }
     {
-        let actuals = actuals(*to.exits.allocator(), ds, ss, self.known.names)?;
+        let actuals = actuals_of(*to.exits.allocator(), ds, ss, self.known.names)?;
         let places = self.routines(&actuals, to)?;
         self.ended(ss, ds, &actuals, &places, to)
     }
@@ -104,7 +103,7 @@ impl<'a, E: ExprEmitter> StmtEmitter<'a, E> {
         requires fits { HaveFitInside self.now.known.now to.old (decls ds.now) (stmts ss.now) }
         ensures code { IfOk result (EmitsBlock self.now.known.now (level_set to.old.out + 1) to.old to.new (decls ds.now) (stmts ss.now)) }
         ensures begin { IfOk result (λ begin. begin < size to.new.out.operators) }
-        ensures lines { OnOk result (Adds to.old to.new (stmts_lines (stmts ss.now))) }
+        ensures lines { OnOk result (AddsStmts to.old to.new (stmts ss.now)) }
     {
         let inner = StmtEmitter {
             exprs: self.exprs,
@@ -131,7 +130,7 @@ impl<'a, E: ExprEmitter> StmtEmitter<'a, E> {
         requires few { IsSmall (variables_in (decls ds.now)) (decls ds.now) (celled_in self.now.known.now (decls ds.now) (stmts ss.now)) }
         requires fits { HaveFitInside self.now.known.now to.old (decls ds.now) (stmts ss.now) }
         ensures code { OnOk result (EmitsInner self.now.known.now to.old to.new (decls ds.now) (stmts ss.now)) }
-        ensures lines { OnOk result (Adds to.old to.new (stmts_lines (stmts ss.now))) }
+        ensures lines { OnOk result (AddsStmts to.old to.new (stmts ss.now)) }
     {
         let over = append_branch(&mut to.out, BranchKind::Brun)?;
         let begin = self.block_inside(ss, ds, to)?;

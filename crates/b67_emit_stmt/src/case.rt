@@ -1,16 +1,14 @@
 //! CASE: the number selects a branch of a table, and the branch goes to its statement.
 
-ghost use Rattle.std.specs.Prelude.{◌≡◌, ◌+◌, ◌*◌, ◌≤◌, List, IsSome, OnOk};
+ghost use Rattle.std.specs.Prelude.{◌≡◌, ◌+◌, ◌*◌, ◌≤◌, IsSome, OnOk};
 ghost use Rattle.algol_tree.specs.Image.{expr, stmts};
 ghost use Rattle.algol_tree.specs.Plain as tree;
 ghost use Rattle.b67_emit_stmt.specs.Lengths.{expr_syllables, stmt_syllables, stmts_syllables};
-ghost use Rattle.b67_faithful.specs.Lines.{stmt_lines, stmts_lines};
-ghost use Rattle.b67_emit_stmt.specs.Drafts.{Adds, IsAt, IsReady};
+ghost use Rattle.b67_emit_stmt.specs.Drafts.{AddsStmt, AddsStmts, IsAt, IsReady};
 ghost use Rattle.b67_emit_stmt.specs.Emits.{HasFit, HaveFit, EmitsStmt, EmitsCases};
 ghost use Rattle.algol_tree.specs.declared.tree.Kind.TheVariants as types;
-ghost use Rattle.b67_emit_stmt.specs.Places.{Place};
+ghost use Rattle.b67_emit_stmt.specs.Places.{Later, Place};
 ghost use Rattle.b67_segment.specs.declared.TheConstants.{MOST_SEGMENT_SYLLABLES};
-ghost use Rattle.b67_segment.specs.declared.code.Format.{Format};
 ghost use Rattle.b67_segment.specs.Operators.{size};
 ghost use Rattle.b67_segment.specs.Building.{level_set};
 ghost use Rattle.b67_emit_stmt.specs.Fits.{ExprFits};
@@ -19,9 +17,10 @@ ghost use Rattle.b67_emitter.specs.Values.{AreNear};
 ghost use Rattle.b67_emit_stmt.specs.Cases.{EntriesAt, SelectAt};
 
 use crate::draft::{Draft, StmtEmitter};
-use crate::simple::append_intrinsic;
 use algol_tree::{Expr, Stmt, Whole};
-use b67_emitter::{ExprEmitter, aim, append_exit, append_number, append_operator, append_plain};
+use b67_emitter::{
+    ExprEmitter, aim, append_exit, append_intrinsic, append_number, append_operator, append_plain,
+};
 use b67_ops::{BranchKind, Intrinsic, Operator, PlainKind};
 use b67_segment::Builder;
 use std::alloc::AllocError;
@@ -55,7 +54,7 @@ impl<'a, E: ExprEmitter> StmtEmitter<'a, E> {
         requires few { many ≤ MOST_SEGMENT_SYLLABLES }
         requires fits { (sc : Place) × ExprFits sc self.now.known.now (level_set out.old) types.Number (expr e.now) }
         requires room { size out.old.operators + (19 + expr_syllables self.now.known.now (expr e.now)) ≤ MOST_SEGMENT_SYLLABLES }
-        ensures code { OnOk result ((sc : Place) (formats : List Format) → ExprFits sc self.now.known.now (level_set out.old) types.Number (expr e.now) → Emitted out.old out.new (λ qs. SelectAt sc formats qs (level_set out.old) (expr e.now) many (size out.old.operators) (size out.new.operators))) }
+        ensures code { OnOk result ((sc : Place) (later : Later) → ExprFits sc self.now.known.now (level_set out.old) types.Number (expr e.now) → Emitted out.old out.new (λ qs. SelectAt sc later qs (level_set out.old) (expr e.now) many (size out.old.operators) (size out.new.operators))) }
         ensures level { OnOk result (out.new.level ≡ out.old.level) }
         ensures size { OnOk result (size out.new.operators ≤ size out.old.operators + (19 + expr_syllables self.now.known.now (expr e.now))) }
     {
@@ -74,7 +73,7 @@ impl<'a, E: ExprEmitter> StmtEmitter<'a, E> {
         requires ready { IsReady self.now.known.now to.old (stmts_syllables self.now.known.now (stmts ss.now)) }
         requires fits { HaveFit self.now.known.now to.old (stmts ss.now) }
         ensures code { OnOk result (EmitsCases self.now.known.now to.old to.new (stmts ss.now)) }
-        ensures lines { OnOk result (Adds to.old to.new (stmts_lines (stmts ss.now))) }
+        ensures lines { OnOk result (AddsStmts to.old to.new (stmts ss.now)) }
     {
         let mut entry = to.out.place();
         append_entries(ss.len(), &mut to.out)?;
@@ -94,7 +93,7 @@ impl<'a, E: ExprEmitter> StmtEmitter<'a, E> {
         requires ready { IsReady self.now.known.now to.old (stmt_syllables self.now.known.now (tree.case (expr e.now) (stmts ss.now))) }
         requires fits { HasFit self.now.known.now to.old (tree.case (expr e.now) (stmts ss.now)) }
         ensures code { OnOk result (EmitsStmt self.now.known.now to.old to.new (tree.case (expr e.now) (stmts ss.now))) }
-        ensures lines { OnOk result (Adds to.old to.new (stmt_lines (tree.case (expr e.now) (stmts ss.now)))) }
+        ensures lines { OnOk result (AddsStmt to.old to.new (tree.case (expr e.now) (stmts ss.now))) }
     {
         self.select(e, ss.len(), &mut to.out)?;
         self.cases(ss, to)

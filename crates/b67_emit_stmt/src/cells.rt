@@ -14,21 +14,21 @@ ghost use Rattle.b67_templates.specs.Fragments.{AllAt, ControlsAt, procedure_con
 ghost use Rattle.b67_templates.specs.Emitting.{Emitted};
 ghost use Rattle.b67_emit_stmt.specs.Actuals.{images};
 ghost use Rattle.b67_emit_stmt.specs.Bodies.{EmitsCells, numbers_of};
-ghost use Rattle.b67_emit_stmt.specs.Drafts.{HasFew, IsAt};
-ghost use Rattle.b67_emit_stmt.specs.Fits.{AreNumbered};
+ghost use Rattle.b67_emit_stmt.specs.Drafts.{HasFew, IsAt, noted};
+ghost use Rattle.b67_emit_stmt.specs.Fits.{AreNumbered, number_in};
 ghost use Rattle.b67_emit_stmt.specs.Lengths.{cells_syllables};
 ghost use Rattle.b67_emit_stmt.specs.Places.{Place};
 
 use crate::draft::{Draft, StmtEmitter};
-use crate::texts::number_of;
-use algol_tree::{Decl, Expr};
+use algol_places::Places;
+use algol_tree::{Decl, Expr, Spot};
 use b67_emitter::{ExprEmitter, append_controls, append_plain};
 use b67_ops::PlainKind;
 use b67_segment::Builder;
 use std::alloc::{AllocError, Global};
 
 /// How many simple variables are declared.
-pub(crate) fn variables(decls: &[Decl]) -> usize
+pub fn variables_of(decls: &[Decl]) -> usize
     requires { length (frames.variables (plain.decls decls.now)) ≤ MOST_BLOCK_CELLS }
     ensures { result ≡ length (frames.variables (plain.decls decls.now)) }
 {
@@ -70,6 +70,18 @@ fn append_words(segments: &[u16], level: u8, out: &mut Builder) -> Result<(), Al
         Ok(())
     } else {
         append_controls(out, segments, level + 1)
+    }
+}
+
+/// The number of the procedure whose name stands there: its place among them, from 1; 0 where there is none.
+#[tactic(auto, using(crate::proofs::Numbered::number_within))]
+fn number_of(procedures: &Places, spot: Spot) -> u16
+    requires { length procedures.now ≤ MOST_PROCEDURES }
+    ensures { result ≡ number_in procedures.now spot }
+{
+    match procedures.number_of(spot) {
+        None => 0,
+        Some(number) => number as u16 + 1,
     }
 }
 
@@ -132,7 +144,7 @@ impl<'a, E: ExprEmitter> StmtEmitter<'a, E> {
         requires numbered { (sc : Place) × AreNumbered sc.scopes self.now.known.now self.now.level (frames.procedures (plain.decls ds.now)) }
         requires room { size to.old.out.operators + cells_syllables self.now.known.now many (plain.decls ds.now) (images actuals.now) ≤ MOST_SEGMENT_SYLLABLES }
         ensures code { OnOk result (EmitsCells self.now.known.now self.now.level to.old to.new many (plain.decls ds.now) (images actuals.now) places.now) }
-        ensures formats { OnOk result (to.new.formats.items ≡ to.old.formats.items) }
+        ensures notes { OnOk result (noted to.new ≡ noted to.old) }
     {
         append_zeros(many, &mut to.out)?;
         let procedures = self.procedure_words(*to.exits.allocator(), ds, &mut to.out)?;

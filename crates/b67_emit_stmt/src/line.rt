@@ -1,9 +1,9 @@
 //! Lines: their formats, and the statement that writes one.
 
-ghost use Rattle.std.specs.Prelude.{◌≡◌, ◌+◌, ◌≤◌, List, [], ◌∷◌, IsSome, IfOk, OnOk};
+ghost use Rattle.std.specs.Prelude.{◌≡◌, ◌+◌, ◌≤◌, List, IsSome, IfOk, OnOk};
 ghost use Rattle.algol_tree.specs.declared.TheConstants.{MOST_LINE_WIDTH};
 ghost use Rattle.algol_tree.specs.Image.{exprs};
-ghost use Rattle.b67_emit_stmt.specs.Places.{Place, LineAt, WriteAt};
+ghost use Rattle.b67_emit_stmt.specs.Places.{Later, Place, LineAt, WriteAt};
 ghost use Rattle.algol_tree.specs.Spelling.{value_of};
 ghost use Rattle.b67_segment.specs.declared.TheConstants.{MOST_SEGMENT_SYLLABLES};
 ghost use Rattle.b67_segment.specs.declared.code.Format.{Format};
@@ -14,13 +14,12 @@ ghost use Rattle.b67_templates.specs.Fitting.{IsNarrowWord, PhraseFits, PhrasesF
 ghost use Rattle.b67_emit_stmt.specs.Fits.{LineFits, WriteFits};
 ghost use Rattle.b67_templates.specs.Emitting.{Emitted};
 ghost use Rattle.b67_emitter.specs.Values.{AreNear};
-ghost use Rattle.b67_emit_stmt.specs.Drafts.{Adds, Emits, IsReady};
+ghost use Rattle.b67_emit_stmt.specs.Drafts.{AddsLine, Emits, IsReady};
 ghost use Rattle.b67_emit_stmt.specs.Lengths.{items_syllables, write_syllables};
 
 use crate::draft::{Draft, StmtEmitter};
-use crate::simple::append_intrinsic;
 use algol_tree::{Expr, PhraseText, Whole};
-use b67_emitter::{ExprEmitter, append_number, append_plain};
+use b67_emitter::{ExprEmitter, append_intrinsic, append_number, append_plain};
 use b67_list::{Line, List};
 use b67_ops::{Intrinsic, PlainKind};
 use b67_segment::{Builder, Format, Phrase};
@@ -83,7 +82,7 @@ impl<'a, E: ExprEmitter> StmtEmitter<'a, E> {
         requires near { AreNear self.now.known.now.names.now }
         requires fits { (sc : Place) × LineFits sc self.now.known.now (level_set out.old) (exprs items.now) }
         requires room { size out.old.operators + items_syllables self.now.known.now (exprs items.now) ≤ MOST_SEGMENT_SYLLABLES }
-        ensures code { OnOk result ((sc : Place) (formats : List Format) → LineFits sc self.now.known.now (level_set out.old) (exprs items.now) → Emitted out.old out.new (λ qs. LineAt sc formats qs (level_set out.old) (exprs items.now) (size out.old.operators) (size out.new.operators))) }
+        ensures code { OnOk result ((sc : Place) (later : Later) → LineFits sc self.now.known.now (level_set out.old) (exprs items.now) → Emitted out.old out.new (λ qs. LineAt sc later qs (level_set out.old) (exprs items.now) (size out.old.operators) (size out.new.operators))) }
         ensures level { OnOk result (out.new.level ≡ out.old.level) }
         ensures size { OnOk result (size out.new.operators ≤ size out.old.operators + items_syllables self.now.known.now (exprs items.now)) }
     {
@@ -102,8 +101,8 @@ impl<'a, E: ExprEmitter> StmtEmitter<'a, E> {
     ) -> Result<(), AllocError>
         requires ready { IsReady self.now.known.now to.old (write_syllables self.now.known.now (exprs items.now)) }
         requires fits { (sc : Place) × WriteFits sc self.now.known.now (level_set to.old.out) phrases.now (exprs items.now) }
-        ensures code { OnOk result ((sc : Place) → WriteFits sc self.now.known.now (level_set to.old.out) phrases.now (exprs items.now) → Emits (write_syllables self.now.known.now (exprs items.now)) to.old to.new (λ formats qs target. WriteAt sc formats qs (level_set to.old.out) phrases.now (exprs items.now) (size to.old.out.operators) (size to.new.out.operators))) }
-        ensures lines { OnOk result (Adds to.old to.new (phrases.now ∷ [])) }
+        ensures code { OnOk result ((sc : Place) → WriteFits sc self.now.known.now (level_set to.old.out) phrases.now (exprs items.now) → Emits (write_syllables self.now.known.now (exprs items.now)) to.old to.new (λ later qs target. WriteAt sc later qs (level_set to.old.out) phrases.now (exprs items.now) (size to.old.out.operators) (size to.new.out.operators))) }
+        ensures lines { OnOk result (AddsLine to.old to.new phrases.now) }
     {
         let number = to.formats.len();
         append_intrinsic(&mut to.out, Intrinsic::Write)?;

@@ -4,8 +4,7 @@ ghost use Rattle.std.specs.Prelude.{OnOk};
 ghost use Rattle.algol_tree.specs.Image.{expr, stmt};
 ghost use Rattle.algol_tree.specs.Plain as tree;
 ghost use Rattle.b67_emit_stmt.specs.Lengths.{stmt_syllables};
-ghost use Rattle.b67_faithful.specs.Lines.{stmt_lines};
-ghost use Rattle.b67_emit_stmt.specs.Drafts.{Adds, IsAt, IsReady};
+ghost use Rattle.b67_emit_stmt.specs.Drafts.{AddsStmt, IsAt, IsReady};
 ghost use Rattle.b67_emit_stmt.specs.Emits.{HasFit, EmitsStmt, EmitsBody};
 
 use crate::draft::{Draft, StmtEmitter};
@@ -24,7 +23,7 @@ impl<'a, E: ExprEmitter> StmtEmitter<'a, E> {
         requires ready { IsReady self.now.known.now to.old (stmt_syllables self.now.known.now (stmt b.now)) }
         requires fits { HasFit self.now.known.now to.old (stmt b.now) }
         ensures code { OnOk result (EmitsBody self.now.known.now to.old to.new (stmt b.now)) }
-        ensures lines { OnOk result (Adds to.old to.new (stmt_lines (stmt b.now))) }
+        ensures lines { OnOk result (AddsStmt to.old to.new (stmt b.now)) }
     {
         let first = to.exits.len();
         self.stmt(b, to)?;
@@ -39,7 +38,7 @@ impl<'a, E: ExprEmitter> StmtEmitter<'a, E> {
         requires ready { IsReady self.now.known.now to.old (stmt_syllables self.now.known.now (tree.while (expr c.now) (stmt b.now))) }
         requires fits { HasFit self.now.known.now to.old (tree.while (expr c.now) (stmt b.now)) }
         ensures code { OnOk result (EmitsStmt self.now.known.now to.old to.new (tree.while (expr c.now) (stmt b.now))) }
-        ensures lines { OnOk result (Adds to.old to.new (stmt_lines (tree.while (expr c.now) (stmt b.now)))) }
+        ensures lines { OnOk result (AddsStmt to.old to.new (tree.while (expr c.now) (stmt b.now))) }
     {
         let start = to.out.place();
         self.exprs.value(c, self.known.names, &mut to.out)?;
@@ -55,7 +54,7 @@ impl<'a, E: ExprEmitter> StmtEmitter<'a, E> {
         requires ready { IsReady self.now.known.now to.old (stmt_syllables self.now.known.now (tree.until (stmt b.now) (expr c.now))) }
         requires fits { HasFit self.now.known.now to.old (tree.until (stmt b.now) (expr c.now)) }
         ensures code { OnOk result (EmitsStmt self.now.known.now to.old to.new (tree.until (stmt b.now) (expr c.now))) }
-        ensures lines { OnOk result (Adds to.old to.new (stmt_lines (tree.until (stmt b.now) (expr c.now)))) }
+        ensures lines { OnOk result (AddsStmt to.old to.new (tree.until (stmt b.now) (expr c.now))) }
     {
         let start = to.out.place();
         self.loop_body(b, to)?;
@@ -79,7 +78,7 @@ impl<'a, E: ExprEmitter> StmtEmitter<'a, E> {
         requires ready { IsReady self.now.known.now to.old (stmt_syllables self.now.known.now (tree.for v.now (expr a.now) (expr s.now) (expr l.now) (stmt b.now))) }
         requires fits { HasFit self.now.known.now to.old (tree.for v.now (expr a.now) (expr s.now) (expr l.now) (stmt b.now)) }
         ensures code { OnOk result (EmitsStmt self.now.known.now to.old to.new (tree.for v.now (expr a.now) (expr s.now) (expr l.now) (stmt b.now))) }
-        ensures lines { OnOk result (Adds to.old to.new (stmt_lines (tree.for v.now (expr a.now) (expr s.now) (expr l.now) (stmt b.now)))) }
+        ensures lines { OnOk result (AddsStmt to.old to.new (tree.for v.now (expr a.now) (expr s.now) (expr l.now) (stmt b.now))) }
     {
         self.assign(v, a, &mut to.out)?;
         let start = to.out.place();
@@ -97,7 +96,7 @@ impl<'a, E: ExprEmitter> StmtEmitter<'a, E> {
         requires ready { IsReady self.now.known.now to.old (stmt_syllables self.now.known.now (tree.thru (expr e.now) (stmt b.now))) }
         requires fits { HasFit self.now.known.now to.old (tree.thru (expr e.now) (stmt b.now)) }
         ensures code { OnOk result (EmitsStmt self.now.known.now to.old to.new (tree.thru (expr e.now) (stmt b.now))) }
-        ensures lines { OnOk result (Adds to.old to.new (stmt_lines (tree.thru (expr e.now) (stmt b.now)))) }
+        ensures lines { OnOk result (AddsStmt to.old to.new (tree.thru (expr e.now) (stmt b.now))) }
     {
         self.exprs.value(e, self.known.names, &mut to.out)?;
         let start = to.out.place();

@@ -11,15 +11,14 @@ ghost use Rattle.b67_segment.specs.Building.{level_set};
 ghost use Rattle.b67_templates.specs.Cells.{Actual, has_place};
 ghost use Rattle.b67_emitter.specs.Values.{AreNear};
 ghost use Rattle.b67_emit_stmt.specs.Actuals.{images};
-ghost use Rattle.b67_emit_stmt.specs.Bodies.{AreActuals, CodesEmitted, EmitsRoutines, EmitsTextRoutines, WordsEmitted, over_syllables};
-ghost use Rattle.b67_emit_stmt.specs.Drafts.{IsAt, IsReady};
+ghost use Rattle.b67_emit_stmt.specs.Bodies.{AreActuals, CodesEmitted, EmitsRoutines, WordsEmitted};
+ghost use Rattle.b67_emit_stmt.specs.Drafts.{IsAt, IsReady, noted};
 ghost use Rattle.b67_emit_stmt.specs.Lengths.{routines_syllables};
 ghost use Rattle.b67_emit_stmt.specs.Places.{Place};
 
 use crate::draft::{Draft, StmtEmitter};
 use algol_tree::{Expr, Variable};
-use b67_emitter::{ExprEmitter, aim, append_branch, append_routine};
-use b67_ops::BranchKind;
+use b67_emitter::{ExprEmitter, append_routine};
 use b67_segment::Builder;
 use std::alloc::{AllocError, Global};
 
@@ -67,7 +66,7 @@ impl<'a, E: ExprEmitter> StmtEmitter<'a, E> {
     }
 
     /// The code of actuals of the block at this level, one after another, one level further in; and where each begins.
-    pub(crate) fn routines(&self, actuals: &[&Expr], to: &mut Draft) -> Result<Vec<u16>, AllocError>
+    pub fn routines(&self, actuals: &[&Expr], to: &mut Draft) -> Result<Vec<u16>, AllocError>
         requires level { IsAt self.now.level to.old }
         requires ready { IsReady self.now.known.now to.old (routines_syllables self.now.known.now (images actuals.now)) }
         requires fits { (sc : Place) × (own : List Actual) × AreActuals sc self.now.known.now self.now.level (images actuals.now) own }
@@ -75,7 +74,7 @@ impl<'a, E: ExprEmitter> StmtEmitter<'a, E> {
         ensures places { IfOk result (λ places. All (λ (at : ℕ). at < MOST_SEGMENT_SYLLABLES) places.items) }
         ensures many { IfOk result (λ places. length places.items ≡ length actuals.now) }
         ensures exits { IfOk result (λ places. to.new.exits.items ≡ to.old.exits.items) }
-        ensures formats { IfOk result (λ places. to.new.formats.items ≡ to.old.formats.items) }
+        ensures notes { IfOk result (λ places. noted to.new ≡ noted to.old) }
     {
         let alloc = *to.exits.allocator();
         if actuals.is_empty() {
@@ -84,30 +83,6 @@ impl<'a, E: ExprEmitter> StmtEmitter<'a, E> {
         to.out.level(self.level + 1)?;
         let places = self.codes(alloc, actuals, &mut to.out)?;
         to.out.level(self.level)?;
-        Ok(places)
-    }
-
-    /// The same at the start of a text, with a branch over it where there is any.
-    pub(crate) fn text_routines(
-        &self,
-        actuals: &[&Expr],
-        to: &mut Draft,
-    ) -> Result<Vec<u16>, AllocError>
-        requires level { IsAt self.now.level to.old }
-        requires ready { IsReady self.now.known.now to.old (over_syllables (images actuals.now) + routines_syllables self.now.known.now (images actuals.now)) }
-        requires fits { (sc : Place) × (own : List Actual) × AreActuals sc self.now.known.now self.now.level (images actuals.now) own }
-        ensures code { IfOk result (λ places. EmitsTextRoutines self.now.known.now self.now.level to.old to.new (images actuals.now) places.items) }
-        ensures places { IfOk result (λ places. All (λ (at : ℕ). at < MOST_SEGMENT_SYLLABLES) places.items) }
-        ensures many { IfOk result (λ places. length places.items ≡ length actuals.now) }
-        ensures exits { IfOk result (λ places. to.new.exits.items ≡ to.old.exits.items) }
-        ensures formats { IfOk result (λ places. to.new.formats.items ≡ to.old.formats.items) }
-    {
-        if actuals.is_empty() {
-            return Ok(Vec::new(*to.exits.allocator()));
-        }
-        let over = append_branch(&mut to.out, BranchKind::Brun)?;
-        let places = self.routines(actuals, to)?;
-        aim(&mut to.out, &[over]);
         Ok(places)
     }
 

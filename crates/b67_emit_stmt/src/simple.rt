@@ -1,40 +1,27 @@
-//! The parts of statements that have no statement in them: variables, assignments and the marks of intrinsics.
+//! The statements that have no statement in them, and their parts: variables, assignments, GO TO and calls.
 
-ghost use Rattle.std.specs.Prelude.{◌≡◌, ◌+◌, ◌≤◌, List, IsSome, OnOk};
+ghost use Rattle.std.specs.Prelude.{◌≡◌, ◌+◌, ◌≤◌, IsSome, OnOk};
 ghost use Rattle.algol_tree.specs.declared.tree.Kind.{Kind};
 ghost use Rattle.algol_tree.specs.Image.{call, expr, exprs, variable};
 ghost use Rattle.algol_tree.specs.Plain as tree;
-ghost use Rattle.b67_emit_stmt.specs.Places.{Place, AssignAt, CallStmtAt, ReadAt, PlaceAt, StoredAt};
+ghost use Rattle.b67_emit_stmt.specs.Places.{AssignAt, CallStmtAt, GoToAt, Later, Place, PlaceAt, ReadAt, StoredAt};
 ghost use Rattle.b67_segment.specs.declared.TheConstants.{MOST_SEGMENT_SYLLABLES};
-ghost use Rattle.b67_segment.specs.declared.code.Format.{Format};
 ghost use Rattle.b67_segment.specs.Operators.{size};
 ghost use Rattle.b67_segment.specs.Building.{level_set};
-ghost use Rattle.b67_templates.specs.Fragments.{IntrinsicAt};
 ghost use Rattle.b67_emit_stmt.specs.Lengths.{expr_syllables};
-ghost use Rattle.b67_emit_stmt.specs.Fits.{AssignFits, CallStmtFits, PlaceFits, ReadFits, StoreFits};
+ghost use Rattle.b67_emit_stmt.specs.Fits.{AssignFits, CallStmtFits, LabelFits, PlaceFits, ReadFits, StoreFits};
 ghost use Rattle.b67_templates.specs.Emitting.{Emitted};
 ghost use Rattle.b67_emitter.specs.Values.{AreNear, place_syllables};
 
 use crate::draft::StmtEmitter;
-use algol_tree::{Call, Expr, Named, Variable};
+use algol_tree::{Call, Expr, Named, Variable, Whole};
 use b67_emitter::{
-    ExprEmitter, append_dropped, append_plain, append_reading, append_reference, couple_of,
-    is_name, left_of, result_of,
+    ExprEmitter, append_dropped, append_intrinsic, append_number, append_plain, append_reading,
+    append_reference, couple_of, is_name, left_of, result_of, target_of,
 };
 use b67_ops::{Intrinsic, PlainKind};
 use b67_segment::Builder;
 use std::alloc::AllocError;
-
-/// A mark, and the reference of an intrinsic.
-pub(crate) fn append_intrinsic(out: &mut Builder, intrinsic: Intrinsic) -> Result<(), AllocError>
-    requires set { IsSome out.old.level }
-    requires room { size out.old.operators + 3 ≤ MOST_SEGMENT_SYLLABLES }
-    ensures code { OnOk result (Emitted out.old out.new (λ qs. IntrinsicAt qs (level_set out.old) intrinsic (size out.old.operators) (size out.new.operators))) }
-    ensures size { OnOk result (size out.new.operators ≡ size out.old.operators + 3) }
-{
-    append_plain(out, PlainKind::Mkst)?;
-    append_reference(out, intrinsic.couple())
-}
 
 impl<'a, E: ExprEmitter> StmtEmitter<'a, E> {
     /// What an assignment to a name by itself stores through: the reference of a variable or a result, or what EVAL makes of that of a
@@ -44,7 +31,7 @@ impl<'a, E: ExprEmitter> StmtEmitter<'a, E> {
         requires near { AreNear self.now.known.now.names.now }
         requires fits { (sc : Place) × (k : Kind) × PlaceFits sc self.now.known.now (level_set out.old) k v.now }
         requires room { size out.old.operators + 3 ≤ MOST_SEGMENT_SYLLABLES }
-        ensures code { OnOk result ((sc : Place) (k : Kind) (formats : List Format) → PlaceFits sc self.now.known.now (level_set out.old) k v.now → Emitted out.old out.new (λ qs. PlaceAt sc formats qs (level_set out.old) v.now k (size out.old.operators) (size out.new.operators))) }
+        ensures code { OnOk result ((sc : Place) (k : Kind) (later : Later) → PlaceFits sc self.now.known.now (level_set out.old) k v.now → Emitted out.old out.new (λ qs. PlaceAt sc later qs (level_set out.old) v.now k (size out.old.operators) (size out.new.operators))) }
         ensures level { OnOk result (out.new.level ≡ out.old.level) }
         ensures size { OnOk result (size out.new.operators ≤ size out.old.operators + 3) }
     {
@@ -62,7 +49,7 @@ impl<'a, E: ExprEmitter> StmtEmitter<'a, E> {
         requires near { AreNear self.now.known.now.names.now }
         requires fits { (sc : Place) × (k : Kind) × ReadFits sc self.now.known.now (level_set out.old) k v.now }
         requires room { size out.old.operators + 2 ≤ MOST_SEGMENT_SYLLABLES }
-        ensures code { OnOk result ((sc : Place) (k : Kind) (formats : List Format) → ReadFits sc self.now.known.now (level_set out.old) k v.now → Emitted out.old out.new (λ qs. ReadAt sc formats qs (level_set out.old) v.now k (size out.old.operators) (size out.new.operators))) }
+        ensures code { OnOk result ((sc : Place) (k : Kind) (later : Later) → ReadFits sc self.now.known.now (level_set out.old) k v.now → Emitted out.old out.new (λ qs. ReadAt sc later qs (level_set out.old) v.now k (size out.old.operators) (size out.new.operators))) }
         ensures level { OnOk result (out.new.level ≡ out.old.level) }
         ensures size { OnOk result (size out.new.operators ≡ size out.old.operators + 2) }
     {
@@ -75,7 +62,7 @@ impl<'a, E: ExprEmitter> StmtEmitter<'a, E> {
         requires near { AreNear self.now.known.now.names.now }
         requires fits { (sc : Place) × AssignFits sc self.now.known.now (level_set out.old) v.now (expr e.now) }
         requires room { size out.old.operators + (4 + expr_syllables self.now.known.now (expr e.now)) ≤ MOST_SEGMENT_SYLLABLES }
-        ensures code { OnOk result ((sc : Place) (formats : List Format) → AssignFits sc self.now.known.now (level_set out.old) v.now (expr e.now) → Emitted out.old out.new (λ qs. AssignAt sc formats qs (level_set out.old) v.now (expr e.now) (size out.old.operators) (size out.new.operators))) }
+        ensures code { OnOk result ((sc : Place) (later : Later) → AssignFits sc self.now.known.now (level_set out.old) v.now (expr e.now) → Emitted out.old out.new (λ qs. AssignAt sc later qs (level_set out.old) v.now (expr e.now) (size out.old.operators) (size out.new.operators))) }
         ensures level { OnOk result (out.new.level ≡ out.old.level) }
         ensures size { OnOk result (size out.new.operators ≤ size out.old.operators + (4 + expr_syllables self.now.known.now (expr e.now))) }
     {
@@ -90,12 +77,29 @@ impl<'a, E: ExprEmitter> StmtEmitter<'a, E> {
         requires near { AreNear self.now.known.now.names.now }
         requires fits { (sc : Place) × StoreFits sc self.now.known.now (level_set out.old) (variable v.now) (expr e.now) }
         requires room { size out.old.operators + (place_syllables self.now.known.now.names.now (variable v.now) + expr_syllables self.now.known.now (expr e.now) + 1) ≤ MOST_SEGMENT_SYLLABLES }
-        ensures code { OnOk result ((sc : Place) (formats : List Format) → StoreFits sc self.now.known.now (level_set out.old) (variable v.now) (expr e.now) → Emitted out.old out.new (λ qs. StoredAt sc formats qs (level_set out.old) (variable v.now) (expr e.now) (size out.old.operators) (size out.new.operators))) }
+        ensures code { OnOk result ((sc : Place) (later : Later) → StoreFits sc self.now.known.now (level_set out.old) (variable v.now) (expr e.now) → Emitted out.old out.new (λ qs. StoredAt sc later qs (level_set out.old) (variable v.now) (expr e.now) (size out.old.operators) (size out.new.operators))) }
         ensures size { OnOk result (size out.new.operators ≤ size out.old.operators + (place_syllables self.now.known.now.names.now (variable v.now) + expr_syllables self.now.known.now (expr e.now) + 1)) }
     {
         self.exprs.name(v, self.known.names, out)?;
         self.exprs.value(e, self.known.names, out)?;
         append_plain(out, PlainKind::Stod)
+    }
+
+    /// GO TO: a mark, the reference of the intrinsic, the level of the label's block, the segment and the place of the label's branch, the
+    /// entry.
+    pub(crate) fn go_to(&self, n: &Named, out: &mut Builder) -> Result<(), AllocError>
+        requires set { IsSome out.old.level }
+        requires fits { (sc : Place) × LabelFits sc self.now.known.now (level_set out.old) n.now }
+        requires room { size out.old.operators + 40 ≤ MOST_SEGMENT_SYLLABLES }
+        ensures code { OnOk result ((sc : Place) (later : Later) → LabelFits sc self.now.known.now (level_set out.old) n.now → Emitted out.old out.new (λ qs. GoToAt sc later qs (level_set out.old) n.now (size out.old.operators) (size out.new.operators))) }
+        ensures size { OnOk result (size out.new.operators ≤ size out.old.operators + 40) }
+    {
+        let target = target_of(self.known.names, n);
+        append_intrinsic(out, Intrinsic::GoTo)?;
+        append_number(out, Whole::fitting(target.level as i64))?;
+        append_number(out, Whole::fitting(target.segment as i64))?;
+        append_number(out, Whole::fitting(target.entry as i64))?;
+        append_plain(out, PlainKind::Entr)
     }
 
     /// The call of a procedure. The result of a typed one is dropped.
@@ -104,7 +108,7 @@ impl<'a, E: ExprEmitter> StmtEmitter<'a, E> {
         requires near { AreNear self.now.known.now.names.now }
         requires fits { (sc : Place) × CallStmtFits sc self.now.known.now (level_set out.old) c.now.name (exprs c.now.actuals) }
         requires room { size out.old.operators + (expr_syllables self.now.known.now (tree.call (call c.now)) + 1) ≤ MOST_SEGMENT_SYLLABLES }
-        ensures code { OnOk result ((sc : Place) (formats : List Format) → CallStmtFits sc self.now.known.now (level_set out.old) c.now.name (exprs c.now.actuals) → Emitted out.old out.new (λ qs. CallStmtAt sc formats qs (level_set out.old) c.now.name (exprs c.now.actuals) (size out.old.operators) (size out.new.operators))) }
+        ensures code { OnOk result ((sc : Place) (later : Later) → CallStmtFits sc self.now.known.now (level_set out.old) c.now.name (exprs c.now.actuals) → Emitted out.old out.new (λ qs. CallStmtAt sc later qs (level_set out.old) c.now.name (exprs c.now.actuals) (size out.old.operators) (size out.new.operators))) }
         ensures level { OnOk result (out.new.level ≡ out.old.level) }
         ensures size { OnOk result (size out.new.operators ≤ size out.old.operators + (expr_syllables self.now.known.now (tree.call (call c.now)) + 1)) }
     {

@@ -4,12 +4,11 @@ ghost use Rattle.std.specs.Prelude.{◌+◌, OnOk};
 ghost use Rattle.algol_tree.specs.Image.{expr, stmt, stmts};
 ghost use Rattle.algol_tree.specs.Plain as tree;
 ghost use Rattle.b67_emit_stmt.specs.Lengths.{expr_syllables, stmt_syllables, stmts_syllables};
-ghost use Rattle.b67_faithful.specs.Lines.{stmt_lines, stmts_lines};
-ghost use Rattle.b67_emit_stmt.specs.Drafts.{Adds, IsAt, IsReady};
+ghost use Rattle.b67_emit_stmt.specs.Drafts.{AddsStmt, AddsStmts, IsAt, IsReady, noted};
 ghost use Rattle.b67_emit_stmt.specs.Emits.{HasFit, HaveFit, EmitsStmt, EmitsStmts, EmitsThen, HasFitThen};
 
-use crate::draft::{Draft, StmtEmitter};
-use algol_tree::{Expr, Stmt};
+use crate::draft::{Draft, Label, StmtEmitter};
+use algol_tree::{Expr, Named, Stmt};
 use b67_emitter::{ExprEmitter, aim, aim_exits, append_branch, append_exit};
 use b67_ops::BranchKind;
 use std::alloc::AllocError;
@@ -22,7 +21,7 @@ impl<'a, E: ExprEmitter> StmtEmitter<'a, E> {
         requires ready { IsReady self.now.known.now to.old (stmt_syllables self.now.known.now (tree.if_then (expr c.now) (stmt x.now))) }
         requires fits { HasFit self.now.known.now to.old (tree.if_then (expr c.now) (stmt x.now)) }
         ensures code { OnOk result (EmitsStmt self.now.known.now to.old to.new (tree.if_then (expr c.now) (stmt x.now))) }
-        ensures lines { OnOk result (Adds to.old to.new (stmt_lines (tree.if_then (expr c.now) (stmt x.now)))) }
+        ensures lines { OnOk result (AddsStmt to.old to.new (tree.if_then (expr c.now) (stmt x.now))) }
     {
         self.exprs.value(c, self.known.names, &mut to.out)?;
         append_exit(&mut to.out, BranchKind::Brfl, &mut to.exits)?;
@@ -36,7 +35,7 @@ impl<'a, E: ExprEmitter> StmtEmitter<'a, E> {
         requires ready { IsReady self.now.known.now to.old (expr_syllables self.now.known.now (expr c.now) + stmt_syllables self.now.known.now (stmt x.now) + 6) }
         requires fits { HasFitThen self.now.known.now to.old (expr c.now) (stmt x.now) }
         ensures code { OnOk result (EmitsThen self.now.known.now to.old to.new (expr c.now) (stmt x.now)) }
-        ensures lines { OnOk result (Adds to.old to.new (stmt_lines (stmt x.now))) }
+        ensures lines { OnOk result (AddsStmt to.old to.new (stmt x.now)) }
     {
         self.exprs.value(c, self.known.names, &mut to.out)?;
         let otherwise = append_branch(&mut to.out, BranchKind::Brfl)?;
@@ -46,6 +45,23 @@ impl<'a, E: ExprEmitter> StmtEmitter<'a, E> {
         Ok(())
     }
 
+    /// A statement after a label. Where it begins is noted.
+    #[cycle(statements)]
+    fn labelled(&self, s: &Stmt, n: &Named, to: &mut Draft) -> Result<(), AllocError>
+        requires level { IsAt self.now.level to.old }
+        requires ready { IsReady self.now.known.now to.old (stmt_syllables self.now.known.now (tree.label n.now (stmt s.now))) }
+        requires fits { HasFit self.now.known.now to.old (tree.label n.now (stmt s.now)) }
+        ensures code { OnOk result (EmitsStmt self.now.known.now to.old to.new (tree.label n.now (stmt s.now))) }
+        ensures lines { OnOk result (AddsStmt to.old to.new (tree.label n.now (stmt s.now))) }
+    {
+        let place = to.out.place();
+        to.labels.push(Label {
+            spot: n.spot,
+            place,
+        })?;
+        self.stmt(s, to)
+    }
+
     /// A statement.
     #[cycle(statements)]
     pub fn stmt(&self, s: &Stmt, to: &mut Draft) -> Result<(), AllocError>
@@ -53,7 +69,7 @@ impl<'a, E: ExprEmitter> StmtEmitter<'a, E> {
         requires ready { IsReady self.now.known.now to.old (stmt_syllables self.now.known.now (stmt s.now)) }
         requires fits { HasFit self.now.known.now to.old (stmt s.now) }
         ensures code { OnOk result (EmitsStmt self.now.known.now to.old to.new (stmt s.now)) }
-        ensures lines { OnOk result (Adds to.old to.new (stmt_lines (stmt s.now))) }
+        ensures lines { OnOk result (AddsStmt to.old to.new (stmt s.now)) }
     {
         match s {
             Stmt::Empty => Ok(()),
@@ -79,11 +95,11 @@ impl<'a, E: ExprEmitter> StmtEmitter<'a, E> {
             Stmt::Thru(e, b) => self.thru_loop(b, e, to),
             Stmt::Case(e, ss) => self.case(ss.items(), e, to),
             Stmt::Write(_, _, phrases, items) => self.write(phrases.items(), items.items(), to),
-            // None of these fits.
-            Stmt::Label(_, _) => unreachable!(),
-            Stmt::GoTo(_) => unreachable!(),
+            Stmt::Label(n, s) => self.labelled(s, n, to),
+            Stmt::GoTo(n) => self.go_to(n, &mut to.out),
+            Stmt::Event(act, e) => self.act(*act, &e.name, &mut to.out),
+            // None fits.
             Stmt::Process(_, _) => unreachable!(),
-            Stmt::Event(_, _) => unreachable!(),
         }
     }
 
@@ -94,7 +110,7 @@ impl<'a, E: ExprEmitter> StmtEmitter<'a, E> {
         requires ready { IsReady self.now.known.now to.old (stmts_syllables self.now.known.now (stmts ss.now)) }
         requires fits { HaveFit self.now.known.now to.old (stmts ss.now) }
         ensures code { OnOk result (EmitsStmts self.now.known.now to.old to.new (stmts ss.now)) }
-        ensures lines { OnOk result (Adds to.old to.new (stmts_lines (stmts ss.now))) }
+        ensures lines { OnOk result (AddsStmts to.old to.new (stmts ss.now)) }
     {
         let first = to.exits.len();
         'statements: for s in ss {

@@ -4,8 +4,8 @@ use Rattle.algol_tree.specs.Image.{expr, exprs, stmt, stmts}
 use Rattle.algol_tree.specs.Plain.{PExpr}
 use Rattle.b67_emitter.specs.Values.{meanings}
 use Rattle.b67_emit_stmt.specs.Actuals.{images, cells_in, cells_among, cells_in_stmt, cells_in_stmts}
-use Rattle.b67_emit_stmt.proofs.Gathered.{joined, assign_cells, block_cells, for_as, if_then_as, while_as, until_as, thru_as, case_as}
-use Rattle.b67_emit_stmt.proofs.Shapes.{if_else_as}
+use Rattle.b67_emit_stmt.proofs.Gathered.{joined, assign_cells, block_cells, if_then_as, while_as, until_as, thru_as, case_as}
+use Rattle.b67_emit_stmt.proofs.Shapes.{for_as, if_else_as}
 use Rattle.b67_emit_stmt.proofs.actuals.+statements.Goals as goal
 
 pub in_stmt-returns-in_ok-in_exprs-in-Assign : goal.in_stmt-returns-in_ok-in_exprs-in-Assign
@@ -84,7 +84,7 @@ in_stmt-returns-in_ok-in_expr-in-For-3 t c =
     let third = images c.in_expr-in-For-3.new.to.items in
     on_ok_weaker c.in_stmt-in-For.result
     (joined old third (images c.in_stmt-in-For.new.to.items) (a ++ p ++ l) (cells_in_stmt told (stmt x)) (cells_in_stmt told (stmt c.args.s.now))
-    (ap (cells_in_stmt told) (for_as c.args.s.now w.field-0 w.a w.s w.l w.b x w.is c.deref-in-For.ensures))
+    (ap (cells_in_stmt told) (for_as c.args.s.now x w.field-0 w.a w.s w.l w.b w.is c.deref-in-For.ensures))
     (joined old second third (a ++ p) l (a ++ p ++ l) refl (joined old first second a p (a ++ p) refl c.in_ok-in_expr-in-For.ensures c.in_ok-in_expr-in-For-2.ensures) c.in_ok-in_expr-in-For-3.ensures))
     c.in_stmt-in-For.ensures
 

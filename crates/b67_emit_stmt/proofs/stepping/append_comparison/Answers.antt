@@ -18,10 +18,10 @@ returns-clause-code c =
     on_ok_two c.append_exit.result
     (λ h wide.
     comparison_part (level_set a.out) a b d c.args.kind
-    (piece {n = 2} {d = a} {e = b} refl refl c.requires.few (λ formats. c.in_ok-append_all.ensures.code) (omega (arith, c.in_ok-append_all.ensures.size)))
-    (at_level (level_set a.out) (λ l formats qs target. BranchAt qs l Brtr (size b.out.operators) target (size d.out.operators)) (level_same a.out b.out c.in_ok-append_all.ensures.level)
+    (piece {n = 2} {d = a} {e = b} refl refl c.requires.few (λ later. c.in_ok-append_all.ensures.code) (omega (arith, c.in_ok-append_all.ensures.size)))
+    (at_level (level_set a.out) (λ l later qs target. BranchAt qs l Brtr (size b.out.operators) target (size d.out.operators)) (level_same a.out b.out c.in_ok-append_all.ensures.level)
     (exit_piece {n = 3} {d = b} {e = d} refl (omega (arith, c.requires.few, c.in_ok-append_all.ensures.size)) h (omega (arith, wide)))))
     c.append_exit.ensures.code c.append_exit.ensures.size
 
-pub returns-clause-formats : goal.returns-clause-formats
-returns-clause-formats c = on_ok_weaker c.append_exit.result (λ h. refl) c.append_exit.ensures.size
+pub returns-clause-notes : goal.returns-clause-notes
+returns-clause-notes c = on_ok_weaker c.append_exit.result (λ h. refl) c.append_exit.ensures.size

@@ -31,8 +31,8 @@ returns-else-step-lt0-clause-code c =
     let a = c.args.to.now in
     let b : Draft = record a { out = c.append_plain.new.out } in
     on_ok_two c.append_plain.result
-    (λ h wide sc. still_part sc (level_set a.out) a b c.args.step (is_zero c.args.step above below) (piece {n = 1} {d = a} {e = b} refl refl c.requires.few (λ formats. h) (omega (arith, wide))))
+    (λ h wide sc. still_part sc (level_set a.out) a b c.args.step (is_zero c.args.step above below) (piece {n = 1} {d = a} {e = b} refl refl c.requires.few (λ later. h) (omega (arith, wide))))
     c.append_plain.ensures.code c.append_plain.ensures.size
 
-pub returns-else-step-lt0-clause-formats : goal.returns-else-step-lt0-clause-formats
-returns-else-step-lt0-clause-formats c = on_ok_weaker c.append_plain.result (λ h. refl) c.append_plain.ensures.size
+pub returns-else-step-lt0-clause-notes : goal.returns-else-step-lt0-clause-notes
+returns-else-step-lt0-clause-notes c = on_ok_weaker c.append_plain.result (λ h. refl) c.append_plain.ensures.size

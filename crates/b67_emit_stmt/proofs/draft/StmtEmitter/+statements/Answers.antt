@@ -14,13 +14,12 @@ use Rattle.algol_tree.specs.Plain as tree
 use Rattle.b67_ops.specs.declared.BranchKind.TheVariants.{Brfl, Brtr, Brun}
 use Rattle.b67_ops.specs.declared.TheConstants.{MOST_LEVEL}
 use Rattle.b67_segment.specs.declared.TheConstants.{MOST_SEGMENT_SYLLABLES}
-use Rattle.b67_segment.specs.declared.code.Format.{Format}
 use Rattle.b67_segment.specs.Operators.{size}
 use Rattle.b67_segment.specs.Building.{Built, level_set}
 use Rattle.b67_emit_stmt.specs.Places.{CasesAt}
-use Rattle.b67_faithful.specs.Lines.{formats_for, stmt_lines, stmts_lines}
 use Rattle.b67_emit_stmt.specs.Fits.{StmtsFit}
 use Rattle.b67_emit_stmt.specs.declared.draft.Draft.{Draft}
+use Rattle.b67_emit_stmt.specs.declared.draft.Label.{Label}
 use Rattle.b67_emit_stmt.specs.Actuals.{images}
 use Rattle.b67_emit_stmt.specs.Bodies.{EmitsBlock, EmitsEnded, EmitsRoutines, inside_syllables, variables_in}
 use Rattle.b67_emit_stmt.specs.Lengths.{begin_syllables, celled_in, expr_syllables, stmt_syllables, stmts_syllables}
@@ -33,9 +32,11 @@ use Rattle.b67_emit_stmt.proofs.Blocked as blocked
 use Rattle.b67_emit_stmt.proofs.Blocks as blocks
 use Rattle.b67_emit_stmt.proofs.Drafts.{at_level, emits_then, hole_there, level_after, level_same, piece}
 use Rattle.b67_emit_stmt.proofs.Fors as fors
+use Rattle.b67_emit_stmt.proofs.Going.{label_arm, label_piece}
 use Rattle.b67_emit_stmt.proofs.Listed.{StandTogether, done_level, done_set, next_fits, next_ready, together_more, together_none}
 use Rattle.b67_emit_stmt.proofs.Levels.{at_after, at_same}
 use Rattle.b67_emit_stmt.proofs.Matched as matched
+use Rattle.b67_emit_stmt.proofs.Notes.{unknown}
 use Rattle.b67_emit_stmt.proofs.Parts.{code_at, on_ok_two, set_same}
 use Rattle.b67_emit_stmt.proofs.Ready.{body_piece, branch_piece, fit_after, ready_after, stmt_piece, turn_piece, value_piece}
 use Rattle.b67_emit_stmt.proofs.Shapes as shaped
@@ -328,9 +329,8 @@ for_loop-returns-clause-code g t c =
 
 pub for_loop-returns-clause-lines : goal.for_loop-returns-clause-lines
 for_loop-returns-clause-lines g t c =
-    let lines = stmt_lines (stmt c.args.b.now) in
     on_ok_weaker c.append_turn.result
-    (λ h. added.then_added c.args.to.now.formats.items c.step.new.to.formats.items c.loop_body.new.to.formats.items lines c.in_ok-step.ensures.formats c.in_ok-loop_body.ensures.lines)
+    (λ h. added.then_added c.args.to.now c.step.new.to c.loop_body.new.to (stmt c.args.b.now) c.in_ok-step.ensures.notes c.in_ok-loop_body.ensures.lines)
     c.append_turn.ensures.size
 
 -- ---- THRU
@@ -404,7 +404,7 @@ case-cases-requires g t c =
     let a = c.args.to.now in
     let ss = stmts c.args.ss.now in
     let b : Draft = record a { out = c.select.new.out } in
-    let grown = (c.in_ok-select.ensures.code c.requires.fits.0 [] c.requires.fits.1.0).grown in
+    let grown = (c.in_ok-select.ensures.code c.requires.fits.0 unknown c.requires.fits.1.0).grown in
     let ready = matched.ready_behind s a b (stmt_syllables s (tree.case (expr c.args.e.now) ss)) (stmts_syllables s ss) c.requires.ready c.in_ok-select.ensures.level refl grown
     (omega (arith, c.in_ok-select.ensures.size)) in
     let F : ℕ → Type 0 = λ l. StmtsFit c.requires.fits.0 s l ss in
@@ -424,8 +424,8 @@ case-returns-clause-code g t c =
     on_ok_weaker c.cases.result
     (λ h sc fit.
     let F : ℕ → Type 0 = λ l. StmtsFit sc c.args.self.now.known.now l (stmts ss) in
-    let first = piece {n = 19 + expr_syllables c.args.self.now.known.now e} {d = a} {e = b} refl refl c.requires.ready.few (λ formats. c.in_ok-select.ensures.code sc formats fit.0) c.in_ok-select.ensures.size in
-    let rest = at_level level (λ l formats qs target. CasesAt sc formats qs l (stmts ss) (size b.out.operators) target) q (h sc (subst F (sym q) fit.1)) in
+    let first = piece {n = 19 + expr_syllables c.args.self.now.known.now e} {d = a} {e = b} refl refl c.requires.ready.few (λ later. c.in_ok-select.ensures.code sc later fit.0) c.in_ok-select.ensures.size in
+    let rest = at_level level (λ l later qs target. CasesAt sc later qs l (stmts ss) (size b.out.operators) target) q (h sc (subst F (sym q) fit.1)) in
     tabled.case_arm c.args.self.now.known.now sc level e ss a b d first rest)
     c.cases.ensures.code
 
@@ -442,7 +442,7 @@ cases-statements-init g t c =
     record {
       entry = omega (arith, c.place-entry.ensures);
       code = λ sc fit. tabled.cases_begun c.args.self.now.known.now sc (level_set a.out) (length c.args.ss.now) c.args.ss.now a b refl c.requires.ready.few refl refl c.in_ok-append_entries.ensures.code;
-      lines = added.none_added c.args.to.now.formats.items;
+      lines = added.none_added c.args.to.now;
     }
 
 pub cases-aim-requires : goal.cases-aim-requires
@@ -497,8 +497,7 @@ cases-statements-preserved g t c =
       code = λ sc fit.
           tabled.cases_more s sc level c.args.ss.now c.statements.s-index c.s-item.result c.statements-test.true c.s-item.is a u c.statements.to c.statements.entry c.statements.invariant.entry (c.statements.invariant.code sc fit) d c.stmt.new.to f refl
           c.aim.ensures refl refl (next_fits s sc level c.args.ss.now c.statements.s-index c.s-item.result c.statements-test.true c.s-item.is fit) c.in_ok-stmt.ensures.code refl c.in_ok-append_exit.ensures.code c.in_ok-append_exit.ensures.size;
-      lines = added.both_added c.args.to.now.formats.items c.statements.to.formats.items c.stmt.new.to.formats.items (stmts_lines (stmts (take c.statements.s-index c.args.ss.now))) (stmt_lines (stmt c.s-item.result))
-          (stmts_lines (stmts (take (c.statements.s-index + 1) c.args.ss.now))) (added.next_lines c.args.ss.now c.statements.s-index c.s-item.result c.statements-test.true c.s-item.is)
+      lines = added.next_added c.args.to.now c.statements.to c.stmt.new.to c.args.ss.now c.statements.s-index c.s-item.result c.statements-test.true c.s-item.is
           c.statements.invariant.lines c.in_ok-stmt.ensures.lines;
     }
 
@@ -510,8 +509,7 @@ cases-returns-clause-code g t c =
 
 pub cases-returns-clause-lines : goal.cases-returns-clause-lines
 cases-returns-clause-lines g t c =
-    added.added_for c.args.to.now.formats.items c.statements.to.formats.items (stmts_lines (stmts (take c.statements.s-index c.args.ss.now))) (stmts_lines (stmts c.args.ss.now))
-    (added.all_lines c.args.ss.now c.statements.s-index c.statements-test.false) c.statements.invariant.lines
+    added.all_added c.args.to.now c.statements.to c.args.ss.now c.statements.s-index c.statements-test.false c.statements.invariant.lines
 
 -- ---- statements one after another
 
@@ -519,7 +517,7 @@ pub stmts-statements-init : goal.stmts-statements-init
 stmts-statements-init g t c =
     record {
       code = λ sc fit. together_none c.args.self.now.known.now sc (level_set c.args.to.now.out) c.args.ss.now c.args.to.now c.requires.ready.few;
-      lines = added.none_added c.args.to.now.formats.items;
+      lines = added.none_added c.args.to.now;
     }
 
 pub stmts-aim_exits-requires : goal.stmts-aim_exits-requires
@@ -558,8 +556,7 @@ stmts-statements-preserved g t c =
       code = λ sc fit.
           together_more s sc level c.args.ss.now c.statements.s-index c.s-item.result c.statements-test.true c.s-item.is a c.statements.to d c.len-first.result is (c.statements.invariant.code sc fit) c.aim_exits.ensures.aimed c.aim_exits.ensures.list refl
           c.stmt.new.to refl (next_fits s sc level c.args.ss.now c.statements.s-index c.s-item.result c.statements-test.true c.s-item.is fit) c.in_ok-stmt.ensures.code;
-      lines = added.both_added c.args.to.now.formats.items c.statements.to.formats.items c.stmt.new.to.formats.items (stmts_lines (stmts (take c.statements.s-index c.args.ss.now))) (stmt_lines (stmt c.s-item.result))
-          (stmts_lines (stmts (take (c.statements.s-index + 1) c.args.ss.now))) (added.next_lines c.args.ss.now c.statements.s-index c.s-item.result c.statements-test.true c.s-item.is)
+      lines = added.next_added c.args.to.now c.statements.to c.stmt.new.to c.args.ss.now c.statements.s-index c.s-item.result c.statements-test.true c.s-item.is
           c.statements.invariant.lines c.in_ok-stmt.ensures.lines;
     }
 
@@ -573,8 +570,44 @@ stmts-returns-clause-code g t c =
 
 pub stmts-returns-clause-lines : goal.stmts-returns-clause-lines
 stmts-returns-clause-lines g t c =
-    added.added_for c.args.to.now.formats.items c.statements.to.formats.items (stmts_lines (stmts (take c.statements.s-index c.args.ss.now))) (stmts_lines (stmts c.args.ss.now))
-    (added.all_lines c.args.ss.now c.statements.s-index c.statements-test.false) c.statements.invariant.lines
+    added.all_added c.args.to.now c.statements.to c.args.ss.now c.statements.s-index c.statements-test.false c.statements.invariant.lines
+
+-- ---- a label
+
+pub labelled-stmt-requires : goal.labelled-stmt-requires
+labelled-stmt-requires g t c =
+    let s = c.args.self.now.known.now in
+    let a = c.args.to.now in
+    let n = c.args.n.now in
+    let x = stmt c.args.s.now in
+    let b : Draft = record a { labels = c.push.new.self } in
+    let l : Label = record { spot = n.spot; place = c.place-place.result } in
+    let first = label_piece a b l refl refl refl c.in_ok-push.ensures.items c.place-place.ensures c.requires.ready.few in
+    let ready = ready_after s a (stmt_syllables s (tree.label n x)) (stmt_syllables s x) c.requires.ready first (omega arith) in
+    search (rules, stmts'.the_lemmas, decls'.the_lemmas, bodies'.the_lemmas, ready, fit_after s c.requires.fits.0 x first c.requires.fits.1.1, at_after first c.requires.level)
+
+pub labelled-returns-clause-code : goal.labelled-returns-clause-code
+labelled-returns-clause-code g t c =
+    let s = c.args.self.now.known.now in
+    let a = c.args.to.now in
+    let n = c.args.n.now in
+    let x = stmt c.args.s.now in
+    let level = level_set a.out in
+    let b : Draft = record a { labels = c.push.new.self } in
+    let l : Label = record { spot = n.spot; place = c.place-place.result } in
+    on_ok_weaker c.stmt.result
+    (λ h sc fit.
+    label_arm s sc level n x a b c.stmt.new.to refl (label_piece a b l refl refl refl c.in_ok-push.ensures.items c.place-place.ensures c.requires.ready.few)
+    (stmt_piece s sc x b c.stmt.new.to level refl h fit.1))
+    c.stmt.ensures.code
+
+pub labelled-returns-clause-lines : goal.labelled-returns-clause-lines
+labelled-returns-clause-lines g t c =
+    let a = c.args.to.now in
+    let n = c.args.n.now in
+    let b : Draft = record a { labels = c.push.new.self } in
+    let l : Label = record { spot = n.spot; place = c.place-place.result } in
+    on_ok_weaker c.stmt.result (λ h. added.label_added a b c.stmt.new.to l n (stmt c.args.s.now) refl c.in_ok-push.ensures.items refl h) c.stmt.ensures.lines
 
 -- ---- a statement
 
@@ -586,8 +619,8 @@ stmt-returns-in-Empty-clause-code g t c =
 
 pub stmt-returns-in-Empty-clause-lines : goal.stmt-returns-in-Empty-clause-lines
 stmt-returns-in-Empty-clause-lines g t c =
-    let before = c.args.to.now.formats.items in
-    added.added_as before before (stmt c.args.s.now) tree.empty (shaped.empty_as c.args.s.now c.in-Empty.is) (added.none_added before)
+    let a = c.args.to.now in
+    added.none_as a a (stmt c.args.s.now) tree.empty (shaped.empty_as c.args.s.now c.in-Empty.is) refl refl refl
 
 pub stmt-store-requires-clause-fits : goal.stmt-store-requires-clause-fits
 stmt-store-requires-clause-fits g t c =
@@ -610,10 +643,10 @@ stmt-returns-in-Assign-clause-code g t c =
 
 pub stmt-returns-in-Assign-clause-lines : goal.stmt-returns-in-Assign-clause-lines
 stmt-returns-in-Assign-clause-lines g t c =
-    let before = c.args.to.now.formats.items in
+    let a = c.args.to.now in
     let v = c.in-Assign.v in
     on_ok_weaker c.store.result
-    (λ h. added.added_as before before (stmt c.args.s.now) (tree.assign (variable v) (expr c.in-Assign.e)) (shaped.assign_as c.args.s.now v c.in-Assign.e c.in-Assign.is) (added.none_added before))
+    (λ h. added.none_as a a (stmt c.args.s.now) (tree.assign (variable v) (expr c.in-Assign.e)) (shaped.assign_as c.args.s.now v c.in-Assign.e c.in-Assign.is) refl refl refl)
     c.store.ensures.size
 
 pub stmt-returns-in_ok-then_part-in-Some-clause-code : goal.stmt-returns-in_ok-then_part-in-Some-clause-code
@@ -631,12 +664,11 @@ stmt-returns-in_ok-then_part-in-Some-clause-lines g t c =
     let x = c.deref-in-Some.result.now in
     let y = c.deref-in-Some-2.result.now in
     let shape = shaped.if_else_as c.args.s.now x y c.in-If.c c.in-If.x c.in-If.other c.in-Some.y c.in-If.is c.in-Some.is c.deref-in-Some.ensures c.deref-in-Some-2.ensures in
-    let before = c.args.to.now.formats.items in
+    let a = c.args.to.now in
     on_ok_weaker c.stmt.result
     (λ h.
-    added.added_as before c.stmt.new.to.formats.items (stmt c.args.s.now) (tree.if_else (expr c.in-If.c) (stmt x) (stmt y)) shape
-    (added.both_added before c.then_part.new.to.formats.items c.stmt.new.to.formats.items (stmt_lines (stmt x)) (stmt_lines (stmt y)) (stmt_lines (stmt x) ++ stmt_lines (stmt y)) refl
-    c.in_ok-then_part-in-Some.ensures.lines h))
+    added.added_as a c.stmt.new.to (stmt c.args.s.now) (tree.if_else (expr c.in-If.c) (stmt x) (stmt y)) shape
+    (added.else_added a c.then_part.new.to c.stmt.new.to (expr c.in-If.c) (stmt x) (stmt y) c.in_ok-then_part-in-Some.ensures.lines h))
     c.stmt.ensures.lines
 
 pub stmt-stmt-requires : goal.stmt-stmt-requires
@@ -681,7 +713,7 @@ stmt-returns-in-Write-clause-lines g t c =
     let es = c.deref-in-Write-2.result.now in
     let shape = shaped.write_as c.args.s.now w.field-0 w.field-1 w.phrases ps w.items es w.is (c.deref-in-Write.ensures.value ∙ c.items-in-Write.ensures) (c.deref-in-Write-2.ensures.value ∙ c.items-in-Write-2.ensures) in
     on_ok_weaker c.write.result
-    (λ h. added.added_as c.args.to.now.formats.items c.write.new.to.formats.items (stmt c.args.s.now) (tree.write w.field-0 w.field-1 ps (exprs es)) shape h)
+    (λ h. added.added_as c.args.to.now c.write.new.to (stmt c.args.s.now) (tree.write w.field-0 w.field-1 ps (exprs es)) shape h)
     c.write.ensures.lines
 
 -- ---- blocks
@@ -741,7 +773,7 @@ inside-returns g t c =
           c.aim_exits.ensures.aimed c.aim_exits.ensures.list refl;
       exits = blocks.none_left s level c.args.many ds ss es ats a c.begin.new.to c.requires.level c.requires.fits c.in_ok-begin.ensures.code c.stmts.new.to c.len-first.result is c.in_ok-stmts.ensures.code d
           c.aim_exits.ensures.aimed c.aim_exits.ensures.list refl;
-      lines = added.then_added a.formats.items c.begin.new.to.formats.items c.stmts.new.to.formats.items (stmts_lines (stmts c.args.ss.now)) c.in_ok-begin.ensures.formats c.in_ok-stmts.ensures.lines;
+      lines = added.all_then_added a c.begin.new.to c.stmts.new.to (stmts c.args.ss.now) c.in_ok-begin.ensures.notes c.in_ok-stmts.ensures.lines;
     }
 
 pub ended-inside-requires : goal.ended-inside-requires
@@ -752,9 +784,9 @@ ended-inside-requires g t c =
     let ds = decls c.args.ds.now in
     let ss = stmts c.args.ss.now in
     let es = images c.args.actuals.now in
-    let many = c.variables.result in
-    let ready = blocks.ended_inside s level ds ss es a many c.variables.ensures c.requires.ready in
-    let few = blocks.small_there many (variables_in ds) ds es es c.variables.ensures refl c.requires.few in
+    let many = c.variables_of.result in
+    let ready = blocks.ended_inside s level ds ss es a many c.variables_of.ensures c.requires.ready in
+    let few = blocks.small_there many (variables_in ds) ds es es c.variables_of.ensures refl c.requires.few in
     search (rules, stmts'.the_lemmas, decls'.the_lemmas, bodies'.the_lemmas, c.requires.level, ready, few, c.requires.inner, c.requires.placed, c.requires.places, c.requires.fits)
 
 pub ended-append_plain-requires : goal.ended-append_plain-requires
@@ -766,12 +798,12 @@ ended-append_plain-requires g t c =
     let ss = stmts c.args.ss.now in
     let es = images c.args.actuals.now in
     let ats = c.args.places.now in
-    let many = c.variables.result in
+    let many = c.variables_of.result in
     let d = c.inside.new.to in
     let inside = c.in_ok-inside.ensures.code in
     record {
-      set = blocks.exit_set s level ds ss es a many c.variables.ensures ats d c.requires.level c.requires.fits inside c.requires.ready.set;
-      room = blocks.exit_room s level ds ss es a many c.variables.ensures ats d c.requires.level c.requires.fits inside c.requires.ready;
+      set = blocks.exit_set s level ds ss es a many c.variables_of.ensures ats d c.requires.level c.requires.fits inside c.requires.ready.set;
+      room = blocks.exit_room s level ds ss es a many c.variables_of.ensures ats d c.requires.level c.requires.fits inside c.requires.ready;
     }
 
 pub ended-returns-clause-code : goal.ended-returns-clause-code
@@ -784,7 +816,7 @@ ended-returns-clause-code g t c =
     let es = images c.args.actuals.now in
     let d = c.inside.new.to in
     let e : Draft = record d { out = c.append_plain.new.out } in
-    blocks.ended_stands s level ds ss es a c.variables.result c.variables.ensures c.args.places.now d c.requires.level c.requires.fits c.in_ok-inside.ensures.code c.place-begin.result c.place-begin.ensures e refl refl
+    blocks.ended_stands s level ds ss es a c.variables_of.result c.variables_of.ensures c.args.places.now d c.requires.level c.requires.fits c.in_ok-inside.ensures.code c.place-begin.result c.place-begin.ensures e refl refl
     c.in_ok-append_plain.ensures.code c.in_ok-append_plain.ensures.size
 
 pub ended-returns-clause-lines : goal.ended-returns-clause-lines
@@ -862,7 +894,7 @@ block-returns-clause-begin g t c =
 
 pub block-returns-clause-lines : goal.block-returns-clause-lines
 block-returns-clause-lines g t c =
-    on_ok_weaker c.ended.result (λ h. h ∙ ap (λ (l : List Format). l ++ formats_for (stmts_lines (stmts c.args.ss.now))) c.in_ok-places.ensures.formats) c.ended.ensures.lines
+    on_ok_weaker c.ended.result (λ h. added.all_then_added c.args.to.now c.routines.new.to c.ended.new.to (stmts c.args.ss.now) c.in_ok-places.ensures.notes h) c.ended.ensures.lines
 
 pub block_inside-returns-clause-code : goal.block_inside-returns-clause-code
 block_inside-returns-clause-code g t c =
@@ -959,9 +991,8 @@ stmt-returns-else-is_empty-clause-code g t c =
 pub stmt-returns-else-is_empty-clause-lines : goal.stmt-returns-else-is_empty-clause-lines
 stmt-returns-else-is_empty-clause-lines g t c =
     let ss = c.deref-else-is_empty.result.now in
-    let own = added.block_lines c.args.s.now c.in-Block.b ss c.in-Block.is (c.deref-else-is_empty.ensures.value ∙ c.items-else-is_empty.ensures) in
     on_ok_weaker c.inner_block.result
-    (λ h. added.added_for c.args.to.now.formats.items c.inner_block.new.to.formats.items (stmts_lines (stmts ss)) (stmt_lines (stmt c.args.s.now)) own h)
+    (λ h. added.block_added c.args.to.now c.inner_block.new.to c.args.s.now c.in-Block.b ss c.in-Block.is (c.deref-else-is_empty.ensures.value ∙ c.items-else-is_empty.ensures) h)
     c.inner_block.ensures.lines
 
 pub stmt-returns-then-is_empty-clause-code : goal.stmt-returns-then-is_empty-clause-code
@@ -976,9 +1007,8 @@ stmt-returns-then-is_empty-clause-code g t c =
 pub stmt-returns-then-is_empty-clause-lines : goal.stmt-returns-then-is_empty-clause-lines
 stmt-returns-then-is_empty-clause-lines g t c =
     let ss = c.deref.result.now in
-    let own = added.block_lines c.args.s.now c.in-Block.b ss c.in-Block.is (c.deref.ensures.value ∙ c.items-then-is_empty.ensures) in
     on_ok_weaker c.stmts.result
-    (λ h. added.added_for c.args.to.now.formats.items c.stmts.new.to.formats.items (stmts_lines (stmts ss)) (stmt_lines (stmt c.args.s.now)) own h)
+    (λ h. added.block_added c.args.to.now c.stmts.new.to c.args.s.now c.in-Block.b ss c.in-Block.is (c.deref.ensures.value ∙ c.items-then-is_empty.ensures) h)
     c.stmts.ensures.lines
 
 -- ---- a call
@@ -1005,8 +1035,64 @@ stmt-returns-in-Call-clause-code g t c =
 
 pub stmt-returns-in-Call-clause-lines : goal.stmt-returns-in-Call-clause-lines
 stmt-returns-in-Call-clause-lines g t c =
-    let before = c.args.to.now.formats.items in
+    let a = c.args.to.now in
     let k = c.in-Call.c in
     on_ok_weaker c.call.result
-    (λ h. added.added_as before before (stmt c.args.s.now) (tree.call_of (tree.called k.name (exprs k.actuals))) (shaped.call_as c.args.s.now k c.in-Call.is) (added.none_added before))
+    (λ h. added.none_as a a (stmt c.args.s.now) (tree.call_of (tree.called k.name (exprs k.actuals))) (shaped.call_as c.args.s.now k c.in-Call.is) refl refl refl)
     c.call.ensures.size
+
+-- ---- GO TO, and statements on events
+
+pub stmt-go_to-requires-clause-fits : goal.stmt-go_to-requires-clause-fits
+stmt-go_to-requires-clause-fits g t c =
+    let n = c.in-GoTo.n in
+    matched.fit_as c.args.self.now.known.now c.args.to.now (stmt c.args.s.now) (tree.go_to n) (shaped.go_to_as c.args.s.now n c.in-GoTo.is) c.requires.fits
+
+pub stmt-go_to-requires-clause-room : goal.stmt-go_to-requires-clause-room
+stmt-go_to-requires-clause-room g t c =
+    let n = c.in-GoTo.n in
+    matched.go_to_room c.args.self.now.known.now c.args.to.now (stmt c.args.s.now) n (shaped.go_to_as c.args.s.now n c.in-GoTo.is) c.requires.ready
+
+pub stmt-returns-in-GoTo-clause-code : goal.stmt-returns-in-GoTo-clause-code
+stmt-returns-in-GoTo-clause-code g t c =
+    let a = c.args.to.now in
+    let n = c.in-GoTo.n in
+    let b : Draft = record a { out = c.go_to.new.out } in
+    on_ok_two c.go_to.result
+    (matched.go_to_emitted c.args.self.now.known.now a b (stmt c.args.s.now) n (shaped.go_to_as c.args.s.now n c.in-GoTo.is) refl refl c.requires.ready.few)
+    c.go_to.ensures.code c.go_to.ensures.size
+
+pub stmt-returns-in-GoTo-clause-lines : goal.stmt-returns-in-GoTo-clause-lines
+stmt-returns-in-GoTo-clause-lines g t c =
+    let a = c.args.to.now in
+    let n = c.in-GoTo.n in
+    on_ok_weaker c.go_to.result
+    (λ h. added.none_as a a (stmt c.args.s.now) (tree.go_to n) (shaped.go_to_as c.args.s.now n c.in-GoTo.is) refl refl refl)
+    c.go_to.ensures.size
+
+pub stmt-act-requires-clause-fits : goal.stmt-act-requires-clause-fits
+stmt-act-requires-clause-fits g t c =
+    let w = c.in-Event in
+    matched.fit_as c.args.self.now.known.now c.args.to.now (stmt c.args.s.now) (tree.event w.act w.e) (shaped.event_as c.args.s.now w.act w.e w.is) c.requires.fits
+
+pub stmt-act-requires-clause-room : goal.stmt-act-requires-clause-room
+stmt-act-requires-clause-room g t c =
+    let w = c.in-Event in
+    matched.event_room c.args.self.now.known.now c.args.to.now (stmt c.args.s.now) w.act w.e (shaped.event_as c.args.s.now w.act w.e w.is) c.requires.ready
+
+pub stmt-returns-in-Event-clause-code : goal.stmt-returns-in-Event-clause-code
+stmt-returns-in-Event-clause-code g t c =
+    let a = c.args.to.now in
+    let w = c.in-Event in
+    let b : Draft = record a { out = c.act.new.out } in
+    on_ok_two c.act.result
+    (matched.event_emitted c.args.self.now.known.now a b (stmt c.args.s.now) w.act w.e (shaped.event_as c.args.s.now w.act w.e w.is) refl refl c.requires.ready.few)
+    c.act.ensures.code c.act.ensures.size
+
+pub stmt-returns-in-Event-clause-lines : goal.stmt-returns-in-Event-clause-lines
+stmt-returns-in-Event-clause-lines g t c =
+    let a = c.args.to.now in
+    let w = c.in-Event in
+    on_ok_weaker c.act.result
+    (λ h. added.none_as a a (stmt c.args.s.now) (tree.event w.act w.e) (shaped.event_as c.args.s.now w.act w.e w.is) refl refl refl)
+    c.act.ensures.size

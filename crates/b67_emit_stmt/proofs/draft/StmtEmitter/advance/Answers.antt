@@ -28,11 +28,11 @@ returns-clause-code g c =
     let r = level_same b d c.in_ok-read.ensures.level ∙ q in
     let t = level_same d e c.in_ok-value.ensures.level ∙ r in
     on_ok_weaker c.append_plain-2.result
-    (λ h sc formats name fit.
-    advance_part sc formats (level_set a) c.args.v.now (expr c.args.s.now) a b d e x c.append_plain-2.new.out (c.in_ok-reference.ensures.code sc types.Number formats name.1)
-    (leveled (λ l qs. ReadAt sc formats qs l c.args.v.now types.Number (size b.operators) (size d.operators)) (level_set a) q
-    (c.in_ok-read.ensures.code sc types.Number formats (variable_at s (level_set b) (level_set a) sc c.args.v.now q name).0))
-    (value_at s d e (level_set a) sc formats types.Number (expr c.args.s.now) r c.in_ok-value.ensures.code fit)
+    (λ h sc later name fit.
+    advance_part sc later (level_set a) c.args.v.now (expr c.args.s.now) a b d e x c.append_plain-2.new.out (c.in_ok-reference.ensures.code sc types.Number later name.1)
+    (leveled (λ l qs. ReadAt sc later qs l c.args.v.now types.Number (size b.operators) (size d.operators)) (level_set a) q
+    (c.in_ok-read.ensures.code sc types.Number later (variable_at s (level_set b) (level_set a) sc c.args.v.now q name).0))
+    (value_at s d e (level_set a) sc later types.Number (expr c.args.s.now) r c.in_ok-value.ensures.code fit)
     (plain_at kinds.Add (level_set a) t c.in_ok-append_plain.ensures.code)
     (plain_at kinds.Stod (level_set a) (level_same e x c.in_ok-append_plain.ensures.level ∙ t) h))
     c.append_plain-2.ensures.code

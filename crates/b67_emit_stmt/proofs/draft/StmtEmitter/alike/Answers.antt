@@ -41,10 +41,10 @@ returns-clause-code g c =
     let number : c.fitting.result ≡ pos many = omega (arith, ints, c.fitting.ensures, c.requires.few) in
     let N : ℤ → Type 0 = λ z. Emitted b d (λ qs. NumberAt qs level z (size b.operators) (size d.operators)) in
     on_ok_weaker c.append_all.result
-    (λ h sc formats fit.
+    (λ h sc later fit.
     let F : ℕ → Type 0 = λ l. BoundsFit sc s l ps in
-    arrays_part sc formats level many ps a b d x y c.requires.dimensions c.requires.some c.in_ok-append_intrinsic.ensures.code
+    arrays_part sc later level many ps a b d x y c.requires.dimensions c.requires.some c.in_ok-append_intrinsic.ensures.code
     (subst N number (leveled (λ l qs. NumberAt qs l c.fitting.result (size b.operators) (size d.operators)) level q c.in_ok-append_number.ensures.code))
-    (leveled (λ l qs. BoundsAt sc formats qs l ps (size d.operators) (size x.operators)) level r (c.in_ok-bounds.ensures.code sc formats (subst F (sym r) fit)))
+    (leveled (λ l qs. BoundsAt sc later qs l ps (size d.operators) (size x.operators)) level r (c.in_ok-bounds.ensures.code sc later (subst F (sym r) fit)))
     (leveled (λ l qs. AllAt qs l (kinds.Entr ∷ kinds.Push ∷ []) (size x.operators) (size y.operators)) level t h))
     c.append_all.ensures.code

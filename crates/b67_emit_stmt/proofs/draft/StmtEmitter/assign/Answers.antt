@@ -20,8 +20,8 @@ returns-clause-code g c =
     let d = c.value.new.out in
     let q = level_same a b c.in_ok-reference.ensures.level in
     on_ok_weaker c.append_plain.result
-    (λ h sc formats fit.
-    assign_part sc formats (level_set a) fit.0 c.args.v.now (expr c.args.e.now) a b d c.append_plain.new.out (c.in_ok-reference.ensures.code sc fit.0 formats fit.1)
-    (value_at c.args.self.now.known.now b d (level_set a) sc formats fit.0 (expr c.args.e.now) q c.in_ok-value.ensures.code fit.2)
+    (λ h sc later fit.
+    assign_part sc later (level_set a) fit.0 c.args.v.now (expr c.args.e.now) a b d c.append_plain.new.out (c.in_ok-reference.ensures.code sc fit.0 later fit.1)
+    (value_at c.args.self.now.known.now b d (level_set a) sc later fit.0 (expr c.args.e.now) q c.in_ok-value.ensures.code fit.2)
     (plain_at kinds.Stod (level_set a) (level_same b d c.in_ok-value.ensures.level ∙ q) h))
     c.append_plain.ensures.code

@@ -5,13 +5,13 @@ use Rattle.algol_tree.specs.Image.{decls}
 use Rattle.b67_segment.specs.Building.{level_set}
 use Rattle.b67_emit_stmt.specs.Actuals.{images}
 use Rattle.b67_emit_stmt.specs.Fits.{DeclsFit}
-use Rattle.b67_emit_stmt.proofs.Begins.{arrays_behind}
+use Rattle.b67_emit_stmt.proofs.Begins.{made_behind}
 use Rattle.b67_emit_stmt.proofs.Blocks.{some_of, some_are}
 use Rattle.b67_emit_stmt.proofs.Drafts.{level_after, set_after}
 use Rattle.b67_emit_stmt.proofs.draft.StmtEmitter.begin.Goals as goal
 
-pub arrays-requires : goal.arrays-requires
-arrays-requires g c =
+pub make_all-requires : goal.make_all-requires
+make_all-requires g c =
     let s = c.args.self.now.known.now in
     let a = c.args.to.now in
     let es = images c.args.actuals.now in
@@ -29,8 +29,8 @@ arrays-requires g c =
 
 pub returns-clause-code : goal.returns-clause-code
 returns-clause-code g c =
-    arrays_behind c.args.self.now.known.now c.args.self.now.level c.args.many (decls c.args.ds.now) (images c.args.actuals.now) c.args.places.now c.args.to.now c.cells.new.to c.requires.level c.in_ok-cells.ensures.code c.arrays.result
-    c.arrays.new.out c.arrays.ensures.code c.arrays.ensures.size
+    made_behind c.args.self.now.known.now c.args.self.now.level c.args.many (decls c.args.ds.now) (images c.args.actuals.now) c.args.places.now c.args.to.now c.cells.new.to c.requires.level c.in_ok-cells.ensures.code c.make_all.result
+    c.make_all.new.out c.make_all.ensures.code c.make_all.ensures.size
 
-pub returns-clause-formats : goal.returns-clause-formats
-returns-clause-formats g c = on_ok_weaker c.arrays.result (λ h. c.in_ok-cells.ensures.formats) c.arrays.ensures.size
+pub returns-clause-notes : goal.returns-clause-notes
+returns-clause-notes g c = on_ok_weaker c.make_all.result (λ h. c.in_ok-cells.ensures.notes) c.make_all.ensures.size

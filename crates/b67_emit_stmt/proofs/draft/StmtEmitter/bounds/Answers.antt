@@ -19,7 +19,7 @@ pub pairs-init : goal.pairs-init
 pairs-init g c =
     let a = c.args.out.now in
     let ps = c.args.pairs.now in
-    record { level = refl; short = omega arith; code = λ sc formats fit. emitted_none a (BoundsLeft sc formats (level_set a) ps ps a a) (λ qs t k. k) }
+    record { level = refl; short = omega arith; code = λ sc later fit. emitted_none a (BoundsLeft sc later (level_set a) ps ps a a) (λ qs t k. k) }
 
 pub fitting-requires : goal.fitting-requires
 fitting-requires g c =
@@ -77,19 +77,19 @@ pairs-preserved g c =
     record {
       level = c.in_ok-value.ensures.level ∙ c.in_ok-append_number.ensures.level ∙ c.pairs.invariant.level;
       short = omega (arith, ap (λ (l : List Pair). bounds_syllables c.args.self.now.known.now (pairs l)) next, c.pairs.invariant.short, c.in_ok-append_number.ensures.size, c.in_ok-value.ensures.size);
-      code = λ sc formats fit.
+      code = λ sc later fit.
           let N : ℤ → Type 0 = λ z. Emitted b d (λ qs. NumberAt qs level z (size b.operators) (size d.operators)) in
-          bounds_more sc formats level ps (drop i ps) p (drop (i + 1) ps) a b d x next (c.pairs.invariant.code sc formats fit)
+          bounds_more sc later level ps (drop i ps) p (drop (i + 1) ps) a b d x next (c.pairs.invariant.code sc later fit)
           (subst N (c.fitting.ensures ∙ to_z-of_z w64 p.low (whole_fits p.low whole)) (leveled (λ l qs. NumberAt qs l c.fitting.result (size b.operators) (size d.operators)) level q c.in_ok-append_number.ensures.code))
-          (value_at s d x level sc formats types.Number (expr p.high) (level_same b d c.in_ok-append_number.ensures.level ∙ q) c.in_ok-value.ensures.code
+          (value_at s d x level sc later types.Number (expr p.high) (level_same b d c.in_ok-append_number.ensures.level ∙ q) c.in_ok-value.ensures.code
           (bounds_next sc s level i ps p (drop (i + 1) ps) next fit).1);
     }
 
 pub returns-clause-code : goal.returns-clause-code
 returns-clause-code g c =
     let ps = c.args.pairs.now in
-    λ sc formats fit.
-    bounds_whole sc formats (level_set c.args.out.now) ps c.pairs.pair-index c.args.out.now c.pairs.out (drop_of_length-le ps c.pairs-test.false) (c.pairs.invariant.code sc formats fit)
+    λ sc later fit.
+    bounds_whole sc later (level_set c.args.out.now) ps c.pairs.pair-index c.args.out.now c.pairs.out (drop_of_length-le ps c.pairs-test.false) (c.pairs.invariant.code sc later fit)
 
 pub returns-clause-size : goal.returns-clause-size
 returns-clause-size g c = omega (arith, c.pairs.invariant.short)

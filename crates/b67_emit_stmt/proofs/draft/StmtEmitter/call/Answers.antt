@@ -20,7 +20,7 @@ returns-clause-code g c =
     let k = c.args.c.now in
     let typed = c.is_some.ensures ∙ ap (λ (o : Option Couple). is_some o) c.result_of.ensures in
     on_ok_weaker c.append_dropped.result
-    (λ h sc formats fit.
-    call_part s k.name (exprs k.actuals) (call k) (call_is k) sc formats c.is_some.result c.args.out.now c.call.new.out c.append_dropped.new.out c.in_ok-call.ensures.level typed
+    (λ h sc later fit.
+    call_part s k.name (exprs k.actuals) (call k) (call_is k) sc later c.is_some.result c.args.out.now c.call.new.out c.append_dropped.new.out c.in_ok-call.ensures.level typed
     c.in_ok-call.ensures.code h fit)
     c.append_dropped.ensures.code

@@ -21,8 +21,8 @@ returns-clause-code g c =
     let d = c.value.new.out in
     let q = level_same a b c.in_ok-read.ensures.level in
     on_ok_weaker c.append_plain.result
-    (λ h sc formats name fit.
-    difference_part sc formats (level_set a) c.args.v.now (expr c.args.l.now) a b d c.append_plain.new.out (c.in_ok-read.ensures.code sc types.Number formats name)
-    (value_at c.args.self.now.known.now b d (level_set a) sc formats types.Number (expr c.args.l.now) q c.in_ok-value.ensures.code fit)
+    (λ h sc later name fit.
+    difference_part sc later (level_set a) c.args.v.now (expr c.args.l.now) a b d c.append_plain.new.out (c.in_ok-read.ensures.code sc types.Number later name)
+    (value_at c.args.self.now.known.now b d (level_set a) sc later types.Number (expr c.args.l.now) q c.in_ok-value.ensures.code fit)
     (plain_at kinds.Subt (level_set a) (level_same b d c.in_ok-value.ensures.level ∙ q) h))
     c.append_plain.ensures.code

@@ -19,7 +19,7 @@ pub items-init : goal.items-init
 items-init g c = record {
   level = refl;
   short = omega arith;
-  code = λ sc formats fit. emitted_none c.args.out.now (λ qs. LineAt sc formats qs (level_set c.args.out.now) (exprs (take 0 c.args.items.now)) (size c.args.out.now.operators) (size c.args.out.now.operators)) (λ qs. refl);
+  code = λ sc later fit. emitted_none c.args.out.now (λ qs. LineAt sc later qs (level_set c.args.out.now) (exprs (take 0 c.args.items.now)) (size c.args.out.now.operators) (size c.args.out.now.operators)) (λ qs. refl);
 }
 
 pub value-requires-clause-set : goal.value-requires-clause-set
@@ -59,10 +59,10 @@ items-preserved g c =
     record {
       level = c.in_ok-value.ensures.level ∙ c.items.invariant.level;
       short = omega (arith, ap (λ (l : List Expr). items_syllables c.args.self.now.known.now (exprs l)) more, line_syllables c.args.self.now.known.now (take i xs) x [], c.in_ok-value.ensures.size, c.items.invariant.short);
-      code = λ sc formats fit.
+      code = λ sc later fit.
           let F : List Expr → Type 0 = λ l. LineFits sc s (level_set a) (exprs l) in
-          line_part sc formats (level_set a) (take i xs) x (take (i + 1) xs) a b d more (c.items.invariant.code sc formats fit)
-          (value_at s b d (level_set a) sc formats types.Number (expr x) q c.in_ok-value.ensures.code
+          line_part sc later (level_set a) (take i xs) x (take (i + 1) xs) a b d more (c.items.invariant.code sc later fit)
+          (value_at s b d (level_set a) sc later types.Number (expr x) q c.in_ok-value.ensures.code
           (line_fits sc s (level_set a) (take i xs) x (drop (i + 1) xs) (subst F (around xs i x c.items-test.true c.item-item.is) fit)));
     }
 
@@ -71,9 +71,9 @@ returns-clause-code g c =
     let xs = c.args.items.now in
     let i = c.items.item-index in
     let all : take i xs ≡ xs = take_all i xs c.items-test.false in
-    λ sc formats fit.
-    let E : List Expr → Type 0 = λ l. Emitted c.args.out.now c.items.out (λ qs. LineAt sc formats qs (level_set c.args.out.now) (exprs l) (size c.args.out.now.operators) (size c.items.out.operators)) in
-    subst E all (c.items.invariant.code sc formats fit)
+    λ sc later fit.
+    let E : List Expr → Type 0 = λ l. Emitted c.args.out.now c.items.out (λ qs. LineAt sc later qs (level_set c.args.out.now) (exprs l) (size c.args.out.now.operators) (size c.items.out.operators)) in
+    subst E all (c.items.invariant.code sc later fit)
 
 pub returns-clause-size : goal.returns-clause-size
 returns-clause-size g c =

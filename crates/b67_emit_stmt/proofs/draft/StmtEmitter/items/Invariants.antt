@@ -1,8 +1,7 @@
 use Rattle.std.proofs.Common.{◌≡◌, ◌+◌, ◌≤◌, List, take}
 use Rattle.algol_tree.specs.Image.{exprs}
 use Rattle.b67_emit_stmt.specs.Lengths.{items_syllables}
-use Rattle.b67_emit_stmt.specs.Places.{Place, LineAt}
-use Rattle.b67_segment.specs.declared.code.Format.{Format}
+use Rattle.b67_emit_stmt.specs.Places.{Later, Place, LineAt}
 use Rattle.b67_segment.specs.Operators.{size}
 use Rattle.b67_segment.specs.Building.{level_set}
 use Rattle.b67_emit_stmt.specs.Fits.{LineFits}
@@ -13,6 +12,6 @@ abbrev pub invariant-items : goal.invariant-items
 invariant-items g l = record {
   level : l.out.level ≡ l.fn.out.level;
   short : size l.out.operators ≤ size l.fn.out.operators + items_syllables l.self.known.now (exprs (take l.item-index l.items));
-  code : (sc : Place) (formats : List Format) → LineFits sc l.self.known.now (level_set l.fn.out) (exprs l.items) →
-      Emitted l.fn.out l.out (λ qs. LineAt sc formats qs (level_set l.fn.out) (exprs (take l.item-index l.items)) (size l.fn.out.operators) (size l.out.operators));
+  code : (sc : Place) (later : Later) → LineFits sc l.self.known.now (level_set l.fn.out) (exprs l.items) →
+      Emitted l.fn.out l.out (λ qs. LineAt sc later qs (level_set l.fn.out) (exprs (take l.item-index l.items)) (size l.fn.out.operators) (size l.out.operators));
 }

@@ -19,7 +19,7 @@ append_reading-requires-clause-seen g c =
 pub returns-clause-code : goal.returns-clause-code
 returns-clause-code g c =
     on_ok_weaker c.append_reading.result
-    (λ h sc k formats fit.
-    read_part sc formats k c.args.v.now c.couple_of.result c.args.out.now c.append_reading.new.out
+    (λ h sc k later fit.
+    read_part sc later k c.args.v.now c.couple_of.result c.args.out.now c.append_reading.new.out
     (read_is sc.scopes (couples c.args.self.now.known.now.names.now) (level_set c.args.out.now) k c.args.v.now c.couple_of.result fit.0 c.couple_of.ensures) h)
     c.append_reading.ensures.code

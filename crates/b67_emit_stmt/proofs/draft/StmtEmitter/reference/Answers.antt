@@ -18,11 +18,11 @@ append_reference-requires-clause-seen g c =
 pub returns-then-is_name-clause-code : goal.returns-then-is_name-clause-code
 returns-then-is_name-clause-code g c =
     on_ok_weaker c.append_plain.result
-    (λ h sc k formats. resolved_place c.args.self.now.known.now c.args.v.now c.left_of.result c.left_of.ensures c.args.out.now c.append_reference.new.out
-    c.in_ok-append_reference.ensures.code sc k formats (sym c.is_name.ensures ∙ c.if-is_name.true) c.append_plain.new.out c.in_ok-append_reference.ensures.level h)
+    (λ h sc k later. resolved_place c.args.self.now.known.now c.args.v.now c.left_of.result c.left_of.ensures c.args.out.now c.append_reference.new.out
+    c.in_ok-append_reference.ensures.code sc k later (sym c.is_name.ensures ∙ c.if-is_name.true) c.append_plain.new.out c.in_ok-append_reference.ensures.level h)
     c.append_plain.ensures.code
 
 pub returns-else-is_name-clause-code : goal.returns-else-is_name-clause-code
-returns-else-is_name-clause-code g c sc k formats =
+returns-else-is_name-clause-code g c sc k later =
     own_place c.args.self.now.known.now c.args.v.now c.left_of.result c.left_of.ensures c.args.out.now c.append_reference.new.out c.in_ok-append_reference.ensures.code
-    sc k formats (sym c.is_name.ensures ∙ c.if-is_name.false)
+    sc k later (sym c.is_name.ensures ∙ c.if-is_name.false)

@@ -45,10 +45,10 @@ returns-clause-code g c =
     let three : length (spelling (size x.operators) (level_set x) (ops.Lt16 place)) ≡ 3 = refl in
     let N : ℤ → Type 0 = λ v. Emitted d x (λ qs. NumberAt qs level v (size d.operators) (size x.operators)) in
     on_ok_two c.append_plain.result
-    (λ h wide sc formats fit.
-    select_part sc formats level many e a b d x y z place (omega (arith, c.place-table.ensures, three, c.in_ok-append_operator.ensures.size, wide))
+    (λ h wide sc later fit.
+    select_part sc later level many e a b d x y z place (omega (arith, c.place-table.ensures, three, c.in_ok-append_operator.ensures.size, wide))
     (omega (arith, c.place-table.ensures, c.in_ok-append_number.ensures.size, c.in_ok-value.ensures.size, c.in_ok-append_intrinsic.ensures.size, c.requires.room))
-    c.in_ok-append_intrinsic.ensures.code (value_at s b d level sc formats types.Number e q c.in_ok-value.ensures.code fit)
+    c.in_ok-append_intrinsic.ensures.code (value_at s b d level sc later types.Number e q c.in_ok-value.ensures.code fit)
     (subst N number (leveled (λ l qs. NumberAt qs l c.fitting.result (size d.operators) (size x.operators)) level r c.in_ok-append_number.ensures.code))
     (leveled (λ l qs. Has qs l (size x.operators) (ops.Lt16 place) (size y.operators)) level t c.in_ok-append_operator.ensures.code)
     (plain_at kinds.Entr level u h))

@@ -1,6 +1,5 @@
 use Rattle.std.proofs.Common.{rules, ◌∙◌, ◌+◌, Some, FitsSigned, w64, ap, refl, sym, arith}
 use Rattle.std.proofs.lemmas.Int.{to_z-of_z}
-use Rattle.std.specs.Prelude.{[]}
 use Rattle.std.proofs.lemmas.Result.{on_ok_weaker}
 use Rattle.algol_tree.specs.declared.tree.Kind.TheVariants as types
 use Rattle.algol_tree.specs.Image.{expr}
@@ -10,13 +9,15 @@ use Rattle.b67_emit_stmt.specs.Places.{PastAt, context_in}
 use Rattle.b67_emit_stmt.specs.Lengths.{expr_syllables}
 use Rattle.b67_emit_stmt.specs.declared.draft.Draft.{Draft}
 use Rattle.b67_emit_stmt.proofs.Drafts.{at_level, level_same, piece}
+use Rattle.b67_emit_stmt.proofs.Notes.{unknown}
 use Rattle.b67_emit_stmt.proofs.Parts.{value_at}
 use Rattle.b67_emit_stmt.proofs.Steps.{any_part, literal_part}
 use Rattle.b67_emit_stmt.proofs.draft.StmtEmitter.step.Goals as goal
 
 pub append_past-requires-clause-few : goal.append_past-requires-clause-few
 append_past-requires-clause-few g c =
-    let grown = (c.in_ok-value-in-None.ensures.code.code c.requires.fits.0.scopes (context_in c.requires.fits.0 [] (level_set c.args.to.now.out)) types.Number c.requires.fits.1).grown in omega (arith, c.requires.ready.few, grown)
+    let grown = (c.in_ok-value-in-None.ensures.code.code c.requires.fits.0.scopes (context_in c.requires.fits.0 unknown (level_set c.args.to.now.out)) types.Number c.requires.fits.1).grown in
+    omega (arith, c.requires.ready.few, grown)
 
 pub returns-in-Some-clause-code : goal.returns-in-Some-clause-code
 returns-in-Some-clause-code g c =
@@ -37,7 +38,7 @@ returns-in_ok-value-in-None-clause-code g c =
     (λ h sc fit.
     any_part sc (level_set a.out) a b d (13 + expr_syllables c.args.self.now.known.now (expr c.args.s.now)) (expr c.args.s.now) (omega arith)
     (piece {n = expr_syllables c.args.self.now.known.now (expr c.args.s.now)} {d = a} {e = b} refl refl c.requires.ready.few
-    (λ formats. value_at c.args.self.now.known.now a.out b.out (level_set a.out) sc formats types.Number (expr c.args.s.now) refl c.in_ok-value-in-None.ensures.code fit)
+    (λ later. value_at c.args.self.now.known.now a.out b.out (level_set a.out) sc later types.Number (expr c.args.s.now) refl c.in_ok-value-in-None.ensures.code fit)
     c.in_ok-value-in-None.ensures.size)
-    (at_level (level_set a.out) (λ l formats qs target. PastAt sc formats qs l (size b.out.operators) target (size d.out.operators)) q (h sc)))
+    (at_level (level_set a.out) (λ l later qs target. PastAt sc later qs l (size b.out.operators) target (size d.out.operators)) q (h sc)))
     c.append_past.ensures.code

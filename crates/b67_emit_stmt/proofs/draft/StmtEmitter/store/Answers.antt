@@ -21,7 +21,7 @@ value-requires-clause-code g c =
 pub returns-clause-code : goal.returns-clause-code
 returns-clause-code g c =
     on_ok_weaker c.append_plain.result
-    (λ h sc formats fit.
-    store_part c.args.self.now.known.now sc formats (variable c.args.v.now) (expr c.args.e.now) c.args.out.now c.name.new.out c.value.new.out c.append_plain.new.out c.in_ok-name.ensures.code
+    (λ h sc later fit.
+    store_part c.args.self.now.known.now sc later (variable c.args.v.now) (expr c.args.e.now) c.args.out.now c.name.new.out c.value.new.out c.append_plain.new.out c.in_ok-name.ensures.code
     c.in_ok-name.ensures.level c.in_ok-value.ensures.code c.in_ok-value.ensures.level h fit)
     c.append_plain.ensures.code

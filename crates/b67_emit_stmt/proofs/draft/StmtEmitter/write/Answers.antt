@@ -1,5 +1,6 @@
 use Rattle.std.proofs.Common.{◌≡◌, ◌∙◌, ℕ, ℤ, pos, [], ◌∷◌, ◌++◌, length, refl, sym, ap, subst, arith}
 use Rattle.std.proofs.lemmas.Int.{ints}
+use Rattle.std.proofs.lemmas.List.{append-nil}
 use Rattle.algol_tree.specs.Image.{exprs}
 use Rattle.b67_ops.specs.declared.PlainKind.TheVariants as kinds
 use Rattle.b67_segment.specs.Operators.{size}
@@ -9,9 +10,11 @@ use Rattle.b67_emit_stmt.specs.Fits.{LineFits}
 use Rattle.b67_templates.specs.Fragments.{NumberAt}
 use Rattle.b67_templates.specs.Emitting.{Emitted}
 use Rattle.b67_emit_stmt.specs.declared.draft.Draft.{Draft}
+use Rattle.b67_emit_stmt.specs.Drafts.{spots_of}
 use Rattle.b67_emit_stmt.specs.Lengths.{write_syllables}
 use Rattle.b67_emit_stmt.proofs.Added.{format_is}
 use Rattle.b67_emit_stmt.proofs.Drafts.{level_same}
+use Rattle.b67_emit_stmt.proofs.Notes.{unknown}
 use Rattle.b67_emit_stmt.proofs.Parts.{leveled, plain_at}
 use Rattle.b67_emit_stmt.proofs.Writing.{write_part}
 use Rattle.b67_emit_stmt.proofs.draft.StmtEmitter.write.Goals as goal
@@ -34,14 +37,18 @@ returns-clause-code g c =
     λ sc fit.
     let N : ℤ → Type 0 = λ z. Emitted b.out d.out (λ qs. NumberAt qs level z (size b.out.operators) (size d.out.operators)) in
     let F : ℕ → Type 0 = λ l. LineFits sc s l es in
-    write_part sc level c.args.phrases.now es a b d e f c.in_ok-format.format (write_syllables c.args.self.now.known.now es) refl c.in_ok-push.ensures.items c.requires.ready.few
-    (omega (arith, c.in_ok-append_intrinsic.ensures.size, (c.in_ok-append_number.ensures.code).grown, (c.in_ok-items.ensures.code sc a.formats.items (subst F (sym r) fit.2)).grown, c.in_ok-append_plain.ensures.size))
+    write_part sc level c.args.phrases.now es a b d e f c.in_ok-format.format (write_syllables c.args.self.now.known.now es) refl c.in_ok-push.ensures.items refl c.requires.ready.few
+    (omega (arith, c.in_ok-append_intrinsic.ensures.size, (c.in_ok-append_number.ensures.code).grown, (c.in_ok-items.ensures.code sc unknown (subst F (sym r) fit.2)).grown, c.in_ok-append_plain.ensures.size))
     (omega (arith, c.in_ok-append_intrinsic.ensures.size, c.in_ok-append_number.ensures.size, c.in_ok-items.ensures.size, c.in_ok-append_plain.ensures.size))
     c.in_ok-format.ensures fit.0 (fit.1 c.in_ok-format.format.phrases c.in_ok-format.ensures) c.in_ok-append_intrinsic.ensures.code
     (subst N number (leveled (λ l qs. NumberAt qs l c.fitting.result (size b.out.operators) (size d.out.operators)) level q c.in_ok-append_number.ensures.code))
-    (λ formats. leveled (λ l qs. LineAt sc formats qs l es (size d.out.operators) (size e.out.operators)) level r (c.in_ok-items.ensures.code sc formats (subst F (sym r) fit.2)))
+    (λ later. leveled (λ l qs. LineAt sc later qs l es (size d.out.operators) (size e.out.operators)) level r (c.in_ok-items.ensures.code sc later (subst F (sym r) fit.2)))
     (plain_at kinds.Entr level t c.in_ok-append_plain.ensures.code)
 
 pub returns-clause-lines : goal.returns-clause-lines
 returns-clause-lines g c =
-    c.in_ok-push.ensures.items ∙ ap (λ f. c.args.to.now.formats.items ++ f ∷ []) (format_is c.args.phrases.now c.in_ok-format.format c.in_ok-format.ensures)
+    let a = c.args.to.now in
+    record {
+      formats = c.in_ok-push.ensures.items ∙ ap (λ f. a.formats.items ++ f ∷ []) (format_is c.args.phrases.now c.in_ok-format.format c.in_ok-format.ensures);
+      labels = sym (append-nil (spots_of a.labels.items));
+    }

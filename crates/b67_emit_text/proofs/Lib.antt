@@ -1,0 +1,16 @@
+pub mod Walks
+pub mod Entered
+pub mod Led
+pub mod Spots
+pub mod Tables
+pub mod Paid
+pub mod TextEnds
+pub mod TextSegments
+pub mod TextHeads
+pub mod TextStanding
+pub mod TextTrees
+pub mod TextNumbers
+pub mod TextProgram
+pub mod TextParts
+pub mod TextLines
+pub mod Targeted
