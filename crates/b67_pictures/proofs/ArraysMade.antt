@@ -23,7 +23,7 @@ use Rattle.b67_pictures.proofs.ArraySizes.{HasDimensions, extents_of, has_dimens
 use Rattle.b67_pictures.proofs.ArrayRows.{arrays_rows, arrays_allotted, arrays_descriptors}
 use Rattle.b67_pictures.proofs.MotherRows.{open_apart}
 use Rattle.b67_pictures.proofs.OneArray.{new_cell, hold_still, holds_open}
-use Rattle.b67_pictures.proofs.ArraysInTurn.{made_long, made_both, AreAdded, arrays_added, allotted_many, arrays_are_made}
+use Rattle.b67_pictures.proofs.ArraysInTurn.{made_long, AreAdded, arrays_added, allotted_many, arrays_are_made}
 use Rattle.b67_pictures.proofs.ArrayTotals.{elements_behind, rows_behind, elements_new, rows_new, elements_grow, rows_grow, numbers_left, still_few}
 
 -- ---- lists by number
@@ -103,11 +103,9 @@ module _ (sc : Scopes) (w : World) (lay : Layout) (rows : Rows) (are : ArraysAre
   enough : open_rows rows + length ns * rows_of_bounds bs ≤ row_limit
   enough = omega (arith, are.opened, numbers_left w bs ns are.few (rows_few bs dimensional sized) m.room)
 
-  -- the instance has made all these arrays
-  pub all_made : AreMade (m.declared ++ made_in kind ns pairs) (m.arrays ++ new_arrays kind bs ns) (lay.rows i ++ allotted_new ns bs rows) (m.descriptors ++ descriptors_new ns bs rows)
-  all_made =
-      made_both m.declared m.arrays (lay.rows i) m.descriptors (made_in kind ns pairs) (new_arrays kind bs ns) (allotted_new ns bs rows) (descriptors_new ns bs rows) m.made
-      (arrays_are_made kind pairs bs dimensional sized m.lows ns rows enough)
+  -- the new ones are made as they are declared
+  pub new_made : AreMade (made_in kind ns pairs) (new_arrays kind bs ns) (allotted_new ns bs rows) (descriptors_new ns bs rows)
+  new_made = arrays_are_made kind pairs bs dimensional sized m.lows ns rows enough
 
   added : AreAdded kind bs rows (rows_after ns bs rows) (allotted_new ns bs rows)
   added = arrays_added kind bs dimensional (length ns) rows enough

@@ -1,82 +1,81 @@
 -- The making of arrays: ENTR on ARRAYS, after which PUSH makes cells of the descriptors; or a fault.
-use Rattle.b67_control.specs.Display.{place_at}
-use Rattle.std.proofs.Common.{◌≡◌, ◌≢◌, ◌⊎◌, inl, inr, refl, sym, ap, ◌∙◌, subst, ℕ, ◌+◌, ◌<◌, ◌≤◌, List, [], ◌∷◌, ◌++◌, length, Option, Some, None, Ok, Bool, true, false, arith, length-append}
+use Rattle.std.proofs.Common.{◌≡◌, refl, sym, ap, ◌∙◌, subst, ℕ, ◌≤◌, List, [], ◌∷◌, ◌++◌, length, Option, Some, None, Ok, Bool, true, false, arith}
 use Rattle.std.specs.Prelude.{if◌then◌else◌}
-use Rattle.std.proofs.lemmas.List.{length-reverse, reverse-reverse}
 use Rattle.b67_list.specs.Numbered.{numbered}
 use Rattle.b67_num.specs.declared.FaultKind.{FaultKind}
 use Rattle.b67_num.specs.declared.FaultKind.TheVariants.{ArraySize, CoreFull}
 use Rattle.algol_tree.specs.declared.tree.Kind.{Kind}
 use Rattle.algol_tree.specs.declared.tree.Named.{Named}
 use Rattle.algol_tree.specs.Blocks.{block_numbered}
-use Rattle.algol_tree.specs.Cells.{level_of}
 use Rattle.algol_tree.specs.Plain.{PProgram, PPair}
 use Rattle.algol_tree.specs.Scopes.{Scopes, scopes_of}
 use Rattle.algol_meaning.specs.Value.{Value, Bounds}
 use Rattle.algol_meaning.specs.Arrays.{new_arrays, has_wrong_size, has_no_room, bounds_of}
 use Rattle.algol_meaning.specs.Rest.{Answer, done}
-use Rattle.algol_meaning.specs.World.{Instance, Process, Part, able, World, instance_at, or_no_instance, with_instance, with_process, add_cells}
+use Rattle.algol_meaning.specs.World.{Instance, Process, Part, lives, World, or_no_instance, with_instance, with_process, add_cells, NamedCell}
 use Rattle.algol_meaning.specs.Actions.{MakeArrays}
 use Rattle.algol_meaning.specs.Asks.{Ask, makes_arrays, ask, resume}
 use Rattle.algol_meaning.specs.Choice.{Choice, choice, choice_of, goes, fails}
 use Rattle.algol_paths.specs.Laws.{RestsKeepToTheirText, AllIsMadeInOrder}
-use Rattle.algol_paths.specs.Segments.{segment_of}
-use Rattle.b67_word.specs.declared.Place.{Place}
 use Rattle.b67_word.specs.Word.{Word}
-use Rattle.b67_control.specs.declared.Registers.{Registers}
 use Rattle.b67_ops.specs.declared.Operator.TheVariants as ops
 use Rattle.b67_ops.specs.declared.PlainKind.TheVariants as kinds
 use Rattle.b67_ops.specs.declared.intrinsic.Intrinsic.TheVariants.{Arrays}
 use Rattle.b67_segment.specs.Operators.{Placed}
 use Rattle.b67_segment.specs.declared.code.Code.{Code}
-use Rattle.b67_store.specs.Store.{stack_limit}
-use Rattle.b67_table.specs.declared.ProcessState.TheVariants.{Able}
+use Rattle.b67_pictures.specs.States.{StateIs}
 use Rattle.b67_table.specs.Effect as effects
 use Rattle.b67_table.specs.Ending.{failed}
-use Rattle.b67_table.specs.Image.{Image, with_rows}
-use Rattle.b67_table.specs.Limits.{most_cells, most_arrays}
+use Rattle.b67_table.specs.Image.{Image}
+use Rattle.b67_table.specs.Limits.{most_arrays}
 use Rattle.b67_table.specs.Outcome as outcomes
 use Rattle.b67_table.specs.Private.{frame}
 use Rattle.b67_table.specs.Table.{table, raw, plain, operator_at}
-use Rattle.b67_templates.specs.Programs.{Texts, context_of}
-use Rattle.b67_standing.specs.Stepping.{Slot}
-use Rattle.b67_standing.specs.Standing.{ActionAt, Acted, ComesTo}
-use Rattle.b67_cores.specs.Cores.{Core, size, IsCore, HasCore, with_core}
-use Rattle.b67_cores.specs.Slots.{Known, SlotsAre}
-use Rattle.b67_cores.specs.Stretches.{CoreAt, FragmentsArePerformed, IsAt, Becomes, CellsAreMade}
-use Rattle.b67_faithful.specs.Weight.{weight}
+use Rattle.b67_templates.specs.Cells.{simple_cells}
+use Rattle.b67_templates.specs.Programs.{Texts}
+use Rattle.b67_standing.specs.Stepping.{Slot, intrinsic, mark}
+use Rattle.b67_standing.specs.Standing.{ActionAt, Acted, ComesTo, operands}
+use Rattle.b67_cores.specs.Cores.{Core}
+use Rattle.b67_cores.specs.Stretches.{FragmentsArePerformed, CellsAreMade}
 use Rattle.b67_fitting.specs.Nested.{AreNested}
-use Rattle.b67_faithful.specs.Correspondence.{as_action}
-use Rattle.b67_pictures.specs.Acting.{Does, gave, failed_by, stopped}
-use Rattle.b67_pictures.specs.Arrays.{Layout}
-use Rattle.b67_pictures.specs.Frames.{most_around, IsChained, Frame, run_level}
-use Rattle.b67_pictures.specs.Pictures.{Living, Pictures, PicturesBy}
+use Rattle.b67_pictures.specs.Acting.{Does, failed_by}
+use Rattle.b67_pictures.specs.Arrays.{Layout, Allotted, AreMade, ArraysAre}
+use Rattle.b67_pictures.specs.Frames.{Framed}
+use Rattle.b67_pictures.specs.Pictures.{Pictures}
 use Rattle.b67_pictures.proofs.ArraySizes.{HasDimensions, has_dimensions, bounds_lows}
 use Rattle.b67_pictures.proofs.ArraysGiven.{arrays_given, given_lie, given_fit, given_whole}
-use Rattle.b67_pictures.proofs.ArraysMade.{rows_after}
-use Rattle.b67_pictures.proofs.Calling.{IsCall, call}
-use Rattle.b67_pictures.proofs.Cored.{has_now, others_have, system_stays}
+use Rattle.b67_pictures.proofs.ArraysMade.{rows_after, Makes, allotted_new, descriptors_new, new_made, arrays_after}
+use Rattle.b67_pictures.proofs.Calling.{IsCall, call, IsEntered}
 use Rattle.b67_pictures.proofs.Dispatching.{IsDone}
 use Rattle.b67_pictures.proofs.Homes.{operator_there}
 use Rattle.b67_pictures.proofs.IntrinsicRows.{enter_class}
-use Rattle.b67_pictures.proofs.Landing.{living_of}
 use Rattle.b67_pictures.proofs.MakingFrame as frames
-use Rattle.b67_pictures.proofs.MakingRow.{with_descriptors, size_faults, room_faults, arrays_raw}
-use Rattle.b67_faithful.proofs.Choices.{length_set_numbered}
-use Rattle.b67_pictures.proofs.Numbers.{most_or_more}
+use Rattle.b67_pictures.proofs.MakingRow.{size_faults, room_faults, arrays_raw}
 use Rattle.b67_pictures.proofs.Rows.{action_not_plain, action_is, fault_not_plain}
 use Rattle.b67_pictures.proofs.Scene.{Scene}
-use Rattle.b67_pictures.proofs.Stage.{gives_within, limit_beyond, faults_so, choice_is, goes_on, faulted}
-use Rattle.b67_pictures.proofs.Staying.{text_in, level_in, context_in, most_in, names_in}
-use Rattle.b67_templates.specs.Code.{in_routine}
+use Rattle.b67_pictures.proofs.Stage.{faults_so, choice_is, faulted}
+use Rattle.b67_pictures.proofs.Staying.{text_in, level_in, context_in, most_in}
 use Rattle.algol_meaning.specs.Critical.{is_evaluation}
+use Rattle.algol_paths.specs.Arrays.{Made, made_in, an_array, arrays_in, all_to_make, all_left_to_make}
+use Rattle.b67_pictures.specs.Events.{EventsAre}
+use Rattle.b67_pictures.proofs.EventsKept.{HaveNoEvent, event_in_front, events_replaced}
+use Rattle.b67_pictures.proofs.Lying.{asks_as_own}
+use Rattle.b67_pictures.proofs.MakingAsked.{makes_first}
+use Rattle.b67_pictures.proofs.MakingCells.{none_left, cells_are_made}
+use Rattle.b67_pictures.proofs.Segmented.{length_mapped}
+use Rattle.b67_pictures.proofs.Zeros.{cells_length}
 
-none_left : (sc : Scopes) (known : List Known) (level home base : ℕ) (ws : List Word) → SlotsAre sc known level home base [] ws → ws ≡ []
-none_left sc known level home base [] are = refl
-none_left sc known level home base (w ∷ ws) are = absurd are
+-- there are as many arrays as names
+made_arrays_many : (kind : Kind) (ns : List Named) (pairs : List PPair) → length (made_in kind ns pairs) ≡ length ns
+made_arrays_many kind ns pairs = length_mapped an_array (arrays_in kind ns pairs) ∙ length_mapped (λ (n : Named). record { name = n.name; kind = kind; pairs = pairs }) ns
+
+-- .. and none is an event
+arrays_are_no_events : (kind : Kind) (bs : List Bounds) (ns : List Named) → HaveNoEvent (new_arrays kind bs ns)
+arrays_are_no_events kind bs [] = tt
+arrays_are_no_events kind bs (n ∷ ns) = (tt, arrays_are_no_events kind bs ns)
 
 module _ (tree : PProgram) (code : Code) (texts : Texts) (nested : AreNested (scopes_of tree)) (fragments : FragmentsArePerformed) (cells_made : CellsAreMade) (keeps : RestsKeepToTheirText) (order : AllIsMadeInOrder)
-    (w : World) (lay : Layout) (img : Image) (p : ℕ) (q : Process) (part : Part) (outer : List Part) (bound : ℕ) (core : Core) (s : Scene tree code texts w lay img p q part outer bound core) (able_is : q.state ≡ able) (able_p : numbered img.states p ≡ Some Able)
+    (w : World) (lay : Layout) (img : Image) (p : ℕ) (q : Process) (part : Part) (outer : List Part) (bound : ℕ) (core : Core) (s : Scene tree code texts w lay img p q part outer bound core) (able_is : lives q.state ≡ true) (able_p : StateIs q.state (numbered img.states p))
     (kind : Kind) (ns : List Named) (pairs : List PPair) (vs : List Value) (asks : ask part.rest ≡ makes_arrays kind ns pairs vs)
     (a : ActionAt (scopes_of tree) (context_in tree code texts w part s.stands.frame.gives) (text_in tree texts w part) (level_in tree w part) (most_in tree w part) (makes_arrays kind ns pairs vs) s.stands.pc s.stands.slots)
     (answered : (r : Answer) (at : ℕ) (left : List Slot) → Acted (scopes_of tree) (context_in tree code texts w part s.stands.frame.gives) (text_in tree texts w part) (level_in tree w part) (most_in tree w part) (makes_arrays kind ns pairs vs) s.stands.pc s.stands.slots a r at left →
@@ -105,8 +104,18 @@ module _ (tree : PProgram) (code : Code) (texts : Texts) (nested : AreNested (sc
   dimensional : HasDimensions bs
   dimensional = has_dimensions pairs bs a.1.dimensions (bounds_lows pairs vs a.1.each)
 
+  -- the part has the frame's instance for its own
+  owns : is_evaluation part.purpose ≡ false
+  owns = asks_as_own tree code texts w lay p part outer core.below s.stands.frame (makes_arrays kind ns pairs vs) asks (λ e. e)
+
+  abbrev ms : List Made
+  ms = made_in kind ns pairs
+
+  made_first : all_to_make part.rest ≡ ms ++ all_left_to_make part.rest
+  made_first = makes_first part.rest kind ns pairs vs asks
+
   few_arrays : n ≤ most_arrays
-  few_arrays = frames.few_arrays tree code texts nested keeps order w lay img p q part outer bound core s kind ns pairs vs asks
+  few_arrays = omega (arith, frames.few_made tree code texts nested keeps order w lay img p q part outer bound core s owns ms made_first, made_arrays_many kind ns pairs)
 
   abbrev Called : Type 0
   Called = IsCall tree code texts w lay img p q part outer bound core s Arrays (arrays_given n pairs vs) [] (given_fit n pairs vs a.1.many a.1.lows a.1.highs) (a.1.lies ∙ given_lie n pairs vs)
@@ -126,10 +135,6 @@ module _ (tree : PProgram) (code : Code) (texts : Texts) (nested : AreNested (sc
 
     none : c.others ≡ []
     none = none_left sc s.stands.held level (frame core.registers) (length core.below) c.others (c.after_at made).words_are
-
-    -- the mark lies at the floor
-    floor_is : core.registers.f ≡ length core.below
-    floor_is = omega (arith, c.calls.called.mark_at, ap length none)
 
     -- ---- a fault
 
@@ -155,161 +160,83 @@ module _ (tree : PProgram) (code : Code) (texts : Texts) (nested : AreNested (sc
     -- ---- arrays
 
     module _ (right : has_wrong_size bs ≡ false) (room : has_no_room w bs ns ≡ false) where
-      abbrev part' : Part
-      part' = frames.part' tree code texts nested keeps order w lay img p q part outer bound core s kind ns pairs vs asks
+      abbrev framed : Framed sc w lay p part.instance outer (length s.stands.frame.lower) s.stands.frame.mark s.stands.frame.control s.stands.frame.cells
+      framed = (frames.own_frame tree code texts nested keeps order w lay img p q part outer bound core s owns ms made_first).framed
 
-      abbrev q' : Process
-      q' = frames.q' tree code texts nested keeps order w lay img p q part outer bound core s kind ns pairs vs asks
+      abbrev making_so : Makes sc w lay part.instance kind ns pairs bs
+      making_so =
+          record {
+            instance = framed.instance;
+            is = framed.is;
+            stands = framed.stands;
+            simple = framed.simple;
+            arrays = framed.arrays;
+            has = framed.has;
+            many = cells_length (simple_cells sc (block_numbered sc.blocks framed.instance.block)) framed.simple framed.values framed.simple_are;
+            declared = framed.declared;
+            later = all_left_to_make part.rest;
+            order = frames.ordered tree code texts nested keeps order w lay img p q part outer bound core s owns ms made_first;
+            descriptors = framed.descriptors;
+            made = framed.made;
+            dimensions = a.1.dimensions;
+            lows = bounds_lows pairs vs a.1.each;
+            right = right;
+            room = room;
+          }
 
-      abbrev w' : World
-      w' = frames.w' tree code texts nested keeps order w lay img p q part outer bound core s kind ns pairs vs asks
+      abbrev new_cells : List NamedCell
+      new_cells = new_arrays kind bs ns
 
-      abbrev lay' : Layout
-      lay' = frames.lay' tree code texts nested keeps order w lay img p q part outer bound core s kind ns pairs vs asks
+      abbrev allotted : List Allotted
+      allotted = allotted_new ns bs img.rows
 
       abbrev descriptors : List Word
-      descriptors = frames.descriptors tree code texts nested keeps order w lay img p q part outer bound core s kind ns pairs vs asks
+      descriptors = descriptors_new ns bs img.rows
 
-      descriptors_many : length descriptors ≡ n
-      descriptors_many = frames.descriptors_many tree code texts nested keeps order w lay img p q part outer bound core s kind ns pairs vs asks a.1.dimensions a.1.each right room
+      added : AreMade ms new_cells allotted descriptors
+      added = new_made sc w lay img.rows s.by.arrays part.instance kind ns pairs bs making_so
 
-      block_is : (instance_at w part.instance).block ≡ (instance_at w' part.instance).block
-      block_is = frames.block_is tree code texts nested keeps order w lay img p q part outer bound core s kind ns pairs vs asks
+      entered : IsEntered tree code texts w lay img p q part outer bound core s Arrays (operands (arrays_given n pairs vs) (intrinsic Arrays ∷ mark ∷ [])) [] (a.1.lies ∙ given_lie n pairs vs) c.arguments
+      entered = record { reference = c.reference; marked = c.marked; others = c.others; calls = c.calls; action = c.action; after_at = c.after_at; few = c.few }
+
+      abbrev w' : World
+      w' = frames.w' tree code texts nested keeps order w lay img p q part outer bound core s owns ms made_first new_cells allotted descriptors added
+
+      abbrev lay' : Layout
+      lay' = frames.lay' tree code texts nested keeps order w lay img p q part outer bound core s owns ms made_first new_cells allotted descriptors added
 
       chosen : choice sc w p ≡ record { action = MakeArrays; world = w'; released = []; started = None }
       chosen =
           chosen_by
           ∙ ap (λ (b : Bool). sized b (has_no_room w bs ns)) right
           ∙ ap (sized false) room
-          ∙ ap (λ (o : Option Instance). record { action = MakeArrays; world = with_process (with_instance w part.instance (record (or_no_instance o) { cells = (or_no_instance o).cells ++ new_arrays kind bs ns })) p q'; released = []; started = None })
-          (frames.own_frame tree code texts nested keeps order w lay img p q part outer bound core s kind ns pairs vs asks).framed.is
+          ∙ ap (λ (o : Option Instance). record {
+            action = MakeArrays;
+            world = with_process (with_instance w part.instance (record (or_no_instance o) { cells = (or_no_instance o).cells ++ new_arrays kind bs ns })) p
+                (record q { todo = record part { rest = resume sc part.rest done } ∷ outer });
+            released = [];
+            started = None;
+          }) framed.is
 
-      -- ---- the core after the entry
+      arrays_now : ArraysAre sc w' lay' (rows_after ns bs img.rows)
+      arrays_now =
+          arrays_after sc w lay img.rows s.by.arrays part.instance kind ns pairs bs making_so w' lay' refl
+          (frames.rows_here tree code texts nested keeps order w lay img p q part outer bound core s owns ms made_first new_cells allotted descriptors added)
+          (λ j other. frames.rows_elsewhere tree code texts nested keeps order w lay img p q part outer bound core s owns ms made_first new_cells allotted descriptors added j (λ same. other (sym same)))
 
-      abbrev rows_img : Image
-      rows_img = with_rows img (rows_after ns bs img.rows)
-
-      abbrev new : Core
-      new = with_descriptors core descriptors c.calls.m.df made
-
-      abbrev after : Image
-      after = with_core rows_img p new
-
-      raw_is : raw code img p ≡ effects.gives after
-      raw_is =
-          arrays_raw code img p core s.has made there c.arguments c.reference c.marked c.others none c.calls w ns a.1.some few_arrays bs dimensional (c.wholes ∙ ap (λ zs. Some zs) (given_whole n pairs vs)) s.by.arrays.counted right room
-
-      words_many : length new.words ≡ n
-      words_many = length-reverse descriptors ∙ descriptors_many
-
-      new_core : IsCore new
-      new_core = record { bottom = s.has.is.bottom; top = omega (arith, floor_is, words_many, descriptors_many) }
-
-      has_rows : HasCore rows_img p core
-      has_rows = record { live = s.has.live; registers = s.has.registers; own = s.has.own; stack = s.has.stack; is = s.has.is }
-
-      has_here : HasCore after p new
-      has_here = has_now rows_img p core new has_rows refl new_core
-
-      others : (r : ℕ) (other : Core) → r ≢ p → HasCore img r other → HasCore after r other
-      others r other apart has =
-          others_have rows_img p core new has_rows refl r other apart (record { live = has.live; registers = has.registers; own = has.own; stack = has.stack; is = has.is })
-
-      -- ---- PUSH
-
-      abbrev bound' : ℕ
-      bound' = bound + n
-
-      new_at : IsAt code ps level made new
-      new_at =
-          record {
-            segment = s.stands.there.segment;
-            there = s.stands.there.there;
-            spells = s.stands.there.spells;
-            level_is = s.stands.there.level_is;
-            place_is = refl;
-            is = new_core;
-          }
-
-      cells_few : new.registers.cells + length new.words ≤ most_cells
-      cells_few =
-          omega (
-            arith,
-            words_many,
-            s.stands.counted,
-            frames.few_cells tree code texts nested keeps order w lay img p q part outer bound core s kind ns pairs vs asks,
-          )
-
-      g : Becomes sc [] code ps level bound' a.0 new
-      g = cells_made sc [] code ps level bound' made a.0 new a.1.push new_at (c.after_at made).mark_is cells_few (omega (arith, words_many, s.room))
-
-      below_is : g.core.below ≡ core.below ++ descriptors
-      below_is = g.below ∙ ap (λ (ws : List Word). core.below ++ ws) (reverse-reverse descriptors)
-
-      abbrev frame' : Frame tree code texts w' lay' p part' outer g.core.below
-      frame' = frames.frame' tree code texts nested keeps order w lay img p q part outer bound core s kind ns pairs vs asks a.1.dimensions a.1.each right room g.core.below below_is
-
-      heavier : weight tree w' p ≡ weight tree w p + n
-      heavier = frames.heavier tree code texts nested keeps order w lay img p q part outer bound core s kind ns pairs vs asks a.1.dimensions a.1.each right room
-
-      below_long : length g.core.below ≡ length core.below + n
-      below_long = omega (arith, ap length below_is, length-append core.below descriptors, descriptors_many)
-
-      -- ---- the picture
-
-      living_now : size new ≤ stack_limit → Living tree code texts w' lay' after p q'
-      living_now small =
-          living_of tree code texts w' lay' after fragments p q' part' outer bound' new g.core (record {
-            todo = refl;
-            independent = s.independent;
-            without_task = s.without_task;
-            has = has_here;
-            free = s.free;
-            idle = s.idle;
-            sees = s.sees;
-            small = small;
-            begun = 1;
-            begins = g.steps;
-            frame = frame';
-            around = frames.around' tree code texts nested keeps order w lay img p q part outer bound core s kind ns pairs vs asks a.1.dimensions a.1.each right room;
-            counted = omega (arith, ap (λ (r : Registers). r.cells) g.registers, words_many, s.stands.counted, length-append s.stands.frame.cells descriptors, descriptors_many);
-            chained = subst (λ (d : List (Option Place)). IsChained sc w' lay' part.instance (names_in tree w' part') d) (sym (ap (λ (r : Registers). r.display) g.registers))
-                (subst (λ (j : ℕ). IsChained sc w' lay' part.instance (level_of (block_numbered sc.blocks j)) core.registers.display) block_is
-                (frames.chained tree code texts nested keeps order w lay img p q part outer bound core s kind ns pairs vs asks));
-            top = ap (λ (r : Registers). place_at r.display (level_in tree w' part')) g.registers
-                ∙ ap (λ (j : ℕ). place_at core.registers.display (run_level (is_evaluation part.purpose) (level_of (block_numbered sc.blocks j)))) (sym block_is) ∙ s.stands.top;
-            segment_is = ap (λ (r : Registers). r.segment) g.registers ∙ s.stands.segment_is ∙ ap (λ (j : ℕ). segment_of sc.blocks j) block_is;
-            pc = a.0;
-            slots = [];
-            known = [];
-            known_are = tt;
-            at = subst (λ (j : ℕ). CoreAt sc [] code (texts.placed (segment_of sc.blocks j)) (run_level (is_evaluation part.purpose) (level_of (block_numbered sc.blocks j))) a.0 [] g.core) block_is g.at;
-            held = omega arith;
-            comes = subst (λ (j : ℕ). ComesTo sc (in_routine s.stands.frame.gives (context_of code texts sc j)) (texts.placed (segment_of sc.blocks j)) (run_level (is_evaluation part.purpose) (level_of (block_numbered sc.blocks j))) (most_around tree j) (resume sc part.rest done) a.0 []) block_is
-                (answered done a.0 [] (refl, refl));
-            room = subst (λ (j : ℕ). length g.core.below + most_around tree j ≤ bound') block_is (omega (arith, s.room, below_long));
-            light = omega (arith, s.light, heavier);
-          })
-
-      pictured : size new ≤ stack_limit → PicturesBy tree code texts w' lay' after
-      pictured small =
-          goes_on tree code texts w lay img s.by p q s.at w' lay' after q' refl able_is
-          (s.by.laid ∙ sym (length_set_numbered w.instances part.instance _))
-          (frames.arrays_now tree code texts nested keeps order w lay img p q part outer bound core s kind ns pairs vs asks a.1.dimensions a.1.each right room)
-          (frames.alike tree code texts nested keeps order w lay img p q part outer bound core s kind ns pairs vs asks)
-          s.by.output refl refl refl refl (system_stays img p core new s.has refl q w s.at) able_p others (living_now small)
+      events_now : EventsAre sc w' lay' img.events
+      events_now =
+          events_replaced sc w w' lay lay' part.instance framed.instance (record framed.instance { cells = framed.instance.cells ++ new_arrays kind bs ns }) framed.is refl refl refl
+          (event_in_front framed.instance.cells (new_arrays kind bs ns) (arrays_are_no_events kind bs ns)) (λ j f laid. laid) img.events s.by.events
 
       are_made : Does tree code texts w img p
-      are_made = by_size (most_or_more new.registers.s stack_limit)
-        where
-          by_size : (new.registers.s ≤ stack_limit) ⊎ (stack_limit < new.registers.s) → Does tree code texts w img p
-          by_size (inl small) =
-              let table_is : table code img p ≡ outcomes.gives after = gives_within code img after p new.registers raw_is has_here.registers small in
-              gave after not_plain table_is
-              (action_is code img p core s.has (ops.Plain kinds.Entr) made there (outcomes.gives after) table_is ∙ ap as_action c.action ∙ ap (λ (o : Choice). Some o.action) (sym chosen))
-              (subst (λ (o : Choice). Pictures tree code texts o.world after) (sym chosen) (lay', pictured (omega (arith, small, new_core.top))))
-          by_size (inr long) =
-              stopped not_plain (limit_beyond code img after p new.registers raw_is has_here.registers long) (omega (arith, long, new_core.top, words_many, a.1.room, s.room, s.light))
+      unfolding entered
+      are_made =
+          cells_are_made tree code texts nested fragments cells_made keeps order w lay img p q part outer bound core s able_is able_p owns ms made_first new_cells allotted descriptors added Arrays
+          (operands (arrays_given n pairs vs) (intrinsic Arrays ∷ mark ∷ [])) (a.1.lies ∙ given_lie n pairs vs) c.arguments entered made a.0 a.1.stands a.1.push (answered done a.0 [] (refl, refl))
+          (omega (arith, a.1.room, made_arrays_many kind ns pairs)) (rows_after ns bs img.rows) img.events arrays_now events_now MakeArrays refl
+          (arrays_raw code img p core s.has made there c.arguments c.reference c.marked c.others none c.calls w ns a.1.some few_arrays bs dimensional (c.wholes ∙ ap (λ zs. Some zs) (given_whole n pairs vs)) s.by.arrays.counted right room)
+          chosen
 
     by_sizes : (wrong full : Bool) → has_wrong_size bs ≡ wrong → has_no_room w bs ns ≡ full → Does tree code texts w img p
     by_sizes true full wrong fits = wrong_size wrong

@@ -1,6 +1,6 @@
 -- A block of a statement is entered.
 use Rattle.algol_meaning.specs.Critical.{is_evaluation}
-use Rattle.std.proofs.Common.{◌≡◌, refl, sym, ap, ◌∙◌, subst, ℕ, ◌+◌, ◌-◌, ◌*◌, ◌≤◌, List, [], ◌∷◌, ◌++◌, length, Option, Some, None, Bool, false, not, arith, Ok}
+use Rattle.std.proofs.Common.{◌≡◌, refl, sym, ap, ◌∙◌, subst, ℕ, ◌+◌, ◌-◌, ◌*◌, ◌≤◌, List, [], ◌∷◌, ◌++◌, length, Option, Some, None, Bool, false, not, arith, Ok, true}
 use Rattle.std.specs.Prelude.{if◌then◌else◌, slice_get}
 use Rattle.b67_list.specs.Numbered.{numbered}
 use Rattle.algol_tree.specs.declared.token.Spot.{Spot}
@@ -12,8 +12,8 @@ use Rattle.algol_tree.specs.Cells.{level_of}
 use Rattle.algol_tree.specs.Scopes.{Scopes, scopes_of}
 use Rattle.algol_meaning.specs.Rest.{Item, Answer, entered}
 use Rattle.algol_meaning.specs.Value.{Cell}
-use Rattle.algol_meaning.specs.World.{Process, Part, block, able, World, instance_at}
-use Rattle.algol_meaning.specs.Statements.{settle_items, decls_items, items}
+use Rattle.algol_meaning.specs.World.{Process, Part, block, lives, World, instance_at}
+use Rattle.algol_meaning.specs.Statements.{settle_items, decls_items, items, items_of}
 use Rattle.algol_meaning.specs.Asks.{Ask, nothing, enters_block, ask, resume}
 use Rattle.algol_meaning.specs.Choice.{choice_of}
 use Rattle.algol_paths.specs.Blocks.{IsSeen, IsSeenAround, IsInner}
@@ -29,21 +29,21 @@ use Rattle.b67_ops.specs.declared.PlainKind.TheVariants as kinds
 use Rattle.b67_segment.specs.Operators.{Placed}
 use Rattle.b67_segment.specs.Syllables.{Spells}
 use Rattle.b67_segment.specs.declared.code.Code.{Code}
-use Rattle.b67_table.specs.declared.ProcessState.TheVariants.{Able}
+use Rattle.b67_pictures.specs.States.{StateIs}
 use Rattle.b67_table.specs.Chains.{place}
 use Rattle.b67_table.specs.Image.{Image}
 use Rattle.b67_table.specs.Private.{frame, display_at}
 use Rattle.b67_table.specs.Rows.{level_below}
 use Rattle.b67_templates.specs.Arguments.{arguments_in_decls, arguments_in_stmts}
 use Rattle.b67_templates.specs.Cells.{parameter_cells, result_of, variables, zero_cells, procedures, Actual, actuals_in_block, actuals_of}
-use Rattle.b67_templates.specs.Code.{CellsAt, RoutinesAt, DeclsAt, StmtsAt, in_block, control_pcws}
+use Rattle.b67_templates.specs.Code.{CellsAt, RoutinesAt, DeclsAt, StmtsAt, KAt, in_block, control_pcws}
 use Rattle.b67_templates.proofs.Few.{actuals_are_few}
 use Rattle.b67_templates.specs.Contexts as yielding
 use Rattle.b67_templates.specs.Contexts.{Yields, yields_of, Context}
 use Rattle.b67_templates.specs.Depths.{decls_depth, stmts_depth}
 use Rattle.b67_templates.specs.Fragments.{Has, code_at, stop}
 use Rattle.b67_templates.specs.Programs.{Texts, context_of}
-use Rattle.b67_standing.specs.Laws.{InnerBlocksStart}
+use Rattle.b67_standing.specs.Laws.{InnerBlocksStart, InnerBlocksFollow}
 use Rattle.b67_standing.specs.Stepping.{Slot, control, mark}
 use Rattle.b67_standing.specs.Standing.{ActionAt, Entered, Gives, pushed, ComesTo, EntersAt}
 use Rattle.b67_cores.specs.Cores.{Core}
@@ -78,9 +78,9 @@ use Rattle.b67_table.specs.References.{cell_of}
 use Rattle.b67_pictures.proofs.Lying.{part_own, owned_frame, asks_as_own, runs_at}
 
 module _ (tree : PProgram) (code : Code) (texts : Texts) (nested : LiesNested tree) (short : IsShort tree code)
-    (fragments : FragmentsArePerformed) (begins_so : BlocksBegin) (starts : InnerBlocksStart) (keeps : RestsKeepToTheirText) (order : AllIsMadeInOrder)
+    (fragments : FragmentsArePerformed) (begins_so : BlocksBegin) (starts : InnerBlocksStart) (follow : InnerBlocksFollow) (keeps : RestsKeepToTheirText) (order : AllIsMadeInOrder)
     (w : World) (lay : Layout) (img : Image) (p : ℕ) (q : Process) (part : Part) (outer : List Part) (bound : ℕ) (core : Core)
-    (s : Scene tree code texts w lay img p q part outer bound core) (able_is : q.state ≡ able) (able_p : numbered img.states p ≡ Some Able)
+    (s : Scene tree code texts w lay img p q part outer bound core) (able_is : lives q.state ≡ true) (able_p : StateIs q.state (numbered img.states p))
     (spot : Spot) (ds : PDecls) (ss : PStmts) (asks : ask part.rest ≡ enters_block (body spot ds ss))
     (a : ActionAt (scopes_of tree) (context_in tree code texts w part s.stands.frame.gives) (text_in tree texts w part) (level_in tree w part) (most_in tree w part) (enters_block (body spot ds ss)) s.stands.pc s.stands.slots)
     (waits : (to : ℕ) (after : List Slot) (wanted : Yields) →
@@ -242,6 +242,22 @@ module _ (tree : PProgram) (code : Code) (texts : Texts) (nested : LiesNested tr
       (subst (λ (as' : List Actual). CellsThere (context_of code texts sc j) (texts.placed (segment_of sc.blocks j)) (level_of b) (length (variables ds)) ds as') actuals_are
       (in_text (λ x ps l. CellsThere x ps l (length (variables ds)) ds (actuals_in_block sc ds ss)) at.code.6)))
 
+  -- its declarations, its statements and its end, and what it has to do
+  declarations_there : DeclsAt sc (context_of code texts sc j) (texts.placed (segment_of sc.blocks j)) (level_of b) ds begun declared
+  declarations_there = in_text (λ x ps l. DeclsAt sc x ps l ds begun declared) at.code.7
+
+  statements_there : StmtsAt sc (context_of code texts sc j) (texts.placed (segment_of sc.blocks j)) (level_of b) ss declared end end
+  statements_there = in_text (λ x ps l. StmtsAt sc x ps l ss declared end end) at.code.8
+
+  end_there : Has (texts.placed (segment_of sc.blocks j)) (level_of b) end (ops.Plain kinds.Exit) at.code.4
+  end_there = in_text (λ x ps l. Has ps l end (ops.Plain kinds.Exit) at.code.4) at.code.9
+
+  items_are : items_of b ≡ decls_items ds ++ items ss []
+  items_are =
+      plain_items b is_inner.result
+      ∙ ap (λ (x : PDecls). decls_items x ++ items b.stmts []) is_inner.decls_are
+      ∙ ap (λ (x : PStmts). decls_items ds ++ items x []) is_inner.stmts_are
+
   abbrev block_body : Body tree code texts nested short fragments begins_so keeps order w lay img p q part outer bound core s able_is able_p j at.begin
   block_body =
       record {
@@ -253,14 +269,18 @@ module _ (tree : PProgram) (code : Code) (texts : Texts) (nested : LiesNested tr
               (in_text (λ x ps l. RoutinesAt sc x ps (l + 1) (actuals_in_block sc ds ss) at.code.0) at.code.5),
           controls_fit (texts.placed (segment_of sc.blocks j)) (level_of b) (block_controls sc j at.code.0) cells_there.0 cells_there.1 cells_there.3,
         );
+        items = (
+          begun,
+          subst (λ (k : List Item). KAt sc (context_of code texts sc j) (texts.placed (segment_of sc.blocks j)) (level_of b) k begun) (sym items_are)
+              (follow sc (context_of code texts sc j) (texts.placed (segment_of sc.blocks j)) (level_of b) ds ss begun declared end at.code.4 declarations_there statements_there
+              (ap yields_of is_inner.result) end_there),
+        );
         over = stop;
         cells_at = cells_there;
         comes = subst (λ (k : List Item). ComesTo sc (context_of code texts sc j) (texts.placed (segment_of sc.blocks j)) (level_of b) (most_around tree j) (settle_items sc k) begun [])
-            (sym (plain_items b is_inner.result ∙ ap (λ (x : PDecls). decls_items x ++ items b.stmts []) is_inner.decls_are ∙ ap (λ (x : PStmts). decls_items ds ++ items x []) is_inner.stmts_are))
-            (starts sc (context_of code texts sc j) (texts.placed (segment_of sc.blocks j)) (level_of b) (most_around tree j) ds ss begun declared end at.code.4
-            (in_text (λ x ps l. DeclsAt sc x ps l ds begun declared) at.code.7)
-            (in_text (λ x ps l. StmtsAt sc x ps l ss declared end end) at.code.8) (ap yields_of is_inner.result)
-            (in_text (λ x ps l. Has ps l end (ops.Plain kinds.Exit) at.code.4) at.code.9) (omega (arith, room)));
+            (sym items_are)
+            (starts sc (context_of code texts sc j) (texts.placed (segment_of sc.blocks j)) (level_of b) (most_around tree j) ds ss begun declared end at.code.4 declarations_there statements_there
+            (ap yields_of is_inner.result) end_there (omega (arith, room)));
         small = omega (arith, room);
       }
 

@@ -1,5 +1,5 @@
 -- The call of an intrinsic, by what lies above the floor of the frame.
-use Rattle.std.proofs.Common.{◌≡◌, refl, sym, ap, ◌∙◌, subst, ℕ, ◌+◌, ◌-◌, ◌<◌, ◌≤◌, ◌^◌, List, [], ◌∷◌, ◌++◌, length, Option, Some, None, true, false, arith, lit<, append_assoc, ℤ}
+use Rattle.std.proofs.Common.{◌≡◌, refl, sym, ap, ◌∙◌, subst, ℕ, ◌+◌, ◌-◌, ◌<◌, ◌≤◌, ◌^◌, List, [], ◌∷◌, ◌++◌, length, Option, Some, None, true, false, arith, lit<, append_assoc, length-append, ℤ}
 use Rattle.std.specs.Prelude.{slice_get, reverse}
 use Rattle.std.proofs.lemmas.List.{reverse-append}
 use Rattle.algol_tree.specs.declared.tree.Kind.TheVariants as types
@@ -16,6 +16,7 @@ use Rattle.b67_control.specs.Control.{as_irw, as_sirw, as_mscw, as_pcw}
 use Rattle.b67_control.proofs.ControlLaws.{as_sirw-other, as_pcw-pcw_word, as_mscw-mscw_word, kind_of-pcw_word}
 use Rattle.b67_ops.specs.declared.intrinsic.Intrinsic.{Intrinsic}
 use Rattle.b67_ops.specs.declared.intrinsic.Intrinsic.TheVariants as names
+use Rattle.b67_ops.specs.declared.Couple.{Couple}
 use Rattle.b67_ops.specs.Intrinsics.{number_of, couple_of_intrinsic}
 use Rattle.b67_ops.specs.declared.Operator.TheVariants as ops
 use Rattle.b67_ops.specs.declared.PlainKind.TheVariants as kinds
@@ -101,34 +102,48 @@ number_word (number z) w fits is = number_read z w is
 number_word (truth b) w fits is = absurd fits
 
 module _ (sc : Scopes) (known : List Known) (level home base : ℕ) where
-  -- numbers above other slots: their words, and the other words
-  pub record Given (vs : List Value) (below : List Slot) (all : List Word) : Type 0 where
+  -- slots above others: their words, and the other words
+  pub record Lying (slots below : List Slot) (all : List Word) : Type 0 where
     pub arguments : List Word
     pub others : List Word
     pub is : all ≡ arguments ++ others
     pub are : SlotsAre sc known level home base below others
-    pub wholes : wholes_in (reverse arguments) ≡ Some (wholes_of vs)
-    pub mark_is : newest home base (operands vs below) ≡ newest home base below
-    pub many : length (operands vs below) ≡ length vs + length below
+    pub mark_is : newest home base slots ≡ newest home base below
+    pub many : length slots ≡ length arguments + length below
+
+  -- .. numbers
+  pub record Given (vs : List Value) (below : List Slot) (all : List Word) : Type 0 where
+    pub lying : Lying (operands vs below) below all
+    pub wholes : wholes_in (reverse lying.arguments) ≡ Some (wholes_of vs)
 
   pub given : (vs : List Value) (below : List Slot) (all : List Word) → AreNumbers vs → SlotsAre sc known level home base (operands vs below) all → Given vs below all
-  given [] below all fits are = record { arguments = []; others = all; is = refl; are = are; wholes = refl; mark_is = refl; many = omega arith }
+  given [] below all fits are =
+      record { lying = record { arguments = []; others = all; is = refl; are = are; mark_is = refl; many = omega arith }; wholes = refl }
   given (v ∷ vs) below all fits are =
       let g : Given vs (operand v ∷ below) all = given vs (operand v ∷ below) all fits.1 are in
-      let t : Top sc known level home base (operand v) below g.others = top_slot sc known level home base (operand v ∷ below) (operand v) below g.others g.are refl in
+      let t : Top sc known level home base (operand v) below g.lying.others = top_slot sc known level home base (operand v ∷ below) (operand v) below g.lying.others g.lying.are refl in
       let first : as_whole t.word ≡ Some (whole_of v) = number_word v t.word fits.0 t.slot_is in
       record {
-        arguments = g.arguments ++ t.word ∷ [];
-        others = t.words_below;
-        is = g.is ∙ ap (λ (ws : List Word). g.arguments ++ ws) t.is ∙ sym (append_assoc g.arguments (t.word ∷ []) t.words_below);
-        are = t.are;
+        lying = record {
+          arguments = g.lying.arguments ++ t.word ∷ [];
+          others = t.words_below;
+          is = g.lying.is ∙ ap (λ (ws : List Word). g.lying.arguments ++ ws) t.is ∙ sym (append_assoc g.lying.arguments (t.word ∷ []) t.words_below);
+          are = t.are;
+          mark_is = g.lying.mark_is;
+          many = omega (arith, g.lying.many, length-append g.lying.arguments (t.word ∷ []));
+        };
         wholes =
-            ap wholes_in (reverse-append g.arguments (t.word ∷ []))
-            ∙ ap (λ (o : Option ℤ). joined o (wholes_in (reverse g.arguments))) first
+            ap wholes_in (reverse-append g.lying.arguments (t.word ∷ []))
+            ∙ ap (λ (o : Option ℤ). joined o (wholes_in (reverse g.lying.arguments))) first
             ∙ ap (λ (o : Option (List ℤ)). joined (Some (whole_of v)) o) g.wholes;
-        mark_is = g.mark_is;
-        many = omega (arith, g.many);
       }
+
+  -- .. nothing, or the reference of a cell
+  abbrev pub none_lying : (below : List Slot) (all : List Word) → SlotsAre sc known level home base below all → Lying below below all
+  none_lying below all are = record { arguments = []; others = all; is = refl; are = are; mark_is = refl; many = omega arith }
+
+  abbrev pub one_lying : (couple : Couple) (below : List Slot) (all : List Word) (t : Top sc known level home base (reference couple) below all) → Lying (reference couple ∷ below) below all
+  one_lying couple below all t = record { arguments = t.word ∷ []; others = t.words_below; is = t.is; are = t.are; mark_is = refl; many = omega arith }
 
   -- ---- marks
 
@@ -175,7 +190,7 @@ module _ (sc : Scopes) (known : List Known) (level home base : ℕ) where
 
 module _ (tree : PProgram) (code : Code) (texts : Texts) (w : World) (lay : Layout) (img : Image)
     (p : ℕ) (q : Process) (part : Part) (outer : List Part) (bound : ℕ) (core : Core) (s : Scene tree code texts w lay img p q part outer bound core)
-    (name : Intrinsic) (vs : List Value) (below : List Slot) (fits : AreNumbers vs) (lies : s.stands.slots ≡ operands vs (intrinsic name ∷ mark ∷ below)) where
+    (name : Intrinsic) (slots below : List Slot) (lies : s.stands.slots ≡ slots) where
   abbrev sc : Scopes
   sc = scopes_of tree
 
@@ -185,14 +200,12 @@ module _ (tree : PProgram) (code : Code) (texts : Texts) (w : World) (lay : Layo
   abbrev base : ℕ
   base = length core.below
 
-  -- numbers are the arguments of an intrinsic, and above the mark that gives way nothing else lies
-  pub record IsCall : Type 0 where
-    pub arguments : List Word
+  -- these words are the arguments of an intrinsic, and above the mark that gives way nothing else lies
+  pub record IsEntered (arguments : List Word) : Type 0 where
     pub reference : Word
     pub marked : Word
     pub others : List Word
     pub calls : CallsIntrinsic img core name arguments reference marked others
-    pub wholes : wholes_in (reverse arguments) ≡ Some (wholes_of vs)
     pub action : operator_letter (ops.Plain kinds.Entr) img core.registers ≡ Some (letter_of name)
     pub after_at : (pc : ℕ) → CoreAt sc s.stands.held code (text_in tree texts w part) (level_in tree w part) pc below (without_call core others calls.m.df pc)
     pub few : length below ≤ most_in tree w part
@@ -215,12 +228,12 @@ module _ (tree : PProgram) (code : Code) (texts : Texts) (w : World) (lay : Layo
   entry_lies : word_at img.stacks (record { stack = 0; at = 0 + number_of name }) ≡ Some (intrinsic_pcw (number_of name))
   entry_lies = ap (λ (o : Option (List Word)). slice_get (words_or o) (0 + number_of name)) s.by.system ∙ intrinsic_is.lies
 
-  module _ (g : Given sc s.stands.held (level_in tree w part) home base vs (intrinsic name ∷ mark ∷ below) core.words) (i : Top sc s.stands.held (level_in tree w part) home base (intrinsic name) (mark ∷ below) g.others)
+  module _ (g : Lying sc s.stands.held (level_in tree w part) home base slots (intrinsic name ∷ mark ∷ below) core.words) (i : Top sc s.stands.held (level_in tree w part) home base (intrinsic name) (mark ∷ below) g.others)
       (k : Top sc s.stands.held (level_in tree w part) home base mark below i.words_below) where
     abbrev df : ℕ
     df = base + length below - newest home base below
 
-    many : length s.stands.slots ≡ length vs + (length below + 2)
+    many : length s.stands.slots ≡ length g.arguments + (length below + 2)
     many = ap length lies ∙ g.many ∙ omega arith
 
     room : base + length below + 2 ≤ 2 ^ 16
@@ -322,26 +335,56 @@ module _ (tree : PProgram) (code : Code) (texts : Texts) (w : World) (lay : Layo
           words_are = k.are;
         }
 
-    is_call : IsCall
-    is_call =
+    is_entered : IsEntered g.arguments
+    is_entered =
         record {
-          arguments = g.arguments;
           reference = i.word;
           marked = k.word;
           others = k.words_below;
           calls = calls;
-          wholes = g.wholes;
           action = action_is_called;
           after_at = after_call;
           few = omega (arith, many, s.stands.few);
         }
 
-  pub call : IsCall
-  call =
-      let g : Given sc s.stands.held (level_in tree w part) home base vs (intrinsic name ∷ mark ∷ below) core.words =
-      given sc s.stands.held (level_in tree w part) home base vs (intrinsic name ∷ mark ∷ below) core.words fits (subst (λ (l : List Slot). SlotsAre sc s.stands.held (level_in tree w part) home base l core.words) lies s.stands.there.words_are) in
+  pub entered_with : (g : Lying sc s.stands.held (level_in tree w part) home base slots (intrinsic name ∷ mark ∷ below) core.words) → IsEntered g.arguments
+  entered_with g =
       let i : Top sc s.stands.held (level_in tree w part) home base (intrinsic name) (mark ∷ below) g.others =
       top_slot sc s.stands.held (level_in tree w part) home base (intrinsic name ∷ mark ∷ below) (intrinsic name) (mark ∷ below) g.others g.are refl in
       let k : Top sc s.stands.held (level_in tree w part) home base mark below i.words_below =
       top_slot sc s.stands.held (level_in tree w part) home base (mark ∷ below) mark below i.words_below i.are refl in
-      is_call g i k
+      is_entered g i k
+
+-- numbers are the arguments
+module _ (tree : PProgram) (code : Code) (texts : Texts) (w : World) (lay : Layout) (img : Image)
+    (p : ℕ) (q : Process) (part : Part) (outer : List Part) (bound : ℕ) (core : Core) (s : Scene tree code texts w lay img p q part outer bound core)
+    (name : Intrinsic) (vs : List Value) (below : List Slot) (fits : AreNumbers vs) (lies : s.stands.slots ≡ operands vs (intrinsic name ∷ mark ∷ below)) where
+  pub record IsCall : Type 0 where
+    pub arguments : List Word
+    pub reference : Word
+    pub marked : Word
+    pub others : List Word
+    pub calls : CallsIntrinsic img core name arguments reference marked others
+    pub wholes : wholes_in (reverse arguments) ≡ Some (wholes_of vs)
+    pub action : operator_letter (ops.Plain kinds.Entr) img core.registers ≡ Some (letter_of name)
+    pub after_at : (pc : ℕ) → CoreAt (scopes_of tree) s.stands.held code (text_in tree texts w part) (level_in tree w part) pc below (without_call core others calls.m.df pc)
+    pub few : length below ≤ most_in tree w part
+
+  pub call : IsCall
+  call =
+      let g : Given (scopes_of tree) s.stands.held (level_in tree w part) (frame core.registers) (length core.below) vs (intrinsic name ∷ mark ∷ below) core.words =
+      given (scopes_of tree) s.stands.held (level_in tree w part) (frame core.registers) (length core.below) vs (intrinsic name ∷ mark ∷ below) core.words fits
+      (subst (λ (l : List Slot). SlotsAre (scopes_of tree) s.stands.held (level_in tree w part) (frame core.registers) (length core.below) l core.words) lies s.stands.there.words_are) in
+      let e : IsEntered tree code texts w lay img p q part outer bound core s name (operands vs (intrinsic name ∷ mark ∷ below)) below lies g.lying.arguments =
+      entered_with tree code texts w lay img p q part outer bound core s name (operands vs (intrinsic name ∷ mark ∷ below)) below lies g.lying in
+      record {
+        arguments = g.lying.arguments;
+        reference = e.reference;
+        marked = e.marked;
+        others = e.others;
+        calls = e.calls;
+        wholes = g.wholes;
+        action = e.action;
+        after_at = e.after_at;
+        few = e.few;
+      }

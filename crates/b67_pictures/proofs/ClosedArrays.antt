@@ -11,6 +11,7 @@ use Rattle.algol_meaning.specs.World.{NamedCell, Instance, World, instance_at}
 use Rattle.algol_paths.specs.Arrays.{DeclaredArray, Made, an_array, an_event}
 use Rattle.b67_word.specs.Word.{Word}
 use Rattle.b67_control.specs.declared.Descriptor.{Descriptor}
+use Rattle.b67_control.specs.Control.{as_descriptor}
 use Rattle.b67_store.specs.Store.{Rows, row_at}
 use Rattle.b67_table.specs.Image.{Image, with_rows}
 use Rattle.b67_table.specs.Linkage.{closed_by, array_closed, arrays_closed}
@@ -19,7 +20,7 @@ use Rattle.b67_control.specs.declared.Pcw.{Pcw}
 use Rattle.b67_templates.specs.Cells.{simple_cells, made_of}
 use Rattle.b67_cores.specs.Stretches.{control_words}
 use Rattle.b67_faithful.proofs.Contradictions.{some_same, none_some}
-use Rattle.b67_pictures.specs.Arrays.{Allotted, numbers_of, Layout, IsMade, AreMade, HoldElements, rows_of_cell, rows_of_cells, live_rows, HasArray, HasRow, ArraysAre}
+use Rattle.b67_pictures.specs.Arrays.{Allotted, numbers_of, Layout, IsMade, IsEventMade, AreMade, HoldElements, rows_of_cell, rows_of_cells, live_rows, HasArray, HasRow, ArraysAre}
 use Rattle.b67_pictures.specs.Frames.{block_controls}
 use Rattle.b67_pictures.proofs.ArraysKept.{no_elements, no_rows}
 use Rattle.b67_pictures.proofs.ClosedRows.{Fewer, fewer_again}
@@ -30,6 +31,7 @@ use Rattle.b67_pictures.proofs.Numbers.{same_or_not, numbered_set, numbered_othe
 use Rattle.b67_pictures.proofs.OneClosed.{holds_same, without_array, array_keeps, OneClosed, one_closes}
 use Rattle.b67_pictures.proofs.OwnCells.{OwnCells, framed_cells}
 use Rattle.b67_pictures.proofs.StackWords.{get-front}
+use Rattle.b67_pictures.proofs.Words.{event_describes_nothing}
 use Rattle.b67_pictures.proofs.Zeros.{cells_length}
 
 -- ---- sums
@@ -121,6 +123,20 @@ module _ (sc : Scopes) (w : World) (lay : Layout) (img : Image) (are : ArraysAre
       rest =
           next (λ n none. array_keeps rows a n (λ j e. none k j (omega arith) (row j n e)) ∙ keeps n (λ number j low r. none number j (omega (arith, low)) r))
 
+  -- an event has no rows
+  none_more : (name : List ℕ) (c : NamedCell) (a : Allotted) (word : Word) (cells : List NamedCell) (words : List Word) (rows : Rows) → IsEventMade name c a word → Closes rows cells words → Closes rows (c ∷ cells) (word ∷ words)
+  none_more name c a word cells words rows made rest =
+      record {
+        after = rest.after;
+        changes = λ p next now same.
+            ap (λ (d : Option Descriptor). changed p (closed_by d array_closed (arrays_closed words next)) now) (ap as_descriptor made.word_is ∙ event_describes_nothing) ∙ rest.changes p next now same;
+        fewer = record {
+          counted = omega (arith, rest.fewer.counted, ap size_of_cell made.is);
+          opened = omega (arith, rest.fewer.opened, ap rows_of_cell made.is);
+        };
+        keeps = rest.keeps;
+      }
+
   closes_from : (ds : List Made) (cells : List NamedCell) (as' : List Allotted) (words : List Word) (k : ℕ) (rows : Rows) → AreMade ds cells as' words →
       ((n : ℕ) → IsNone k n → row_at rows n ≡ row_at img.rows n) →
       ((n m : ℕ) (d : DeclaredArray) → m ≡ k + n → slice_get ds n ≡ Some (an_array d) → slice_get (made_of (block_numbered sc.blocks x.block).decls) m ≡ Some (an_array d)) →
@@ -139,7 +155,10 @@ module _ (sc : Scopes) (w : World) (lay : Layout) (img : Image) (are : ArraysAre
   closes_from (d ∷ ds) [] as' words k rows made keeps declares lie allots = absurd made
   closes_from (d ∷ ds) (c ∷ cells) [] words k rows made keeps declares lie allots = absurd made
   closes_from (d ∷ ds) (c ∷ cells) (a ∷ as') [] k rows made keeps declares lie allots = absurd made
-  closes_from (an_event name ∷ ds) (c ∷ cells) (a ∷ as') (word ∷ words) k rows made keeps declares lie allots = absurd made.0
+  closes_from (an_event name ∷ ds) (c ∷ cells) (a ∷ as') (word ∷ words) k rows made keeps declares lie allots =
+      none_more name c a word cells words rows made.0
+      (closes_from ds cells as' words (k + 1) rows made.1 (λ n none. keeps n (λ number j low r. none number j (omega (arith, low)) r)) (λ n m e far there. declares (suc n) m e (omega (arith, far)) there)
+      (λ n m e far there. lie (suc n) m e (omega (arith, far)) there) (λ n m e far there. allots (suc n) m e (omega (arith, far)) there))
   closes_from (an_array d ∷ ds) (c ∷ cells) (a ∷ as') (word ∷ words) k rows made keeps declares lie allots =
       one_more d c a word cells words k rows made.0 keeps
       (record {

@@ -1,6 +1,7 @@
 -- The law of the crate: a code in which a program stands whose blocks lie in one another, and which is short and can be listed, is faithful to it.
 use Rattle.algol_tree.specs.Plain.{PProgram}
 use Rattle.algol_tree.specs.Scopes.{scopes_of}
+use Rattle.algol_paths.proofs.Jumps.{jumps_keep_to_their_text}
 use Rattle.algol_paths.proofs.Making.{all_is_made_in_order}
 use Rattle.algol_paths.proofs.Rests.{rests_keep_to_their_text}
 use Rattle.b67_segment.specs.declared.code.Code.{Code}
@@ -13,7 +14,8 @@ use Rattle.b67_pictures.proofs.ClosedArrays.{frames_close}
 use Rattle.b67_pictures.proofs.ArraysMaking.{making_done}
 use Rattle.b67_pictures.proofs.TouchingApart.{processes_apart}
 use Rattle.b67_pictures.proofs.ElementActions.{element_read_done, index_done, element_store_done, passing_done}
-use Rattle.b67_pictures.proofs.Joining.{ArraysAreDone, nested_programs_follow}
+use Rattle.b67_pictures.proofs.EventActions.{event_made_done, event_told_done, event_acted_done, event_freed_done}
+use Rattle.b67_pictures.proofs.Joining.{ArraysAreDone, EventsAreDone, nested_programs_follow}
 
 -- what is done with arrays: the picture is kept
 arrays_done : (tree : PProgram) (code : Code) (texts : Texts) → AreNested (scopes_of tree) → ArraysAreDone tree code texts
@@ -26,8 +28,18 @@ arrays_done tree code texts nested =
       making = making_done tree code texts nested fragments_are_performed cells_are_made rests_keep_to_their_text all_is_made_in_order;
     }
 
+-- what is done with events: it is kept, too
+events_done : (tree : PProgram) (code : Code) (texts : Texts) → AreNested (scopes_of tree) → EventsAreDone tree code texts
+events_done tree code texts nested =
+    record {
+      making = event_made_done tree code texts nested fragments_are_performed rests_keep_to_their_text all_is_made_in_order cells_are_made;
+      telling = event_told_done tree code texts nested fragments_are_performed rests_keep_to_their_text all_is_made_in_order;
+      acting = event_acted_done tree code texts nested fragments_are_performed rests_keep_to_their_text all_is_made_in_order;
+      freeing = event_freed_done tree code texts nested fragments_are_performed rests_keep_to_their_text all_is_made_in_order;
+    }
+
 pub nested_programs_are_faithful : NestedProgramsAreFaithful
 nested_programs_are_faithful =
-    nested_programs_follow rests_keep_to_their_text all_is_made_in_order frames_close
+    nested_programs_follow rests_keep_to_their_text all_is_made_in_order jumps_keep_to_their_text frames_close
     processes_apart
-    (λ tree code at lies short. arrays_done tree code at.texts lies.nested)
+    (λ tree code at lies short. arrays_done tree code at.texts lies.nested) (λ tree code at lies. events_done tree code at.texts lies.nested)

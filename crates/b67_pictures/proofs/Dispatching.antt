@@ -3,6 +3,7 @@ use Rattle.std.proofs.Common.{◌≡◌, refl, ap, ℕ, zero, suc, ◌+◌, ◌<
 use Rattle.std.specs.Prelude.{if◌then◌else◌}
 use Rattle.b67_list.specs.Numbered.{numbered}
 use Rattle.algol_tree.specs.declared.TheConstants.{MOST_BLOCK_CELLS, MOST_LEVEL}
+use Rattle.algol_tree.specs.declared.tree.EventAct.{EventAct}
 use Rattle.algol_tree.specs.declared.tree.Kind.{Kind}
 use Rattle.algol_tree.specs.declared.tree.Named.{Named}
 use Rattle.algol_tree.specs.declared.tree.PhraseText.{PhraseText}
@@ -13,12 +14,12 @@ use Rattle.algol_tree.specs.Scopes.{Scopes, scopes_of, use_of}
 use Rattle.algol_tree.specs.Sorts.{same_name}
 use Rattle.algol_meaning.specs.Value.{Value, Reference}
 use Rattle.algol_meaning.specs.Rest.{Place, own, there, element_of, Given, Answer, done, value, cell, place, entered}
-use Rattle.algol_meaning.specs.World.{Instance, Process, Part, able, World, or_no_instance}
+use Rattle.algol_meaning.specs.World.{Instance, Process, Part, lives, World, or_no_instance}
 use Rattle.algol_meaning.specs.Asks.{Ask, nothing, reads, reads_element, indexes, asks_happened, fails, enters, passes, resolves, reads_result, leaves, stores, selects, turns, goes_to, enters_block, starts, acts, writes, makes_arrays, makes_event, ask, resume}
 use Rattle.algol_paths.specs.Laws.{RestsKeepToTheirText, AllIsMadeInOrder}
 use Rattle.b67_ops.specs.declared.Couple.{Couple}
 use Rattle.b67_segment.specs.declared.code.Code.{Code}
-use Rattle.b67_table.specs.declared.ProcessState.TheVariants.{Able}
+use Rattle.b67_pictures.specs.States.{StateIs}
 use Rattle.b67_table.specs.Image.{Image}
 use Rattle.b67_templates.specs.Contexts.{Yields}
 use Rattle.b67_templates.specs.Cells.{Simple, Found, found_from, simple_cells, IsVariable, IsRead, of_variable, of_formal}
@@ -90,10 +91,10 @@ module _ (tree : PProgram) (code : Code) (texts : Texts) where
   abbrev pub IsDone : Ask → Type 0
   IsDone k =
       (w : World) (lay : Layout) (img : Image) (p : ℕ) (q : Process) (part : Part) (outer : List Part) (bound : ℕ) (core : Core) (s : Scene tree code texts w lay img p q part outer bound core) →
-      q.state ≡ able → numbered img.states p ≡ Some Able → ask part.rest ≡ k → GoesOnFrom w lay img p q part outer bound core s k
+      lives q.state ≡ true → StateIs q.state (numbered img.states p) → ask part.rest ≡ k → GoesOnFrom w lay img p q part outer bound core s k
 
-  -- a line, the choice of a statement, the entry of a block or of a procedure, what is done with arrays, the leaving of a block, of a procedure, or
-  -- of an evaluation, the end
+  -- a line, the choice of a statement, the entry of a block or of a procedure, what is done with arrays and events, the leaving of a block, of a
+  -- procedure, or of an evaluation, the end, GO TO
   pub record OthersAreDone : Type 0 where
     pub writing : (phrases : List PhraseText) (vs : List Value) → IsDone (writes phrases vs)
     pub selecting : (v : Value) (ss : PStmts) → IsDone (selects v ss)
@@ -104,12 +105,16 @@ module _ (tree : PProgram) (code : Code) (texts : Texts) where
     pub storing : (r : Reference) (ks : List ℕ) (v : Value) → IsDone (stores (element_of r ks) v)
     pub passing : (n : Named) → IsDone (passes n)
     pub making : (kind : Kind) (ns : List Named) (pairs : List PPair) (vs : List Value) → IsDone (makes_arrays kind ns pairs vs)
+    pub making_event : (n : Named) → IsDone (makes_event n)
+    pub telling : (n : Named) → IsDone (asks_happened n)
+    pub acting : (x : EventAct) (n : Named) → IsDone (acts x n)
     pub leaving : IsDone (leaves done)
     pub returning : (v : Value) → IsDone (leaves (value v))
     pub placing : (x : Place) → IsDone (leaves (place x))
+    pub going : (n : Named) → IsDone (goes_to n)
 
   module _ (lies : LiesNested tree) (actuals : ActualsAreEntered tree code texts) (fragments : FragmentsArePerformed) (keeps : RestsKeepToTheirText) (order : AllIsMadeInOrder) (rests : RestsGoOn) (others : OthersAreDone) (w : World) (lay : Layout) (img : Image)
-      (p : ℕ) (q : Process) (part : Part) (outer : List Part) (bound : ℕ) (core : Core) (s : Scene tree code texts w lay img p q part outer bound core) (able_is : q.state ≡ able) (able_p : numbered img.states p ≡ Some Able) where
+      (p : ℕ) (q : Process) (part : Part) (outer : List Part) (bound : ℕ) (core : Core) (s : Scene tree code texts w lay img p q part outer bound core) (able_is : lives q.state ≡ true) (able_p : StateIs q.state (numbered img.states p)) where
     abbrev IsReadThere : Named → Type 0
     IsReadThere n = ActionAt (scopes_of tree) (context_in tree code texts w part s.stands.frame.gives) (text_in tree texts w part) (level_in tree w part) (most_in tree w part) (reads n) s.stands.pc s.stands.slots
 
@@ -158,7 +163,7 @@ module _ (tree : PProgram) (code : Code) (texts : Texts) where
     by_ask nothing e a answered waits returns = absurd a
     by_ask (reads_element n ks v) e a answered waits returns = others.reading n ks v w lay img p q part outer bound core s able_is able_p e a answered waits returns
     by_ask (indexes n ks v) e a answered waits returns = others.indexing n ks v w lay img p q part outer bound core s able_is able_p e a answered waits returns
-    by_ask (asks_happened n) e a answered waits returns = absurd a
+    by_ask (asks_happened n) e a answered waits returns = others.telling n w lay img p q part outer bound core s able_is able_p e a answered waits returns
     by_ask (enters n gs) e a answered waits returns = others.calling n gs w lay img p q part outer bound core s able_is able_p e a answered waits returns
     by_ask (passes n) e a answered waits returns = others.passing n w lay img p q part outer bound core s able_is able_p e a answered waits returns
     by_ask (resolves n) e a answered waits returns =
@@ -166,11 +171,11 @@ module _ (tree : PProgram) (code : Code) (texts : Texts) where
         (evaluating_place tree code texts lies actuals fragments keeps order w lay img p q part outer bound core s able_is able_p n e a waits returns)
     by_ask (reads_result name) e a answered waits returns =
         reading_result tree code texts lies.nested fragments keeps order w lay img p q part outer bound core s able_is able_p name e a answered
-    by_ask (goes_to n) e a answered waits returns = absurd a
+    by_ask (goes_to n) e a answered waits returns = others.going n w lay img p q part outer bound core s able_is able_p e a answered waits returns
     by_ask (starts n gs task) e a answered waits returns = absurd a
-    by_ask (acts x n) e a answered waits returns = absurd a
+    by_ask (acts x n) e a answered waits returns = others.acting x n w lay img p q part outer bound core s able_is able_p e a answered waits returns
     by_ask (makes_arrays kind ns pairs vs) e a answered waits returns = others.making kind ns pairs vs w lay img p q part outer bound core s able_is able_p e a answered waits returns
-    by_ask (makes_event n) e a answered waits returns = absurd a
+    by_ask (makes_event n) e a answered waits returns = others.making_event n w lay img p q part outer bound core s able_is able_p e a answered waits returns
 
     -- whatever its head asks for
     pub scene_does : Does tree code texts w img p

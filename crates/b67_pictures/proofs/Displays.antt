@@ -12,7 +12,7 @@ use Rattle.b67_table.specs.Look.{Look, found, ◌>->◌, chained, read_as, seen}
 use Rattle.b67_table.specs.Chains.{place, broken, mark_at, control_at, link_of, if_own, links, linked, rebuilt}
 use Rattle.b67_pictures.proofs.StoreRow.{most_is}
 
-same_is : (m n : ℕ) → m ≡ n → (m == n) ≡ true
+pub same_is : (m n : ℕ) → m ≡ n → (m == n) ≡ true
 same_is m n h = grind (arith, nat_tests)
 
 -- a mark that is entered and linked to its home

@@ -9,7 +9,7 @@ use Rattle.algol_tree.specs.Scopes.{Scopes, scopes_of, use_of}
 use Rattle.algol_meaning.specs.Value.{Value, whole_of, Reference, Cell}
 use Rattle.algol_meaning.specs.Arrays.{subscript_place, element_at}
 use Rattle.algol_meaning.specs.Rest.{Answer, value}
-use Rattle.algol_meaning.specs.World.{Process, Part, able, World, cell_at, followed, array_in}
+use Rattle.algol_meaning.specs.World.{Process, Part, lives, World, cell_at, followed, array_in}
 use Rattle.algol_meaning.specs.Actions.{ElementRead, Fault}
 use Rattle.algol_meaning.specs.Asks.{Ask, reads_element, ask, resume}
 use Rattle.algol_meaning.specs.Choice.{Choice, choice, choice_of, element_read, element_read_at, here}
@@ -21,7 +21,7 @@ use Rattle.b67_segment.specs.declared.code.Code.{Code}
 use Rattle.b67_control.specs.declared.Descriptor.{Descriptor}
 use Rattle.b67_store.specs.Store.{Row, row_at}
 use Rattle.b67_table.specs.Arrays.{index_in}
-use Rattle.b67_table.specs.declared.ProcessState.TheVariants.{Able}
+use Rattle.b67_pictures.specs.States.{StateIs}
 use Rattle.b67_table.specs.Ending.{failed}
 use Rattle.b67_table.specs.Image.{Image}
 use Rattle.b67_table.specs.Effect as effects
@@ -55,7 +55,7 @@ use Rattle.b67_pictures.proofs.Words.{value_tag}
 
 module _ (tree : PProgram) (code : Code) (texts : Texts) (nested : AreNested (scopes_of tree)) (fragments : FragmentsArePerformed) (keeps : RestsKeepToTheirText) (order : AllIsMadeInOrder)
     (w : World) (lay : Layout) (img : Image) (p : ℕ) (q : Process) (part : Part) (outer : List Part) (bound : ℕ) (core : Core) (s : Scene tree code texts w lay img p q part outer bound core)
-    (able_is : q.state ≡ able) (able_p : numbered img.states p ≡ Some Able) (n : Named) (ks : List ℕ) (v : Value) (asks : ask part.rest ≡ reads_element n ks v)
+    (able_is : lives q.state ≡ true) (able_p : StateIs q.state (numbered img.states p)) (n : Named) (ks : List ℕ) (v : Value) (asks : ask part.rest ≡ reads_element n ks v)
     (a : ActionAt (scopes_of tree) (context_in tree code texts w part s.stands.frame.gives) (text_in tree texts w part) (level_in tree w part) (most_in tree w part) (reads_element n ks v) s.stands.pc s.stands.slots)
     (answered : (r : Answer) (at : ℕ) (after : List Slot) →
     Acted (scopes_of tree) (context_in tree code texts w part s.stands.frame.gives) (text_in tree texts w part) (level_in tree w part) (most_in tree w part) (reads_element n ks v) s.stands.pc s.stands.slots a r at after →

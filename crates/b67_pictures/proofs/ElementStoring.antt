@@ -1,7 +1,7 @@
 -- A store to an element.
 use Rattle.b67_table.specs.Chains.{place}
 use Rattle.b67_control.specs.Display.{place_at}
-use Rattle.std.proofs.Common.{◌≡◌, ◌≢◌, refl, sym, ap, ◌∙◌, subst, ℕ, suc, ◌+◌, ◌≤◌, List, [], ◌∷◌, ◌++◌, length, Option, Some, None, Ok, arith}
+use Rattle.std.proofs.Common.{◌≡◌, ◌≢◌, refl, sym, ap, ◌∙◌, subst, ℕ, suc, ◌+◌, ◌≤◌, List, [], ◌∷◌, ◌++◌, length, Option, Some, None, Ok, arith, true}
 use Rattle.b67_list.specs.Numbered.{numbered}
 use Rattle.algol_tree.specs.declared.tree.Kind.{Kind}
 use Rattle.algol_tree.specs.Blocks.{block_numbered}
@@ -11,7 +11,7 @@ use Rattle.algol_tree.specs.Scopes.{Scopes, scopes_of}
 use Rattle.algol_meaning.specs.Value.{Value, Reference, ArrayCell, Cell, array}
 use Rattle.algol_meaning.specs.Arrays.{with_element, flat}
 use Rattle.algol_meaning.specs.Rest.{Answer, done, element_of}
-use Rattle.algol_meaning.specs.World.{NamedCell, Instance, Process, Part, able, World, instance_at, or_no_instance, with_instance, with_process, set_cell, cell_in, cells_with, array_in}
+use Rattle.algol_meaning.specs.World.{NamedCell, Instance, Process, Part, lives, World, instance_at, or_no_instance, with_instance, with_process, set_cell, cell_in, cells_with, array_in}
 use Rattle.algol_meaning.specs.Actions.{ElementStore}
 use Rattle.algol_meaning.specs.Asks.{Ask, stores, ask, resume}
 use Rattle.algol_meaning.specs.Choice.{Choice, choice, choice_of, goes}
@@ -24,7 +24,7 @@ use Rattle.b67_ops.specs.declared.PlainKind.TheVariants as kinds
 use Rattle.b67_segment.specs.Operators.{Placed}
 use Rattle.b67_segment.specs.declared.code.Code.{Code}
 use Rattle.b67_store.specs.Store.{Rows, stack_limit, with_row_word}
-use Rattle.b67_table.specs.declared.ProcessState.TheVariants.{Able}
+use Rattle.b67_pictures.specs.States.{StateIs}
 use Rattle.b67_table.specs.Effect as effects
 use Rattle.b67_table.specs.Image.{Image, with_rows}
 use Rattle.b67_table.specs.Outcome as outcomes
@@ -77,10 +77,11 @@ use Rattle.b67_pictures.proofs.Words.{value_tag}
 use Rattle.b67_templates.specs.Code.{in_routine}
 use Rattle.b67_templates.specs.Contexts.{Yields}
 use Rattle.algol_meaning.specs.Critical.{is_evaluation}
+use Rattle.b67_pictures.proofs.EventsKept.{event_before, events_replaced}
 
 module _ (tree : PProgram) (code : Code) (texts : Texts) (fragments : FragmentsArePerformed) (kept : RestsKeepToTheirText) (order : AllIsMadeInOrder) (w : World) (lay : Layout) (img : Image)
     (p : ℕ) (q : Process) (part : Part) (outer : List Part) (bound : ℕ) (core : Core) (s : Scene tree code texts w lay img p q part outer bound core)
-    (able_is : q.state ≡ able) (able_p : numbered img.states p ≡ Some Able) (r : Reference) (ks : List ℕ) (v : Value) (asks : ask part.rest ≡ stores (element_of r ks) v)
+    (able_is : lives q.state ≡ true) (able_p : StateIs q.state (numbered img.states p)) (r : Reference) (ks : List ℕ) (v : Value) (asks : ask part.rest ≡ stores (element_of r ks) v)
     (a : ActionAt (scopes_of tree) (context_in tree code texts w part s.stands.frame.gives) (text_in tree texts w part) (level_in tree w part) (most_in tree w part) (stores (element_of r ks) v) s.stands.pc s.stands.slots)
     (answered : (x : Answer) (at : ℕ) (left : List Slot) →
     Acted (scopes_of tree) (context_in tree code texts w part s.stands.frame.gives) (text_in tree texts w part) (level_in tree w part) (most_in tree w part) (stores (element_of r ks) v) s.stands.pc s.stands.slots a x at left →
@@ -330,8 +331,8 @@ module _ (tree : PProgram) (code : Code) (texts : Texts) (fragments : FragmentsA
     has' : HasCore img' p core
     has' = with_other_rows p core s.has
 
-    lives : Living tree code texts w' lay after p q'
-    lives =
+    living : Living tree code texts w' lay after p q'
+    living =
         living_of tree code texts w' lay after fragments p q' part' outer bound new new (record {
           todo = refl;
           independent = s.independent;
@@ -378,8 +379,9 @@ module _ (tree : PProgram) (code : Code) (texts : Texts) (fragments : FragmentsA
     pictured : PicturesBy tree code texts w' lay after
     pictured =
         goes_on tree code texts w lay img s.by p q s.at w' lay after q' refl able_is
-        (s.by.laid ∙ sym (length_set_numbered w.instances i (changed w i instance instance_there cells'))) arrays_after alike s.by.output refl refl refl refl
-        (system_stays img' p core new has' refl q w s.at) able_p (λ m other apart has_it. others_have img' p core new has' refl m other apart (with_other_rows m other has_it)) lives
+        (s.by.laid ∙ sym (length_set_numbered w.instances i (changed w i instance instance_there cells'))) arrays_after
+        (events_replaced sc w w' lay lay i instance (changed w i instance instance_there cells') instance_there refl refl refl (event_before instance.cells r.name (array later) tt) (λ j f laid. laid) img.events s.by.events) alike s.by.output refl refl refl refl
+        (system_stays img' p core new has' refl q w s.at) able_p (λ m other apart has_it. others_have img' p core new has' refl m other apart (with_other_rows m other has_it)) living
 
     does : Does tree code texts w img p
     does =
@@ -387,7 +389,7 @@ module _ (tree : PProgram) (code : Code) (texts : Texts) (fragments : FragmentsA
         gives_within code img after p new.registers raw_is (registers_now img' p core new has' refl) (omega (arith, smaller, is_new.top)) in
         gave after (action_not_plain code img p core s.has (ops.Plain kinds.Stod) next there (stored_class core.registers.place)) is
         (action_is code img p core s.has (ops.Plain kinds.Stod) next there (outcomes.gives after) is ∙ ap as_action stored_here ∙ ap (λ (c : Choice). Some c.action) (sym chosen))
-        (lay, subst (λ (c : Choice). PicturesBy tree code texts c.world lay after) (sym chosen) pictured)
+        (λ able_now. (lay, subst (λ (c : Choice). PicturesBy tree code texts c.world lay after) (sym chosen) pictured))
 
   pub element_storing : Does tree code texts w img p
   element_storing =

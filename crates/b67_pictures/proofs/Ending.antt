@@ -1,5 +1,5 @@
 -- The end of a process: its last part is left, and nothing else changes.
-use Rattle.std.proofs.Common.{◌≡◌, ◌≢◌, refl, sym, ap, ◌∙◌, subst, ℕ, zero, suc, ◌≤◌, List, [], ◌∷◌, ◌++◌, length, Option, Some, None, Bool, true, Ok, arith, false}
+use Rattle.std.proofs.Common.{◌≡◌, ◌≢◌, refl, sym, ap, ◌∙◌, subst, ℕ, zero, suc, ◌≤◌, List, [], ◌∷◌, ◌++◌, length, Option, Some, None, Bool, true, Ok, arith, false, ◌⊎◌, inl, inr}
 use Rattle.std.specs.Prelude.{if◌then◌else◌}
 use Rattle.b67_list.specs.Numbered.{numbered}
 use Rattle.algol_tree.specs.Plain.{PProgram}
@@ -19,9 +19,10 @@ use Rattle.b67_control.specs.declared.Registers.{Registers}
 use Rattle.b67_ops.specs.declared.Operator.TheVariants as ops
 use Rattle.b67_ops.specs.declared.PlainKind.TheVariants as kinds
 use Rattle.b67_segment.specs.declared.code.Code.{Code}
+use Rattle.b67_templates.specs.Contexts as yielding
 use Rattle.b67_templates.specs.Programs.{Texts}
 use Rattle.b67_store.specs.Store.{Stacks, stack_at, stack_limit, closed_at}
-use Rattle.b67_table.specs.declared.ProcessState.TheVariants.{Able, Ended}
+use Rattle.b67_table.specs.declared.ProcessState.TheVariants.{Ended}
 use Rattle.b67_table.specs.Image.{Image, is_live}
 use Rattle.b67_table.specs.Outcome as outcomes
 use Rattle.b67_table.specs.Private.{frame}
@@ -30,7 +31,7 @@ use Rattle.b67_table.specs.Table.{table, operator_at}
 use Rattle.b67_standing.specs.Standing.{ActionAt}
 use Rattle.b67_cores.specs.Cores.{Core, HasCore}
 use Rattle.b67_faithful.proofs.Contradictions.{none_some}
-use Rattle.b67_pictures.specs.Arrays.{Layout}
+use Rattle.b67_pictures.specs.Arrays.{Layout, IsOwn}
 use Rattle.b67_pictures.specs.Acting.{Does, gave}
 use Rattle.b67_pictures.specs.Pictures.{Pictures, dead, PicturesBy}
 use Rattle.b67_pictures.proofs.ArraysKept.{arrays_unchanged}
@@ -43,10 +44,19 @@ use Rattle.b67_faithful.proofs.Choices.{length_set_numbered}
 use Rattle.b67_pictures.proofs.Numbers.{numbered_set, numbered_other}
 use Rattle.b67_pictures.proofs.Rows.{action_not_plain}
 use Rattle.b67_pictures.proofs.Scene.{Scene, frame_is}
-use Rattle.b67_pictures.proofs.Stage.{choice_is, comes_to, gives_within}
+use Rattle.b67_pictures.proofs.Stage.{state_there, choice_is, comes_to, gives_within}
 use Rattle.b67_pictures.proofs.Staying.{text_in, level_in, context_in, most_in}
 use Rattle.b67_pictures.proofs.Lying.{owned_frame}
 use Rattle.b67_pictures.specs.Frames.{Owned}
+use Rattle.b67_pictures.specs.Events.{EventsAre}
+use Rattle.b67_pictures.proofs.EventsLow.{IsElsewhere, event_outside}
+use Rattle.b67_pictures.proofs.Worlds.{held_of}
+use Rattle.b67_events.specs.Events.{is_from}
+use Rattle.b67_pictures.proofs.EventsKept.{events_left}
+use Rattle.b67_table.specs.declared.ProcessState.{ProcessState}
+use Rattle.b67_table.specs.Beginning.{base_mark}
+use Rattle.b67_table.specs.Linkage.{base_control}
+use Rattle.b67_ops.specs.declared.TheConstants.{OUTER_LEVEL}
 
 -- a stack that is closed is no other one
 closed_other : (stacks : Stacks) (n m : ℕ) → n ≢ m → stack_at (closed_at stacks n) m ≡ stack_at stacks m
@@ -57,7 +67,7 @@ closed_other (z ∷ zs) (suc n) zero apart = refl
 closed_other (z ∷ zs) (suc n) (suc m) apart = closed_other zs n m (λ e. apart (ap suc e))
 
 module _ (tree : PProgram) (code : Code) (texts : Texts) (closing : FramesClose) (w : World) (lay : Layout) (img : Image)
-    (p : ℕ) (q : Process) (part : Part) (bound : ℕ) (core : Core) (s : Scene tree code texts w lay img p q part [] bound core) (able_p : numbered img.states p ≡ Some Able) (owns : is_evaluation part.purpose ≡ false) where
+    (p : ℕ) (q : Process) (part : Part) (bound : ℕ) (core : Core) (s : Scene tree code texts w lay img p q part [] bound core) (owns : is_evaluation part.purpose ≡ false) where
   abbrev sc : Scopes
   sc = scopes_of tree
 
@@ -115,6 +125,10 @@ module _ (tree : PProgram) (code : Code) (texts : Texts) (closing : FramesClose)
       base : frame core.registers ≡ 0
       base = frame_is tree code texts w lay img p q part [] bound core s ∙ ap length s.around.0
 
+      -- it lives, so it has a state
+      state_now : (state : ProcessState) × (numbered img.states p ≡ Some state)
+      state_now = state_there (numbered img.states p) s.has.live
+
       -- the others
       not_system : core.registers.stack ≢ 0
       not_system e = none_some (ap (λ (n : ℕ). numbered w.processes n) (sym e ∙ s.has.own) ∙ s.at)
@@ -129,11 +143,28 @@ module _ (tree : PProgram) (code : Code) (texts : Texts) (closing : FramesClose)
             is = h.is;
           }
 
+      -- the events of the instance are closed: those of all others lie in other stacks
+      events_now : EventsAre sc w' lay after.events
+      events_now =
+          events_left sc w w' lay i own_frame.framed.instance left_instance own_frame.framed.is refl refl core.registers.stack 0 img.events
+          (λ j number e at other h.
+          ap (λ (n : ℕ). is_from n 0 at) s.has.own
+          ∙ event_outside tree code texts w lay p [] [] base_mark (base_control OUTER_LEVEL) yielding.nothing (refl, refl, refl, refl) j
+          (elsewhere j other (subst (λ (ps : List Part). IsOwn ps j ⊎ IsElsewhere lay p j) s.todo (held_of tree code texts w lay img s.by s.ok p q s.at j h.instance h.is h.stands))) number e at h) s.by.events
+        where
+          none : (j : ℕ) → i ≢ j → IsOwn (part ∷ []) j → IsOwn [] j
+          none j other (inl own) = absurd (other own.1)
+          none j other (inr own) = own
+
+          elsewhere : (j : ℕ) → i ≢ j → IsOwn (part ∷ []) j ⊎ IsElsewhere lay p j → IsOwn [] j ⊎ IsElsewhere lay p j
+          elsewhere j other (inl own) = inl (none j other own)
+          elsewhere j other (inr far) = inr far
+
       pictured : PicturesBy tree code texts w' lay after
       pictured =
-          comes_to tree code texts w lay img s.by p q s.at w' lay after q' refl (s.by.laid ∙ sym (length_set_numbered w.instances i left_instance)) (arrays_unchanged sc (leave w (i ∷ [])) w' lay shut.rows refl shut.are) alike s.by.output refl refl refl
+          comes_to tree code texts w lay img s.by p q s.at w' lay after q' refl (s.by.laid ∙ sym (length_set_numbered w.instances i left_instance)) (arrays_unchanged sc (leave w (i ∷ [])) w' lay shut.rows refl shut.are) events_now alike s.by.output refl refl refl
           (length_set_numbered img.states p Ended) (λ r other. numbered_other img.states p r Ended (λ e. other (sym e))) (closed_other img.stacks core.registers.stack 0 not_system) others
-          (dead refl (numbered_set img.states p Able Ended able_p))
+          (dead refl (numbered_set img.states p state_now.0 Ended state_now.1))
 
       fits : left.s ≤ stack_limit
       fits = omega (arith, s.has.is.top, s.small)
@@ -155,4 +186,4 @@ module _ (tree : PProgram) (code : Code) (texts : Texts) (closing : FramesClose)
           table_is
           (exit_action code img p core s.has a.0 there s.stands.frame.mark s.stands.frame.control s.stands.frame.cells below_is s.stands.counted base s.idle shut.rows shut.changes free table_is
           ∙ ap (λ (c : Choice). Some c.action) (sym chosen))
-          (subst (λ (c : Choice). Pictures tree code texts c.world after) (sym chosen) (lay, pictured))
+          (λ able_now. subst (λ (c : Choice). Pictures tree code texts c.world after) (sym chosen) (lay, pictured))

@@ -22,7 +22,7 @@ use Rattle.b67_table.specs.Effect.{Effect}
 use Rattle.b67_table.specs.Image.{Image}
 use Rattle.b67_table.specs.Look.{Look, found, at, ◌>->◌, valid}
 use Rattle.b67_table.specs.Chains.{place}
-use Rattle.b67_table.specs.Program.{Program, does, effect_of, asked, see, ◌>>=◌}
+use Rattle.b67_table.specs.Program.{Program, Change, does, effect_of, asked, see, ◌>>=◌}
 use Rattle.b67_table.specs.Private.{display_at, floor}
 use Rattle.b67_table.specs.References.{cell_in, irw_or_sirw, reached_in, one_sirw, invalid}
 use Rattle.b67_table.specs.Intrinsics.{intrinsic, intrinsic_row}
@@ -53,8 +53,8 @@ module _ (code : Code) (img : Image) (p : ℕ) (core : Core) (has : HasCore img 
   abbrev cell : Cell
   cell = record { frame = frame; index = index }
 
-  abbrev tested : Program → Effect Image
-  tested t = effect_of p img (asked img t)
+  abbrev tested : Program → Effect Change
+  tested t = asked img t
 
   whole : words_of img.stacks r.stack ≡ core.below ++ reverse (arguments ++ reference ∷ marked ∷ below)
   whole = words_are img p core has ∙ ap (λ (ws : List Word). core.below ++ reverse ws) called.words
@@ -93,8 +93,8 @@ module _ (code : Code) (img : Image) (p : ℕ) (core : Core) (has : HasCore img 
   abbrev on_entry : Reached → Program
   on_entry v = see (valid (as_pcw v.word)) >>= on_pcw v.cell.frame
 
-  pub enter_does : does p (enter code r next) img ≡ tested (intrinsic_row (intrinsic_numbered pcw.number) code r next m (reverse arguments))
-  enter_does =
+  pub enter_asked : asked img (enter code core.registers next) ≡ asked img (intrinsic_row (intrinsic_numbered pcw.number) code core.registers next m (reverse arguments))
+  enter_asked =
       ap (λ (b : Bool). tested (see (if b && nat_lt (r.f + 1) r.s then at (place r.stack r.f) (λ (w : Option Word). valid w >-> on_word) else invalid) >>= on_mark))
       (most_is (floor r) r.f (omega (arith, called.mark_at, has.is.bottom)))
       ∙ ap (λ (b : Bool). tested (see (if b then at (place r.stack r.f) (λ (w : Option Word). valid w >-> on_word) else invalid) >>= on_mark))
@@ -110,3 +110,6 @@ module _ (code : Code) (img : Image) (p : ℕ) (core : Core) (has : HasCore img 
       ∙ ap (λ (o : Option Pcw). tested (see (valid o) >>= on_pcw frame)) reads_entry
       ∙ ap (λ (b : Bool). tested (if b then intrinsic pcw.number code r next m else enter_procedure code r next m (record pcw { intrinsic = false }) (Some frame))) is_intrinsic
       ∙ ap (λ (ws : List Word). tested (intrinsic_row (intrinsic_numbered pcw.number) code r next m ws)) arguments_are
+
+  pub enter_does : does p (enter code core.registers next) img ≡ effect_of p img (asked img (intrinsic_row (intrinsic_numbered pcw.number) code core.registers next m (reverse arguments)))
+  enter_does = ap (effect_of p img) enter_asked

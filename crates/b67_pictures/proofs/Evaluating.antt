@@ -13,7 +13,7 @@ use Rattle.algol_meaning.specs.Choice.{choice_of, read_of, resolved_of, is_subsc
 use Rattle.algol_meaning.specs.Rest.{Answer, entered}
 use Rattle.algol_meaning.specs.Settle.{settle, settle_actual_place}
 use Rattle.algol_meaning.specs.Value.{Cell}
-use Rattle.algol_meaning.specs.World.{Instance, Process, Part, able, name_read, name_place, World, instance_at, or_no_instance}
+use Rattle.algol_meaning.specs.World.{Instance, Process, Part, lives, name_read, name_place, World, instance_at, or_no_instance}
 use Rattle.algol_paths.specs.Blocks.{IsSeen}
 use Rattle.algol_paths.specs.Laws.{RestsKeepToTheirText, AllIsMadeInOrder}
 use Rattle.algol_paths.specs.Segments.{segment_of}
@@ -31,7 +31,7 @@ use Rattle.b67_ops.specs.declared.PlainKind.TheVariants as kinds
 use Rattle.b67_segment.specs.declared.code.Code.{Code}
 use Rattle.b67_store.specs.Store.{word_at}
 use Rattle.b67_table.specs.declared.Cell as cells
-use Rattle.b67_table.specs.declared.ProcessState.TheVariants.{Able}
+use Rattle.b67_pictures.specs.States.{StateIs}
 use Rattle.b67_table.specs.Chains.{place}
 use Rattle.b67_table.specs.Image.{Image}
 use Rattle.b67_table.specs.Private.{frame}
@@ -183,7 +183,7 @@ module _ (tree : PProgram) (code : Code) (texts : Texts) (nested : LiesNested tr
 
 module _ (tree : PProgram) (code : Code) (texts : Texts) (nested : LiesNested tree) (actuals : ActualsAreEntered tree code texts) (fragments : FragmentsArePerformed) (keeps : RestsKeepToTheirText) (order : AllIsMadeInOrder)
     (w : World) (lay : Layout) (img : Image) (p : ℕ) (q : Process) (part : Part) (outer : List Part) (bound : ℕ) (core : Core) (s : Scene tree code texts w lay img p q part outer bound core)
-    (able_is : q.state ≡ able) (able_p : numbered img.states p ≡ Some Able) (n : Named) where
+    (able_is : lives q.state ≡ true) (able_p : StateIs q.state (numbered img.states p)) (n : Named) where
   abbrev WaitsHere : (k : Ask) → At tree code texts w lay img p q part outer bound core s k → Type 0
   WaitsHere k a = WaitsAfter tree code texts w lay img p q part outer bound core s k a
 

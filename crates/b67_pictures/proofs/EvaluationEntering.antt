@@ -13,7 +13,7 @@ use Rattle.algol_meaning.specs.Asks.{nothing, ask, resume}
 use Rattle.algol_meaning.specs.Choice.{Choice, choice}
 use Rattle.algol_meaning.specs.Critical.{is_evaluation}
 use Rattle.algol_meaning.specs.Rest.{Rest, Answer, entered}
-use Rattle.algol_meaning.specs.World.{Instance, Process, Part, Purpose, able, World, instance_at, or_no_instance, ancestor, with_process}
+use Rattle.algol_meaning.specs.World.{Instance, Process, Part, Purpose, lives, World, instance_at, or_no_instance, ancestor, with_process}
 use Rattle.algol_paths.specs.Arrays.{all_to_make, all_left_to_make}
 use Rattle.algol_paths.specs.Laws.{KeepsToText, RestsKeepToTheirText, AllIsMadeInOrder}
 use Rattle.algol_paths.specs.Segments.{segment_of}
@@ -25,7 +25,7 @@ use Rattle.b67_control.specs.Display.{place_at}
 use Rattle.b67_segment.specs.Operators.{Placed}
 use Rattle.b67_segment.specs.declared.code.Code.{Code}
 use Rattle.b67_store.specs.Store.{stack_limit}
-use Rattle.b67_table.specs.declared.ProcessState.TheVariants.{Able}
+use Rattle.b67_pictures.specs.States.{StateIs}
 use Rattle.b67_table.specs.Chains.{place}
 use Rattle.b67_table.specs.Effect as effects
 use Rattle.b67_table.specs.Image.{Image}
@@ -73,6 +73,7 @@ use Rattle.b67_pictures.proofs.Scene.{Scene}
 use Rattle.b67_pictures.proofs.Spelled.{HaveTexts}
 use Rattle.b67_pictures.proofs.Stage.{gives_within, limit_beyond, goes_on, weight_of}
 use Rattle.b67_pictures.proofs.Staying.{text_in, level_in, context_in, most_in, FrameStill, frame_still, still_low, parts_weigh}
+use Rattle.b67_pictures.proofs.EventsKept.{events_unchanged}
 
 -- a selector is one word, or none
 one_selector : (b selector : Bool) → length (selected b selector) ≤ 1
@@ -116,7 +117,7 @@ module _ (tree : PProgram) (code : Code) (texts : Texts) (w : World) where
 module _ (tree : PProgram) (code : Code) (texts : Texts) (nested : LiesNested tree) (short : IsShort tree code) (stand : HaveTexts tree code texts)
     (fragments : FragmentsArePerformed) (keeps : RestsKeepToTheirText) (order : AllIsMadeInOrder)
     (w : World) (lay : Layout) (img : Image) (p : ℕ) (q : Process) (part : Part) (outer : List Part) (bound : ℕ) (core : Core)
-    (s : Scene tree code texts w lay img p q part outer bound core) (able_is : q.state ≡ able) (able_p : numbered img.states p ≡ Some Able) where
+    (s : Scene tree code texts w lay img p q part outer bound core) (able_is : lives q.state ≡ true) (able_p : StateIs q.state (numbered img.states p)) where
   abbrev sc : Scopes
   sc = scopes_of tree
 
@@ -449,7 +450,7 @@ module _ (tree : PProgram) (code : Code) (texts : Texts) (nested : LiesNested tr
       pictured : PicturesBy tree code texts w' lay (with_core img p new)
       pictured =
           goes_on tree code texts w lay img s.by p q s.at w' lay (with_core img p new) q' refl able_is s.by.laid (arrays_unchanged sc w w' lay img.rows refl s.by.arrays)
-          (λ r other. alike_by w w' lay r refl) s.by.output refl refl refl refl (system_stays img p core new s.has refl q w s.at) able_p (others_have img p core new s.has refl) living_now
+          (events_unchanged sc w w' lay img.events refl s.by.events) (λ r other. alike_by w w' lay r refl) s.by.output refl refl refl refl (system_stays img p core new s.has refl q w s.at) able_p (others_have img p core new s.has refl) living_now
 
     -- where the operator enters the code of the actual, and the choice is the entry, the operator does it
     pub entering_evaluation : plain code img p ≡ false → raw code img p ≡ effects.gives (with_core img p new) → choice sc w p ≡ record { action = Enter; world = w'; released = []; started = None } →
@@ -460,6 +461,6 @@ module _ (tree : PProgram) (code : Code) (texts : Texts) (nested : LiesNested tr
         by_size (inl small) =
             let table_is : table code img p ≡ outcomes.gives (with_core img p new) = gives_within code img (with_core img p new) p new.registers raw_is has_here.registers small in
             gave (with_core img p new) not_plain table_is (acts table_is ∙ ap (λ (x : Choice). Some x.action) (sym chosen))
-            (subst (λ (x : Choice). Pictures tree code texts x.world (with_core img p new)) (sym chosen) (lay, pictured (omega (arith, small, new_core.top))))
+            (λ able_now. subst (λ (x : Choice). Pictures tree code texts x.world (with_core img p new)) (sym chosen) (lay, pictured (omega (arith, small, new_core.top))))
         by_size (inr long) =
             stopped not_plain (limit_beyond code img (with_core img p new) p new.registers raw_is has_here.registers long) (omega (arith, long, top_is, one_selector (has_place e) selector, at_is, behind.few, s.room, s.light))

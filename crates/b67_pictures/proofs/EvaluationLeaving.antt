@@ -1,15 +1,15 @@
 -- The frame of an evaluation is left: no instance is left, no row is closed, and the part around goes on with the value, or with the place.
-use Rattle.std.proofs.Common.{◌≡◌, ◌≢◌, inl, inr, refl, sym, ap, ◌∙◌, subst, ℕ, zero, suc, List, [], ◌∷◌, length, Option, Some, None, Bool, true, false, Ok, arith}
-use Rattle.std.specs.Prelude.{if◌then◌else◌, is_some, ◌||◌, ◌==◌}
+use Rattle.std.proofs.Common.{◌≡◌, ◌≢◌, inl, inr, refl, sym, ap, ◌∙◌, subst, ℕ, zero, suc, List, [], ◌∷◌, length, Option, Some, None, Bool, true, false, Ok, arith, ◌⊎◌, ◌++◌}
+use Rattle.std.specs.Prelude.{if◌then◌else◌, is_some, ◌||◌, ◌==◌, reverse}
 use Rattle.b67_list.specs.Numbered.{numbered}
 use Rattle.b67_num.specs.declared.FaultKind.TheVariants as fault
 use Rattle.algol_tree.specs.declared.tree.Kind.{Kind}
 use Rattle.algol_tree.specs.Plain.{PProgram}
 use Rattle.algol_tree.specs.Scopes.{Scopes, scopes_of}
-use Rattle.algol_meaning.specs.Value.{Value}
+use Rattle.algol_meaning.specs.Value.{Value, EventCell}
 use Rattle.algol_meaning.specs.Rest as rests
 use Rattle.algol_meaning.specs.Rest.{Answer, value}
-use Rattle.algol_meaning.specs.World.{Process, Part, able, World, with_process, instance_at, ancestor}
+use Rattle.algol_meaning.specs.World.{Process, Part, lives, World, with_process, instance_at, ancestor}
 use Rattle.algol_meaning.specs.Actions.{Leave}
 use Rattle.algol_meaning.specs.Asks.{Ask, leaves, ask}
 use Rattle.algol_meaning.specs.Choice.{Choice, choice, choice_of, left_with, left_or_ended, fails}
@@ -25,7 +25,7 @@ use Rattle.b67_ops.specs.declared.PlainKind.TheVariants as kinds
 use Rattle.b67_segment.specs.declared.code.Code.{Code}
 use Rattle.b67_store.specs.Store.{Rows}
 use Rattle.b67_table.specs.declared.Below.{Below}
-use Rattle.b67_table.specs.declared.ProcessState.TheVariants.{Able}
+use Rattle.b67_pictures.specs.States.{StateIs}
 use Rattle.b67_table.specs.Arrays.{as_indexed}
 use Rattle.b67_table.specs.Chains.{place}
 use Rattle.b67_table.specs.Effect.{gives}
@@ -72,6 +72,12 @@ use Rattle.b67_pictures.proofs.Spelled.{HaveTexts}
 use Rattle.b67_pictures.proofs.Stage.{choice_is, gives_within, goes_on}
 use Rattle.b67_pictures.proofs.Staying.{text_in, level_in, context_in, most_in}
 use Rattle.b67_pictures.proofs.Words.{value_tag}
+use Rattle.b67_pictures.specs.Events.{EventsAre, HasEvent}
+use Rattle.b67_pictures.proofs.EventsLow.{IsElsewhere, event_outside}
+use Rattle.b67_pictures.proofs.Worlds.{held_of}
+use Rattle.b67_events.specs.Events.{is_from, event_at}
+use Rattle.b67_events.proofs.EventLaws.{one_event}
+use Rattle.b67_pictures.proofs.EventsKept.{events_by}
 
 -- ---- the word of a place
 
@@ -110,7 +116,7 @@ place_moved sc w lay Stand i j (rests.element_of r ks) kind word found h = h
 
 module _ (tree : PProgram) (code : Code) (texts : Texts) (stand : HaveTexts tree code texts) (fragments : FragmentsArePerformed) (keeps : RestsKeepToTheirText) (order : AllIsMadeInOrder)
     (w : World) (lay : Layout) (img : Image) (p : ℕ) (q : Process) (part next : Part) (parts : List Part) (bound : ℕ) (core : Core)
-    (s : Scene tree code texts w lay img p q part (next ∷ parts) bound core) (able_is : q.state ≡ able) (able_p : numbered img.states p ≡ Some Able)
+    (s : Scene tree code texts w lay img p q part (next ∷ parts) bound core) (able_is : lives q.state ≡ true) (able_p : StateIs q.state (numbered img.states p))
     (lent : Lent lay (IsOwn (next ∷ parts)) part s.stands.frame.cells s.stands.frame.home s.stands.frame.gives) where
   abbrev sc : Scopes
   sc = scopes_of tree
@@ -175,11 +181,49 @@ module _ (tree : PProgram) (code : Code) (texts : Texts) (stand : HaveTexts tree
           living_now tree code texts stand fragments keeps order w lay img p q part next parts bound core s r given g gives_it known_there w' (numbered_set w.processes p q q' s.at)
           (stay_below tree code texts w w' lay lay p (alike_by w w' lay p refl) f) (λ j. record { block = refl; parent = refl; cells = refl }) same_up now has_here
 
+      -- the frame has no cells, so no event lies there
+      events_now : EventsAre sc w' lay now.events
+      events_now =
+          events_by sc w w' lay lay before img.events now.events
+          (λ j number e at h.
+          one_event.closed_there core.registers.stack (length (s.around.0.below ++ reverse s.around.0.words)) at img.events
+          ∙ ap (λ (t : Bool). if t then None else event_at at img.events) (outside j number e at (before j number e at h)))
+          s.by.events
+        where
+          before : (j number : ℕ) (e : EventCell) (at : Place) → HasEvent sc w' lay j number e at → HasEvent sc w lay j number e at
+          before j number e at h =
+              record {
+                instance = h.instance;
+                is = h.is;
+                stands = h.stands;
+                name = h.name;
+                declares = h.declares;
+                has = h.has;
+                frame = h.frame;
+                laid = h.laid;
+                at_is = h.at_is;
+              }
+
+          without : (j : ℕ) → IsOwn (part ∷ next ∷ parts) j → IsOwn (next ∷ parts) j
+          without j (inl own) = true_false lent.evaluates own.0
+          without j (inr own) = own
+
+          in_outer : (j : ℕ) → IsOwn (part ∷ next ∷ parts) j ⊎ IsElsewhere lay p j → IsOwn (next ∷ parts) j ⊎ IsElsewhere lay p j
+          in_outer j (inl own) = inl (without j own)
+          in_outer j (inr elsewhere) = inr elsewhere
+
+          outside : (j number : ℕ) (e : EventCell) (at : Place) → HasEvent sc w lay j number e at → is_from core.registers.stack (length (s.around.0.below ++ reverse s.around.0.words)) at ≡ false
+          outside j number e at h =
+              ap (λ (n : ℕ). is_from n (length (s.around.0.below ++ reverse s.around.0.words)) at) s.has.own
+              ∙ ap (λ (ws : List Word). is_from p (length ws) at) (sym s.around.0.lower_is)
+              ∙ event_outside tree code texts w lay p (next ∷ parts) s.stands.frame.lower s.stands.frame.mark s.stands.frame.control s.stands.frame.gives s.around j
+              (in_outer j (subst (λ (ps : List Part). IsOwn ps j ⊎ IsElsewhere lay p j) s.todo (held_of tree code texts w lay img s.by s.ok p q s.at j h.instance h.is h.stands))) number e at h
+
       pictured : PicturesBy tree code texts w' lay now
       pictured =
           goes_on tree code texts w lay img s.by p q s.at w' lay now q' refl able_is s.by.laid
           (subst (λ (rows : Rows). ArraysAre sc w' lay rows) (sym (rows_are tree code texts w lay img p q part next parts bound core s img.rows none_closed)) (arrays_unchanged sc w w' lay img.rows refl s.by.arrays))
-          (λ m other. alike_by w w' lay m refl) s.by.output refl refl refl refl (system_stays img p core new s.has refl q w s.at) able_p others here
+          events_now (λ m other. alike_by w w' lay m refl) s.by.output refl refl refl refl (system_stays img p core new s.has refl q w s.at) able_p others here
 
       chosen : ask part.rest ≡ leaves r → choice sc w p ≡ record { action = Leave; world = w'; released = []; started = None }
       chosen asks =
@@ -193,7 +237,7 @@ module _ (tree : PProgram) (code : Code) (texts : Texts) (stand : HaveTexts tree
       leaving_evaluation : ask part.rest ≡ leaves r → raw code img p ≡ gives now → plain code img p ≡ false → (table code img p ≡ outcomes.gives now → operator_action code img p ≡ Some Leave) → Does tree code texts w img p
       leaving_evaluation asks raw_is not_plain acts =
           gave now not_plain table_is (acts table_is ∙ ap (λ (c : Choice). Some c.action) (sym (chosen asks)))
-          (subst (λ (c : Choice). Pictures tree code texts c.world now) (sym (chosen asks)) (lay, pictured))
+          (λ able_now. subst (λ (c : Choice). Pictures tree code texts c.world now) (sym (chosen asks)) (lay, pictured))
         where
           table_is : table code img p ≡ outcomes.gives now
           table_is =

@@ -58,6 +58,7 @@ cell_describes_nothing (wants.array shape) (event e) w is = absurd is
 cell_describes_nothing (wants.array shape) (array a) w is = absurd is
 cell_describes_nothing (wants.array shape) (named n) w is = absurd is
 cell_describes_nothing (wants.array shape) (reference r) w is = is
+cell_describes_nothing wants.event (reference r) w is = is
 cell_describes_nothing (wants.by_name kind) (simple v) w is = absurd is
 cell_describes_nothing (wants.by_name kind) (event e) w is = absurd is
 cell_describes_nothing (wants.by_name kind) (array a) w is = absurd is

@@ -17,15 +17,15 @@ use Rattle.b67_control.specs.Control.{as_descriptor}
 use Rattle.b67_ops.specs.declared.Couple.{Couple}
 use Rattle.b67_templates.specs.Contexts.{Context}
 use Rattle.b67_templates.specs.Cells as wants
-use Rattle.b67_templates.specs.Cells.{Simple, Wanted, Agrees, IsVariable, IsDeclaredArray}
+use Rattle.b67_templates.specs.Cells.{Simple, Wanted, Agrees, IsVariable, IsDeclaredArray, IsDeclaredEvent}
 use Rattle.b67_standing.specs.Stepping.{cell_named, actual as actual_held, passed as passed_held}
 use Rattle.b67_cores.specs.Slots.{Known}
 use Rattle.b67_fitting.specs.Nested.{AreTold}
 use Rattle.b67_faithful.proofs.Contradictions.{some_same, none_some}
-use Rattle.b67_pictures.specs.Arrays.{Layout, named_from, LeadsTo, LeadsToVariable, Denotes, IsNamed, IsActual, AreKnown, IsOwn}
+use Rattle.b67_pictures.specs.Arrays.{Layout, named_from, LeadsTo, LeadsToEvent, LeadsToVariable, Denotes, IsNamed, IsActual, AreKnown, IsOwn}
 use Rattle.b67_pictures.specs.Frames.{CellIs, Refers, CellsAre}
 use Rattle.b67_pictures.proofs.AskedEntries.{InReferred}
-use Rattle.b67_pictures.proofs.GivenWords.{AreFit, none_wanted, a_value, a_name, a_cell, a_variable, an_actual, a_name_cell, ActualsAre}
+use Rattle.b67_pictures.proofs.GivenWords.{AreFit, none_wanted, a_value, a_name, a_cell, an_event_name, an_event_cell, a_variable, an_actual, a_name_cell, ActualsAre}
 use Rattle.b67_pictures.proofs.Knowing.{known_is}
 use Rattle.b67_pictures.proofs.Words.{cell_describes_nothing}
 use Rattle.b67_pictures.proofs.Zeros.{HaveKinds}
@@ -78,6 +78,8 @@ module _ (sc : Scopes) (context : Context) (w : World) (lay : Layout) (p : ℕ) 
     (P : Named → Type 0)
     (leads : (n : Named) → P n → (shape : Shape) (d : DeclaredArray) (c : Couple) → IsDeclaredArray sc context.level n d c → Agrees shape (shape_of d) → (x : Word) → IsNamed sc w lay (IsOwn (part ∷ outer)) part.instance n x →
     LeadsTo sc w lay (IsOwn (part ∷ outer)) shape (named_from sc w lay part.instance n) x)
+    (leads_event : (n : Named) → P n → (c : Couple) → IsDeclaredEvent sc context.level n c → (x : Word) → IsNamed sc w lay (IsOwn (part ∷ outer)) part.instance n x →
+    LeadsToEvent sc w lay (IsOwn (part ∷ outer)) (named_from sc w lay part.instance n) x)
     (leads_variable : (n : Named) → P n → (kind : Kind) (c : Couple) → IsVariable sc context.level n kind c → (x : Word) → IsNamed sc w lay (IsOwn (part ∷ outer)) part.instance n x →
     LeadsToVariable sc w lay (IsOwn (part ∷ outer)) kind (named_from sc w lay part.instance n) x) where
   -- the cells of the parameters, which have these words
@@ -108,6 +110,13 @@ module _ (sc : Scopes) (context : Context) (w : World) (lay : Layout) (p : ℕ) 
       AreGivenCells (s ∷ ss) (q' ∷ ps) (g ∷ gs) (x ∷ words)
   array_given s ss q' ps g gs x words shape r name wanted is lead more =
       referred_given s ss q' ps g gs x words (wants.array shape) (reference r) name wanted is (ap as_descriptor lead.word_is ∙ cell_describes_nothing _) lead more
+
+  -- of an event
+  event_given : (s : Simple) (ss : List Simple) (q' : Parameter) (ps : List Parameter) (g : Given) (gs : List Given) (x : Word) (words : List Word) (r : Reference) → q'.name ≡ s.name →
+      wants.event ≡ s.wanted → given_cell sc w p q part outer g ≡ reference r → LeadsToEvent sc w lay (IsOwn (part ∷ outer)) r x → AreGivenCells ss ps gs words →
+      AreGivenCells (s ∷ ss) (q' ∷ ps) (g ∷ gs) (x ∷ words)
+  event_given s ss q' ps g gs x words r name wanted is lead more =
+      referred_given s ss q' ps g gs x words wants.event (reference r) name wanted is (ap as_descriptor lead.word_is ∙ cell_describes_nothing _) lead more
 
   -- of a variable
   variable_given : (s : Simple) (ss : List Simple) (q' : Parameter) (ps : List Parameter) (g : Given) (gs : List Given) (x : Word) (words : List Word) (kind : Kind) (r : Reference) → q'.name ≡ s.name →
@@ -151,6 +160,20 @@ module _ (sc : Scopes) (context : Context) (w : World) (lay : Layout) (p : ℕ) 
       let here : wants.array shape ≡ s.wanted = cc in
       let behind : others ≡ map (λ (c : Simple). c.wanted) ss = cc in
       array_given s ss q' ps (passed (reference r)) gs x words shape r told.0 here refl (known_is sc w lay (part ∷ outer) part.instance known are (passed_held (wants.array shape) (reference r)) x is.0)
+      (given_are rest ss ps told.2 behind seen words is.1)
+  given_are (an_event_name n c v rest) [] [] told wanted seen words is = cc
+  given_are (an_event_name n c v rest) (s ∷ ss) (q' ∷ ps) told wanted seen [] is = absurd is
+  given_are (an_event_name {wanted = others} {gs = gs} n c v rest) (s ∷ ss) (q' ∷ ps) told wanted seen (x ∷ words) is =
+      let here : wants.event ≡ s.wanted = cc in
+      let behind : others ≡ map (λ (c : Simple). c.wanted) ss = cc in
+      event_given s ss q' ps (refers n) gs x words (named_from sc w lay part.instance n) told.0 here refl
+      (leads_event n seen.0 c v x (known_is sc w lay (part ∷ outer) part.instance known are (cell_named n) x is.0)) (given_are rest ss ps told.2 behind seen.1 words is.1)
+  given_are (an_event_cell r rest) [] [] told wanted seen words is = cc
+  given_are (an_event_cell r rest) (s ∷ ss) (q' ∷ ps) told wanted seen [] is = absurd is
+  given_are (an_event_cell {wanted = others} {gs = gs} r rest) (s ∷ ss) (q' ∷ ps) told wanted seen (x ∷ words) is =
+      let here : wants.event ≡ s.wanted = cc in
+      let behind : others ≡ map (λ (c : Simple). c.wanted) ss = cc in
+      event_given s ss q' ps (passed (reference r)) gs x words r told.0 here refl (known_is sc w lay (part ∷ outer) part.instance known are (passed_held wants.event (reference r)) x is.0)
       (given_are rest ss ps told.2 behind seen words is.1)
   given_are (a_variable kind n c v rest) [] [] told wanted seen words is = cc
   given_are (a_variable kind n c v rest) (s ∷ ss) (q' ∷ ps) told wanted seen [] is = absurd is

@@ -1,6 +1,6 @@
 -- A frame is entered: the instance of a block or a procedure has it above the words of the part around, which waits.
 use Rattle.b67_control.specs.Display.{place_at}
-use Rattle.std.proofs.Common.{◌≡◌, ◌≢◌, refl, sym, ap, ◌∙◌, subst, ℕ, zero, suc, ◌+◌, ◌*◌, ◌≤◌, ◌<◌, List, [], ◌∷◌, ◌++◌, length, Option, Some, None, Bool, false, arith, append_assoc, append-nil, length-append}
+use Rattle.std.proofs.Common.{◌≡◌, ◌≢◌, refl, sym, ap, ◌∙◌, subst, ℕ, zero, suc, ◌+◌, ◌*◌, ◌≤◌, ◌<◌, List, [], ◌∷◌, ◌++◌, length, Option, Some, None, Bool, false, arith, append_assoc, append-nil, length-append, true}
 use Rattle.std.specs.Prelude.{if◌then◌else◌, replicate, reverse, slice_get}
 use Rattle.std.proofs.lemmas.List.{length-reverse}
 use Rattle.b67_list.specs.Numbered.{numbered}
@@ -9,7 +9,7 @@ use Rattle.algol_tree.specs.Blocks.{Block, block_numbered, around}
 use Rattle.algol_tree.specs.Cells.{level_of}
 use Rattle.algol_tree.specs.Scopes.{Scopes, scopes_of}
 use Rattle.algol_meaning.specs.Rest.{Answer, Given, entered}
-use Rattle.algol_meaning.specs.World.{Instance, Process, Purpose, Part, able, World, instance_at, or_no_instance, ancestor, with_process}
+use Rattle.algol_meaning.specs.World.{Instance, Process, Purpose, Part, lives, World, instance_at, or_no_instance, ancestor, with_process}
 use Rattle.algol_meaning.specs.Critical.{is_evaluation}
 use Rattle.algol_meaning.specs.Instances as instances
 use Rattle.algol_meaning.specs.Instances.{fresh_cells}
@@ -30,7 +30,7 @@ use Rattle.b67_ops.specs.declared.TheConstants.{OUTER_LEVEL}
 use Rattle.b67_segment.specs.Operators.{Placed}
 use Rattle.b67_segment.specs.declared.code.Code.{Code}
 use Rattle.b67_store.specs.Store.{stack_limit}
-use Rattle.b67_table.specs.declared.ProcessState.TheVariants.{Able}
+use Rattle.b67_pictures.specs.States.{StateIs}
 use Rattle.b67_table.specs.Chains.{place}
 use Rattle.b67_table.specs.Image.{Image}
 use Rattle.b67_table.specs.Linkage.{entered_mark, control_word}
@@ -53,7 +53,7 @@ use Rattle.b67_faithful.proofs.Contradictions.{none_some}
 use Rattle.b67_fitting.specs.Nested.{LiesNested, IsText}
 use Rattle.b67_pictures.specs.Arrays.{Allotted, Layout, AreMade, AreKnown, IsOwn}
 use Rattle.b67_pictures.specs.Acting.{Does, gave}
-use Rattle.b67_pictures.specs.Frames.{block_controls, controls_count, most_around, CellsAre, IsChained, IsComplete, home_of, inside, Framed, RoutinesStand, Frame, Waits, Around, of_own, run_level}
+use Rattle.b67_pictures.specs.Frames.{block_controls, controls_count, most_around, CellsAre, IsChained, IsComplete, home_of, inside, Framed, RoutinesStand, ItemsStand, Frame, Waits, Around, of_own, run_level}
 use Rattle.b67_pictures.specs.Pictures.{Living, Pictures, PicturesBy}
 use Rattle.b67_pictures.proofs.Ancestors.{same_place}
 use Rattle.b67_pictures.proofs.ArraysKept.{rows_but, rows_there, rows_other, no_elements, no_rows, arrays_joined}
@@ -66,7 +66,7 @@ use Rattle.b67_pictures.proofs.Entries.{Calls}
 use Rattle.b67_pictures.proofs.Formals.{LeadAll, lead_there}
 use Rattle.b67_pictures.proofs.FreshCells.{fresh_are, fresh_lead, simple_many, words_long}
 use Rattle.b67_pictures.proofs.GivenWords.{ActualsAre}
-use Rattle.b67_pictures.proofs.Growing.{numbered_last, numbered_before, numbered_low}
+use Rattle.b67_pictures.proofs.Growing.{numbered_last, numbered_before, numbered_low, numbered_earlier}
 use Rattle.b67_pictures.proofs.Kept.{AreAlike}
 use Rattle.b67_pictures.proofs.Knowing.{denotes_lasts, known_of}
 use Rattle.b67_pictures.proofs.Landing.{living_of}
@@ -80,6 +80,7 @@ use Rattle.b67_pictures.proofs.Stage.{gives_within, goes_on, weight_of}
 use Rattle.b67_pictures.proofs.Staying.{text_in, level_in, context_in, most_in, FrameStill, frame_still, still_low, same_instance, parts_remain, known_stays, parts_weigh, names_in}
 use Rattle.b67_pictures.proofs.Texted.{block_keeps, block_makes}
 use Rattle.b67_pictures.proofs.Zeros.{zero_word, cells_length}
+use Rattle.b67_pictures.proofs.EventsKept.{events_joined}
 
 -- the new instance of a block or a procedure, and its part
 abbrev pub new_instance : Scopes → ℕ → ℕ → ℕ → List Cell → Instance
@@ -99,7 +100,7 @@ entered_world sc w p q part outer h j given purpose =
 module _ (tree : PProgram) (code : Code) (texts : Texts) (nested : LiesNested tree) (short : IsShort tree code)
     (fragments : FragmentsArePerformed) (begins : BlocksBegin) (keeps : RestsKeepToTheirText) (order : AllIsMadeInOrder)
     (w : World) (lay : Layout) (img : Image) (p : ℕ) (q : Process) (part : Part) (outer : List Part) (bound : ℕ) (core : Core)
-    (s : Scene tree code texts w lay img p q part outer bound core) (able_is : q.state ≡ able) (able_p : numbered img.states p ≡ Some Able) where
+    (s : Scene tree code texts w lay img p q part outer bound core) (able_is : lives q.state ≡ true) (able_p : StateIs q.state (numbered img.states p)) where
   abbrev sc : Scopes
   sc = scopes_of tree
 
@@ -117,6 +118,7 @@ module _ (tree : PProgram) (code : Code) (texts : Texts) (nested : LiesNested tr
     pub start : ℕ
     pub ats : List ℕ
     pub routines : RoutinesStand tree code texts j ats
+    pub items : ItemsStand tree code texts j
     pub over : Goes (texts.placed (segment_of sc.blocks j)) (level_of (block_numbered sc.blocks j)) begin ready
     pub cells_at : CellsAt sc (context_of code texts sc j) (texts.placed (segment_of sc.blocks j)) (level_of (block_numbered sc.blocks j)) (length (zero_cells (block_numbered sc.blocks j)))
         (block_controls sc j ats) ready start
@@ -410,7 +412,7 @@ module _ (tree : PProgram) (code : Code) (texts : Texts) (nested : LiesNested tr
           level_is = framed.level_is ∙ runs_at inner inner_level owns;
           gives = yields_of b.result;
           text = subst (λ (k : ℕ). KeepsToText sc k inner.rest) (sym block_in) text_in_block;
-          shape = of_own (record { owns = owns; framed = framed; routines = body.routines; making = sym (block_makes sc j order is_text) }) refl;
+          shape = of_own (record { owns = owns; framed = framed; routines = body.routines; items = body.items; making = sym (block_makes sc j order is_text) }) refl;
         }
 
     abbrev frame_around : Frame tree code texts w' lay' p part' outer core.below
@@ -587,7 +589,9 @@ module _ (tree : PProgram) (code : Code) (texts : Texts) (nested : LiesNested tr
     pictured =
         goes_on tree code texts w lay img s.by p q s.at w' lay' (with_core img p new) q' refl able_is (omega (arith, length-append lay.places (place p at ∷ []), length-append w.instances (made ∷ []), s.by.laid))
         (arrays_joined sc w w' lay lay' made refl (no_elements (simple_cells sc b) (fresh_cells b given) (taken ++ zeros) cells_are) (no_rows (simple_cells sc b) (fresh_cells b given) (taken ++ zeros) cells_are) (λ k. refl)
-        img.rows s.by.arrays) alike s.by.output refl refl refl refl (system_stays img p core new s.has refl q w s.at) able_p (others_have img p core new s.has refl) living_now
+        img.rows s.by.arrays)
+        (events_joined sc w w' lay lay' made refl (cells_length (simple_cells sc b) (fresh_cells b given) (taken ++ zeros) cells_are)
+        (λ k f other laid. numbered_earlier lay.places (place p at) k f (λ (e : k ≡ length lay.places + 1). other (omega (arith, e, s.by.laid))) laid) img.events s.by.events) alike s.by.output refl refl refl refl (system_stays img p core new s.has refl q w s.at) able_p (others_have img p core new s.has refl) living_now
 
     table_is : table code img p ≡ outcomes.gives (with_core img p new)
     table_is =
@@ -599,4 +603,4 @@ module _ (tree : PProgram) (code : Code) (texts : Texts) (nested : LiesNested tr
     entering chosen =
         gave (with_core img p new) (entries.entry_not_plain tree code texts nested short w lay img p q part outer bound core s wanted gs slot next waiting h j begin e) table_is
         (entries.entry_action tree code texts nested short w lay img p q part outer bound core s wanted gs slot next waiting h j begin e table_is ∙ ap (λ (x : Choice). Some x.action) (sym chosen))
-        (subst (λ (x : Choice). Pictures tree code texts x.world (with_core img p new)) (sym chosen) (lay', pictured))
+        (λ able_now. subst (λ (x : Choice). Pictures tree code texts x.world (with_core img p new)) (sym chosen) (lay', pictured))

@@ -1,12 +1,12 @@
 -- The frame of a block or of a procedure is left: it goes, and the part around goes on, with what is given.
-use Rattle.std.proofs.Common.{◌≡◌, ◌≢◌, refl, sym, ap, ◌∙◌, subst, ℕ, ◌<◌, List, [], ◌∷◌, length, Option, Some, None, Bool, false, arith, true}
-use Rattle.std.specs.Prelude.{if◌then◌else◌}
+use Rattle.std.proofs.Common.{◌≡◌, ◌≢◌, refl, sym, ap, ◌∙◌, subst, ℕ, ◌<◌, List, [], ◌∷◌, length, Option, Some, None, Bool, false, arith, true, ◌⊎◌, inl, inr, ◌++◌}
+use Rattle.std.specs.Prelude.{if◌then◌else◌, reverse}
 use Rattle.b67_list.specs.Numbered.{numbered}
 use Rattle.b67_num.specs.declared.FaultKind.TheVariants as fault
 use Rattle.algol_tree.specs.Plain.{PProgram}
 use Rattle.algol_tree.specs.Scopes.{Scopes, scopes_of}
 use Rattle.algol_meaning.specs.Rest.{Answer}
-use Rattle.algol_meaning.specs.World.{Process, Part, able, World, instance_at}
+use Rattle.algol_meaning.specs.World.{Process, Part, lives, World, instance_at}
 use Rattle.algol_meaning.specs.Instances.{leave}
 use Rattle.algol_meaning.specs.Actions.{Leave}
 use Rattle.algol_meaning.specs.Asks.{Ask, leaves, ask}
@@ -18,7 +18,7 @@ use Rattle.b67_word.specs.Word.{Word}
 use Rattle.b67_segment.specs.declared.code.Code.{Code}
 use Rattle.b67_store.specs.Store.{Rows}
 use Rattle.b67_table.specs.declared.Below.{Below}
-use Rattle.b67_table.specs.declared.ProcessState.TheVariants.{Able}
+use Rattle.b67_pictures.specs.States.{StateIs}
 use Rattle.b67_table.specs.Chains.{place}
 use Rattle.b67_table.specs.Image.{Image}
 use Rattle.b67_table.specs.Outcome as outcomes
@@ -51,10 +51,15 @@ use Rattle.b67_pictures.proofs.Parting.{parted, same_but, same_ancestors, others
 use Rattle.b67_pictures.proofs.Scene.{Scene}
 use Rattle.b67_pictures.proofs.Spelled.{HaveTexts}
 use Rattle.b67_pictures.proofs.Stage.{choice_is, gives_within, goes_on}
+use Rattle.b67_pictures.specs.Events.{EventsAre}
+use Rattle.b67_pictures.proofs.EventsLow.{IsElsewhere, event_outside}
+use Rattle.b67_pictures.proofs.Worlds.{held_of}
+use Rattle.b67_events.specs.Events.{is_from}
+use Rattle.b67_pictures.proofs.EventsKept.{events_left}
 
 module _ (tree : PProgram) (code : Code) (texts : Texts) (stand : HaveTexts tree code texts) (fragments : FragmentsArePerformed) (keeps : RestsKeepToTheirText) (order : AllIsMadeInOrder) (closing : FramesClose)
     (w : World) (lay : Layout) (img : Image) (p : ℕ) (q : Process) (part next : Part) (parts : List Part) (bound : ℕ) (core : Core)
-    (s : Scene tree code texts w lay img p q part (next ∷ parts) bound core) (able_is : q.state ≡ able) (able_p : numbered img.states p ≡ Some Able) (owns : is_evaluation part.purpose ≡ false) where
+    (s : Scene tree code texts w lay img p q part (next ∷ parts) bound core) (able_is : lives q.state ≡ true) (able_p : StateIs q.state (numbered img.states p)) (owns : is_evaluation part.purpose ≡ false) where
   abbrev sc : Scopes
   sc = scopes_of tree
 
@@ -145,10 +150,28 @@ module _ (tree : PProgram) (code : Code) (texts : Texts) (stand : HaveTexts tree
           living_now tree code texts stand fragments keeps order w lay img p q part next parts bound core s r given g gives_it known_there w' (numbered_set w.processes p q q' s.at) stay
           (λ j. same_but w p q' i own_frame.framed.instance own_is j) (λ up j. same_ancestors w p q' i own_frame.framed.instance own_is up j) now has_here
 
+      -- the events of the instance are closed, and no others
+      events_now : EventsAre sc w' lay now.events
+      events_now =
+          events_left sc w w' lay i own_frame.framed.instance (record (instance_at w i) { left = true }) own_is refl refl core.registers.stack (length (u.below ++ reverse u.words)) img.events
+          (λ j number e at other h.
+          ap (λ (n : ℕ). is_from n (length (u.below ++ reverse u.words)) at) s.has.own
+          ∙ ap (λ (ws : List Word). is_from p (length ws) at) (sym u.lower_is)
+          ∙ event_outside tree code texts w lay p (next ∷ parts) s.stands.frame.lower s.stands.frame.mark s.stands.frame.control s.stands.frame.gives s.around j
+          (in_outer j other (subst (λ (ps : List Part). IsOwn ps j ⊎ IsElsewhere lay p j) s.todo (held_of tree code texts w lay img s.by s.ok p q s.at j h.instance h.is h.stands))) number e at h) s.by.events
+        where
+          without : (j : ℕ) → i ≢ j → IsOwn (part ∷ next ∷ parts) j → IsOwn (next ∷ parts) j
+          without j other (inl own) = absurd (other own.1)
+          without j other (inr own) = own
+
+          in_outer : (j : ℕ) → i ≢ j → IsOwn (part ∷ next ∷ parts) j ⊎ IsElsewhere lay p j → IsOwn (next ∷ parts) j ⊎ IsElsewhere lay p j
+          in_outer j other (inl own) = inl (without j other own)
+          in_outer j other (inr elsewhere) = inr elsewhere
+
       pictured : PicturesBy tree code texts w' lay now
       pictured =
           goes_on tree code texts w lay img s.by p q s.at w' lay now q' refl able_is (s.by.laid ∙ sym (length_set_numbered w.instances i (record (instance_at w i) { left = true })))
-          (subst (λ (rows : Rows). ArraysAre sc w' lay rows) (sym (rows_are tree code texts w lay img p q part next parts bound core s shut.rows shut.changes)) (arrays_unchanged sc (leave w (i ∷ [])) w' lay shut.rows refl shut.are)) alike
+          (subst (λ (rows : Rows). ArraysAre sc w' lay rows) (sym (rows_are tree code texts w lay img p q part next parts bound core s shut.rows shut.changes)) (arrays_unchanged sc (leave w (i ∷ [])) w' lay shut.rows refl shut.are)) events_now alike
           s.by.output refl refl refl refl (system_stays img p core new s.has refl q w s.at) able_p others here
 
       chosen : ask part.rest ≡ leaves r → choice sc w p ≡ record { action = Leave; world = w'; released = []; started = None }
@@ -165,7 +188,7 @@ module _ (tree : PProgram) (code : Code) (texts : Texts) (stand : HaveTexts tree
       pub leaving_frame : ask part.rest ≡ leaves r → raw code img p ≡ gives now → plain code img p ≡ false → (table code img p ≡ outcomes.gives now → operator_action code img p ≡ Some Leave) → Does tree code texts w img p
       leaving_frame asks raw_is not_plain acts =
           gave now not_plain table_is (acts table_is ∙ ap (λ (c : Choice). Some c.action) (sym (chosen asks)))
-          (subst (λ (c : Choice). Pictures tree code texts c.world now) (sym (chosen asks)) (lay, pictured))
+          (λ able_now. subst (λ (c : Choice). Pictures tree code texts c.world now) (sym (chosen asks)) (lay, pictured))
         where
           table_is : table code img p ≡ outcomes.gives now
           table_is =

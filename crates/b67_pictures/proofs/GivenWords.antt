@@ -1,4 +1,4 @@
--- The words of the actuals of a call: values, and references to the cells of arrays, of variables and of other actuals.
+-- The words of the actuals of a call: values, and references to the cells of arrays, of events, of variables and of other actuals.
 use Rattle.std.proofs.Common.{◌≡◌, refl, sym, ap, ◌∙◌, subst, ℕ, suc, ◌+◌, List, [], ◌∷◌, ◌++◌, length, arith, append_assoc, length-append}
 use Rattle.std.specs.Prelude.{reverse}
 use Rattle.std.proofs.lemmas.List.{reverse-append}
@@ -15,7 +15,7 @@ use Rattle.b67_ops.specs.declared.Couple.{Couple}
 use Rattle.b67_templates.specs.Contexts.{Context}
 use Rattle.b67_templates.specs.Fragments.{HasKind}
 use Rattle.b67_templates.specs.Cells as wants
-use Rattle.b67_templates.specs.Cells.{Wanted, Agrees, IsVariable, IsDeclaredArray, IsOwnActual}
+use Rattle.b67_templates.specs.Cells.{Wanted, Agrees, IsVariable, IsDeclaredArray, IsDeclaredEvent, IsOwnActual}
 use Rattle.b67_standing.specs.Stepping.{Slot, cell_named, actual as actual_held, passed as passed_held}
 use Rattle.b67_standing.specs.Standing.{given_slot, given_slots, IsPassed, AreGiven}
 use Rattle.b67_cores.specs.Slots.{Known, newest, ValueIs, IsKnown, SlotIs, SlotsAre}
@@ -30,6 +30,8 @@ module _ (sc : Scopes) (context : Context) where
     a_name : {wanted : List Wanted} {gs : List Given} (shape : Shape) (n : Named) (d : DeclaredArray) (c : Couple) → IsDeclaredArray sc context.level n d c → Agrees shape (shape_of d) → AreFit wanted gs →
         AreFit (wants.array shape ∷ wanted) (refers n ∷ gs)
     a_cell : {wanted : List Wanted} {gs : List Given} (shape : Shape) (r : Reference) → AreFit wanted gs → AreFit (wants.array shape ∷ wanted) (passed (cells.reference r) ∷ gs)
+    an_event_name : {wanted : List Wanted} {gs : List Given} (n : Named) (c : Couple) → IsDeclaredEvent sc context.level n c → AreFit wanted gs → AreFit (wants.event ∷ wanted) (refers n ∷ gs)
+    an_event_cell : {wanted : List Wanted} {gs : List Given} (r : Reference) → AreFit wanted gs → AreFit (wants.event ∷ wanted) (passed (cells.reference r) ∷ gs)
     a_variable : {wanted : List Wanted} {gs : List Given} (kind : Kind) (n : Named) (c : Couple) → IsVariable sc context.level n kind c → AreFit wanted gs →
         AreFit (wants.by_name kind ∷ wanted) (refers n ∷ gs)
     an_actual : {wanted : List Wanted} {gs : List Given} (kind : Kind) (e : PExpr) (c : Couple) → IsOwnActual sc context.block context.level e kind c → AreFit wanted gs →
@@ -57,8 +59,12 @@ module _ (sc : Scopes) (context : Context) where
   are_fit (wants.by_name kind ∷ wanted) (passed c ∷ gs) fit = a_name_cell kind c fit.0 (are_fit wanted gs fit.1)
   are_fit (wants.by_name kind ∷ wanted) (names e ∷ gs) fit = an_actual kind e fit.0.0 fit.0.1 (are_fit wanted gs fit.1)
   are_fit (wants.event ∷ wanted) (valued v ∷ gs) fit = absurd fit.0
-  are_fit (wants.event ∷ wanted) (refers n ∷ gs) fit = absurd fit.0
-  are_fit (wants.event ∷ wanted) (passed c ∷ gs) fit = absurd fit.0
+  are_fit (wants.event ∷ wanted) (refers n ∷ gs) fit = an_event_name n fit.0.0 fit.0.1 (are_fit wanted gs fit.1)
+  are_fit (wants.event ∷ wanted) (passed (cells.simple v) ∷ gs) fit = absurd fit.0
+  are_fit (wants.event ∷ wanted) (passed (cells.event e) ∷ gs) fit = absurd fit.0
+  are_fit (wants.event ∷ wanted) (passed (cells.array a) ∷ gs) fit = absurd fit.0
+  are_fit (wants.event ∷ wanted) (passed (cells.named n) ∷ gs) fit = absurd fit.0
+  are_fit (wants.event ∷ wanted) (passed (cells.reference r) ∷ gs) fit = an_event_cell r (are_fit wanted gs fit.1)
   are_fit (wants.event ∷ wanted) (names e ∷ gs) fit = absurd fit.0
   are_fit (wants.other ∷ wanted) (valued v ∷ gs) fit = absurd fit.0
   are_fit (wants.other ∷ wanted) (refers n ∷ gs) fit = absurd fit.0
@@ -71,6 +77,8 @@ module _ (sc : Scopes) (context : Context) where
   fit_many (a_value kind v is rest) = ap suc (fit_many rest)
   fit_many (a_name shape n d c is agrees rest) = ap suc (fit_many rest)
   fit_many (a_cell shape r rest) = ap suc (fit_many rest)
+  fit_many (an_event_name n c is rest) = ap suc (fit_many rest)
+  fit_many (an_event_cell r rest) = ap suc (fit_many rest)
   fit_many (a_variable kind n c is rest) = ap suc (fit_many rest)
   fit_many (an_actual kind e c is rest) = ap suc (fit_many rest)
   fit_many (a_name_cell kind c is rest) = ap suc (fit_many rest)
@@ -127,6 +135,10 @@ module _ (sc : Scopes) (known : List Known) (level home base : ℕ) where
       one_under (wants.array shape) (refers n) wanted gs below all (taken_words context rest (given_slot (wants.array shape) (refers n) ∷ below) all are) refl (λ w slot. slot)
   taken_words context (a_cell {wanted} {gs} shape r rest) below all are =
       one_under (wants.array shape) (passed (cells.reference r)) wanted gs below all (taken_words context rest (given_slot (wants.array shape) (passed (cells.reference r)) ∷ below) all are) refl (λ w slot. slot)
+  taken_words context (an_event_name {wanted} {gs} n c is rest) below all are =
+      one_under wants.event (refers n) wanted gs below all (taken_words context rest (given_slot wants.event (refers n) ∷ below) all are) refl (λ w slot. slot)
+  taken_words context (an_event_cell {wanted} {gs} r rest) below all are =
+      one_under wants.event (passed (cells.reference r)) wanted gs below all (taken_words context rest (given_slot wants.event (passed (cells.reference r)) ∷ below) all are) refl (λ w slot. slot)
   taken_words context (a_variable {wanted} {gs} kind n c is rest) below all are =
       one_under (wants.by_name kind) (refers n) wanted gs below all (taken_words context rest (given_slot (wants.by_name kind) (refers n) ∷ below) all are) refl (λ w slot. slot)
   taken_words context (an_actual {wanted} {gs} kind e c is rest) below all are =

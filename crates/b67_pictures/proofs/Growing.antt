@@ -1,5 +1,5 @@
 -- The world in which an instance is made, and where the code after an entry ends.
-use Rattle.std.proofs.Common.{◌≡◌, sym, ap, ◌∙◌, ℕ, zero, suc, ◌+◌, ◌*◌, ◌≤◌, List, [], ◌∷◌, ◌++◌, length, Option, Some, None, arith, length-append}
+use Rattle.std.proofs.Common.{slice_get, ◌≡◌, ◌≢◌, sym, ap, ◌∙◌, ℕ, zero, suc, ◌+◌, ◌*◌, ◌≤◌, List, [], ◌∷◌, ◌++◌, length, Option, Some, None, arith, length-append}
 use Rattle.b67_list.specs.Numbered.{numbered}
 use Rattle.algol_tree.specs.declared.tree.Kind.{Kind}
 use Rattle.algol_tree.specs.Blocks.{Block}
@@ -24,6 +24,17 @@ numbered_last xs x (suc k) e = get-seam xs x [] k (omega (arith, e))
 pub numbered_before : {A : Type 0} (xs ys : List A) (n : ℕ) (x : A) → numbered xs n ≡ Some x → numbered (xs ++ ys) n ≡ Some x
 numbered_before xs ys zero x e = none_some e
 numbered_before xs ys (suc k) x e = get-front xs ys k x e
+
+-- all but the last were there before
+pub numbered_earlier : {A : Type 0} (xs : List A) (x : A) (n : ℕ) (y : A) → n ≢ length xs + 1 → numbered (xs ++ x ∷ []) n ≡ Some y → numbered xs n ≡ Some y
+numbered_earlier {A = A} xs x zero y other e = none_some e
+numbered_earlier {A = A} xs x (suc k) y other e = before xs k (λ s. other (omega (arith, s))) e
+  where
+    before : (xs : List A) (k : ℕ) → k ≢ length xs → slice_get (xs ++ x ∷ []) k ≡ Some y → slice_get xs k ≡ Some y
+    before [] zero apart e = absurd (apart (omega arith))
+    before [] (suc k) apart e = e
+    before (z ∷ zs) zero apart e = e
+    before (z ∷ zs) (suc k) apart e = before zs k (λ s. apart (omega (arith, s))) e
 
 -- numbers are no higher than there are items
 pub numbered_low : {A : Type 0} (xs : List A) (n : ℕ) (x : A) → numbered xs n ≡ Some x → n ≤ length xs

@@ -1,10 +1,10 @@
 -- Actions that change nothing but what lies above the cells of the process's own frame, and the output.
-use Rattle.std.proofs.Common.{◌≡◌, ◌≢◌, ◌⊎◌, inl, inr, refl, sym, ap, ◌∙◌, subst, ℕ, ◌+◌, ◌<◌, ◌≤◌, List, [], ◌∷◌, length, Some, None, false, arith}
+use Rattle.std.proofs.Common.{◌≡◌, ◌≢◌, ◌⊎◌, inl, inr, refl, sym, ap, ◌∙◌, subst, ℕ, ◌+◌, ◌<◌, ◌≤◌, List, [], ◌∷◌, length, Some, None, false, arith, true}
 use Rattle.b67_list.specs.Numbered.{numbered}
 use Rattle.algol_tree.specs.Plain.{PProgram}
 use Rattle.algol_tree.specs.Scopes.{scopes_of}
 use Rattle.algol_meaning.specs.Rest.{Answer}
-use Rattle.algol_meaning.specs.World.{Process, Part, able, World, instance_at, with_process}
+use Rattle.algol_meaning.specs.World.{Process, Part, lives, World, instance_at, with_process}
 use Rattle.algol_meaning.specs.Actions.{Action}
 use Rattle.algol_meaning.specs.Asks.{resume}
 use Rattle.algol_meaning.specs.Choice.{Choice, choice}
@@ -17,7 +17,7 @@ use Rattle.b67_control.specs.Display.{place_at}
 use Rattle.b67_segment.specs.declared.code.Code.{Code}
 use Rattle.b67_templates.specs.Programs.{Texts}
 use Rattle.b67_store.specs.Store.{stack_limit}
-use Rattle.b67_table.specs.declared.ProcessState.TheVariants.{Able}
+use Rattle.b67_pictures.specs.States.{StateIs}
 use Rattle.b67_table.specs.Image.{Image}
 use Rattle.b67_table.specs.Effect as effects
 use Rattle.b67_table.specs.Outcome as outcomes
@@ -36,6 +36,7 @@ use Rattle.b67_pictures.specs.Acting.{Does, gave, stopped}
 use Rattle.b67_pictures.specs.Frames.{IsChained, Frame}
 use Rattle.b67_pictures.specs.Pictures.{Pictures, PicturesBy}
 use Rattle.b67_pictures.proofs.ArraysKept.{arrays_unchanged}
+use Rattle.b67_pictures.proofs.EventsKept.{events_unchanged}
 use Rattle.b67_pictures.proofs.Expressions.{expression_resumed}
 use Rattle.b67_pictures.proofs.Cored.{has_now, others_have, system_stays}
 use Rattle.b67_pictures.proofs.Kept.{alike_by}
@@ -53,7 +54,7 @@ pub record SameFrame (a b : Registers) : Type 0 where
   pub is : b ≡ record a { s = b.s; f = b.f; place = b.place }
 
 module _ (tree : PProgram) (code : Code) (texts : Texts) (fragments : FragmentsArePerformed) (keeps : RestsKeepToTheirText) (order : AllIsMadeInOrder) (w : World) (lay : Layout) (img : Image)
-    (p : ℕ) (q : Process) (part : Part) (outer : List Part) (bound : ℕ) (core : Core) (s : Scene tree code texts w lay img p q part outer bound core) (able_is : q.state ≡ able) (able_p : numbered img.states p ≡ Some Able)
+    (p : ℕ) (q : Process) (part : Part) (outer : List Part) (bound : ℕ) (core : Core) (s : Scene tree code texts w lay img p q part outer bound core) (able_is : lives q.state ≡ true) (able_p : StateIs q.state (numbered img.states p))
     (unmade : all_left_to_make part.rest ≡ all_to_make part.rest)
     (a : Answer) (nameless : InAnswer (IsSeen (scopes_of tree) ((instance_at w part.instance).block)) a) (out : List (List ℕ)) (new : Core) (below : new.below ≡ core.below) (frame_is : SameFrame core.registers new.registers)
     (known : List Known) (known_are : AreKnown (scopes_of tree) w lay (IsOwn (part ∷ outer)) part.instance known)
@@ -131,7 +132,7 @@ module _ (tree : PProgram) (code : Code) (texts : Texts) (fragments : FragmentsA
 
   pub in_frame : size new ≤ stack_limit → PicturesBy tree code texts w' lay after
   in_frame small =
-      goes_on tree code texts w lay img s.by p q s.at w' lay after q' refl able_is s.by.laid (arrays_unchanged (scopes_of tree) w w' lay img.rows refl s.by.arrays) (λ r other. alike_by w w' lay r refl) refl refl refl refl refl
+      goes_on tree code texts w lay img s.by p q s.at w' lay after q' refl able_is s.by.laid (arrays_unchanged (scopes_of tree) w w' lay img.rows refl s.by.arrays) (events_unchanged (scopes_of tree) w w' lay img.events refl s.by.events) (λ r other. alike_by w w' lay r refl) refl refl refl refl refl
       (system_stays img p core new s.has same_stack q w s.at) able_p others
       (living_of tree code texts w' lay after fragments p q' part' outer bound new new (record {
         todo = refl;
@@ -171,6 +172,6 @@ module _ (tree : PProgram) (code : Code) (texts : Texts) (fragments : FragmentsA
       by_size (inl small) =
           let table_is : table code img p ≡ outcomes.gives after = gives_within code img after p new.registers raw_is has_here.registers small in
           gave after not_plain table_is (acts table_is ∙ ap (λ (c : Choice). Some c.action) (sym chosen))
-          (subst (λ (c : Choice). Pictures tree code texts c.world after) (sym chosen) (lay, in_frame (omega (arith, small, there.is.top))))
+          (λ able_now. subst (λ (c : Choice). Pictures tree code texts c.world after) (sym chosen) (lay, in_frame (omega (arith, small, there.is.top))))
       by_size (inr long) =
           stopped not_plain (limit_beyond code img after p new.registers raw_is has_here.registers long) (omega (arith, long, top_is, few, room', s.light))

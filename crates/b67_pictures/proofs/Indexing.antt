@@ -10,7 +10,7 @@ use Rattle.algol_tree.specs.Scopes.{Scopes, scopes_of, use_of}
 use Rattle.algol_meaning.specs.Value.{Value, number, whole_of, Reference, Cell}
 use Rattle.algol_meaning.specs.Arrays.{size_of, subscript_place}
 use Rattle.algol_meaning.specs.Rest.{Answer, place, element_of}
-use Rattle.algol_meaning.specs.World.{Process, Part, able, World, followed, array_in}
+use Rattle.algol_meaning.specs.World.{Process, Part, lives, World, followed, array_in}
 use Rattle.algol_meaning.specs.Actions.{Index, Fault}
 use Rattle.algol_meaning.specs.Asks.{Ask, indexes, ask, resume}
 use Rattle.algol_meaning.specs.Choice.{Choice, choice, choice_of, indexed, indexed_at, here}
@@ -28,7 +28,7 @@ use Rattle.b67_templates.specs.Programs.{Texts}
 use Rattle.b67_store.specs.Store.{Row, row_at}
 use Rattle.b67_table.specs.Arrays.{array_word, index_in}
 use Rattle.b67_table.specs.declared.Class.TheVariants as classes
-use Rattle.b67_table.specs.declared.ProcessState.TheVariants.{Able}
+use Rattle.b67_pictures.specs.States.{StateIs}
 use Rattle.b67_table.specs.Ending.{failed}
 use Rattle.b67_table.specs.Image.{Image}
 use Rattle.b67_table.specs.Effect as effects
@@ -79,7 +79,7 @@ more_known known one sc level home base (slot ∷ slots) (w ∷ words) are = (of
 
 module _ (tree : PProgram) (code : Code) (texts : Texts) (nested : AreNested (scopes_of tree)) (fragments : FragmentsArePerformed) (keeps : RestsKeepToTheirText) (order : AllIsMadeInOrder)
     (w : World) (lay : Layout) (img : Image) (p : ℕ) (q : Process) (part : Part) (outer : List Part) (bound : ℕ) (core : Core) (s : Scene tree code texts w lay img p q part outer bound core)
-    (able_is : q.state ≡ able) (able_p : numbered img.states p ≡ Some Able) (n : Named) (ks : List ℕ) (v : Value) (asks : ask part.rest ≡ indexes n ks v) where
+    (able_is : lives q.state ≡ true) (able_p : StateIs q.state (numbered img.states p)) (n : Named) (ks : List ℕ) (v : Value) (asks : ask part.rest ≡ indexes n ks v) where
   abbrev sc : Scopes
   sc = scopes_of tree
 

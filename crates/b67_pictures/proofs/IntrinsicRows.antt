@@ -26,13 +26,13 @@ use Rattle.b67_table.specs.Private.{display_at}
 use Rattle.b67_table.specs.Program.{Program, effect_of, asked, see, answer, ◌>>=◌, line}
 use Rattle.b67_table.specs.Arguments.{Three, three_in, wholes_in, if_chained, finished_at}
 use Rattle.b67_table.specs.Intrinsics.{intrinsic_row, case_in, case_place, gone_to_case}
-use Rattle.b67_table.specs.Rows.{row}
+use Rattle.b67_table.specs.Rows.{row, enter}
 use Rattle.b67_table.specs.Table.{raw, operator_at, class_at}
 use Rattle.b67_cores.specs.Cores.{Core, HasCore, with_core}
 use Rattle.b67_pictures.proofs.Rows.{raw_is, words_are}
 use Rattle.b67_pictures.proofs.StackWords.{cut-stack}
 use Rattle.b67_pictures.proofs.StoreRow.{most_is}
-use Rattle.b67_pictures.proofs.EnterRow.{Called, enter_does}
+use Rattle.b67_pictures.proofs.EnterRow.{Called, enter_asked, enter_does}
 
 -- the core up to below a mark, with the mark below it in F
 abbrev pub without_call : Core → List Word → ℕ → ℕ → Core
@@ -72,6 +72,13 @@ module _ (code : Code) (img : Image) (p : ℕ) (core : Core) (has : HasCore img 
   abbrev pub tested : Program → Effect Image
   tested t = effect_of p img (asked img t)
 
+  -- what its test answers
+  pub entered_asked : asked img (enter code core.registers next) ≡ asked img (intrinsic_row (Some name) code core.registers next c.m (reverse arguments))
+  entered_asked =
+      enter_asked code img p core has next there arguments reference marked below c.called c.m c.reads_mark c.unentered c.level c.index c.frame c.reads c.shown c.entry c.lies c.no_sirw
+      c.pcw c.reads_entry c.is_intrinsic
+      ∙ ap (λ (o : Option Intrinsic). asked img (intrinsic_row o code r next c.m (reverse arguments))) c.numbered
+
   pub entered : raw code img p ≡ tested (intrinsic_row (Some name) code r next c.m (reverse arguments))
   unfolding row
   entered =
@@ -86,11 +93,14 @@ module _ (code : Code) (img : Image) (p : ℕ) (core : Core) (has : HasCore img 
       ∙ ap (λ (ws : List Word). core.below ++ reverse ws) (c.called.words ∙ sym (append_assoc arguments (reference ∷ marked ∷ []) below)))
       ∙ cut-stack core.below (arguments ++ reference ∷ marked ∷ []) below r.f c.called.mark_at
 
+  pub chained_asked : (t : Program) → asked img (if_chained core.registers c.m t) ≡ asked img t
+  chained_asked t =
+      ap (λ (b : Bool). asked img (see (if b then mark_at (place r.stack (r.f - c.m.df)) else broken) >>= (λ (lower : Mscw). t))) (most_is c.m.df r.f c.short)
+      ∙ ap (λ (o : Option Word). asked img (see (chained (read_as as_mscw o)) >>= (λ (lower : Mscw). t))) c.lower_lies
+      ∙ ap (λ (o : Option Mscw). asked img (see (chained o) >>= (λ (lower : Mscw). t))) c.reads_lower
+
   pub chained_is : (t : Program) → tested (if_chained r c.m t) ≡ tested t
-  chained_is t =
-      ap (λ (b : Bool). tested (see (if b then mark_at (place r.stack (r.f - c.m.df)) else broken) >>= (λ (lower : Mscw). t))) (most_is c.m.df r.f c.short)
-      ∙ ap (λ (o : Option Word). tested (see (chained (read_as as_mscw o)) >>= (λ (lower : Mscw). t))) c.lower_lies
-      ∙ ap (λ (o : Option Mscw). tested (see (chained o) >>= (λ (lower : Mscw). t))) c.reads_lower
+  chained_is t = ap (effect_of p img) (chained_asked t)
 
   -- the mark and all above it give way
   abbrev after : Core

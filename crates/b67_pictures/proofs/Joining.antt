@@ -1,6 +1,7 @@
 -- A code in which a program stands whose blocks lie in one another, and which is short and can be listed, is faithful to it.
 use Rattle.std.proofs.Common.{sym, ◌∙◌, ℕ, ◌≤◌, List, [], ◌∷◌, length, None}
 use Rattle.std.specs.Prelude.{All}
+use Rattle.algol_tree.specs.declared.tree.EventAct.{EventAct}
 use Rattle.algol_tree.specs.declared.tree.Kind.{Kind}
 use Rattle.algol_tree.specs.declared.tree.Named.{Named}
 use Rattle.algol_tree.specs.Blocks.{block_numbered}
@@ -10,8 +11,8 @@ use Rattle.algol_tree.specs.Scopes.{scopes_of}
 use Rattle.algol_meaning.specs.Value.{Value, Reference}
 use Rattle.algol_meaning.specs.Rest.{Place, element_of, Given, done, value, place}
 use Rattle.algol_meaning.specs.World.{World, instance_at}
-use Rattle.algol_meaning.specs.Asks.{reads_element, indexes, leaves, enters, passes, stores, enters_block, makes_arrays}
-use Rattle.algol_paths.specs.Laws.{RestsKeepToTheirText, AllIsMadeInOrder}
+use Rattle.algol_meaning.specs.Asks.{reads_element, indexes, asks_happened, leaves, enters, passes, stores, goes_to, enters_block, acts, makes_arrays, makes_event}
+use Rattle.algol_paths.specs.Laws.{RestsKeepToTheirText, AllIsMadeInOrder, JumpsKeepToTheirText}
 use Rattle.algol_texts.specs.Laws.{HasTexts}
 use Rattle.algol_standing.specs.Worlds.{IsWhole}
 use Rattle.algol_standing.specs.Fitting.{IsOk}
@@ -22,7 +23,8 @@ use Rattle.b67_templates.specs.Programs.{Texts, ProgramAt}
 use Rattle.b67_standing.specs.Laws.{RestsGoOn}
 use Rattle.b67_standing.proofs.GoingOn.{rests_go_on}
 use Rattle.b67_standing.proofs.Routines.{routines_give_values, routines_give_places}
-use Rattle.b67_standing.proofs.Starting.{blocks_start, inner_blocks_start}
+use Rattle.b67_standing.proofs.Jumping.{jumps_stand}
+use Rattle.b67_standing.proofs.Starting.{blocks_start, inner_blocks_start, inner_blocks_follow}
 use Rattle.b67_cores.proofs.Beginnings.{blocks_begin}
 use Rattle.b67_cores.proofs.Performing.{steps_are_performed, steps_come_to_limit}
 use Rattle.b67_cores.proofs.Placing.{fragments_are_performed}
@@ -35,7 +37,8 @@ use Rattle.b67_pictures.specs.Acting.{Does}
 use Rattle.b67_pictures.specs.Frames.{Shape, of_own, of_lent}
 use Rattle.b67_pictures.specs.Programs.{NestedProgramsAreFaithful}
 use Rattle.b67_pictures.proofs.Closing.{FramesClose}
-use Rattle.b67_pictures.proofs.Dispatching.{IsDone, OthersAreDone, scene_does}
+use Rattle.b67_pictures.proofs.Dispatching.{IsDone, OthersAreDone}
+use Rattle.b67_pictures.proofs.Settling.{AreFreed, scene_settled}
 use Rattle.b67_pictures.proofs.Evaluating.{ActualsAreEntered}
 use Rattle.b67_pictures.proofs.Writing.{writing}
 use Rattle.b67_pictures.proofs.Selecting.{selecting}
@@ -43,6 +46,7 @@ use Rattle.b67_pictures.proofs.Ending.{ending}
 use Rattle.b67_pictures.proofs.BlockEntering.{entering_block}
 use Rattle.b67_pictures.proofs.ProcedureEntering.{entering_procedure}
 use Rattle.b67_pictures.proofs.EvaluationLeaving.{left_value, left_place}
+use Rattle.b67_pictures.proofs.Jumping.{jumping}
 use Rattle.b67_pictures.proofs.Leaving.{leaving, leaving_with}
 use Rattle.b67_pictures.proofs.Lying.{asks_as_own, frame_gives}
 use Rattle.b67_pictures.proofs.Scene.{scene_of}
@@ -64,16 +68,23 @@ pub record ArraysAreDone (tree : PProgram) (code : Code) (texts : Texts) : Type 
   pub passing : (n : Named) → IsDone tree code texts (passes n)
   pub making : (kind : Kind) (ns : List Named) (pairs : List PPair) (vs : List Value) → IsDone tree code texts (makes_arrays kind ns pairs vs)
 
-module _ (keeps : RestsKeepToTheirText) (order : AllIsMadeInOrder) (closing : FramesClose) (tree : PProgram) (code : Code) (names : HasNames tree) (lies : LiesNested tree) (fit : HasTexts tree) (short : IsShort tree code)
+-- what is done with events: one is made, told or acted on, and whom an operator releases that acts on one
+pub record EventsAreDone (tree : PProgram) (code : Code) (texts : Texts) : Type 0 where
+  pub making : (n : Named) → IsDone tree code texts (makes_event n)
+  pub telling : (n : Named) → IsDone tree code texts (asks_happened n)
+  pub acting : (x : EventAct) (n : Named) → IsDone tree code texts (acts x n)
+  pub freeing : AreFreed tree code texts
+
+module _ (keeps : RestsKeepToTheirText) (order : AllIsMadeInOrder) (jumps_keep : JumpsKeepToTheirText) (closing : FramesClose) (tree : PProgram) (code : Code) (names : HasNames tree) (lies : LiesNested tree) (fit : HasTexts tree) (short : IsShort tree code)
     (segments : All (λ (segment : Segment). length segment.words ≤ segment_limit) code.segments) (at : ProgramAt code tree) (apart : StandApart tree code at.texts)
-    (arrays : ArraysAreDone tree code at.texts) where
+    (arrays : ArraysAreDone tree code at.texts) (events : EventsAreDone tree code at.texts) where
   abbrev texts : Texts
   texts = at.texts
 
   -- a block or a procedure is left, or the process ends
   leaves_done : IsDone tree code texts (leaves done)
   leaves_done w lay img p q part [] bound core s able_is able_p asks a answered waits returns =
-      ending tree code texts closing w lay img p q part bound core s able_p (asks_as_own tree code texts w lay p part [] core.below s.stands.frame (leaves done) asks (λ e. e)) asks a
+      ending tree code texts closing w lay img p q part bound core s (asks_as_own tree code texts w lay p part [] core.below s.stands.frame (leaves done) asks (λ e. e)) asks a
   leaves_done w lay img p q part (next ∷ parts) bound core s able_is able_p asks a answered waits returns =
       leaving tree code texts (have_texts tree code at) fragments_are_performed keeps order closing w lay img p q part next parts bound core s able_is able_p
       (asks_as_own tree code texts w lay p part (next ∷ parts) core.below s.stands.frame (leaves done) asks (λ e. e)) asks a
@@ -102,11 +113,15 @@ module _ (keeps : RestsKeepToTheirText) (order : AllIsMadeInOrder) (closing : Fr
 
   enters_done : (b : PBody) → IsDone tree code texts (enters_block b)
   enters_done (plain.body spot ds ss) w lay img p q part outer bound core s able_is able_p asks a answered waits returns =
-      entering_block tree code texts lies short fragments_are_performed blocks_begin inner_blocks_start keeps order w lay img p q part outer bound core s able_is able_p spot ds ss asks a waits returns
+      entering_block tree code texts lies short fragments_are_performed blocks_begin inner_blocks_start inner_blocks_follow keeps order w lay img p q part outer bound core s able_is able_p spot ds ss asks a waits returns
 
   calls_done : (n : Named) (gs : List Given) → IsDone tree code texts (enters n gs)
   calls_done n gs w lay img p q part outer bound core s able_is able_p asks a answered waits returns =
       entering_procedure tree code at lies short (block_small tree names) fragments_are_performed blocks_begin blocks_start keeps order w lay img p q part outer bound core s able_is able_p n gs asks a waits returns
+
+  goes_done : (n : Named) → IsDone tree code texts (goes_to n)
+  goes_done n w lay img p q part outer bound core s able_is able_p asks a answered waits returns =
+      jumping tree code texts lies names (have_texts tree code at) at.labels segments fragments_are_performed keeps jumps_keep jumps_stand closing w lay img p q part outer bound core s able_is able_p n asks a
 
   others : OthersAreDone tree code texts
   others =
@@ -122,9 +137,13 @@ module _ (keeps : RestsKeepToTheirText) (order : AllIsMadeInOrder) (closing : Fr
         storing = arrays.storing;
         passing = arrays.passing;
         making = arrays.making;
+        making_event = events.making;
+        telling = events.telling;
+        acting = events.acting;
         leaving = leaves_done;
         returning = gives_back;
         placing = gives_place;
+        going = goes_done;
       }
 
   -- the code of an actual is entered
@@ -140,8 +159,8 @@ module _ (keeps : RestsKeepToTheirText) (order : AllIsMadeInOrder) (closing : Fr
 
   settled_act : (w : World) → IsOk (scopes_of tree) IsWhole w → SettledAct tree code texts w
   settled_act w ok lay img p q by at_p able_is able_p l has =
-      let s = scene_of tree code texts w lay img p q (narrow_of tree code texts w lay img by ok p q at_p) by at_p l has in
-      scene_does tree code texts lies actuals_are_entered fragments_are_performed keeps order rests_go_on others w lay img p q s.0 s.1 l.bound l.settled s.2 able_is able_p
+      let s = scene_of tree code texts w lay img p q (narrow_of tree code texts w lay img by ok p q at_p) ok by at_p l has in
+      scene_settled tree code texts lies actuals_are_entered fragments_are_performed keeps order rests_go_on others events.freeing w lay img p q s.0 s.1 l.bound l.settled s.2 able_is able_p
 
   program_is_faithful : HasFormats tree code → IsListable code → Faithful tree code
   program_is_faithful formats =
@@ -158,7 +177,8 @@ abbrev pub ProcessesStandApart : Type 0
 ProcessesStandApart = (tree : PProgram) (code : Code) (texts : Texts) → AreNested (scopes_of tree) → RestsGoOn → StandApart tree code texts
 
 -- Where the blocks of a program lie in one another, a code in which it stands is faithful to it.
-pub nested_programs_follow : RestsKeepToTheirText → AllIsMadeInOrder → FramesClose → ProcessesStandApart →
-    ((tree : PProgram) (code : Code) (at : ProgramAt code tree) → LiesNested tree → IsShort tree code → ArraysAreDone tree code at.texts) → NestedProgramsAreFaithful
-nested_programs_follow keeps in_order closing apart arrays tree code lies names fit at formats short listable =
-    program_is_faithful keeps in_order closing tree code names lies fit short (within_limit code.segments listable.segments) at (apart tree code at.texts lies.nested rests_go_on) (arrays tree code at lies short) formats listable
+pub nested_programs_follow : RestsKeepToTheirText → AllIsMadeInOrder → JumpsKeepToTheirText → FramesClose → ProcessesStandApart →
+    ((tree : PProgram) (code : Code) (at : ProgramAt code tree) → LiesNested tree → IsShort tree code → ArraysAreDone tree code at.texts) →
+    ((tree : PProgram) (code : Code) (at : ProgramAt code tree) → LiesNested tree → EventsAreDone tree code at.texts) → NestedProgramsAreFaithful
+nested_programs_follow keeps in_order jumps_keep closing apart arrays events tree code lies names fit at formats short listable =
+    program_is_faithful keeps in_order jumps_keep closing tree code names lies fit short (within_limit code.segments listable.segments) at (apart tree code at.texts lies.nested rests_go_on) (arrays tree code at lies short) (events tree code at lies) formats listable

@@ -1,5 +1,5 @@
 -- What an action of one process leaves of the picture of another.
-use Rattle.std.proofs.Common.{◌≡◌, ◌≢◌, refl, sym, ap, ◌∙◌, subst, ℕ, ◌+◌, ◌≤◌, List, length, Some, arith}
+use Rattle.std.proofs.Common.{◌≡◌, ◌≢◌, refl, sym, ap, ◌∙◌, subst, ℕ, ◌+◌, ◌≤◌, List, length, Option, Some, arith}
 use Rattle.b67_list.specs.Numbered.{numbered, set_numbered}
 use Rattle.algol_tree.specs.Plain.{PProgram}
 use Rattle.algol_meaning.specs.World.{Instance, Process, World, process_at}
@@ -11,7 +11,9 @@ use Rattle.b67_cores.specs.Cores.{Core, HasCore}
 use Rattle.b67_faithful.specs.Weight.{weight, parts_weight}
 use Rattle.b67_faithful.proofs.Contradictions.{some_same}
 use Rattle.b67_pictures.specs.Arrays.{Layout}
-use Rattle.b67_pictures.specs.Pictures.{Pictured, living, dead}
+use Rattle.b67_pictures.specs.Pictures.{Living, Pictured, living, dead}
+use Rattle.b67_pictures.specs.States.{StateIs}
+use Rattle.b67_table.specs.declared.ProcessState.{ProcessState}
 use Rattle.b67_pictures.proofs.Lying.{StayBelow}
 use Rattle.b67_pictures.proofs.Numbers.{numbered_other}
 use Rattle.b67_pictures.proofs.Staying.{frames_stay, frames_weigh, frames_most}
@@ -49,16 +51,16 @@ module _ (tree : PProgram) (code : Code) (texts : Texts) (w w' : World) (lay lay
   pub stay_below : (limit : ℕ) → StayBelow w w' lay lay' r limit
   stay_below limit = record { instances = λ i at x e own laid low. alike.own i x e own; places = alike.places; rows = λ i at x e own laid low. alike.rows i x e own }
 
-  pub pictured_alike : (img img' : Image) (q : Process) → process_at w r ≡ q → process_at w' r ≡ q → numbered img'.states r ≡ numbered img.states r →
-      ((core : Core) → HasCore img r core → HasCore img' r core) → Pictured tree code texts w lay img r q → Pictured tree code texts w' lay' img' r q
-  pictured_alike img img' q at at' states keeps (dead e s) = dead e (states ∙ s)
-  pictured_alike img img' q at at' states keeps (living a s l) =
+  -- so it lives as it did
+  pub living_alike : (img img' : Image) (q : Process) → (process_at w r).todo ≡ q.todo → (process_at w' r).todo ≡ q.todo → ((core : Core) → HasCore img r core → HasCore img' r core) → Living tree code texts w lay img r q →
+      Living tree code texts w' lay' img' r q
+  living_alike img img' q at at' keeps l =
       let low : length l.settled.below ≤ length l.settled.below = omega arith in
       let same : weight tree w r ≡ weight tree w' r =
-      ap (λ (o : Process). parts_weight tree w o.todo) at
+      ap (parts_weight tree w) at
       ∙ sym (frames_weigh tree code texts w w' lay lay' r (length l.settled.below) (stay_below (length l.settled.below)) q.todo l.settled low l.frames)
-      ∙ ap (λ (o : Process). parts_weight tree w' o.todo) (sym at') in
-      living a (states ∙ s) (record {
+      ∙ ap (parts_weight tree w') (sym at') in
+      record {
         independent = l.independent;
         without_task = l.without_task;
         core = l.core;
@@ -74,4 +76,11 @@ module _ (tree : PProgram) (code : Code) (texts : Texts) (w w' : World) (lay lay
         frames = frames_stay tree code texts w w' lay lay' r (length l.settled.below) (stay_below (length l.settled.below)) q.todo l.settled low l.frames;
         room = omega (arith, l.room, frames_most tree code texts w w' lay lay' r (length l.settled.below) (stay_below (length l.settled.below)) q.todo l.settled low l.frames);
         light = subst (λ (n : ℕ). l.bound + 3 ≤ n) same l.light;
-      })
+      }
+
+  pub pictured_alike : (img img' : Image) (q : Process) → process_at w r ≡ q → process_at w' r ≡ q → numbered img'.states r ≡ numbered img.states r →
+      ((core : Core) → HasCore img r core → HasCore img' r core) → Pictured tree code texts w lay img r q → Pictured tree code texts w' lay' img' r q
+  pictured_alike img img' q at at' states keeps (dead e s) = dead e (states ∙ s)
+  pictured_alike img img' q at at' states keeps (living a s l) =
+      living a (subst (λ (o : Option ProcessState). StateIs q.state o) (sym states) s)
+      (living_alike img img' q (ap (λ (o : Process). o.todo) at) (ap (λ (o : Process). o.todo) at') keeps l)

@@ -8,7 +8,7 @@ use Rattle.algol_tree.specs.Plain.{PExpr}
 use Rattle.algol_tree.specs.Blocks.{block_numbered}
 use Rattle.algol_tree.specs.Scopes.{Scopes, use_of}
 use Rattle.algol_tree.specs.Sorts.{same_name}
-use Rattle.algol_meaning.specs.Value.{Value, Reference, Bounds, ArrayCell, NameCell, Cell, simple, event, array, named, reference}
+use Rattle.algol_meaning.specs.Value.{Value, Reference, EventCell, Bounds, ArrayCell, NameCell, Cell, simple, event, array, named, reference}
 use Rattle.algol_meaning.specs.World.{NamedCell, Instance, Part, World, instance_at, or_no_instance, ancestor, cell_in, cells_with, by_cell, followed}
 use Rattle.algol_paths.specs.Arrays.{DeclaredArray, Shape}
 use Rattle.b67_word.specs.declared.Place.{Place}
@@ -19,7 +19,7 @@ use Rattle.b67_ops.specs.declared.Couple.{Couple}
 use Rattle.b67_templates.specs.Cells.{Wanted, simple_cells, found_from, made_base, made_of, made_from, IsOwnActual}
 use Rattle.b67_standing.specs.Stepping.{Held, row, element, variable, cell_named, actual, passed}
 use Rattle.b67_cores.specs.Slots.{Known, IsKnown}
-use Rattle.b67_pictures.specs.Arrays.{Allotted, Layout, IsOwn, IsArrayOf, IsIn, LeadsTo, LeadsToVariable, Denotes, named_from, Names, an_array_named, a_variable_named, IsNamed, IsActual, IsRow, IsElement, HeldIs, AreKnown}
+use Rattle.b67_pictures.specs.Arrays.{Allotted, Layout, IsOwn, IsArrayOf, IsIn, LeadsTo, LeadsToEvent, LeadsToVariable, Denotes, named_from, Names, an_array_named, an_event_named, a_variable_named, IsNamed, IsActual, IsRow, IsElement, HeldIs, AreKnown}
 
 -- what is known of a word is so
 pub known_is : (sc : Scopes) (w : World) (lay : Layout) (parts : List Part) (i : ℕ) (known : List Known) → AreKnown sc w lay (IsOwn parts) i known → (held : Held) (word : Word) → IsKnown known held word →
@@ -38,6 +38,7 @@ pub data HasReferred (wanted : Wanted) (c : Cell) : Type 0 where
 
 pub referred_denoted : (sc : Scopes) (w : World) (lay : Layout) (parts : List Part) (wanted : Wanted) (c : Cell) (word : Word) → Denotes sc w lay (IsOwn parts) wanted c word → HasReferred wanted c
 referred_denoted sc w lay parts (wants.array shape) (reference r) word is = has_reference r refl
+referred_denoted sc w lay parts wants.event (reference r) word is = has_reference r refl
 referred_denoted sc w lay parts (wants.by_name kind) (reference r) word is = has_reference r refl
 referred_denoted sc w lay parts (wants.by_name kind) (named a) word is = has_actual kind a refl refl
 referred_denoted sc w lay parts _ c word is = absurd is
@@ -57,6 +58,7 @@ denotes_so sc w lay parts parts' owned (wants.array shape) (reference r) word h 
       laid = h.laid;
       word_is = h.word_is;
     }
+denotes_so sc w lay parts parts' owned wants.event (reference r) word h = record { own = owned r.instance h.own; made = h.made; frame = h.frame; laid = h.laid; word_is = h.word_is }
 denotes_so sc w lay parts parts' owned (wants.by_name kind) (reference r) word h =
     record { own = owned r.instance h.own; found = h.found; there = h.there; wanted_is = h.wanted_is; frame = h.frame; laid = h.laid; word_is = h.word_is }
 denotes_so sc w lay parts parts' owned (wants.by_name kind) (named a) word h =
@@ -74,11 +76,12 @@ module _ (sc : Scopes) (w w' : World) (lay lay' : Layout) where
     pub is : cell_in ((instance_at w' j).cells) name ≡ array later
     pub bounds : later.bounds ≡ cell.bounds
 
-  -- an instance keeps its block, its parent, its arrays and their rows, and its names lead where they led
+  -- an instance keeps its block, its parent, its arrays and their rows, and its events, and its names lead where they led
   pub record KeepsArrays (j : ℕ) : Type 0 where
     pub block : (instance_at w' j).block ≡ (instance_at w j).block
     pub parent : (instance_at w' j).parent ≡ (instance_at w j).parent
     pub arrays : (name : List ℕ) (cell : ArrayCell) → cell_in ((instance_at w j).cells) name ≡ array cell → KeepsArray j name cell
+    pub events : (name : List ℕ) (e : EventCell) → cell_in ((instance_at w j).cells) name ≡ event e → (later : EventCell) × (cell_in ((instance_at w' j).cells) name ≡ event later)
     pub leads : (name : List ℕ) (r : Reference) → by_cell (cell_in ((instance_at w' j).cells) name) r ≡ by_cell (cell_in ((instance_at w j).cells) name) r
     pub rows : (number : ℕ) (a : Allotted) → slice_get (lay.rows j) number ≡ Some a → slice_get (lay'.rows j) number ≡ Some a
 
@@ -136,6 +139,27 @@ module _ (sc : Scopes) (w w' : World) (lay lay' : Layout) where
           word_is = h.word_is;
         }
 
+    pub event_lasts : (r : Reference) (word : Word) → LeadsToEvent sc w lay (IsOwn parts) r word → LeadsToEvent sc w' lay' (IsOwn parts') r word
+    event_lasts r word h =
+        let k : KeepsArrays r.instance = remain.keeps r.instance h.own in
+        let still : (later : EventCell) × (cell_in ((instance_at w' r.instance).cells) r.name ≡ event later) = k.events r.name h.made.cell h.made.is in
+        record {
+          own = remain.owned r.instance h.own;
+          made = record {
+            number = h.made.number;
+            found = ap (λ (b : ℕ). made_from 0 (made_of (block_numbered sc.blocks b).decls) r.name) k.block ∙ h.made.found;
+            cell = still.0;
+            is = still.1;
+          };
+          frame = h.frame;
+          laid = remain.places r.instance h.frame h.own h.laid;
+          word_is = h.word_is
+              ∙ ap (λ (b : ℕ). cell_word (record {
+                frame = h.frame;
+                index = made_base sc (block_numbered sc.blocks b) + h.made.number;
+              })) (sym k.block);
+        }
+
     actual_lasts : (i : ℕ) (e : PExpr) (kind : Kind) (word : Word) → IsActual sc w lay (IsOwn parts) i e kind word → IsActual sc w' lay' (IsOwn parts') i e kind word
     actual_lasts i e kind word h =
         record {
@@ -150,6 +174,7 @@ module _ (sc : Scopes) (w w' : World) (lay lay' : Layout) where
 
     pub denotes_lasts : (wanted : Wanted) (c : Cell) (word : Word) → Denotes sc w lay (IsOwn parts) wanted c word → Denotes sc w' lay' (IsOwn parts') wanted c word
     denotes_lasts (wants.array shape) (reference r) word h = leads_lasts shape r word h
+    denotes_lasts wants.event (reference r) word h = event_lasts r word h
     denotes_lasts (wants.by_name kind) (reference r) word h = variable_lasts kind r word h
     denotes_lasts (wants.by_name kind) (named a) word h = actual_lasts a.instance a.actual kind word h
     denotes_lasts _ c word h = absurd h
@@ -204,6 +229,7 @@ module _ (sc : Scopes) (w w' : World) (lay lay' : Layout) where
 
       still_names : (level : ℕ) (n : Named) (couple : Couple) → Names sc w lay level n couple → Names sc w' lay' level n couple
       still_names level n couple (an_array_named d is) = an_array_named d is
+      still_names level n couple (an_event_named is) = an_event_named is
       still_names level n couple (a_variable_named kind is) = a_variable_named kind is
 
       named_lasts : (n : Named) (word : Word) → IsNamed sc w lay (IsOwn parts) i n word → IsNamed sc w' lay' (IsOwn parts') i n word
@@ -283,6 +309,7 @@ keeps_same sc w w' lay lay' j same rows =
       block = ap (λ (x : Instance). x.block) same;
       parent = ap (λ (x : Instance). x.parent) same;
       arrays = λ name cell is. record { later = cell; is = ap (λ (x : Instance). cell_in x.cells name) same ∙ is; bounds = refl };
+      events = λ name e is. (e, ap (λ (x : Instance). cell_in x.cells name) same ∙ is);
       leads = λ name r. ap (λ (x : Instance). by_cell (cell_in x.cells name) r) same;
       rows = λ number a there. ap (λ (as' : List Allotted). slice_get as' number) rows ∙ there;
     }
@@ -298,32 +325,47 @@ known_of sc w w' lay parts parts' same owned i =
 abbrev with_cell : Bool → NamedCell → List NamedCell → List ℕ → Cell → List NamedCell
 with_cell b c cells name new = if b then record c { cell = new } ∷ cells else c ∷ cells_with cells name new
 
--- an array's cell stays where a simple cell changes
-array_stays : (cells : List NamedCell) (changed name : List ℕ) (u v : Value) (a : ArrayCell) → cell_in cells changed ≡ simple u → cell_in cells name ≡ array a → cell_in (cells_with cells changed (simple v)) name ≡ array a
-array_stays [] changed name u v a before is = is
-array_stays (c ∷ cells) changed name u v a before is =
-    by_names (array_stays cells changed name u v a) (same_name c.name changed) (same_name c.name name) refl refl before is
+-- the one is the other cell, where this was the cell that is changed, or it is what it was
+abbrev IsEither : Cell → Cell → Cell → Cell → Type 0
+IsEither new now was it = ((now ≡ new) × (was ≡ it)) ⊎ (now ≡ was)
+
+abbrev first_of : NamedCell → Bool → Cell → Cell
+first_of c b other = if b then c.cell else other
+
+-- what a name means is the other cell, where it meant the one that is changed, or what it was
+pub changed_or_not : (cells : List NamedCell) (changed name : List ℕ) (new : Cell) →
+    ((cell_in (cells_with cells changed new) name ≡ new) × (cell_in cells name ≡ cell_in cells changed)) ⊎ (cell_in (cells_with cells changed new) name ≡ cell_in cells name)
+changed_or_not [] changed name new = inr refl
+changed_or_not (c ∷ cells) changed name new = by_names (changed_or_not cells changed name new) (same_name c.name changed) (same_name c.name name) refl refl
   where
-    by_names : (cell_in cells changed ≡ simple u → cell_in cells name ≡ array a → cell_in (cells_with cells changed (simple v)) name ≡ array a) →
-        (b d : Bool) → same_name c.name changed ≡ b → same_name c.name name ≡ d →
-        (if same_name c.name changed then c.cell else cell_in cells changed) ≡ simple u → (if same_name c.name name then c.cell else cell_in cells name) ≡ array a →
-        cell_in (with_cell (same_name c.name changed) c cells changed (simple v)) name ≡ array a
-    by_names rest true true e f before is =
-        absurd (let clash : simple u ≡ array a =
-        sym (ap (λ (b : Bool). if b then c.cell else cell_in cells changed) (sym e) ∙ before) ∙ ap (λ (b : Bool). if b then c.cell else cell_in cells name) (sym f) ∙ is in cc)
-    by_names rest true false e f before is =
-        ap (λ (b : Bool). cell_in (with_cell b c cells changed (simple v)) name) e
-        ∙ ap (λ (b : Bool). if b then simple v else cell_in cells name) f
-        ∙ ap (λ (b : Bool). if b then c.cell else cell_in cells name) (sym f) ∙ is
-    by_names rest false true e f before is =
-        ap (λ (b : Bool). cell_in (with_cell b c cells changed (simple v)) name) e
-        ∙ ap (λ (b : Bool). if b then c.cell else cell_in (cells_with cells changed (simple v)) name) f
-        ∙ ap (λ (b : Bool). if b then c.cell else cell_in cells name) (sym f)
-        ∙ is
-    by_names rest false false e f before is =
-        ap (λ (b : Bool). cell_in (with_cell b c cells changed (simple v)) name) e
-        ∙ ap (λ (b : Bool). if b then c.cell else cell_in (cells_with cells changed (simple v)) name) f
-        ∙ rest (ap (λ (b : Bool). if b then c.cell else cell_in cells changed) (sym e) ∙ before) (ap (λ (b : Bool). if b then c.cell else cell_in cells name) (sym f) ∙ is)
+    by_names : IsEither new (cell_in (cells_with cells changed new) name) (cell_in cells name) (cell_in cells changed) → (b d : Bool) → same_name c.name changed ≡ b → same_name c.name name ≡ d →
+        IsEither new (cell_in (with_cell (same_name c.name changed) c cells changed new) name) (first_of c (same_name c.name name) (cell_in cells name)) (first_of c (same_name c.name changed) (cell_in cells changed))
+    by_names rest true true e f =
+        inl (
+          ap (λ (b : Bool). cell_in (with_cell b c cells changed new) name) e ∙ ap (λ (b : Bool). if b then new else cell_in cells name) f,
+          ap (λ (b : Bool). first_of c b (cell_in cells name)) f ∙ ap (λ (b : Bool). first_of c b (cell_in cells changed)) (sym e),
+        )
+    by_names rest true false e f =
+        inr
+        (ap (λ (b : Bool). cell_in (with_cell b c cells changed new) name) e
+        ∙ ap (λ (b : Bool). if b then new else cell_in cells name) f
+        ∙ ap (λ (b : Bool). first_of c b (cell_in cells name)) (sym f))
+    by_names rest false true e f =
+        inr
+        (ap (λ (b : Bool). cell_in (with_cell b c cells changed new) name) e
+        ∙ ap (λ (b : Bool). first_of c b (cell_in (cells_with cells changed new) name)) f
+        ∙ ap (λ (b : Bool). first_of c b (cell_in cells name)) (sym f))
+    by_names rest false false e f =
+        subst (λ (b : Bool). IsEither new (cell_in (with_cell b c cells changed new) name) (first_of c (same_name c.name name) (cell_in cells name)) (first_of c b (cell_in cells changed))) (sym e)
+        (subst (λ (b : Bool). IsEither new (first_of c b (cell_in (cells_with cells changed new) name)) (first_of c b (cell_in cells name)) (cell_in cells changed)) (sym f) rest)
+
+-- it stays where it is no such cell as the one that is changed
+pub other_stays : (cells : List NamedCell) (changed name : List ℕ) (old new it : Cell) → cell_in cells changed ≡ old → (old ≡ it → ⊥) → cell_in cells name ≡ it → cell_in (cells_with cells changed new) name ≡ it
+other_stays cells changed name old new it before apart is = by_either (changed_or_not cells changed name new)
+  where
+    by_either : ((cell_in (cells_with cells changed new) name ≡ new) × (cell_in cells name ≡ cell_in cells changed)) ⊎ (cell_in (cells_with cells changed new) name ≡ cell_in cells name) → cell_in (cells_with cells changed new) name ≡ it
+    by_either (inl h) = absurd (apart (sym before ∙ sym h.1 ∙ is))
+    by_either (inr h) = h ∙ is
 
 -- a cell that is no reference
 abbrev pub IsNoReference : Cell → Type 0
@@ -377,9 +419,10 @@ keeps_stored sc w w' lay j name u v before same =
       parent = ap (λ (x : Instance). x.parent) same;
       arrays = λ other cell is. record {
         later = cell;
-        is = ap (λ (x : Instance). cell_in x.cells other) same ∙ array_stays ((instance_at w j).cells) name other u v cell before is;
+        is = ap (λ (x : Instance). cell_in x.cells other) same ∙ other_stays ((instance_at w j).cells) name other (simple u) (simple v) (array cell) before (λ (clash : simple u ≡ array cell). cc) is;
         bounds = refl;
       };
+      events = λ other e is. (e, ap (λ (x : Instance). cell_in x.cells other) same ∙ other_stays ((instance_at w j).cells) name other (simple u) (simple v) (event e) before (λ (clash : simple u ≡ event e). cc) is);
       leads = λ other r.
           ap (λ (x : Instance). by_cell (cell_in x.cells other) r) same
           ∙ names_stay ((instance_at w j).cells) name other (simple v) r (subst (λ (c : Cell). IsNoReference c) (sym before) tt) tt;

@@ -1,11 +1,11 @@
 -- A block or a procedure is left.
-use Rattle.std.proofs.Common.{◌≡◌, sym, subst, ℕ, List, [], ◌∷◌, length, Option, Some, None, false, Ok}
+use Rattle.std.proofs.Common.{◌≡◌, sym, subst, ℕ, List, [], ◌∷◌, length, Option, Some, None, false, Ok, true}
 use Rattle.b67_list.specs.Numbered.{numbered}
 use Rattle.algol_tree.specs.Plain.{PProgram}
 use Rattle.algol_tree.specs.Scopes.{scopes_of}
 use Rattle.algol_meaning.specs.Value.{Value}
 use Rattle.algol_meaning.specs.Rest.{done, value}
-use Rattle.algol_meaning.specs.World.{Process, Part, able, World}
+use Rattle.algol_meaning.specs.World.{Process, Part, lives, World}
 use Rattle.algol_meaning.specs.Asks.{leaves, ask}
 use Rattle.algol_meaning.specs.Critical.{is_evaluation}
 use Rattle.algol_paths.specs.Laws.{RestsKeepToTheirText, AllIsMadeInOrder}
@@ -16,7 +16,7 @@ use Rattle.b67_segment.specs.declared.code.Code.{Code}
 use Rattle.b67_templates.specs.Contexts.{Yields}
 use Rattle.b67_templates.specs.Programs.{Texts}
 use Rattle.b67_table.specs.declared.Below.{Below}
-use Rattle.b67_table.specs.declared.ProcessState.TheVariants.{Able}
+use Rattle.b67_pictures.specs.States.{StateIs}
 use Rattle.b67_table.specs.Image.{Image}
 use Rattle.b67_table.specs.Private.{frame}
 use Rattle.b67_table.specs.Table.{operator_at}
@@ -42,7 +42,7 @@ use Rattle.b67_pictures.proofs.Words.{value_tag}
 
 module _ (tree : PProgram) (code : Code) (texts : Texts) (stand : HaveTexts tree code texts) (fragments : FragmentsArePerformed) (keeps : RestsKeepToTheirText) (order : AllIsMadeInOrder) (closing : FramesClose)
     (w : World) (lay : Layout) (img : Image) (p : ℕ) (q : Process) (part next : Part) (parts : List Part) (bound : ℕ) (core : Core)
-    (s : Scene tree code texts w lay img p q part (next ∷ parts) bound core) (able_is : q.state ≡ able) (able_p : numbered img.states p ≡ Some Able) (owns : is_evaluation part.purpose ≡ false) where
+    (s : Scene tree code texts w lay img p q part (next ∷ parts) bound core) (able_is : lives q.state ≡ true) (able_p : StateIs q.state (numbered img.states p)) (owns : is_evaluation part.purpose ≡ false) where
   abbrev around : Waits tree code texts w lay p next parts s.stands.frame.lower s.stands.frame.mark s.stands.frame.control s.stands.frame.gives
   around = s.around.0
 

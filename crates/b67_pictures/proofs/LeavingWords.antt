@@ -12,15 +12,14 @@ use Rattle.algol_meaning.specs.World.{Process, Part, World}
 use Rattle.algol_paths.specs.Texts.{InPlace, InAnswer}
 use Rattle.b67_word.specs.declared.Place.{Place}
 use Rattle.b67_word.specs.Word.{Word}
-use Rattle.b67_control.specs.Control.{as_mscw, as_rcw}
 use Rattle.b67_control.specs.Display.{place_at}
 use Rattle.b67_segment.specs.declared.code.Code.{Code}
-use Rattle.b67_store.specs.Store.{Rows}
+use Rattle.b67_store.specs.Store.{Rows, stack_limit}
 use Rattle.b67_table.specs.declared.Below.{Below}
 use Rattle.b67_table.specs.Chains.{place, left_to, rebuilt}
 use Rattle.b67_table.specs.Image.{Image, with_rows}
 use Rattle.b67_table.specs.Linkage.{arrays_closed}
-use Rattle.b67_table.specs.Look.{read_as, seen}
+use Rattle.b67_table.specs.Look.{seen}
 use Rattle.b67_table.specs.Program.{Change, changed}
 use Rattle.b67_templates.specs.Contexts as yielding
 use Rattle.b67_templates.specs.Contexts.{Yields}
@@ -32,16 +31,15 @@ use Rattle.b67_cores.specs.Slots.{ValueIs, Known, newest, SlotsAre}
 use Rattle.b67_cores.proofs.Moving.{slots_length}
 use Rattle.b67_pictures.specs.Arrays.{Layout}
 use Rattle.b67_pictures.specs.Frames.{Waits}
-use Rattle.b67_pictures.proofs.Displays.{IsEntered, entered_to, shown, shown_top, rebuilt_seen}
+use Rattle.b67_pictures.proofs.Displays.{IsEntered, shown, shown_top, rebuilt_seen}
+use Rattle.b67_pictures.proofs.FrameBelow as under
 use Rattle.b67_pictures.proofs.Hanging.{Hangs, hangs}
 use Rattle.b67_pictures.proofs.Independent.{none_critical}
 use Rattle.b67_pictures.proofs.Indexing.{more_known}
 use Rattle.b67_pictures.proofs.LeaveRow.{Leaves, given_words}
-use Rattle.b67_pictures.proofs.Linked.{Begins_with, begins_front, begins_core, mark_there, control_there}
-use Rattle.b67_pictures.proofs.Marks.{Above, left_seen}
+use Rattle.b67_pictures.proofs.Linked.{Begins_with, begins_core}
 use Rattle.b67_pictures.proofs.Scene.{Scene, frame_is}
-use Rattle.b67_pictures.proofs.StackWords.{length-stack}
-use Rattle.b67_pictures.proofs.Staying.{level_in, most_in, frame_low}
+use Rattle.b67_pictures.proofs.Staying.{level_in, most_in}
 
 -- what a part gives, and the word of it
 pub data IsGiven : Yields → Answer → Option Word → Type 0 where
@@ -81,31 +79,26 @@ module _ (tree : PProgram) (code : Code) (texts : Texts) (w : World) (lay : Layo
   pub same_f : f ≡ f'
   same_f = ap length u.lower_is
 
-  pub low : home + 2 + length u.frame.cells ≡ length u.below
-  low = frame_low tree code texts w lay p next parts u.below u.frame
-
-  pub many : length u.words ≡ length u.slots
-  many = slots_length sc u.held (level_in tree w next) home (length u.below) u.slots u.words u.words_are
-
-  pub height : f ≡ length u.below + length u.words
-  height = same_f ∙ length-stack u.below u.words
-
-  pub top : f + 2 + length s.stands.frame.cells ≡ length core.below
-  top = frame_low tree code texts w lay p part (next ∷ parts) core.below s.stands.frame
-
   begins : Begins_with img.stacks p core.below
   begins = begins_core img p core s.has
 
-  begins_lower : Begins_with img.stacks p s.stands.frame.lower
-  begins_lower =
-      begins_front img.stacks p s.stands.frame.lower (s.stands.frame.mark ∷ s.stands.frame.control ∷ s.stands.frame.cells)
-      (subst (Begins_with img.stacks p) s.stands.frame.words_are begins)
+  core_small : length core.below ≤ stack_limit
+  core_small = omega (arith, s.small)
 
-  begins_words : Begins_with img.stacks p (u.below ++ reverse u.words)
-  begins_words = subst (Begins_with img.stacks p) u.lower_is begins_lower
+  pub low : home + 2 + length u.frame.cells ≡ length u.below
+  low = under.low tree code texts w lay p img.stacks part next parts core.below s.stands.frame s.around begins core_small
+
+  pub many : length u.words ≡ length u.slots
+  many = under.many tree code texts w lay p img.stacks part next parts core.below s.stands.frame s.around begins core_small
+
+  pub height : f ≡ length u.below + length u.words
+  height = under.height tree code texts w lay p img.stacks part next parts core.below s.stands.frame s.around begins core_small
+
+  pub top : f + 2 + length s.stands.frame.cells ≡ length core.below
+  top = under.top tree code texts w lay p img.stacks part next parts core.below s.stands.frame s.around begins core_small
 
   pub begins_below : Begins_with img.stacks p u.below
-  begins_below = begins_front img.stacks p u.below (reverse u.words) begins_words
+  begins_below = under.begins_below tree code texts w lay p img.stacks part next parts core.below s.stands.frame s.around begins core_small
 
   -- ---- the frames
 
@@ -113,27 +106,11 @@ module _ (tree : PProgram) (code : Code) (texts : Texts) (w : World) (lay : Layo
   pub hung : Hangs tree code texts w lay p img.stacks next parts u.below u.frame s.around.1 begins_below
   hung = hangs tree code texts w lay p img.stacks next parts u.below u.frame s.around.1 begins_below
 
-  above : Above img.stacks p home u.below u.words
-  above =
-      record {
-        lies = begins_words;
-        own = entered_to u.frame.home u.frame.df;
-        marked = ap (read_as as_mscw) (mark_there tree code texts w lay p img.stacks next parts u.below u.frame begins_below) ∙ u.frame.mark_is;
-        entered = refl;
-        control = u.frame.back;
-        controlled = ap (read_as as_rcw) (control_there tree code texts w lay p img.stacks next parts u.below u.frame begins_below) ∙ u.frame.control_is;
-        low = omega (arith, low);
-      }
-
   abbrev pub b : Below
   b = record { mark = newest home (length u.below) u.slots; frame = home; control = u.back }
 
   left_there : seen img.stacks (left_to (place p f)) ≡ Ok b
-  left_there =
-      left_seen sc u.held (level_in tree w next) img.stacks p home u.below u.words above f (entered_to u.home u.df)
-      (ap (read_as as_mscw) (mark_there tree code texts w lay p img.stacks part (next ∷ parts) core.below s.stands.frame begins) ∙ u.mark_is) u.back
-      (ap (read_as as_rcw) (control_there tree code texts w lay p img.stacks part (next ∷ parts) core.below s.stands.frame begins) ∙ u.control_is)
-      u.slots u.words_are (omega (arith, height, many, top, s.small)) u.far (omega (arith, u.cells_are, low, height))
+  left_there = under.leads_down tree code texts w lay p img.stacks part next parts core.below s.stands.frame s.around begins core_small
 
   abbrev pub display : List (Option Place)
   display = shown (place p home) hung.more

@@ -123,7 +123,7 @@ module _ (tree : PProgram) (code : Code) (texts : Texts) (w : World) (lay : Layo
   pub shape_on : (part : Part) (outer : List Part) (at : ℕ) (mark control : Word) (cells : List Word) (home : Place) (gives : Yields) (rest : Rest) → all_to_make part.rest ≡ all_to_make rest →
       (IsOfExpression part.rest → IsOfExpression rest) → Shape tree code texts w lay p part outer at mark control cells home gives →
       Shape tree code texts w lay p (record part { rest = rest }) outer at mark control cells home gives
-  shape_on part outer at mark control cells home gives rest e stays (of_own o is) = of_own (record { owns = o.owns; framed = o.framed; routines = o.routines; making = o.making ∙ e }) is
+  shape_on part outer at mark control cells home gives rest e stays (of_own o is) = of_own (record { owns = o.owns; framed = o.framed; routines = o.routines; items = o.items; making = o.making ∙ e }) is
   shape_on part outer at mark control cells home gives rest e stays (of_lent l) =
       of_lent (record { evaluates = l.evaluates; asked = l.asked; expression = stays l.expression; stands = l.stands; none = l.none; linked = l.linked })
 
@@ -393,7 +393,7 @@ module _ (tree : PProgram) (code : Code) (texts : Texts) (w w' : World) (lay lay
   abbrev owned_after : (part : Part) (outer : List Part) (lower : List Word) (mark control : Word) (cells : List Word) (wanted : Yields) (o : OldOwned part outer (length lower) mark control cells) →
       Around tree code texts w lay p outer lower mark control wanted → length lower < limit → Owned tree code texts w' lay' p part outer (length lower) mark control cells
   owned_after part outer lower mark control cells wanted o a low =
-      record { owns = o.owns; framed = framed_after part outer lower mark control cells wanted o a low; routines = o.routines; making = o.making }
+      record { owns = o.owns; framed = framed_after part outer lower mark control cells wanted o a low; routines = o.routines; items = o.items; making = o.making }
 
   shape_after : (part : Part) (outer : List Part) (lower : List Word) (mark control : Word) (cells : List Word) (home : Place) (wanted : Yields) →
       Shape tree code texts w lay p part outer (length lower) mark control cells home wanted → Around tree code texts w lay p outer lower mark control wanted → length lower < limit →

@@ -66,3 +66,6 @@ making r e = true_false e refl
 
 pub makes_first : (r : Rest) (kind : Kind) (ns : List Named) (pairs : List PPair) (vs : List Value) → ask r ≡ makes_arrays kind ns pairs vs → all_to_make r ≡ made_in kind ns pairs ++ all_left_to_make r
 makes_first r kind ns pairs vs e = making r (ap makes e) ∙ ap (λ (k : Ask). made_by k ++ all_left_to_make r) e
+
+pub makes_event_first : (r : Rest) (n : Named) → ask r ≡ makes_event n → all_to_make r ≡ an_event n.name ∷ all_left_to_make r
+makes_event_first r n e = making r (ap makes e) ∙ ap (λ (k : Ask). made_by k ++ all_left_to_make r) e

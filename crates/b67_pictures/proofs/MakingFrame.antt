@@ -1,19 +1,15 @@
--- The frame of a part in which arrays are made: after its cells lie their descriptors.
+-- The frame of a part that makes what its block declares: after its cells lie descriptors of arrays, and words of events.
 use Rattle.algol_meaning.specs.Critical.{is_evaluation}
-use Rattle.std.proofs.Common.{◌≡◌, ◌≢◌, refl, sym, ap, ◌∙◌, subst, ℕ, suc, ◌+◌, ◌*◌, ◌<◌, ◌≤◌, List, [], ◌∷◌, ◌++◌, length, Option, Some, Bool, false, arith, append_assoc, length-append}
 use Rattle.std.specs.Prelude.{if◌then◌else◌}
+use Rattle.std.proofs.Common.{◌≡◌, ◌≢◌, refl, sym, ap, ◌∙◌, subst, ℕ, ◌+◌, ◌*◌, ◌<◌, ◌≤◌, List, ◌∷◌, ◌++◌, length, Option, Some, Bool, false, arith, append_assoc, length-append}
 use Rattle.b67_list.specs.Numbered.{numbered}
-use Rattle.algol_tree.specs.declared.tree.Kind.{Kind}
-use Rattle.algol_tree.specs.declared.tree.Named.{Named}
 use Rattle.algol_tree.specs.Blocks.{Block, block_numbered, around}
-use Rattle.algol_tree.specs.Plain.{PProgram, PPair}
+use Rattle.algol_tree.specs.Plain.{PProgram}
 use Rattle.algol_tree.specs.Scopes.{Scopes, scopes_of}
 use Rattle.algol_meaning.specs.Rest.{done}
-use Rattle.algol_meaning.specs.Value.{Value, Bounds}
-use Rattle.algol_meaning.specs.Arrays.{new_arrays, has_wrong_size, has_no_room, bounds_of}
 use Rattle.algol_meaning.specs.World.{NamedCell, Instance, Process, Part, World, instance_at, or_no_instance, with_process}
-use Rattle.algol_meaning.specs.Asks.{makes_arrays, ask, resume}
-use Rattle.algol_paths.specs.Arrays.{DeclaredArray, Made, made_in, all_left_to_make, an_array, arrays_in}
+use Rattle.algol_meaning.specs.Asks.{resume}
+use Rattle.algol_paths.specs.Arrays.{Made, all_to_make, all_left_to_make}
 use Rattle.algol_paths.specs.Laws.{KeepsToText, RestsKeepToTheirText, AllIsMadeInOrder}
 use Rattle.b67_word.specs.declared.Place.{Place}
 use Rattle.b67_word.specs.Word.{Word}
@@ -23,57 +19,41 @@ use Rattle.b67_table.specs.Image.{Image}
 use Rattle.b67_table.specs.Limits.{most_cells, most_arrays}
 use Rattle.b67_templates.specs.Contexts.{yields_of}
 use Rattle.b67_templates.specs.Cells.{simple_cells, made_of}
-use Rattle.b67_templates.specs.Code.{AreDimensions}
 use Rattle.b67_templates.specs.Programs.{Texts}
 use Rattle.b67_cores.specs.Cores.{Core}
 use Rattle.b67_cores.specs.Stretches.{control_words}
 use Rattle.b67_faithful.specs.Weight.{tokens_around, part_weight, weight}
 use Rattle.b67_faithful.proofs.Contradictions.{some_same}
 use Rattle.b67_fitting.specs.Nested.{AreNested, IsText}
-use Rattle.b67_pictures.specs.Arrays.{Allotted, Layout, AreMade, ArraysAre}
+use Rattle.b67_pictures.specs.Arrays.{Allotted, Layout, AreMade}
 use Rattle.b67_pictures.specs.Frames.{block_controls, controls_count, IsPlaced, outermost, inside, IsChained, Framed, Frame, Around, Owned, of_own}
-use Rattle.b67_pictures.proofs.ArraySizes.{bounds_lows}
 use Rattle.b67_pictures.proofs.ArraysKept.{rows_but, rows_there, rows_other}
-use Rattle.b67_pictures.proofs.ArraysMade.{Makes, allotted_new, descriptors_new, rows_after, all_made, arrays_after}
+use Rattle.b67_pictures.proofs.ArraysInTurn.{made_both}
 use Rattle.b67_pictures.proofs.Completing.{made_many}
 use Rattle.b67_pictures.proofs.ControlWords.{block_few, as_many_controls, controls_many}
 use Rattle.b67_pictures.proofs.FreshCells.{words_long}
 use Rattle.b67_pictures.proofs.Kept.{AreAlike}
 use Rattle.b67_pictures.proofs.Knowing.{denotes_lasts}
-use Rattle.b67_pictures.proofs.Lying.{Lies, lies_low, lies_around, StayBelow, same_instance, home_after, weight_stays, around_stays, outer_remain, owned_frame, asks_as_own, frame_gives, runs_at}
-use Rattle.b67_pictures.proofs.MakingAsked.{makes_first}
+use Rattle.b67_pictures.proofs.Lying.{Lies, lies_low, lies_around, StayBelow, same_instance, home_after, weight_stays, around_stays, outer_remain, owned_frame, frame_gives, runs_at}
 use Rattle.b67_pictures.proofs.Numbers.{numbered_set}
 use Rattle.b67_pictures.proofs.Scene.{Scene}
-use Rattle.b67_pictures.proofs.Segmented.{length_mapped}
 use Rattle.b67_pictures.proofs.Stage.{weight_of}
 use Rattle.b67_pictures.proofs.Staying.{names_in}
 use Rattle.b67_pictures.proofs.StoringFrames.{same_ancestors, changed, stored_world, changed_at, others_at, same_of}
-use Rattle.b67_pictures.proofs.Zeros.{cells_length}
 use Rattle.algol_tree.specs.Cells.{level_of}
 
--- there are as many arrays as names
-pub new_many : (kind : Kind) (bs : List Bounds) (ns : List Named) → length (new_arrays kind bs ns) ≡ length ns
-new_many kind bs [] = refl
-new_many kind bs (n ∷ ns) = ap suc (new_many kind bs ns)
-
+-- What is made next is what the part has first to make, before all that is left.
 module _ (tree : PProgram) (code : Code) (texts : Texts) (nested : AreNested (scopes_of tree)) (keeps : RestsKeepToTheirText) (order : AllIsMadeInOrder) (w : World) (lay : Layout) (img : Image)
     (p : ℕ) (q : Process) (part : Part) (outer : List Part) (bound : ℕ) (core : Core) (s : Scene tree code texts w lay img p q part outer bound core)
-    (kind : Kind) (ns : List Named) (pairs : List PPair) (vs : List Value) (asks : ask part.rest ≡ makes_arrays kind ns pairs vs) where
+    (owns : is_evaluation part.purpose ≡ false) (ms : List Made) (makes : all_to_make part.rest ≡ ms ++ all_left_to_make part.rest) where
   abbrev sc : Scopes
   sc = scopes_of tree
 
   abbrev i : ℕ
   i = part.instance
 
-  abbrev bs : List Bounds
-  bs = bounds_of pairs vs
-
   abbrev f : Frame tree code texts w lay p part outer core.below
   f = s.stands.frame
-
-  -- the part has the frame's instance for its own
-  pub owns : is_evaluation part.purpose ≡ false
-  owns = asks_as_own tree code texts w lay p part outer core.below f (makes_arrays kind ns pairs vs) asks (λ e. e)
 
   abbrev pub own_frame : Owned tree code texts w lay p part outer (length f.lower) f.mark f.control f.cells
   own_frame = owned_frame tree code texts w lay p part outer core.below f owns
@@ -89,31 +69,20 @@ module _ (tree : PProgram) (code : Code) (texts : Texts) (nested : AreNested (sc
 
   -- ---- how many there are
 
-  pub ordered : made_of b.decls ≡ framed.declared ++ (made_in kind ns pairs ++ all_left_to_make part.rest)
-  ordered = framed.order ∙ ap (λ (ds : List Made). framed.declared ++ ds) (own_frame.making ∙ makes_first part.rest kind ns pairs vs asks)
+  pub ordered : made_of b.decls ≡ framed.declared ++ (ms ++ all_left_to_make part.rest)
+  ordered = framed.order ∙ ap (λ (ds : List Made). framed.declared ++ ds) (own_frame.making ∙ makes)
 
   text : IsText sc x.block
   text = nested.each x.block framed.known
 
-  declared_many : length (made_of b.decls) ≡ length framed.declared + (length ns + length (all_left_to_make part.rest))
-  declared_many =
-      omega (
-        arith,
-        ap length ordered,
-        length-append framed.declared (made_in kind ns pairs ++ all_left_to_make part.rest),
-        length-append (made_in kind ns pairs) (all_left_to_make part.rest),
-        length_mapped an_array (arrays_in kind ns pairs),
-        length_mapped (λ (n : Named). declared_as n) ns,
-      )
-    where
-      declared_as : Named → DeclaredArray
-      declared_as n = record { name = n.name; kind = kind; pairs = pairs }
+  declared_many : length (made_of b.decls) ≡ length framed.declared + (length ms + length (all_left_to_make part.rest))
+  declared_many = omega (arith, ap length ordered, length-append framed.declared (ms ++ all_left_to_make part.rest), length-append ms (all_left_to_make part.rest))
 
   -- no more than are made at once
-  pub few_arrays : length ns ≤ most_arrays
-  few_arrays = omega (arith, declared_many, text.few)
+  pub few_made : length ms ≤ most_arrays
+  few_made = omega (arith, declared_many, text.few)
 
-  cells_many : length f.cells ≡ length (simple_cells sc b) + (controls_count sc x.block + length framed.declared)
+  pub cells_many : length f.cells ≡ length (simple_cells sc b) + (controls_count sc x.block + length framed.declared)
   cells_many =
       omega (
         arith,
@@ -127,124 +96,85 @@ module _ (tree : PProgram) (code : Code) (texts : Texts) (nested : AreNested (sc
       )
 
   -- nor more than a frame has cells
-  pub few_cells : length f.cells + length ns ≤ most_cells
+  pub few_cells : length f.cells + length ms ≤ most_cells
   few_cells = omega (arith, cells_many, declared_many, block_few sc nested x.block framed.known)
 
   -- ---- the world after
 
-  abbrev pub cells' : List NamedCell
-  cells' = x.cells ++ new_arrays kind bs ns
+  -- with these cells, rows and words
+  module _ (new : List NamedCell) (allotted : List Allotted) (descriptors : List Word) (added : AreMade ms new allotted descriptors) where
+    abbrev pub cells' : List NamedCell
+    cells' = x.cells ++ new
 
-  abbrev pub grown : World
-  grown = stored_world w i x framed.is cells'
+    abbrev pub grown : World
+    grown = stored_world w i x framed.is cells'
 
-  abbrev pub part' : Part
-  part' = record part { rest = resume sc part.rest done }
+    abbrev pub part' : Part
+    part' = record part { rest = resume sc part.rest done }
 
-  abbrev pub q' : Process
-  q' = record q { todo = part' ∷ outer }
+    abbrev pub q' : Process
+    q' = record q { todo = part' ∷ outer }
 
-  abbrev pub w' : World
-  w' = with_process grown p q'
+    abbrev pub w' : World
+    w' = with_process grown p q'
 
-  abbrev pub allotted : List Allotted
-  allotted = allotted_new ns bs img.rows
+    abbrev pub lay' : Layout
+    lay' = record lay { rows = rows_but lay.rows i (lay.rows i ++ allotted) }
 
-  abbrev pub descriptors : List Word
-  descriptors = descriptors_new ns bs img.rows
+    pub block_is : (instance_at w part.instance).block ≡ (instance_at w' part.instance).block
+    block_is = same_of w i x framed.is cells' (λ (z : Instance). z.block) refl part.instance
 
-  abbrev pub lay' : Layout
-  lay' = record lay { rows = rows_but lay.rows i (lay.rows i ++ allotted) }
+    pub rows_here : lay'.rows i ≡ lay.rows i ++ allotted
+    rows_here = rows_there lay.rows i (lay.rows i ++ allotted) i refl
 
-  pub block_is : (instance_at w part.instance).block ≡ (instance_at w' part.instance).block
-  block_is = same_of w i x framed.is cells' (λ (z : Instance). z.block) refl part.instance
+    pub rows_elsewhere : (j : ℕ) → j ≢ i → lay'.rows j ≡ lay.rows j
+    rows_elsewhere j other = rows_other lay.rows i (lay.rows i ++ allotted) j other
 
-  rows_here : lay'.rows i ≡ lay.rows i ++ allotted
-  rows_here = rows_there lay.rows i (lay.rows i ++ allotted) i refl
+    -- the frames below are of other instances
+    pub lower_apart : (j there : ℕ) → numbered lay.places j ≡ Some (place p there) → there < length f.lower → j ≢ i
+    lower_apart j there lies low same =
+        let height : there ≡ length f.lower = ap (λ (l : Place). l.at) (some_same (sym lies ∙ ap (λ (n : ℕ). numbered lay.places n) same ∙ framed.laid)) in
+        omega (arith, height, low)
 
-  pub rows_elsewhere : (j : ℕ) → j ≢ i → lay'.rows j ≡ lay.rows j
-  rows_elsewhere j other = rows_other lay.rows i (lay.rows i ++ allotted) j other
-
-  -- the frames below are of other instances
-  pub lower_apart : (j there : ℕ) → numbered lay.places j ≡ Some (place p there) → there < length f.lower → j ≢ i
-  lower_apart j there lies low same =
-      let height : there ≡ length f.lower = ap (λ (l : Place). l.at) (some_same (sym lies ∙ ap (λ (n : ℕ). numbered lay.places n) same ∙ framed.laid)) in
-      omega (arith, height, low)
-
-  abbrev stays : StayBelow w w' lay lay' p (length f.lower)
-  stays =
-      record {
-        instances = λ j there y e mine lies low. others_at w i x framed.is cells' j (lower_apart j there lies low) ∙ e;
-        places = λ j g e. e;
-        rows = λ j there y e mine lies low. rows_elsewhere j (lower_apart j there lies low);
-      }
-
-  -- those of other processes are as they were
-  pub alike : (r : ℕ) → r ≢ p → AreAlike w w' lay lay' r
-  alike r other =
-      record {
-        own = λ j y e mine. others_at w i x framed.is cells' j (apart j y e mine) ∙ e;
-        places = λ j g e. e;
-        rows = λ j y e mine. rows_elsewhere j (apart j y e mine);
-      }
-    where
-      apart : (j : ℕ) (y : Instance) → numbered w.instances j ≡ Some y → y.process ≡ r → j ≢ i
-      apart j y e mine same =
-          let here : y ≡ x = some_same (sym e ∙ ap (λ (n : ℕ). numbered w.instances n) same ∙ framed.is) in
-          other (sym mine ∙ ap (λ (z : Instance). z.process) here ∙ framed.own)
-
-  pub chained : IsChained sc w' lay' i (names_in tree w part) core.registers.display
-  chained up low =
-      s.stands.chained up low
-      ∙ ap (λ (j : ℕ). numbered lay.places j) (same_ancestors w w' (λ j. same_of w i x framed.is cells' (λ (z : Instance). z.parent) refl j) up i)
-
-  -- ---- the frame, with the descriptors after its cells
-
-  module _ (dimensions : AreDimensions pairs) (each : length vs ≡ length pairs) (right : has_wrong_size bs ≡ false) (room : has_no_room w bs ns ≡ false) where
-    abbrev making : Makes sc w lay i kind ns pairs bs
-    making =
+    abbrev stays : StayBelow w w' lay lay' p (length f.lower)
+    stays =
         record {
-          instance = x;
-          is = framed.is;
-          stands = framed.stands;
-          simple = framed.simple;
-          arrays = framed.arrays;
-          has = framed.has;
-          many = cells_length (simple_cells sc b) framed.simple framed.values framed.simple_are;
-          declared = framed.declared;
-          later = all_left_to_make part.rest;
-          order = ordered;
-          descriptors = framed.descriptors;
-          made = framed.made;
-          dimensions = dimensions;
-          lows = bounds_lows pairs vs each;
-          right = right;
-          room = room;
+          instances = λ j there y e mine lies low. others_at w i x framed.is cells' j (lower_apart j there lies low) ∙ e;
+          places = λ j g e. e;
+          rows = λ j there y e mine lies low. rows_elsewhere j (lower_apart j there lies low);
         }
 
-    pub arrays_now : ArraysAre sc w' lay' (rows_after ns bs img.rows)
-    arrays_now =
-        arrays_after sc w lay img.rows s.by.arrays i kind ns pairs bs making w' lay' refl rows_here (λ j other. rows_elsewhere j (λ same. other (sym same)))
+    -- those of other processes are as they were
+    pub alike : (r : ℕ) → r ≢ p → AreAlike w w' lay lay' r
+    alike r other =
+        record {
+          own = λ j y e mine. others_at w i x framed.is cells' j (apart j y e mine) ∙ e;
+          places = λ j g e. e;
+          rows = λ j y e mine. rows_elsewhere j (apart j y e mine);
+        }
+      where
+        apart : (j : ℕ) (y : Instance) → numbered w.instances j ≡ Some y → y.process ≡ r → j ≢ i
+        apart j y e mine same =
+            let here : y ≡ x = some_same (sym e ∙ ap (λ (n : ℕ). numbered w.instances n) same ∙ framed.is) in
+            other (sym mine ∙ ap (λ (z : Instance). z.process) here ∙ framed.own)
 
-    pub made_now : AreMade (framed.declared ++ made_in kind ns pairs) (framed.arrays ++ new_arrays kind bs ns) (lay'.rows i) (framed.descriptors ++ descriptors)
+    pub chained : IsChained sc w' lay' i (names_in tree w part) core.registers.display
+    chained up low =
+        s.stands.chained up low
+        ∙ ap (λ (j : ℕ). numbered lay.places j) (same_ancestors w w' (λ j. same_of w i x framed.is cells' (λ (z : Instance). z.parent) refl j) up i)
+
+    -- ---- the frame, with the words after its cells
+
+    pub made_now : AreMade (framed.declared ++ ms) (framed.arrays ++ new) (lay'.rows i) (framed.descriptors ++ descriptors)
     made_now =
-        subst (λ (rows : List Allotted). AreMade (framed.declared ++ made_in kind ns pairs) (framed.arrays ++ new_arrays kind bs ns) rows (framed.descriptors ++ descriptors)) (sym rows_here)
-        (all_made sc w lay img.rows s.by.arrays i kind ns pairs bs making)
+        subst (λ (rows : List Allotted). AreMade (framed.declared ++ ms) (framed.arrays ++ new) rows (framed.descriptors ++ descriptors)) (sym rows_here)
+        (made_both framed.declared framed.arrays (lay.rows i) framed.descriptors ms new allotted descriptors framed.made added)
 
-    pub descriptors_many : length descriptors ≡ length ns
-    descriptors_many =
-        let before = made_many framed.declared framed.arrays (lay.rows i) framed.descriptors framed.made in
-        let after = made_many (framed.declared ++ made_in kind ns pairs) (framed.arrays ++ new_arrays kind bs ns) (lay'.rows i) (framed.descriptors ++ descriptors) made_now in
-        omega (
-          arith,
-          before.words_many,
-          before.cells_many,
-          after.words_many,
-          after.cells_many,
-          length-append framed.descriptors descriptors,
-          length-append framed.arrays (new_arrays kind bs ns),
-          new_many kind bs ns,
-        )
+    pub descriptors_many : length descriptors ≡ length ms
+    descriptors_many = (made_many ms new allotted descriptors added).words_many
+
+    new_many : length new ≡ length ms
+    new_many = (made_many ms new allotted descriptors added).cells_many
 
     abbrev later : Instance
     later = changed w i x framed.is cells'
@@ -288,13 +218,13 @@ module _ (tree : PProgram) (code : Code) (texts : Texts) (nested : AreNested (sc
               );
           ats = framed.ats;
           each_has_place = framed.each_has_place;
-          arrays = framed.arrays ++ new_arrays kind bs ns;
-          declared = framed.declared ++ made_in kind ns pairs;
+          arrays = framed.arrays ++ new;
+          declared = framed.declared ++ ms;
           later = all_left_to_make part.rest;
-          order = ordered ∙ sym (append_assoc framed.declared (made_in kind ns pairs) (all_left_to_make part.rest));
+          order = ordered ∙ sym (append_assoc framed.declared (ms) (all_left_to_make part.rest));
           descriptors = framed.descriptors ++ descriptors;
           made = made_now;
-          has = ap (λ (cs : List NamedCell). cs ++ new_arrays kind bs ns) framed.has ∙ append_assoc framed.simple framed.arrays (new_arrays kind bs ns);
+          has = ap (λ (cs : List NamedCell). cs ++ new) framed.has ∙ append_assoc framed.simple framed.arrays (new);
           cells_is =
               ap (λ (ws : List Word). ws ++ descriptors) framed.cells_is
               ∙ append_assoc framed.values (control_words (block_controls sc x.block framed.ats) ++ framed.descriptors) descriptors
@@ -328,7 +258,7 @@ module _ (tree : PProgram) (code : Code) (texts : Texts) (nested : AreNested (sc
           level_is = framed'.level_is ∙ runs_at part (level_of (block_numbered sc.blocks framed'.instance.block)) own_frame.owns;
           gives = f.gives;
           text = subst (λ (j : ℕ). KeepsToText sc j part'.rest) block_is (keeps.resumed sc ((instance_at w i).block) part.rest done f.text tt);
-          shape = of_own (record { owns = own_frame.owns; framed = framed'; routines = own_frame.routines; making = sym (order.resumed sc ((instance_at w i).block) part.rest done f.text) }) (frame_gives tree code texts w lay p part outer core.below f owns ∙ ap (λ (y : Instance). yields_of (block_numbered sc.blocks y.block).result) (ap or_no_instance framed.is));
+          shape = of_own (record { owns = own_frame.owns; framed = framed'; routines = own_frame.routines; items = own_frame.items; making = sym (order.resumed sc ((instance_at w i).block) part.rest done f.text) }) (frame_gives tree code texts w lay p part outer core.below f owns ∙ ap (λ (y : Instance). yields_of (block_numbered sc.blocks y.block).result) (ap or_no_instance framed.is));
         }
 
     -- the parts around stand as they did
@@ -337,20 +267,20 @@ module _ (tree : PProgram) (code : Code) (texts : Texts) (nested : AreNested (sc
 
     -- ---- weights
 
-    part_heavier : part_weight tree w' part' ≡ part_weight tree w part + length ns
+    part_heavier : part_weight tree w' part' ≡ part_weight tree w part + length ms
     part_heavier =
         ap (λ (t : Bool). 8 + (if t then 0 else length ((instance_at w' i).cells)) + 4 * tokens_around tree ((instance_at w' i).block)) own_frame.owns
         ∙ ap (λ (j : ℕ). 8 + length ((instance_at w' i).cells) + 4 * tokens_around tree j) (sym block_is)
         ∙ omega (
           arith,
           ap (λ (o : Option Instance). length ((or_no_instance o).cells)) (changed_at w i x framed.is cells'),
-          length-append x.cells (new_arrays kind bs ns),
-          new_many kind bs ns,
+          length-append x.cells (new),
+          new_many,
           ap (λ (o : Option Instance). length ((or_no_instance o).cells)) framed.is,
           ap (λ (t : Bool). 8 + (if t then 0 else length ((instance_at w i).cells)) + 4 * tokens_around tree ((instance_at w i).block)) own_frame.owns,
         )
 
-    pub heavier : weight tree w' p ≡ weight tree w p + length ns
+    pub heavier : weight tree w' p ≡ weight tree w p + length ms
     heavier =
         weight_of tree w' p q' (part' ∷ outer) (numbered_set w.processes p q q' s.at) refl
         ∙ omega (

@@ -17,7 +17,7 @@ use Rattle.b67_table.specs.References.{cell_word}
 use Rattle.b67_templates.specs.Cells.{Agrees, simple_cells, made_base, found_from, IsDeclaredArray, made_of, made_from, FoundMade}
 use Rattle.b67_templates.specs.Programs.{Texts}
 use Rattle.b67_faithful.proofs.Contradictions.{some_same}
-use Rattle.b67_pictures.specs.Arrays.{Layout, named_from, LeadsTo, Names, an_array_named, a_variable_named, IsNamed, IsOwn}
+use Rattle.b67_pictures.specs.Arrays.{Layout, named_from, LeadsTo, Names, an_array_named, an_event_named, a_variable_named, IsNamed, IsOwn}
 use Rattle.b67_pictures.specs.Frames.{IsComplete, Frame, Around}
 use Rattle.b67_pictures.proofs.AskedEntries.{InReferred}
 use Rattle.b67_pictures.proofs.Lying.{Lies, lies_frame, IsParent, parents_of, part_own}
@@ -118,6 +118,13 @@ module _ (tree : PProgram) (code : Code) (texts : Texts) (w : World) (lay : Layo
         where
           by_name : Names sc w lay h.level n h.couple → h.couple.index ≡ made_base sc (block_numbered sc.blocks ((instance_at w home).block)) + v.made.number
           by_name (an_array_named other is) =
+              omega (
+                arith,
+                is.made.index_is,
+                ap (λ (y : FoundMade). y.number) (some_same (sym is.made.there ∙ v.made.there)),
+                ap (λ (j : ℕ). made_base sc (block_numbered sc.blocks j)) same_block,
+              )
+          by_name (an_event_named is) =
               omega (
                 arith,
                 is.made.index_is,

@@ -185,7 +185,7 @@ module _ (sc : Scopes) (w : World) (lay : Layout) where
         low =
             omega (
               arith,
-              made_low 0 own.declared own.later own.arrays (lay.rows i) own.descriptors name of.number declared cell own.made (sym (past.found own.arrays) ∙ is_array)
+              made_low 0 own.declared own.later own.arrays (lay.rows i) own.descriptors name of.number (an_array declared) (array cell) (λ (e : cell_in [] name ≡ array cell). cc) own.made (sym (past.found own.arrays) ∙ is_array)
                   (ap (λ (ds : List Made). made_from 0 ds name) (sym own.order) ∙ there),
             )
 

@@ -1,5 +1,5 @@
--- The passing of a parameter that stands for an array, for a variable or for an actual: what its cell has is given on.
-use Rattle.std.proofs.Common.{◌≡◌, inl, refl, sym, ap, ◌∙◌, subst, ℕ, ◌+◌, ◌≤◌, List, ◌∷◌, length, Some, Ok, arith}
+-- The passing of a parameter that stands for an array, for an event, for a variable or for an actual: what its cell has is given on.
+use Rattle.std.proofs.Common.{◌≡◌, inl, refl, sym, ap, ◌∙◌, subst, ℕ, ◌+◌, ◌≤◌, List, ◌∷◌, length, Some, Ok, arith, true}
 use Rattle.b67_list.specs.Numbered.{numbered}
 use Rattle.algol_tree.specs.declared.tree.Named.{Named}
 use Rattle.algol_tree.specs.Plain.{PProgram}
@@ -11,7 +11,7 @@ use Rattle.b67_word.specs.Word.{Word}
 use Rattle.b67_control.specs.declared.Sirw.{Sirw}
 use Rattle.b67_store.specs.Store.{word_at}
 use Rattle.algol_meaning.specs.Rest.{Answer, cell}
-use Rattle.algol_meaning.specs.World.{Process, Part, able, World, instance_at, cell_at}
+use Rattle.algol_meaning.specs.World.{Process, Part, lives, World, instance_at, cell_at}
 use Rattle.algol_meaning.specs.Actions.{Pass}
 use Rattle.algol_meaning.specs.Asks.{Ask, passes, ask, resume}
 use Rattle.algol_meaning.specs.Choice.{choice_of, goes}
@@ -25,7 +25,7 @@ use Rattle.b67_segment.specs.Operators.{Placed}
 use Rattle.b67_segment.specs.declared.code.Code.{Code}
 use Rattle.b67_templates.specs.Programs.{Texts}
 use Rattle.b67_table.specs.Chains.{place}
-use Rattle.b67_table.specs.declared.ProcessState.TheVariants.{Able}
+use Rattle.b67_pictures.specs.States.{StateIs}
 use Rattle.b67_table.specs.Image.{Image}
 use Rattle.b67_table.specs.Effect as effects
 use Rattle.b67_table.specs.Outcome as outcomes
@@ -34,7 +34,7 @@ use Rattle.b67_table.specs.Table.{operator_at}
 use Rattle.b67_templates.specs.Cells as wants
 use Rattle.b67_templates.specs.Cells.{Wanted, Agrees}
 use Rattle.b67_standing.specs.Stepping.{Slot, reference as reference_slot, descriptor, passed as passed_held}
-use Rattle.b67_standing.specs.Standing.{IsPassed, Passable, array_passed, name_passed, ActionAt, Acted, ComesTo, PassesAt}
+use Rattle.b67_standing.specs.Standing.{IsPassed, Passable, array_passed, name_passed, event_passed, ActionAt, Acted, ComesTo, PassesAt}
 use Rattle.b67_cores.specs.Cores.{Core, with_core}
 use Rattle.b67_cores.specs.Slots.{Known, newest}
 use Rattle.b67_cores.specs.Stretches.{CoreAt, FragmentsArePerformed}
@@ -43,6 +43,7 @@ use Rattle.b67_pictures.specs.Arrays.{Layout, Denotes, named_from, IsOwn}
 use Rattle.b67_pictures.specs.Acting.{Does}
 use Rattle.b67_pictures.proofs.AskedElements.{array_asked, array_seen}
 use Rattle.b67_pictures.proofs.ArrayPlaces.{array_index}
+use Rattle.b67_pictures.proofs.EventHomes.{cell_there, FormalEvent, formal_event_there}
 use Rattle.b67_pictures.proofs.FormalHomes.{FormalHome, formal_home, leads_so}
 use Rattle.b67_pictures.proofs.Homes.{operator_there}
 use Rattle.b67_pictures.proofs.Indexing.{more_known}
@@ -111,6 +112,24 @@ module _ (tree : PProgram) (code : Code) (texts : Texts) (nested : AreNested (sc
         names = ap as_irw on_top.slot_is ∙ reference_read found.couple h.fits.0 h.fits.1;
       }
 
+  -- an event
+  finds_event : wanted ≡ wants.event → FormalEvent tree code texts nested w lay img p q part outer bound core s n found.couple → FindsFormal
+  finds_event e h =
+      record {
+        given = reference h.r;
+        cell_is = h.cell_is;
+        word = h.word;
+        denotes = subst (λ (o : Wanted). Denotes (scopes_of tree) w lay (IsOwn (part ∷ outer)) o (reference h.r) h.word) (sym e) h.leads;
+        may_pass = subst (λ (o : Wanted). IsPassed o (reference h.r)) (sym e) tt;
+        other = record { stack = p; displacement = length h.lies.frame.lower; index = (cell_there tree code texts nested w lay img p q part outer bound core s h.lies h.leads.made.number).index };
+        refers = h.refers;
+        at = h.at;
+        shown = h.shown;
+        lies = h.there;
+        top = on_top;
+        names = ap as_irw on_top.slot_is ∙ reference_read found.couple h.fits.0 h.fits.1;
+      }
+
   -- a variable of that kind, or an actual
   finds_so : (kind : Kind) → wanted ≡ wants.by_name kind → (home : NameCellHome tree code texts nested w lay img p q part outer bound core s n kind found.couple)
       (given : Cell) → cell_at w (named_from (scopes_of tree) w lay part.instance n) ≡ given → Denotes (scopes_of tree) w lay (IsOwn (part ∷ outer)) (wants.by_name kind) given home.word → IsPassed (wants.by_name kind) given →
@@ -145,13 +164,14 @@ module _ (tree : PProgram) (code : Code) (texts : Texts) (nested : AreNested (sc
     where
       by_passable : (o : Wanted) → Passable (scopes_of tree) (context_in tree code texts w part s.stands.frame.gives) (text_in tree texts w part) (level_in tree w part) (most_in tree w part) n found.couple o → wanted ≡ o → FindsFormal
       by_passable o (array_passed shape actual is agrees) e = finds_array shape actual e agrees (formal_home tree code texts nested w lay img p q part outer bound core s n actual found.couple seen is)
+      by_passable o (event_passed is) e = finds_event e (formal_event_there tree code texts nested w lay img p q part outer bound core s n found.couple seen is)
       by_passable o (name_passed kind is) e = finds_name kind e (name_stands tree code texts nested w lay img p q part outer bound core s n kind found.couple seen is)
 
 -- ---- the action
 
 module _ (tree : PProgram) (code : Code) (texts : Texts) (nested : AreNested (scopes_of tree)) (fragments : FragmentsArePerformed) (keeps : RestsKeepToTheirText) (order : AllIsMadeInOrder)
     (w : World) (lay : Layout) (img : Image) (p : ℕ) (q : Process) (part : Part) (outer : List Part) (bound : ℕ) (core : Core) (s : Scene tree code texts w lay img p q part outer bound core)
-    (able_is : q.state ≡ able) (able_p : numbered img.states p ≡ Some Able) (n : Named) (asks : ask part.rest ≡ passes n)
+    (able_is : lives q.state ≡ true) (able_p : StateIs q.state (numbered img.states p)) (n : Named) (asks : ask part.rest ≡ passes n)
     (a : ActionAt (scopes_of tree) (context_in tree code texts w part s.stands.frame.gives) (text_in tree texts w part) (level_in tree w part) (most_in tree w part) (passes n) s.stands.pc s.stands.slots)
     (answered : (r : Answer) (at : ℕ) (after : List Slot) →
     Acted (scopes_of tree) (context_in tree code texts w part s.stands.frame.gives) (text_in tree texts w part) (level_in tree w part) (most_in tree w part) (passes n) s.stands.pc s.stands.slots a r at after →

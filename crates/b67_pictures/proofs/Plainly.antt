@@ -3,13 +3,13 @@ use Rattle.std.proofs.Common.{◌≡◌, ◌≢◌, ◌⊎◌, inl, inr, refl, s
 use Rattle.std.specs.Prelude.{if◌then◌else◌}
 use Rattle.b67_list.specs.Numbered.{numbered}
 use Rattle.algol_tree.specs.Plain.{PProgram}
-use Rattle.algol_meaning.specs.World.{Process, able, World}
+use Rattle.algol_meaning.specs.World.{Process, lives, World}
 use Rattle.b67_segment.specs.declared.code.Code.{Code}
 use Rattle.b67_templates.specs.Programs.{Texts}
 use Rattle.b67_store.specs.Store.{stack_at, stack_limit}
 use Rattle.b67_control.specs.Display.{place_at}
 use Rattle.b67_table.specs.declared.InterruptKind.TheVariants.{BadCode as bad_code}
-use Rattle.b67_table.specs.declared.ProcessState.TheVariants.{Able}
+use Rattle.b67_pictures.specs.States.{StateIs}
 use Rattle.b67_table.specs.Effect.{Effect, interrupts}
 use Rattle.b67_table.specs.Outcome.{gives}
 use Rattle.b67_table.specs.Outcome as outcomes
@@ -134,12 +134,13 @@ module _ (performed : StepsArePerformed) (limits : StepsComeToLimit) (tree : PPr
       }
 
   -- the image pictures the same world after that
-  pub pictured_nearer : (c : Core) (q : Process) → numbered w.processes p ≡ Some q → PicturesBy tree code texts w lay a → q.state ≡ able → numbered a.states p ≡ Some Able → (l : Living tree code texts w lay a p q) → Nearer tree code texts w lay a c p q l →
+  pub pictured_nearer : (c : Core) (q : Process) → numbered w.processes p ≡ Some q → PicturesBy tree code texts w lay a → lives q.state ≡ true → StateIs q.state (numbered a.states p) → (l : Living tree code texts w lay a p q) → Nearer tree code texts w lay a c p q l →
       PicturesBy tree code texts w lay (with_core a p c)
   pictured_nearer c q at by able_is s l n =
       record {
         laid = by.laid;
         arrays = by.arrays;
+        events = by.events;
         output = by.output;
         fault = by.fault;
         started = by.started;
@@ -173,7 +174,7 @@ module _ (performed : StepsArePerformed) (limits : StepsComeToLimit) (tree : PPr
 
   abbrev pub Quiet : Type 0
   Quiet =
-      (q : Process) → numbered w.processes p ≡ Some q → q.state ≡ able → numbered a.states p ≡ Some Able → (l : Living tree code texts w lay a p q) → HasCore a p l.settled → plain code a p ≡ false
+      (q : Process) → numbered w.processes p ≡ Some q → lives q.state ≡ true → StateIs q.state (numbered a.states p) → (l : Living tree code texts w lay a p q) → HasCore a p l.settled → plain code a p ≡ false
 
   moved : (q : Process) → numbered w.processes p ≡ Some q → PicturesBy tree code texts w lay a → Quiet → Pictured tree code texts w lay a p q → PicturesBy tree code texts w lay b
   moved q at by quiet (dead e s) = no_operator code a b p (ap is_live s) gives_b

@@ -11,7 +11,7 @@ use Rattle.algol_tree.specs.Cells.{level_of}
 use Rattle.algol_tree.specs.Scopes.{Scopes, scopes_of, use_of}
 use Rattle.algol_meaning.specs.Rest.{Answer, Given, entered}
 use Rattle.algol_meaning.specs.Value.{Cell}
-use Rattle.algol_meaning.specs.World.{Instance, Process, Part, procedure, able, World, instance_at, or_no_instance, ancestor}
+use Rattle.algol_meaning.specs.World.{Instance, Process, Part, procedure, lives, World, instance_at, or_no_instance, ancestor}
 use Rattle.algol_meaning.specs.Asks.{Ask, nothing, enters, ask, resume}
 use Rattle.algol_meaning.specs.Choice.{choice_of, entered_procedure, given_cells}
 use Rattle.algol_meaning.specs.Settle.{block_of}
@@ -27,12 +27,12 @@ use Rattle.b67_ops.specs.declared.TheConstants.{OUTER_LEVEL}
 use Rattle.b67_segment.specs.declared.code.Code.{Code}
 use Rattle.b67_segment.specs.declared.code.Segment.{Segment}
 use Rattle.b67_store.specs.Store.{word_at}
-use Rattle.b67_table.specs.declared.ProcessState.TheVariants.{Able}
+use Rattle.b67_pictures.specs.States.{StateIs}
 use Rattle.b67_table.specs.Chains.{place}
 use Rattle.b67_table.specs.Image.{Image}
 use Rattle.b67_table.specs.Private.{frame, display_at}
 use Rattle.b67_templates.specs.Contexts.{Yields, yields_of, Context}
-use Rattle.b67_templates.specs.Cells.{Simple, parameter_cells, parameter_wants, simple_cells, procedures, IsVariable, IsProcedure}
+use Rattle.b67_templates.specs.Cells.{Simple, parameter_cells, parameter_wants, simple_cells, procedures, IsVariable, IsDeclaredEvent, IsProcedure}
 use Rattle.b67_templates.specs.Depths.{decls_depth, stmts_depth}
 use Rattle.b67_templates.specs.Fragments.{code_at}
 use Rattle.b67_templates.proofs.Few.{actuals_are_few}
@@ -46,7 +46,7 @@ use Rattle.b67_cores.specs.Stretches.{BlocksBegin, FragmentsArePerformed, contro
 use Rattle.b67_faithful.specs.Faithful.{IsShort}
 use Rattle.b67_faithful.specs.Weight.{tokens_around}
 use Rattle.b67_fitting.specs.Nested.{LiesNested, IsDeclared, AreParameters}
-use Rattle.b67_pictures.specs.Arrays.{Layout, named_from, LeadsToVariable, IsNamed, IsOwn}
+use Rattle.b67_pictures.specs.Arrays.{Layout, named_from, LeadsToEvent, LeadsToVariable, IsNamed, IsOwn}
 use Rattle.b67_pictures.specs.Acting.{Does}
 use Rattle.b67_pictures.specs.Frames.{block_controls, controls_count, most_around, IsComplete}
 use Rattle.b67_pictures.proofs.AskedEntries.{InReferred, InEntry, enters_seen, entered_in_bound}
@@ -59,6 +59,7 @@ use Rattle.b67_pictures.proofs.FreshCells.{simple_many, words_long}
 use Rattle.b67_pictures.proofs.GivenWords.{AreFit, are_fit, fit_many, ActualsAre}
 use Rattle.b67_pictures.proofs.Linked.{Linked, begins_core, own_linked, linked_lies, linked_low, level_around}
 use Rattle.b67_pictures.proofs.Lying.{Lies, lies_in, IsParent, parents_in, part_own}
+use Rattle.b67_pictures.proofs.NamedEvents.{event_leads}
 use Rattle.b67_pictures.proofs.NamedArrays.{IsSeenMade, both_seen, up_complete, named_leads}
 use Rattle.b67_pictures.proofs.Narrowing.{made_or_around}
 use Rattle.b67_pictures.proofs.Numbers.{get_within, get_below}
@@ -83,7 +84,7 @@ HasRoomFor tree =
 module _ (tree : PProgram) (code : Code) (program : ProgramAt code tree) (nested : LiesNested tree) (short : IsShort tree code) (small : HasRoomFor tree)
     (fragments : FragmentsArePerformed) (begins_so : BlocksBegin) (starts : BlocksStart) (keeps : RestsKeepToTheirText) (order : AllIsMadeInOrder)
     (w : World) (lay : Layout) (img : Image) (p : ℕ) (q : Process) (part : Part) (outer : List Part) (bound : ℕ) (core : Core)
-    (s : Scene tree code program.texts w lay img p q part outer bound core) (able_is : q.state ≡ able) (able_p : numbered img.states p ≡ Some Able)
+    (s : Scene tree code program.texts w lay img p q part outer bound core) (able_is : lives q.state ≡ true) (able_p : StateIs q.state (numbered img.states p))
     (n : Named) (gs : List Given) (asks : ask part.rest ≡ enters n gs)
     (a : ActionAt (scopes_of tree) (context_in tree code program.texts w part s.stands.frame.gives) (text_in tree program.texts w part) (level_in tree w part) (most_in tree w part) (enters n gs) s.stands.pc s.stands.slots)
     (waits : (to : ℕ) (after : List Slot) (wanted : Yields) →
@@ -355,6 +356,7 @@ module _ (tree : PProgram) (code : Code) (program : ProgramAt code tree) (nested
           code_there.routines,
           controls_fit (texts.placed (segment_of sc.blocks callee)) (level_of b) (block_controls sc callee code_there.ats) code_there.cells.0 code_there.cells.1 code_there.cells.3,
         );
+        items = (code_there.start, code_there.items);
         over = code_there.over;
         cells_at = code_there.cells;
         comes = starts sc (context_of code texts sc callee) (texts.placed (segment_of sc.blocks callee)) (level_of b) (most_around tree callee) b code_there.start code_there.items (omega (arith, room)) (omega (arith, room));
@@ -371,13 +373,17 @@ module _ (tree : PProgram) (code : Code) (program : ProgramAt code tree) (nested
       LeadsToVariable sc w lay (IsOwn (part ∷ outer)) kind (named_from sc w lay part.instance m) x
   variables_lead m seen kind y v x h = variable_leads tree code texts w lay p part outer core.below s.stands.frame s.around names m seen.0 kind y v x h
 
+  events_lead : (m : Named) → IsSeenMade tree w lay part m → (y : Couple) → IsDeclaredEvent sc names m y → (x : Word) → IsNamed sc w lay (IsOwn (part ∷ outer)) part.instance m x →
+      LeadsToEvent sc w lay (IsOwn (part ∷ outer)) (named_from sc w lay part.instance m) x
+  events_lead m seen y v x h = event_leads tree code texts w lay p part outer core.below s.stands.frame s.around names m seen y v x h
+
   -- the cells of its parameters
   cells_there : (ws : List Word) → ActualsAre sc s.stands.held level (frame core.registers) (length core.below) (parameter_wants sc callee) gs ws → AreCellsThere (given_cells sc w p q part outer gs) ws
   cells_there ws are =
       let g : AreGivenCells sc context w lay p q part outer level (frame core.registers) (length core.below) s.stands.held s.stands.held_are (IsSeenMade tree w lay part)
-      (named_leads tree code texts w lay p part outer core.below s.stands.frame s.around names) variables_lead (parameter_cells sc b) b.parameters gs ws =
+      (named_leads tree code texts w lay p part outer core.below s.stands.frame s.around names) events_lead variables_lead (parameter_cells sc b) b.parameters gs ws =
       given_are sc context w lay p q part outer level (frame core.registers) (length core.below) s.stands.held s.stands.held_are (IsSeenMade tree w lay part)
-      (named_leads tree code texts w lay p part outer core.below s.stands.frame s.around names) variables_lead fit (parameter_cells sc b) b.parameters parameters.told refl arrays_seen ws are in
+      (named_leads tree code texts w lay p part outer core.below s.stands.frame s.around names) events_lead variables_lead fit (parameter_cells sc b) b.parameters parameters.told refl arrays_seen ws are in
       record { cells = g.cells; lead = g.lead }
 
   pub entering_procedure : Does tree code texts w img p

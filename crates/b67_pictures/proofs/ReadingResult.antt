@@ -11,7 +11,7 @@ use Rattle.algol_tree.specs.Plain.{PProgram}
 use Rattle.algol_tree.specs.Scopes.{Scopes, scopes_of}
 use Rattle.algol_meaning.specs.Value.{Cell, simple}
 use Rattle.algol_meaning.specs.Rest.{Answer, value}
-use Rattle.algol_meaning.specs.World.{NamedCell, Instance, Process, Part, able, World, instance_at, or_no_instance, cell_at, cell_in, value_in}
+use Rattle.algol_meaning.specs.World.{NamedCell, Instance, Process, Part, lives, World, instance_at, or_no_instance, cell_at, cell_in, value_in}
 use Rattle.algol_meaning.specs.Actions.{Read}
 use Rattle.algol_meaning.specs.Asks.{Ask, reads_result, ask, resume}
 use Rattle.algol_meaning.specs.Choice.{choice_of, goes}
@@ -21,7 +21,7 @@ use Rattle.b67_ops.specs.declared.Operator.TheVariants as ops
 use Rattle.b67_segment.specs.declared.code.Code.{Code}
 use Rattle.b67_store.specs.Store.{word_at}
 use Rattle.b67_table.specs.Chains.{place}
-use Rattle.b67_table.specs.declared.ProcessState.TheVariants.{Able}
+use Rattle.b67_pictures.specs.States.{StateIs}
 use Rattle.b67_table.specs.Image.{Image}
 use Rattle.b67_table.specs.Effect as effects
 use Rattle.b67_table.specs.Outcome as outcomes
@@ -88,7 +88,7 @@ result_found sc b kind apart typed =
     ∙ ap (λ (t : Bool). if t then Some (record { number = far; cell = record { name = b.name; wanted = wants.value kind } }) else found_from (far + 1) (variables b.decls) b.name) (same_itself b.name))
 
 module _ (tree : PProgram) (code : Code) (texts : Texts) (nested : AreNested (scopes_of tree)) (fragments : FragmentsArePerformed) (keeps : RestsKeepToTheirText) (order : AllIsMadeInOrder) (w : World) (lay : Layout) (img : Image)
-    (p : ℕ) (q : Process) (part : Part) (outer : List Part) (bound : ℕ) (core : Core) (s : Scene tree code texts w lay img p q part outer bound core) (able_is : q.state ≡ able) (able_p : numbered img.states p ≡ Some Able)
+    (p : ℕ) (q : Process) (part : Part) (outer : List Part) (bound : ℕ) (core : Core) (s : Scene tree code texts w lay img p q part outer bound core) (able_is : lives q.state ≡ true) (able_p : StateIs q.state (numbered img.states p))
     (name : List ℕ) (asks : ask part.rest ≡ reads_result name)
     (a : ActionAt (scopes_of tree) (context_in tree code texts w part s.stands.frame.gives) (text_in tree texts w part) (level_in tree w part) (most_in tree w part) (reads_result name) s.stands.pc s.stands.slots)
     (answered : (r : Answer) (at : ℕ) (after : List Slot) →

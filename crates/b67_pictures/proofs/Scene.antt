@@ -4,6 +4,8 @@ use Rattle.b67_list.specs.Numbered.{numbered}
 use Rattle.algol_tree.specs.Plain.{PProgram}
 use Rattle.algol_tree.specs.Scopes.{scopes_of}
 use Rattle.algol_meaning.specs.World.{Process, Part, World}
+use Rattle.algol_standing.specs.Worlds.{IsWhole}
+use Rattle.algol_standing.specs.Fitting.{IsOk}
 use Rattle.b67_control.specs.declared.Registers.{Registers}
 use Rattle.b67_control.specs.Display.{place_at}
 use Rattle.b67_segment.specs.declared.code.Code.{Code}
@@ -33,6 +35,8 @@ module _ (tree : PProgram) (code : Code) (texts : Texts) (w : World) (lay : Layo
     pub idle : core.registers.task ≡ None
     pub sees : place_at core.registers.display 0 ≡ Some (place 0 0)
     pub small : size core ≤ stack_limit
+    -- the world is as worlds are
+    pub ok : IsOk (scopes_of tree) IsWhole w
     pub narrow : IsNarrow (scopes_of tree) w lay part
     pub stands : Stands tree code texts w lay p part outer core
     pub around : Around tree code texts w lay p outer stands.frame.lower stands.frame.mark stands.frame.control stands.frame.gives
@@ -40,9 +44,9 @@ module _ (tree : PProgram) (code : Code) (texts : Texts) (w : World) (lay : Layo
     pub light : bound + 3 ≤ weight tree w p
 
   -- the innermost part of a process that stands, and its scene; where an evaluation is in an instance that has not made all, it keeps to what is around
-  pub scene_of : (p : ℕ) (q : Process) → ((part : Part) (outer : List Part) → q.todo ≡ part ∷ outer → IsNarrow (scopes_of tree) w lay part) → PicturesBy tree code texts w lay img → numbered w.processes p ≡ Some q → (l : Living tree code texts w lay img p q) → HasCore img p l.settled →
+  pub scene_of : (p : ℕ) (q : Process) → ((part : Part) (outer : List Part) → q.todo ≡ part ∷ outer → IsNarrow (scopes_of tree) w lay part) → IsOk (scopes_of tree) IsWhole w → PicturesBy tree code texts w lay img → numbered w.processes p ≡ Some q → (l : Living tree code texts w lay img p q) → HasCore img p l.settled →
       (part : Part) × (outer : List Part) × Scene p q part outer l.bound l.settled
-  scene_of p q narrow by at l has = by_parts q.todo refl l.frames l.room
+  scene_of p q narrow ok by at l has = by_parts q.todo refl l.frames l.room
     where
       same : l.settled.registers ≡ l.core.registers
       same = some_same (sym has.registers ∙ l.has.registers)
@@ -63,6 +67,7 @@ module _ (tree : PProgram) (code : Code) (texts : Texts) (w : World) (lay : Layo
           idle = ap (λ (r : Registers). r.task) same ∙ l.idle;
           sees = ap (λ (r : Registers). place_at r.display 0) same ∙ l.sees;
           small = omega (arith, has.is.top, l.has.is.top, ap (λ (r : Registers). r.s) same, l.small);
+          ok = ok;
           narrow = narrow part outer todo;
           stands = f.0;
           around = f.1;

@@ -326,6 +326,9 @@ module _ (p : PProgram) (named : HasNames p) (nested : AreNested (scopes_of p)) 
           let i : Inside bs (suc k) = program_inside p named nested k known none in
           omega (arith, i.fewer, before i.outer (omega (arith, low, i.before)) (omega (arith, known, i.before)), same_tokens p (suc k) i.outer none i.around_is)
 
+  pub own_fits : (j : ℕ) → j < length bs → own_tokens (block_numbered bs j) ≤ tokens_around p j
+  own_fits j known = fits_below (suc j) j (omega arith) known
+
   -- the code of each of its actuals has room above its cells
   pub actuals_fit : ActualsHaveRoom p
   actuals_fit j known n a there =
@@ -333,5 +336,5 @@ module _ (p : PProgram) (named : HasNames p) (nested : AreNested (scopes_of p)) 
         arith,
         actual_small (scopes_of p) (block_numbered bs j) n a there,
         actuals_are_few (scopes_of p) (block_numbered bs j),
-        fits_below (suc j) j (omega arith) known,
+        own_fits j known,
       )

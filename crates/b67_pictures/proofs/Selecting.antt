@@ -13,7 +13,7 @@ use Rattle.algol_tree.specs.Plain.{PProgram, PStmts}
 use Rattle.algol_tree.specs.Scopes.{Scopes, scopes_of}
 use Rattle.algol_meaning.specs.Rest.{Answer, done}
 use Rattle.algol_meaning.specs.Value.{Value, number, truth, whole_of}
-use Rattle.algol_meaning.specs.World.{Process, Part, able, World}
+use Rattle.algol_meaning.specs.World.{Process, Part, lives, World}
 use Rattle.algol_meaning.specs.Actions as act
 use Rattle.algol_meaning.specs.Asks.{Ask, selects, ask, resume}
 use Rattle.algol_meaning.specs.Choice.{Choice, choice, choice_of, nth_exists, goes, fails}
@@ -27,7 +27,7 @@ use Rattle.b67_segment.specs.declared.code.Code.{Code}
 use Rattle.b67_segment.specs.declared.code.Segment.{Segment}
 use Rattle.b67_segment.proofs.Fetches.{length-syllables}
 use Rattle.b67_segment.proofs.Texts.{text-append}
-use Rattle.b67_table.specs.declared.ProcessState.TheVariants.{Able}
+use Rattle.b67_pictures.specs.States.{StateIs}
 use Rattle.b67_table.specs.Effect as effects
 use Rattle.b67_table.specs.Ending.{failed}
 use Rattle.b67_table.specs.Image.{Image}
@@ -59,7 +59,7 @@ use Rattle.b67_pictures.proofs.Unmade.{makes, unmade}
 
 -- ---- places of a segment
 
-segment_short : (segments : List Segment) (n : ℕ) (segment : Segment) → AllByRecursion (λ (s : Segment). length s.words ≤ segment_limit) segments → slice_get segments n ≡ Some segment → length segment.words ≤ segment_limit
+pub segment_short : (segments : List Segment) (n : ℕ) (segment : Segment) → AllByRecursion (λ (s : Segment). length s.words ≤ segment_limit) segments → slice_get segments n ≡ Some segment → length segment.words ≤ segment_limit
 segment_short [] n segment all at = cc
 segment_short (s ∷ ss) zero segment all at = subst (λ (o : Segment). length o.words ≤ segment_limit) (same_in s segment at) all.0
   where
@@ -68,7 +68,7 @@ segment_short (s ∷ ss) zero segment all at = subst (λ (o : Segment). length o
 segment_short (s ∷ ss) (suc n) segment all at = segment_short ss n segment all.1 at
 
 -- an operator stands before the end of its segment
-within_segment : (ps : List Placed) (at level : ℕ) (op : Operator) (next : ℕ) (segment : Segment) → StandsAmong ps at level op next → Spells ps segment → length segment.words ≤ segment_limit → at ≤ end_of_code
+pub within_segment : (ps : List Placed) (at level : ℕ) (op : Operator) (next : ℕ) (segment : Segment) → StandsAmong ps at level op next → Spells ps segment → length segment.words ≤ segment_limit → at ≤ end_of_code
 within_segment ps at level op next segment stands spells small =
     let long : length (text 0 ps) ≡ length (text 0 stands.before) + length (text (0 + length (text 0 stands.before)) (record { level = level; operator = op } ∷ stands.after)) =
     ap (λ (os : List Placed). length (text 0 os)) stands.parts
@@ -137,7 +137,7 @@ number_is (truth b) z fits e = absurd fits
 
 module _ (tree : PProgram) (code : Code) (texts : Texts) (fragments : FragmentsArePerformed) (keeps : RestsKeepToTheirText) (order : AllIsMadeInOrder)
     (short : All (λ (o : Segment). length o.words ≤ segment_limit) code.segments) (w : World) (lay : Layout) (img : Image)
-    (p : ℕ) (q : Process) (part : Part) (outer : List Part) (bound : ℕ) (core : Core) (s : Scene tree code texts w lay img p q part outer bound core) (able_is : q.state ≡ able) (able_p : numbered img.states p ≡ Some Able)
+    (p : ℕ) (q : Process) (part : Part) (outer : List Part) (bound : ℕ) (core : Core) (s : Scene tree code texts w lay img p q part outer bound core) (able_is : lives q.state ≡ true) (able_p : StateIs q.state (numbered img.states p))
     (v : Value) (ss : PStmts) (asks : ask part.rest ≡ selects v ss) (a : ActionAt (scopes_of tree) (context_in tree code texts w part s.stands.frame.gives) (text_in tree texts w part) (level_in tree w part) (most_in tree w part) (selects v ss) s.stands.pc s.stands.slots)
     (answered : (r : Answer) (at : ℕ) (left : List Slot) → Acted (scopes_of tree) (context_in tree code texts w part s.stands.frame.gives) (text_in tree texts w part) (level_in tree w part) (most_in tree w part) (selects v ss) s.stands.pc s.stands.slots a r at left →
     ComesTo (scopes_of tree) (context_in tree code texts w part s.stands.frame.gives) (text_in tree texts w part) (level_in tree w part) (most_in tree w part) (resume (scopes_of tree) part.rest r) at left) where

@@ -1,11 +1,10 @@
 -- Images that picture worlds go with the source through every operator.
-use Rattle.std.proofs.Common.{◌≡◌, ◌⊎◌, inl, inr, refl, sym, ap, ◌∙◌, subst, ℕ, ◌<◌, ◌≤◌, [], length, Option, Some, None, false, arith, true}
+use Rattle.std.proofs.Common.{◌≡◌, refl, ap, subst, ℕ, ◌<◌, ◌≤◌, length, Option, Some, None, arith, true}
 use Rattle.b67_list.specs.Numbered.{numbered}
 use Rattle.b67_num.specs.declared.FaultKind.{FaultKind}
 use Rattle.algol_tree.specs.Plain.{PProgram}
 use Rattle.algol_tree.specs.Scopes.{scopes_of}
 use Rattle.algol_meaning.specs.World.{Process, World}
-use Rattle.algol_meaning.specs.Actions.{Action}
 use Rattle.algol_meaning.specs.Choice.{choice}
 use Rattle.algol_meaning.specs.Run.{start}
 use Rattle.algol_texts.specs.Texts.{AreTexts, HasOuterBlock}
@@ -29,25 +28,17 @@ use Rattle.b67_table.specs.Touches.{IsPrivate}
 use Rattle.b67_table.specs.Sound.{Lives, OperatorTouches}
 use Rattle.b67_cores.specs.Stretches.{StepsArePerformed, StepsComeToLimit}
 use Rattle.b67_listing.specs.Listings.{IsListable}
-use Rattle.b67_letters.specs.declared.Letter.{Letter}
-use Rattle.b67_letters.specs.declared.Letter.TheVariants as letters
-use Rattle.b67_letters.specs.Letters.{letter}
-use Rattle.b67_letters.specs.Releases.{registers_releases, released_by, releases}
-use Rattle.b67_letters.specs.Laws.{may_release}
-use Rattle.b67_letters.proofs.Mute.{few_operators_release}
-use Rattle.b67_faithful.specs.Correspondence.{action_of, as_action, operator_action}
-use Rattle.b67_faithful.proofs.Choices.{is_releasing, ReleasesNone}
+use Rattle.b67_faithful.proofs.Choices.{StartsNone}
 use Rattle.b67_faithful.specs.Agreement.{Shows}
 use Rattle.b67_faithful.specs.Faithful.{HasFormats, HasSegments, IsShort, Faithful}
 use Rattle.b67_faithful.specs.Weight.{weight}
 use Rattle.b67_faithful.specs.Simulation.{AreFew, Acted, Comes, acts, stops, Simulates}
-use Rattle.b67_faithful.proofs.Contradictions.{true_false, some_same, gives_same, faults_same, gives_faults}
+use Rattle.b67_faithful.proofs.Contradictions.{true_false, gives_same, faults_same, gives_faults}
 use Rattle.b67_faithful.proofs.Counting.{simulations_are_faithful}
 use Rattle.b67_faithful.proofs.Ways.{may_lead}
 use Rattle.b67_pictures.specs.Arrays.{Layout}
 use Rattle.b67_pictures.specs.Acting.{Does, gave, failed_by, stopped}
 use Rattle.b67_pictures.specs.Pictures.{Living, Pictured, living, dead, PicturesBy, Pictures}
-use Rattle.b67_pictures.proofs.Lasting.{IsAlone}
 use Rattle.b67_pictures.proofs.Numbers.{numbered_beyond}
 use Rattle.b67_pictures.proofs.Quiet.{SettledAct, through_plain, Operates, plainly, acting, operates, Settles, settles}
 use Rattle.b67_pictures.proofs.Showing.{able_acts, no_limit, IsAble, able_one, able_alike, ends_alike, is_light}
@@ -83,55 +74,11 @@ abbrev pub OperatorsAreFew : PProgram → Code → Texts → Type 0
 OperatorsAreFew tree code texts =
     (w : World) (lay : Layout) (a : Image) → PicturesBy tree code texts w lay a → (b : Image) (p n : ℕ) → Plains code p a n b → AreFew code p n b
 
--- no action of a process that is pictured makes a process or takes one away, or releases one
+-- no action of a process that is pictured makes a process or takes one away
 abbrev pub ActsAlone : PProgram → Code → Texts → Type 0
 ActsAlone tree code texts =
     (w : World) (lay : Layout) (img : Image) (p : ℕ) (q : Process) → PicturesBy tree code texts w lay img → numbered w.processes p ≡ Some q → Living tree code texts w lay img p q →
-    IsAlone w (choice (scopes_of tree) w p)
-
--- ---- whom an operator releases
-
--- an action that releases nobody, where its process has no task
-harmless : (l : Letter) → is_releasing (action_of l) ≡ false → (may_release l ≡ false) ⊎ (l ≡ letters.End)
-harmless letters.Read e = inl refl
-harmless letters.Index e = inl refl
-harmless letters.ElementRead e = inl refl
-harmless letters.Resolve e = inl refl
-harmless letters.Store e = inl refl
-harmless letters.ElementStore e = inl refl
-harmless letters.Pass e = inl refl
-harmless letters.Enter e = inl refl
-harmless letters.Leave e = inl refl
-harmless letters.MakeArrays e = inl refl
-harmless letters.MakeEvent e = inl refl
-harmless letters.Select e = inl refl
-harmless letters.Turn e = inl refl
-harmless letters.GoTo e = inl refl
-harmless letters.Line e = inl refl
-harmless letters.Start e = inl refl
-harmless letters.End e = inr refl
-harmless letters.Fault e = inl refl
-harmless letters.Wait e = inl refl
-harmless letters.Cause e = cc
-harmless letters.Reset e = inl refl
-harmless letters.Happened e = inl refl
-harmless letters.Procure e = inl refl
-harmless letters.Liberate e = cc
-
-released_none : (code : Code) (img : Image) (p : ℕ) (r : Registers) → numbered img.regs p ≡ Some r → r.task ≡ None → (x : Action) → operator_action code img p ≡ Some x → is_releasing x ≡ false
-    → releases code img p ≡ []
-released_none code img p r has idle x is calm = by_letter (letter code img p) refl is
-  where
-    by_kind : (l : Letter) → letter code img p ≡ Some l → (may_release l ≡ false) ⊎ (l ≡ letters.End) → releases code img p ≡ []
-    by_kind l e (inl never) = few_operators_release.others code img p l e never
-    by_kind l e (inr ends) = few_operators_release.ends code img p r (e ∙ ap (λ (k : Letter). Some k) ends) has idle
-
-    by_letter : (o : Option Letter) → letter code img p ≡ o → as_action o ≡ Some x → releases code img p ≡ []
-    by_letter None e a = cc
-    by_letter (Some l) e a = by_kind l e (harmless l (ap is_releasing (some_same a) ∙ calm))
-
-fault_releases : (code : Code) (img : Image) (p : ℕ) (kind : FaultKind) → table code img p ≡ faults kind → releases code img p ≡ []
-fault_releases code img p kind t = ap (λ (o : Outcome Image). released_by o (registers_releases code img p (numbered img.regs p))) t
+    StartsNone w (choice (scopes_of tree) w p)
 
 module _ (tree : PProgram) (code : Code) (texts : Texts) (performed : StepsArePerformed) (limits : StepsComeToLimit) (alone : ActsAlone tree code texts)
     (fit : AreTexts (scopes_of tree)) (settled_does : (w : World) → IsOk (scopes_of tree) IsWhole w → SettledAct tree code texts w) where
@@ -148,43 +95,43 @@ module _ (tree : PProgram) (code : Code) (texts : Texts) (performed : StepsArePe
     operator_of one = operates tree code texts performed limits w (settled_does w ok) lay p one.process one.at one.able_is a by one.able_p one.lives_so
 
     -- the processes of a world are some
-    some_after : 1 ≤ length w.processes → IsAlone w (choice (scopes_of tree) w p) → 1 ≤ length (choice (scopes_of tree) w p).world.processes
-    some_after some one = omega (arith, some, one.starts.same)
+    some_after : 1 ≤ length w.processes → StartsNone w (choice (scopes_of tree) w p) → 1 ≤ length (choice (scopes_of tree) w p).world.processes
+    some_after some one = omega (arith, some, one.same)
 
     -- and the world is as worlds are
-    acted : {b : Image} → 1 ≤ length (choice (scopes_of tree) w p).world.processes → IsOk (scopes_of tree) IsWhole ((choice (scopes_of tree) w p).world) → (one : IsAble tree code texts w lay a by p) → ReleasesNone (choice (scopes_of tree) w p) → Acts code p a b → Operator w lay a p →
+    acted : {b : Image} → 1 ≤ length (choice (scopes_of tree) w p).world.processes → IsOk (scopes_of tree) IsWhole ((choice (scopes_of tree) w p).world) → (one : IsAble tree code texts w lay a by p) → Acts code p a b → Operator w lay a p →
         Acted tree code Pic w p a b
-    acted some ok_after one none (runs.acts np t) (plainly after e t') = true_false e np
-    acted {b} some ok_after one none (runs.acts np t) (acting (gave after np' t' action by')) =
+    acted some ok_after one (runs.acts np t) (plainly after e t') = true_false e np
+    acted {b} some ok_after one (runs.acts np t) (acting (gave after np' t' action by') freed) =
         record {
           action = action;
-          released = released_none code a p one.lives_so.core.registers one.lives_so.has.registers one.lives_so.idle ((choice (scopes_of tree) w p).action) action none.calm ∙ sym none.none;
-          pictures = (subst (λ (i : Image). Pictures tree code texts ((choice (scopes_of tree) w p).world) i) (gives_same t' t) by', some, ok_after);
+          released = freed (λ l. gives_limit t l);
+          pictures = (subst (λ (i : Image). Pictures tree code texts ((choice (scopes_of tree) w p).world) i) (gives_same t' t) (by' one.able_now), some, ok_after);
         }
-    acted some ok_after one none (runs.acts np t) (acting (failed_by kind np' t' action by')) = gives_faults t t'
-    acted some ok_after one none (runs.acts np t) (acting (stopped np' t' heavy)) = gives_limit t t'
-    acted some ok_after one none (runs.fails kind t) (plainly after e t') = gives_faults t' t
-    acted some ok_after one none (runs.fails kind t) (acting (stopped np' t' heavy)) = faults_limit t t'
-    acted some ok_after one none (runs.fails kind t) (acting (gave after np' t' action by')) = gives_faults t' t
-    acted some ok_after one none (runs.fails kind t) (acting (failed_by kind' np' t' action by')) =
+    acted some ok_after one (runs.acts np t) (acting (failed_by kind np' t' action by') freed) = gives_faults t t'
+    acted some ok_after one (runs.acts np t) (acting (stopped np' t' heavy) freed) = gives_limit t t'
+    acted some ok_after one (runs.fails kind t) (plainly after e t') = gives_faults t' t
+    acted some ok_after one (runs.fails kind t) (acting (stopped np' t' heavy) freed) = faults_limit t t'
+    acted some ok_after one (runs.fails kind t) (acting (gave after np' t' action by') freed) = gives_faults t' t
+    acted some ok_after one (runs.fails kind t) (acting (failed_by kind' np' t' action by') freed) =
         record {
           action = action;
-          released = fault_releases code a p kind t ∙ sym none.none;
+          released = freed (λ l. faults_limit t l);
           pictures = (subst (λ (k : FaultKind). Pictures tree code texts ((choice (scopes_of tree) w p).world) (failed a p k)) (faults_same t' t) by', some, ok_after);
         }
 
     not_tagged : (kind : InterruptKind) → Operator w lay a p → table code a p ≡ interrupts kind → ⊥
     not_tagged kind (plainly after e t) i = gives_interrupts t i
-    not_tagged kind (acting (gave after np t action by')) i = gives_interrupts t i
-    not_tagged kind (acting (failed_by k np t action by')) i = faults_interrupts t i
-    not_tagged kind (acting (stopped np t heavy)) i = limit_interrupts t i
+    not_tagged kind (acting (gave after np t action by') freed) i = gives_interrupts t i
+    not_tagged kind (acting (failed_by k np t action by') freed) i = faults_interrupts t i
+    not_tagged kind (acting (stopped np t heavy) freed) i = limit_interrupts t i
 
     -- only where its process weighs more than a stack has room for
     heavy_one : Operator w lay a p → table code a p ≡ limit → stack_limit < weight tree w p
     heavy_one (plainly after e t) i = gives_limit t i
-    heavy_one (acting (gave after np t action by')) i = gives_limit t i
-    heavy_one (acting (failed_by k np t action by')) i = faults_limit t i
-    heavy_one (acting (stopped np t heavy)) i = heavy
+    heavy_one (acting (gave after np t action by') freed) i = gives_limit t i
+    heavy_one (acting (failed_by k np t action by') freed) i = faults_limit t i
+    heavy_one (acting (stopped np t heavy) freed) i = heavy
 
     -- so is each process that comes to the limit
     limit_is_heavy : table code a p ≡ limit → stack_limit < weight tree w p
@@ -237,8 +184,8 @@ module _ (tree : PProgram) (code : Code) (texts : Texts) (performed : StepsArePe
           plain = λ w a b p pic e t. ((pic.0.0, through_plain tree code texts performed limits w (settled_does w pic.2) pic.0.0 a b p pic.0.1 e t), pic.1, pic.2);
           act = λ w a b p pic may x.
               let one : IsAble tree code texts w pic.0.0 a pic.0.1 p = able_one tree code texts w pic.0.0 a pic.0.1 p (able_acts a p may) in
-              let none : IsAlone w (choice (scopes_of tree) w p) = alone w pic.0.0 a p one.process pic.0.1 one.at one.lives_so in
-              acted w pic.2 pic.0.0 a pic.0.1 p (some_after w pic.2 pic.0.0 a pic.0.1 p pic.1 none) (ok_then w a p pic may) one none.releases x (operator_of w pic.2 pic.0.0 a pic.0.1 p one);
+              let none : StartsNone w (choice (scopes_of tree) w p) = alone w pic.0.0 a p one.process pic.0.1 one.at one.lives_so in
+              acted w pic.2 pic.0.0 a pic.0.1 p (some_after w pic.2 pic.0.0 a pic.0.1 p pic.1 none) (ok_then w a p pic may) one x (operator_of w pic.2 pic.0.0 a pic.0.1 p one);
           come = λ w a p pic may. comes w pic.2 pic.0.0 a pic.0.1 p (able_one tree code texts w pic.0.0 a pic.0.1 p (able_acts a p may));
           few = λ w a b p n pic plains. few_operators w pic.0.0 a pic.0.1 b p n plains;
           shows = shows_world;

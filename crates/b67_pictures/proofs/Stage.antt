@@ -1,12 +1,12 @@
 -- What all actions share: the choice of the world, the limit, and the picture after an action.
-use Rattle.std.proofs.Common.{◌≡◌, ◌≢◌, ◌⊎◌, inl, inr, refl, sym, ap, ◌∙◌, subst, ℕ, ◌<◌, ◌≤◌, List, ◌∷◌, length, Option, Some, Bool, false, arith}
+use Rattle.std.proofs.Common.{◌≡◌, ◌≢◌, ◌⊎◌, inl, inr, refl, sym, ap, ◌∙◌, subst, ℕ, ◌<◌, ◌≤◌, List, ◌∷◌, length, Option, Some, None, Bool, false, arith, true}
 use Rattle.std.specs.Prelude.{if◌then◌else◌, nat_le}
 use Rattle.std.proofs.lemmas.Bool.Decides.{nat_tests}
 use Rattle.b67_list.specs.Numbered.{numbered, set_numbered}
 use Rattle.b67_num.specs.declared.FaultKind.{FaultKind}
 use Rattle.algol_tree.specs.Plain.{PProgram}
 use Rattle.algol_tree.specs.Scopes.{Scopes, scopes_of}
-use Rattle.algol_meaning.specs.World.{Part, Process, able, World, process_at, or_no_process}
+use Rattle.algol_meaning.specs.World.{Part, Process, lives, World, process_at, or_no_process}
 use Rattle.algol_meaning.specs.Asks.{ask}
 use Rattle.algol_meaning.specs.Choice.{choice, choice_in, choice_of}
 use Rattle.b67_control.specs.declared.Registers.{Registers}
@@ -14,18 +14,20 @@ use Rattle.b67_segment.specs.declared.code.Code.{Code}
 use Rattle.b67_templates.specs.Programs.{Texts}
 use Rattle.b67_store.specs.Store.{stack_at, stack_limit}
 use Rattle.b67_table.specs.declared.ProcessState.{ProcessState}
-use Rattle.b67_table.specs.declared.ProcessState.TheVariants.{Able}
+use Rattle.b67_pictures.specs.States.{StateIs}
 use Rattle.b67_table.specs.Effect as effects
 use Rattle.b67_table.specs.Outcome.{gives, faults, limited, limit}
-use Rattle.b67_table.specs.Image.{Image}
+use Rattle.b67_table.specs.Image.{Image, is_live}
 use Rattle.b67_table.specs.Table.{table, raw, stack_length, length_in}
 use Rattle.b67_table.specs.Ending.{failed}
 use Rattle.b67_cores.specs.Cores.{Core, HasCore}
 use Rattle.b67_faithful.proofs.Contradictions.{some_same}
 use Rattle.b67_faithful.specs.Weight.{weight, parts_weight}
 use Rattle.b67_pictures.specs.Arrays.{Layout, ArraysAre}
+use Rattle.b67_pictures.specs.Events.{EventsAre}
 use Rattle.b67_pictures.specs.Pictures.{failure_of, Living, Pictured, living, PicturesBy}
 use Rattle.b67_pictures.proofs.ArraysKept.{arrays_unchanged}
+use Rattle.b67_pictures.proofs.EventsKept.{events_unchanged}
 use Rattle.b67_faithful.proofs.Choices.{length_set_numbered}
 use Rattle.b67_pictures.proofs.Numbers.{same_or_not, numbered_set, numbered_other}
 use Rattle.b67_pictures.proofs.Kept.{AreAlike, alike_by, pictured_alike}
@@ -53,6 +55,11 @@ pub faults_so : (code : Code) (img : Image) (p : ℕ) (kind : FaultKind) → raw
 unfolding table
 faults_so code img p kind is = ap (limited (stack_length p)) is
 
+-- who lives has a state
+pub state_there : (o : Option ProcessState) → is_live o ≡ true → (state : ProcessState) × (o ≡ Some state)
+state_there None live = cc
+state_there (Some state) live = (state, refl)
+
 -- ---- the choice
 
 pub process_is : (w : World) (p : ℕ) (q : Process) → numbered w.processes p ≡ Some q → process_at w p ≡ q
@@ -75,14 +82,16 @@ module _ (tree : PProgram) (code : Code) (texts : Texts) (w : World) (lay : Layo
     (at : numbered w.processes p ≡ Some q) where
   -- process p has come to this state in an image in which each other process is pictured, and is pictured there
   pub comes_by : (w' : World) (lay' : Layout) (img' : Image) (q' : Process) → w'.processes ≡ set_numbered w.processes p q' → length lay'.places ≡ length w'.instances → ArraysAre (scopes_of tree) w' lay' img'.rows →
+      EventsAre (scopes_of tree) w' lay' img'.events →
       img'.output ≡ w'.output → w'.fault ≡ w.fault → img'.fault ≡ img.fault → img'.started ≡ img.started → length img'.states ≡ length img.states → stack_at img'.stacks 0 ≡ stack_at img.stacks 0 →
       ((r : ℕ) (o : Process) → r ≢ p → numbered w.processes r ≡ Some o → numbered w'.processes r ≡ Some o → Pictured tree code texts w lay img r o → Pictured tree code texts w' lay' img' r o) →
       Pictured tree code texts w' lay' img' p q' → PicturesBy tree code texts w' lay' img'
-  comes_by w' lay' img' q' processes laid arrays output world_fault fault started many system others own =
+  comes_by w' lay' img' q' processes laid arrays events output world_fault fault started many system others own =
       let same_number : length w'.processes ≡ length w.processes = ap length processes ∙ length_set_numbered w.processes p q' in
       record {
         laid = laid;
         arrays = arrays;
+        events = events;
         output = output;
         fault = fault ∙ by.fault ∙ ap failure_of (sym world_fault);
         started = started ∙ by.started ∙ sym same_number;
@@ -104,22 +113,24 @@ module _ (tree : PProgram) (code : Code) (texts : Texts) (w : World) (lay : Layo
 
   -- .. in which each other process has its core
   pub comes_to : (w' : World) (lay' : Layout) (img' : Image) (q' : Process) → w'.processes ≡ set_numbered w.processes p q' → length lay'.places ≡ length w'.instances → ArraysAre (scopes_of tree) w' lay' img'.rows →
+      EventsAre (scopes_of tree) w' lay' img'.events →
       ((r : ℕ) → r ≢ p → AreAlike w w' lay lay' r) → img'.output ≡ w'.output → w'.fault ≡ w.fault → img'.fault ≡ img.fault → img'.started ≡ img.started → length img'.states ≡ length img.states →
       ((r : ℕ) → r ≢ p → numbered img'.states r ≡ numbered img.states r) → stack_at img'.stacks 0 ≡ stack_at img.stacks 0 →
       ((r : ℕ) (core : Core) → r ≢ p → HasCore img r core → HasCore img' r core) → Pictured tree code texts w' lay' img' p q' → PicturesBy tree code texts w' lay' img'
-  comes_to w' lay' img' q' processes laid arrays alike output world_fault fault started many states system keeps own =
-      comes_by w' lay' img' q' processes laid arrays output world_fault fault started many system
+  comes_to w' lay' img' q' processes laid arrays events alike output world_fault fault started many states system keeps own =
+      comes_by w' lay' img' q' processes laid arrays events output world_fault fault started many system
       (λ r o other before after pictured.
       pictured_alike tree code texts w w' lay lay' r (alike r other) img img' o (process_is w r o before) (process_is w' r o after) (states r other) (λ core has. keeps r core other has) pictured) own
 
   -- it goes on, and stands for what it has still to do
-  pub goes_on : (w' : World) (lay' : Layout) (img' : Image) (q' : Process) → w'.processes ≡ set_numbered w.processes p q' → q'.state ≡ able → length lay'.places ≡ length w'.instances → ArraysAre (scopes_of tree) w' lay' img'.rows →
+  pub goes_on : (w' : World) (lay' : Layout) (img' : Image) (q' : Process) → w'.processes ≡ set_numbered w.processes p q' → lives q'.state ≡ true → length lay'.places ≡ length w'.instances → ArraysAre (scopes_of tree) w' lay' img'.rows →
+      EventsAre (scopes_of tree) w' lay' img'.events →
       ((r : ℕ) → r ≢ p → AreAlike w w' lay lay' r) → img'.output ≡ w'.output → w'.fault ≡ w.fault → img'.fault ≡ img.fault → img'.started ≡ img.started → img'.states ≡ img.states →
-      stack_at img'.stacks 0 ≡ stack_at img.stacks 0 → numbered img.states p ≡ Some Able → ((r : ℕ) (core : Core) → r ≢ p → HasCore img r core → HasCore img' r core) →
+      stack_at img'.stacks 0 ≡ stack_at img.stacks 0 → StateIs q'.state (numbered img.states p) → ((r : ℕ) (core : Core) → r ≢ p → HasCore img r core → HasCore img' r core) →
       Living tree code texts w' lay' img' p q' → PicturesBy tree code texts w' lay' img'
-  goes_on w' lay' img' q' processes able_is laid arrays alike output world_fault fault started states system able_p keeps l =
-      comes_to w' lay' img' q' processes laid arrays alike output world_fault fault started (ap length states) (λ r other. ap (λ (ss : List ProcessState). numbered ss r) states) system keeps
-      (living able_is (ap (λ (ss : List ProcessState). numbered ss p) states ∙ able_p) l)
+  goes_on w' lay' img' q' processes able_is laid arrays events alike output world_fault fault started states system able_p keeps l =
+      comes_to w' lay' img' q' processes laid arrays events alike output world_fault fault started (ap length states) (λ r other. ap (λ (ss : List ProcessState). numbered ss r) states) system keeps
+      (living able_is (subst (λ (ss : List ProcessState). StateIs q'.state (numbered ss p)) (sym states) able_p) l)
 
   -- a fault changes nothing else
   pub faulted : (kind : FaultKind) → PicturesBy tree code texts (record w { fault = Some (record { kind = kind; process = p }) }) lay (failed img p kind)
@@ -128,6 +139,7 @@ module _ (tree : PProgram) (code : Code) (texts : Texts) (w : World) (lay : Layo
       record {
         laid = by.laid;
         arrays = arrays_unchanged (scopes_of tree) w (record w { fault = Some (record { kind = kind; process = p }) }) lay img.rows refl by.arrays;
+        events = events_unchanged (scopes_of tree) w (record w { fault = Some (record { kind = kind; process = p }) }) lay img.events refl by.events;
         output = by.output;
         fault = refl;
         started = by.started;

@@ -15,7 +15,7 @@ use Rattle.algol_meaning.specs.World as worlds
 use Rattle.algol_meaning.specs.Instances.{fresh_cells}
 use Rattle.algol_meaning.specs.Run.{start}
 use Rattle.algol_meaning.specs.Arrays.{size_of_cells}
-use Rattle.algol_meaning.specs.Value.{ArrayCell}
+use Rattle.algol_meaning.specs.Value.{ArrayCell, EventCell, event}
 use Rattle.algol_paths.specs.Arrays.{DeclaredArray}
 use Rattle.algol_paths.specs.Laws.{RestsKeepToTheirText, AllIsMadeInOrder}
 use Rattle.algol_paths.specs.Segments.{procedures_before, segment_among, segment_of}
@@ -58,6 +58,9 @@ use Rattle.b67_pictures.proofs.Segmenting.{block_small}
 use Rattle.b67_pictures.proofs.Formals.{LeadAll, lead_there}
 use Rattle.b67_pictures.proofs.FreshCells.{fresh_are, fresh_lead, none_are, none_lead, simple_many}
 use Rattle.b67_pictures.proofs.Zeros.{zero_word, cells_length}
+use Rattle.b67_pictures.specs.Events.{HasEvent, EventsAre}
+use Rattle.b67_word.specs.declared.Place.{Place}
+use Rattle.b67_pictures.proofs.Numbers.{get_below}
 
 abbrev pub first_core : Core
 first_core = record { below = base_frame; words = []; registers = first_registers }
@@ -282,7 +285,7 @@ module _ (tree : PProgram) (code : Code) (names : HasNames tree) (nested : AreNe
           level_is = framed.level_is;
           gives = yields_of block.result;
           text = block_keeps sc 0 keeps (nested.each 0 nested.some);
-          shape = of_own (record { owns = refl; framed = framed; routines = (body.routines, controls_fit text level controls body.cells.0 body.cells.1 body.cells.3); making = sym (block_makes sc 0 order (nested.each 0 nested.some)) }) refl;
+          shape = of_own (record { owns = refl; framed = framed; routines = (body.routines, controls_fit text level controls body.cells.0 body.cells.1 body.cells.3); items = (body.start, body.items); making = sym (block_makes sc 0 order (nested.each 0 nested.some)) }) refl;
         };
         around = (refl, refl, refl, ap yields_of nested.untyped);
         counted = omega (arith, ap (λ (r : Registers). r.cells) begun.registers, length_cells);
@@ -305,7 +308,7 @@ module _ (tree : PProgram) (code : Code) (names : HasNames tree) (nested : AreNe
   only_process zero q e = none_some e
   only_process (suc zero) q e =
       subst (λ (x : Process). Pictured tree code texts w first_lay first_image 1 x) (some_same e)
-      (living refl refl (living_of tree code texts w first_lay first_image fragments 1 first_process first_part [] bound first_core begun.core landed))
+      (living refl tt (living_of tree code texts w first_lay first_image fragments 1 first_process first_part [] bound first_core begun.core landed))
   only_process (suc (suc k)) q e = none_some e
 
   no_array : (i number : ℕ) (declared : DeclaredArray) (cell : ArrayCell) (a : Allotted) → HasArray sc w first_lay i number declared cell a → ⊥
@@ -330,6 +333,18 @@ module _ (tree : PProgram) (code : Code) (names : HasNames tree) (nested : AreNe
             (omega (arith, no_rows (simple_cells sc block) (fresh_cells block []) (replicate many zero_word) zeros));
       }
 
+  -- no event is open
+  first_events : EventsAre sc w first_lay []
+  first_events = record { are_open = λ i number e at h. absurd (no_event i number e at h); apart = λ i j number other e f at h o. absurd (no_event i number e at h) }
+    where
+      no_event : (i number : ℕ) (e : EventCell) (at : Place) → HasEvent sc w first_lay i number e at → ⊥
+      no_event i number e at h =
+          let low = get_below h.instance.cells (length (simple_cells sc (block_numbered sc.blocks h.instance.block)) + number) (record { name = h.name; cell = event e }) h.has in
+          let many : length h.instance.cells ≡ length (simple_cells sc (block_numbered sc.blocks h.instance.block)) =
+          subst (λ (x : Instance). length x.cells ≡ length (simple_cells sc (block_numbered sc.blocks x.block))) (only_instance i h.instance h.is)
+          (cells_length (simple_cells sc block) (fresh_cells block []) (replicate many zero_word) zeros) in
+          omega (arith, low, many)
+
   pub first_pictured : Pictures tree code texts (start (scopes_of tree)) first_image
   unfolding start first_image
   first_pictured = (
@@ -337,6 +352,7 @@ module _ (tree : PProgram) (code : Code) (names : HasNames tree) (nested : AreNe
     record {
       laid = refl;
       arrays = first_arrays;
+      events = first_events;
       output = refl;
       fault = refl;
       started = refl;

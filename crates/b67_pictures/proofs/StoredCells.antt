@@ -2,7 +2,7 @@
 use Rattle.std.proofs.Common.{◌≡◌, refl, sym, ap, ◌∙◌, subst, ℕ, ◌+◌, List, [], ◌∷◌, length, Bool, true, false}
 use Rattle.std.specs.Prelude.{if◌then◌else◌, map}
 use Rattle.algol_tree.specs.Sorts.{same_name}
-use Rattle.algol_meaning.specs.Value.{Bounds, ArrayCell, Cell, array}
+use Rattle.algol_meaning.specs.Value.{Bounds, ArrayCell, Cell, event, array}
 use Rattle.algol_meaning.specs.Arrays.{elements_of, size_of_cell, size_of_cells}
 use Rattle.algol_meaning.specs.World.{NamedCell, cell_in, cells_with}
 use Rattle.algol_paths.specs.Arrays.{DeclaredArray, Made, lows_of, an_array, an_event}
@@ -73,7 +73,7 @@ module _ (name : List ℕ) (cell later : ArrayCell) (alike : IsAlike cell later)
 
   made_so_stays : (m : Made) (c : NamedCell) (a : Allotted) (w : Word) → IsMadeSo m c a w → c.cell ≡ array cell → IsMadeSo m (record c { cell = array later }) a w
   made_so_stays (an_array d) c a w made is = made_alike d c a w made is
-  made_so_stays (an_event n) c a w made is = absurd made
+  made_so_stays (an_event n) c a w made is = absurd (let clash : event made.cell ≡ array cell = sym made.is ∙ is in cc)
 
   -- and so are all
   pub made_stays : (ds : List Made) (cells : List NamedCell) (as' : List Allotted) (ws : List Word) → cell_in cells name ≡ array cell → AreMade ds cells as' ws →

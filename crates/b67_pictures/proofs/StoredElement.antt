@@ -4,7 +4,7 @@ use Rattle.std.specs.Prelude.{slice_get, slice_set}
 use Rattle.b67_list.specs.Numbered.{numbered, set_numbered}
 use Rattle.algol_tree.specs.Blocks.{block_numbered}
 use Rattle.algol_tree.specs.Scopes.{Scopes}
-use Rattle.algol_meaning.specs.Value.{Value, ArrayCell, Cell, array}
+use Rattle.algol_meaning.specs.Value.{Value, ArrayCell, Cell, event, array}
 use Rattle.algol_meaning.specs.Arrays.{size_of_cells, size_unless, live_elements, flat, with_element}
 use Rattle.algol_meaning.specs.World.{NamedCell, Instance, World, instance_at, or_no_instance, cell_in, cells_with, by_cell, set_cell}
 use Rattle.algol_paths.specs.Arrays.{DeclaredArray, an_array}
@@ -18,7 +18,7 @@ use Rattle.b67_faithful.proofs.Contradictions.{some_same}
 use Rattle.b67_pictures.specs.Arrays.{Allotted, numbers_of, Layout, HoldElements, rows_of_cells, live_rows, IsIn, AreMade, HasArray, HasRow, ArraysAre, IsArrayOf}
 use Rattle.b67_pictures.proofs.ArraysKept.{elements_numbered, rows_numbered}
 use Rattle.b67_pictures.proofs.ClosedRows.{AreApart}
-use Rattle.b67_pictures.proofs.Knowing.{KeepsArrays, IsNoReference, keeps_same, names_stay}
+use Rattle.b67_pictures.proofs.Knowing.{KeepsArrays, IsNoReference, keeps_same, other_stays, names_stay}
 use Rattle.b67_pictures.proofs.MadeArrays.{get_past}
 use Rattle.b67_pictures.proofs.Numbers.{same_or_not, numbered_set, numbered_other}
 use Rattle.b67_pictures.proofs.OneClosed.{part_number, holds_same}
@@ -261,6 +261,11 @@ module _ (sc : Scopes) (w : World) (lay : Layout) (rows : Rows) (are : ArraysAre
                 array_still name cell later alike x.cells other c means (ap (λ (y : Instance). cell_in y.cells other) (sym here) ∙ e) in
                 record { later = still.now; is = ap (λ (o : Option Instance). cell_in ((or_no_instance o).cells) other) element_there ∙ still.is; bounds = still.bounds };
             parent = ap (λ (o : Option Instance). (or_no_instance o).parent) element_there ∙ ap (λ (y : Instance). y.parent) (sym here);
+            events = λ other e is_there. (
+              e,
+              ap (λ (o : Option Instance). cell_in ((or_no_instance o).cells) other) element_there
+                  ∙ other_stays x.cells name other (array cell) (array later) (event e) means (λ (clash : array cell ≡ event e). cc) (ap (λ (y : Instance). cell_in y.cells other) (sym here) ∙ is_there),
+            );
             leads = λ other r.
                 ap (λ (o : Option Instance). by_cell (cell_in ((or_no_instance o).cells) other) r) element_there
                 ∙ names_stay x.cells name other (array later) r (subst (λ (c : Cell). IsNoReference c) (sym means) tt) tt

@@ -27,6 +27,7 @@ use Rattle.b67_cores.specs.Cores.{Core, HasCore}
 use Rattle.b67_fitting.specs.Nested.{AreNested}
 use Rattle.b67_footprints.specs.Keeping.{NamesOperand}
 use Rattle.b67_pictures.specs.Arrays.{Layout, AreMade, IsOwn, ArraysAre}
+use Rattle.b67_pictures.specs.Events.{EventsAre}
 use Rattle.b67_pictures.specs.Frames.{CellsAre}
 use Rattle.b67_pictures.specs.Pictures.{Pictured, PicturesBy}
 use Rattle.b67_pictures.proofs.Knowing.{KeepsArrays}
@@ -45,13 +46,14 @@ module _ (tree : PProgram) (code : Code) (texts : Texts) (nested : AreNested (sc
       ChangedCells (simple_cells (scopes_of tree) (block_numbered (scopes_of tree).blocks x.block)) (lay.rows i) with_cells simple values (slice_set values far word) declared descriptors)
       (owns : (o : Process) → numbered w.processes p ≡ Some o → IsOwn o.todo i) (only : (y : Place) → NamesOperand img op r y → (y.stack ≡ p) × (y.at ≡ k))
       (low : (core : Core) → HasCore img p core → k < length core.below) (there : word_at new.stacks (place p k) ≡ Some word) where
-    pub stored_elsewhere : (q q' : Process) → numbered w.processes a ≡ Some q → ArraysAre (scopes_of tree) (with_process (stored_world w i x at with_cells) a q') lay new.rows → new.output ≡ w.output → new.fault ≡ img.fault →
+    pub stored_elsewhere : (q q' : Process) → numbered w.processes a ≡ Some q → ArraysAre (scopes_of tree) (with_process (stored_world w i x at with_cells) a q') lay new.rows →
+        EventsAre (scopes_of tree) (with_process (stored_world w i x at with_cells) a q') lay new.events → new.output ≡ w.output → new.fault ≡ img.fault →
         new.started ≡ img.started → new.states ≡ img.states → stack_at new.stacks 0 ≡ stack_at img.stacks 0 → Pictured tree code texts (with_process (stored_world w i x at with_cells) a q') lay new a q' →
         PicturesBy tree code texts (with_process (stored_world w i x at with_cells) a q') lay new
-    stored_elsewhere q q' at_a arrays output fault started states system own =
+    stored_elsewhere q q' at_a arrays events output fault started states system own =
         stored_pictured tree code texts w lay p i x at with_cells high laid far k place_is (Some word) many (λ set. short) keeps changes a q' img new mine owns (λ core has set. low core has)
         (λ core has.
         core_holds tree code texts nested rests w lay img new by ok a r op next lives stands given p other core has k word (λ y e names. (only y names).1) (low core has) there)
         (λ m core apart elsewhere has.
         core_stays tree code texts nested rests w lay img new by ok a r op next lives stands given m (λ e. apart (sym e)) core has (λ y e names. elsewhere (sym e ∙ (only y names).0)))
-        states by q at_a arrays output fault started system own
+        states by q at_a arrays events output fault started system own

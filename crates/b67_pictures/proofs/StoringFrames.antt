@@ -27,7 +27,7 @@ use Rattle.b67_cores.specs.Stretches.{control_words}
 use Rattle.b67_faithful.specs.Weight.{parts_weight}
 use Rattle.b67_faithful.proofs.Contradictions.{some_same}
 use Rattle.b67_pictures.specs.Arrays.{Allotted, Layout, AreMade, AreKnown, IsOwn}
-use Rattle.b67_pictures.specs.Frames.{CellsAre, block_controls, most_around, IsComplete, IsPlaced, outermost, inside, home_of, Framed, RoutinesStand, Frame, Waits, Around, Owned, Shape, of_own, of_lent, context_at, text_of, level_at, most_of, run_level}
+use Rattle.b67_pictures.specs.Frames.{CellsAre, block_controls, most_around, IsComplete, IsPlaced, outermost, inside, home_of, Framed, RoutinesStand, ItemsStand, Frame, Waits, Around, Owned, Shape, of_own, of_lent, context_at, text_of, level_at, most_of, run_level}
 use Rattle.b67_pictures.proofs.FreshCells.{words_long}
 use Rattle.b67_pictures.proofs.Knowing.{KeepsArrays, Remain, keeps_same, HasReferred, has_reference, has_actual, referred_denoted, denotes_lasts, known_lasts, climbs_all}
 use Rattle.b67_pictures.proofs.Numbers.{same_or_not, numbered_set, numbered_other}
@@ -349,7 +349,7 @@ module _ (tree : PProgram) (code : Code) (texts : Texts) (w : World) (lay : Layo
       Shape tree code texts w lay p part outer (length lower) m k' cells home gives → Shape tree code texts w' lay p part outer (length (put word lower k)) m k' cells home gives
   other_shape part outer lower m k' cells home gives above (of_own o is) =
       let apart : part.instance ≢ i = λ (e : part.instance ≡ i). let height : length lower ≡ high = frame_high part outer (length lower) m k' cells o e in omega (arith, height, above) in
-      of_own (record { owns = o.owns; framed = other_framed part outer lower m k' cells o apart; routines = o.routines; making = o.making }) is
+      of_own (record { owns = o.owns; framed = other_framed part outer lower m k' cells o apart; routines = o.routines; items = o.items; making = o.making }) is
   other_shape part outer lower m k' cells home gives above (of_lent l) =
       of_lent (record { evaluates = l.evaluates; asked = l.asked; expression = l.expression; stands = l.stands; none = l.none; linked = l.linked })
 
@@ -384,6 +384,7 @@ module _ (tree : PProgram) (code : Code) (texts : Texts) (w : World) (lay : Layo
             owns = o.owns;
             framed = own;
             routines = subst (λ (y : Instance). RoutinesStand tree code texts y.block o.framed.ats) (is_x part outer f.lower f.mark f.control f.cells o e.1) o.routines;
+            items = subst (λ (y : Instance). ItemsStand tree code texts y.block) (is_x part outer f.lower f.mark f.control f.cells o e.1) o.items;
             making = o.making;
           })
               (frame_gives tree code texts w lay p part outer words f e.0 ∙ ap (λ (y : Instance). yields_of (block_numbered sc.blocks y.block).result) (ap or_no_instance (ap (λ (j : ℕ). numbered w.instances j) e.1 ∙ at)));

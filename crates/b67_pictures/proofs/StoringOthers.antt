@@ -25,6 +25,7 @@ use Rattle.b67_cores.specs.Stretches.{CoreAt, Above}
 use Rattle.b67_cores.proofs.Staying.{steps_stay_above}
 use Rattle.b67_faithful.proofs.Choices.{length_set_numbered}
 use Rattle.b67_pictures.specs.Arrays.{Layout, AreMade, IsOwn, ArraysAre}
+use Rattle.b67_pictures.specs.Events.{EventsAre}
 use Rattle.b67_pictures.specs.Frames.{CellsAre, most_around, IsChained, Stands, Around, Frames, run_level}
 use Rattle.b67_pictures.specs.Pictures.{innermost_most, Living, Pictured, living, dead, PicturesBy}
 use Rattle.b67_pictures.proofs.Kept.{alike_by, alike_but, pictured_alike}
@@ -37,6 +38,7 @@ use Rattle.b67_templates.specs.Code.{in_routine}
 use Rattle.b67_templates.specs.Contexts.{Yields}
 use Rattle.algol_meaning.specs.Critical.{is_evaluation}
 use Rattle.b67_control.specs.Display.{place_at}
+use Rattle.b67_pictures.specs.States.{StateIs}
 
 -- The instance's frame lies so high in the stack of process p. A word that is stored lies so far above the frame's two words, at the place k.
 module _ (tree : PProgram) (code : Code) (texts : Texts) (w : World) (lay : Layout) (p : ℕ) (i : ℕ) (x : Instance) (at : numbered w.instances i ≡ Some x) (with_cells : List NamedCell)
@@ -168,7 +170,7 @@ module _ (tree : PProgram) (code : Code) (texts : Texts) (w : World) (lay : Layo
     owner_stored o before now (dead e s) = dead e (same_state p ∙ s)
     owner_stored o before now (living e s l) =
         let stored : Living tree code texts w' lay img' p o = living_stored img o (owns o before) l (low l.core l.has) img' (holds l.core l.has) in
-        pictured_alike tree code texts w' after lay lay p (alike_by w' after lay p refl) img' img' o (process_is w p o before) (process_is after p o now) refl (λ core has. has) (living e (same_state p ∙ s) stored)
+        pictured_alike tree code texts w' after lay lay p (alike_by w' after lay p refl) img' img' o (process_is w p o before) (process_is after p o now) refl (λ core has. has) (living e (subst (λ (x : Option ProcessState). StateIs o.state x) (sym (same_state p)) s) stored)
 
     pub others_stored : (r : ℕ) (o : Process) → r ≢ a → numbered w.processes r ≡ Some o → numbered (with_process (stored_world w i x at with_cells) a q').processes r ≡ Some o → Pictured tree code texts w lay img r o →
         Pictured tree code texts (with_process (stored_world w i x at with_cells) a q') lay img' r o
@@ -183,9 +185,10 @@ module _ (tree : PProgram) (code : Code) (texts : Texts) (w : World) (lay : Layo
             (process_is w r o before) (process_is after r o now) (same_state r) (λ core has. stay r core other apart has) pictured
 
     -- so the image pictures the world after it, where it pictures the process that stores
-    pub stored_pictured : (by : PicturesBy tree code texts w lay img) (q : Process) → numbered w.processes a ≡ Some q → ArraysAre (scopes_of tree) (with_process (stored_world w i x at with_cells) a q') lay img'.rows → img'.output ≡ w.output →
+    pub stored_pictured : (by : PicturesBy tree code texts w lay img) (q : Process) → numbered w.processes a ≡ Some q → ArraysAre (scopes_of tree) (with_process (stored_world w i x at with_cells) a q') lay img'.rows →
+        EventsAre (scopes_of tree) (with_process (stored_world w i x at with_cells) a q') lay img'.events → img'.output ≡ w.output →
         img'.fault ≡ img.fault → img'.started ≡ img.started → stack_at img'.stacks 0 ≡ stack_at img.stacks 0 → Pictured tree code texts (with_process (stored_world w i x at with_cells) a q') lay img' a q' →
         PicturesBy tree code texts (with_process (stored_world w i x at with_cells) a q') lay img'
-    stored_pictured by q at_a arrays output fault started system own =
-        comes_by tree code texts w lay img by a q at_a after lay img' q' refl (by.laid ∙ sym (length_set_numbered w.instances i (changed w i x at with_cells))) arrays output refl fault started (ap length states) system
+    stored_pictured by q at_a arrays events output fault started system own =
+        comes_by tree code texts w lay img by a q at_a after lay img' q' refl (by.laid ∙ sym (length_set_numbered w.instances i (changed w i x at with_cells))) arrays events output refl fault started (ap length states) system
         others_stored own

@@ -1,12 +1,12 @@
 -- A store into the variable to whose cell the reference under the top leads.
-use Rattle.std.proofs.Common.{◌≡◌, refl, sym, ap, ◌∙◌, ℕ, ◌+◌, List, ◌∷◌, length, Option, Some, None, Ok}
+use Rattle.std.proofs.Common.{◌≡◌, refl, sym, ap, ◌∙◌, ℕ, ◌+◌, List, ◌∷◌, length, Option, Some, None, Ok, true}
 use Rattle.b67_list.specs.Numbered.{numbered}
 use Rattle.algol_tree.specs.declared.tree.Kind.{Kind}
 use Rattle.algol_tree.specs.Plain.{PProgram}
 use Rattle.algol_tree.specs.Scopes.{Scopes, scopes_of}
 use Rattle.algol_meaning.specs.Value.{Value, Reference}
 use Rattle.algol_meaning.specs.Rest.{Answer, done, there}
-use Rattle.algol_meaning.specs.World.{Part, Process, able, World}
+use Rattle.algol_meaning.specs.World.{Part, Process, lives, World}
 use Rattle.algol_meaning.specs.Asks.{stores, ask, resume}
 use Rattle.algol_paths.specs.Laws.{RestsKeepToTheirText, AllIsMadeInOrder}
 use Rattle.b67_word.specs.Word.{Word}
@@ -17,7 +17,7 @@ use Rattle.b67_control.proofs.ControlLaws.{irw_laws, sirw_laws}
 use Rattle.b67_ops.specs.declared.Operator.TheVariants as ops
 use Rattle.b67_ops.specs.declared.PlainKind.TheVariants as kinds
 use Rattle.b67_segment.specs.declared.code.Code.{Code}
-use Rattle.b67_table.specs.declared.ProcessState.TheVariants.{Able}
+use Rattle.b67_pictures.specs.States.{StateIs}
 use Rattle.b67_table.specs.Arrays.{as_indexed, indexed_in}
 use Rattle.b67_table.specs.Image.{Image}
 use Rattle.b67_table.specs.Private.{frame}
@@ -75,7 +75,7 @@ module _ (tree : PProgram) (code : Code) (texts : Texts) (nested : AreNested (sc
 
 module _ (tree : PProgram) (code : Code) (texts : Texts) (nested : AreNested (scopes_of tree)) (fragments : FragmentsArePerformed) (keeps : RestsKeepToTheirText) (order : AllIsMadeInOrder)
     (w : World) (lay : Layout) (img : Image) (p : ℕ) (q : Process) (part : Part) (outer : List Part) (bound : ℕ) (core : Core) (s : Scene tree code texts w lay img p q part outer bound core)
-    (able_is : q.state ≡ able) (able_p : numbered img.states p ≡ Some Able) (r : Reference) (v : Value) (asks : ask part.rest ≡ stores (there r) v)
+    (able_is : lives q.state ≡ true) (able_p : StateIs q.state (numbered img.states p)) (r : Reference) (v : Value) (asks : ask part.rest ≡ stores (there r) v)
     (a : ActionAt (scopes_of tree) (context_in tree code texts w part s.stands.frame.gives) (text_in tree texts w part) (level_in tree w part) (most_in tree w part) (stores (there r) v) s.stands.pc s.stands.slots)
     (answered : (x : Answer) (at : ℕ) (left : List Slot) →
     Acted (scopes_of tree) (context_in tree code texts w part s.stands.frame.gives) (text_in tree texts w part) (level_in tree w part) (most_in tree w part) (stores (there r) v) s.stands.pc s.stands.slots a x at left →

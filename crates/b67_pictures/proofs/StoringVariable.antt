@@ -11,7 +11,7 @@ use Rattle.algol_tree.specs.Sorts.{same_name}
 use Rattle.algol_tree.specs.declared.tree.Kind.{Kind}
 use Rattle.algol_meaning.specs.Value.{Value, Reference, Cell, simple}
 use Rattle.algol_meaning.specs.Rest.{Place, done}
-use Rattle.algol_meaning.specs.World.{NamedCell, Instance, Process, Part, able, World, instance_at, or_no_instance, with_instance, with_process, cell_in, cells_with, set_cell}
+use Rattle.algol_meaning.specs.World.{NamedCell, Instance, Process, Part, lives, World, instance_at, or_no_instance, with_instance, with_process, cell_in, cells_with, set_cell}
 use Rattle.algol_meaning.specs.Actions.{Store}
 use Rattle.algol_meaning.specs.Asks.{Ask, stores, ask, resume}
 use Rattle.algol_meaning.specs.Choice.{Choice, choice, choice_of, goes}
@@ -25,7 +25,7 @@ use Rattle.b67_ops.specs.declared.PlainKind.TheVariants as kinds
 use Rattle.b67_segment.specs.Operators.{Placed}
 use Rattle.b67_segment.specs.declared.code.Code.{Code}
 use Rattle.b67_store.specs.Store.{stack_limit}
-use Rattle.b67_table.specs.declared.ProcessState.TheVariants.{Able}
+use Rattle.b67_pictures.specs.States.{StateIs}
 use Rattle.b67_table.specs.Arrays.{as_indexed}
 use Rattle.b67_table.specs.Chains.{place}
 use Rattle.b67_table.specs.Image.{Image}
@@ -71,6 +71,7 @@ use Rattle.b67_pictures.proofs.VariableHomes.{VariableHome}
 use Rattle.b67_templates.specs.Code.{in_routine}
 use Rattle.b67_templates.specs.Contexts.{Yields}
 use Rattle.algol_meaning.specs.Critical.{is_evaluation}
+use Rattle.b67_pictures.proofs.EventsKept.{event_before, events_replaced}
 
 pub length_cells : (cells : List NamedCell) (name : List ℕ) (c : Cell) → length (cells_with cells name c) ≡ length cells
 length_cells [] name c = refl
@@ -82,7 +83,7 @@ length_cells (x ∷ cells) name c = by_name (same_name x.name name) (length_cell
 
 module _ (tree : PProgram) (code : Code) (texts : Texts) (fragments : FragmentsArePerformed) (kept : RestsKeepToTheirText) (order : AllIsMadeInOrder) (w : World) (lay : Layout) (img : Image)
     (p : ℕ) (q : Process) (part : Part) (outer : List Part) (bound : ℕ) (core : Core) (s : Scene tree code texts w lay img p q part outer bound core)
-    (able_is : q.state ≡ able) (able_p : numbered img.states p ≡ Some Able) (r : Reference) (kind : Kind) (found : Found)
+    (able_is : lives q.state ≡ true) (able_p : StateIs q.state (numbered img.states p)) (r : Reference) (kind : Kind) (found : Found)
     (h : VariableHome tree code texts w lay img p q part outer bound core s r kind found) (to : Place) (v : Value) (fits : HasKind kind v) (asks : ask part.rest ≡ stores to v)
     (stores_so : choice_of (scopes_of tree) w p q part outer (stores to v) ≡ goes (scopes_of tree) w p q part outer Store (set_cell w r (simple v)) done)
     (next : ℕ) (below : List Slot)
@@ -305,8 +306,8 @@ module _ (tree : PProgram) (code : Code) (texts : Texts) (fragments : FragmentsA
 
   -- ---- the picture after it
 
-  lives : Living tree code texts w' lay (with_core img p new) p q'
-  lives =
+  living : Living tree code texts w' lay (with_core img p new) p q'
+  living =
       living_of tree code texts w' lay (with_core img p new) fragments p q' part' outer bound new new (record {
         todo = refl;
         independent = s.independent;
@@ -347,8 +348,9 @@ module _ (tree : PProgram) (code : Code) (texts : Texts) (fragments : FragmentsA
   pictured =
       goes_on tree code texts w lay img s.by p q s.at w' lay (with_core img p new) q' refl able_is
       (s.by.laid ∙ sym (length_set_numbered w.instances i (changed w i instance instance_there cells')))
-      (arrays_stored sc w w' lay i instance instance_there r.name h.value v cell_is refl img.rows s.by.arrays) alike s.by.output refl refl refl refl
-      (system_stays img p core new s.has refl q w s.at) able_p (λ r other_core apart has. others_have img p core new s.has refl r other_core apart has) lives
+      (arrays_stored sc w w' lay i instance instance_there r.name h.value v cell_is refl img.rows s.by.arrays)
+      (events_replaced sc w w' lay lay i instance (changed w i instance instance_there cells') instance_there refl refl refl (event_before instance.cells r.name (simple v) tt) (λ j f laid. laid) img.events s.by.events) alike s.by.output refl refl refl refl
+      (system_stays img p core new s.has refl q w s.at) able_p (λ r other_core apart has. others_have img p core new s.has refl r other_core apart has) living
 
   pub variable_stored : Does tree code texts w img p
   variable_stored =
@@ -363,4 +365,4 @@ module _ (tree : PProgram) (code : Code) (texts : Texts) (fragments : FragmentsA
       (action_is code img p core s.has (ops.Plain kinds.Stod) next there (outcomes.gives (with_core img p new)) is
       ∙ ap as_action (stores_variable code img p core s.has next there x y h.word words top cell_index high names plain_word h.below_lies (value_tag v x x_is) tag)
       ∙ ap (λ (c : Choice). Some c.action) (sym chosen))
-      (lay, subst (λ (c : Choice). PicturesBy tree code texts c.world lay (with_core img p new)) (sym chosen) pictured)
+      (λ able_now. (lay, subst (λ (c : Choice). PicturesBy tree code texts c.world lay (with_core img p new)) (sym chosen) pictured))

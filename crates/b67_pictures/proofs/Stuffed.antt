@@ -14,11 +14,11 @@ use Rattle.b67_ops.specs.declared.TheConstants.{OUTER_LEVEL}
 use Rattle.b67_segment.specs.declared.code.Code.{Code}
 use Rattle.b67_templates.specs.Contexts.{Context}
 use Rattle.b67_templates.specs.Programs.{Texts}
-use Rattle.b67_standing.specs.Stepping.{Held, Stuffable, of_array, of_variable, of_actual}
+use Rattle.b67_standing.specs.Stepping.{Held, Stuffable, of_array, of_variable, of_event, of_actual}
 use Rattle.b67_cores.specs.Cores.{Core}
 use Rattle.b67_cores.specs.Slots.{Known}
 use Rattle.b67_cores.specs.Stretches.{Sees, IsStuffed, AreStuffed}
-use Rattle.b67_pictures.specs.Arrays.{Layout, an_array_named, a_variable_named, HeldIs, AreKnown, IsOwn}
+use Rattle.b67_pictures.specs.Arrays.{Layout, an_array_named, an_event_named, a_variable_named, HeldIs, AreKnown, IsOwn}
 use Rattle.b67_pictures.specs.Frames.{IsChained, Frame, Around}
 use Rattle.b67_pictures.proofs.Lying.{Lies, lies_frame, own_parent, part_own}
 use Rattle.b67_pictures.proofs.Staying.{names_in, context_in}
@@ -66,6 +66,19 @@ module _ (tree : PProgram) (code : Code) (texts : Texts) (w : World) (lay : Layo
         level = level;
         couple = c;
         names = an_array_named d is;
+        frame = frame;
+        laid = sym (chained up near) ∙ ap (place_at core.registers.display) up_level ∙ shown;
+        word_is = word_is;
+      }
+  named_stuffed held couple word frame (of_event n c is) shown word_is =
+      let up : ℕ = (use_of sc n).up in
+      let near : up + OUTER_LEVEL ≤ level = omega (arith, is.made.level_is, is.made.outer) in
+      let up_level : level - up ≡ c.level = omega (arith, is.made.level_is) in
+      record {
+        own = own_parent tree code texts w lay p part outer words f a up near;
+        level = level;
+        couple = c;
+        names = an_event_named is;
         frame = frame;
         laid = sym (chained up near) ∙ ap (place_at core.registers.display) up_level ∙ shown;
         word_is = word_is;

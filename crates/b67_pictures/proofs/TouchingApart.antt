@@ -74,6 +74,7 @@ use Rattle.b67_pictures.proofs.TouchingOthers.{LivesThere, lives_there, own_stac
 use Rattle.b67_pictures.proofs.TouchingCells.{IsOperand, IsEntry, Names, variable_there, result_there, procedure_there}
 use Rattle.b67_pictures.proofs.TouchingCalls.{under_top, over_top, call_names}
 use Rattle.b67_pictures.proofs.TouchingElements.{element_read_near, indexed_near, element_stored_near, passed_near, made_near}
+use Rattle.b67_pictures.proofs.TouchingEvents.{happened_near, acted_near, event_made_near}
 use Rattle.b67_pictures.proofs.TouchingNames.{value_names, value_names_through, through_named, none_named, branch_names, cell_named, refers_named, no_kind, block_names, entry_names}
 use Rattle.b67_pictures.proofs.TouchingScene.{by_names, by_class}
 use Rattle.b67_pictures.proofs.TouchingWords.{couple_fits, procedure_fits, pcw_kind}
@@ -226,6 +227,10 @@ module _ (tree : PProgram) (code : Code) (texts : Texts) (nested : AreNested (sc
     selected_near v ss a =
         by_op (ops.Plain kinds.Entr) a.0 a.2.stands (called names.Select (v ∷ number (pos (stmts_count ss)) ∷ number (pos a.0) ∷ []) a.1 a.2.lies)
 
+    gone_near : (n : Named) → At (goes_to n) → Comes
+    gone_near n a =
+        by_op (ops.Plain kinds.Entr) a.0 a.2.stands (called names.GoTo (number (pos a.2.target) ∷ number (pos a.2.segment) ∷ number (pos a.2.entry) ∷ []) a.1 a.2.lies)
+
     -- the word above the mark, under the words of actuals
     above_mark : (wanted : List Wanted) (gs : List Given) → AreFit sc context wanted gs → (slot : Slot) (below : List Slot) → s.stands.slots ≡ given_slots wanted gs (slot ∷ mark ∷ below) →
         newest (frame r) (length core.below) (slot ∷ mark ∷ below) ≡ length core.below + length below →
@@ -294,14 +299,14 @@ module _ (tree : PProgram) (code : Code) (texts : Texts) (nested : AreNested (sc
     by_ask nothing e a = absurd a
     by_ask (reads_element n ks v) e a = element_read_near tree code texts nested w lay img p q part outer bound core s n ks v e a
     by_ask (indexes n ks v) e a = indexed_near tree code texts nested w lay img p q part outer bound core s n ks v e a
-    by_ask (asks_happened n) e a = absurd a
+    by_ask (asks_happened n) e a = happened_near tree code texts nested w lay img p q part outer bound core s n e a
     by_ask (passes n) e a = passed_near tree code texts nested w lay img p q part outer bound core s n e a
     by_ask (resolves n) e a = resolved_near n e a
-    by_ask (goes_to n) e a = absurd a
+    by_ask (goes_to n) e a = gone_near n a
     by_ask (starts n gs task) e a = absurd a
-    by_ask (acts y n) e a = absurd a
+    by_ask (acts y n) e a = acted_near tree code texts nested w lay img p q part outer bound core s y n e a
     by_ask (makes_arrays kind ns pairs vs) e a = made_near tree code texts nested w lay img p q part outer bound core s kind ns pairs vs a
-    by_ask (makes_event n) e a = absurd a
+    by_ask (makes_event n) e a = event_made_near tree code texts nested w lay img p q part outer bound core s n a
 
     pub standing_near : Comes
     standing_near =
@@ -317,7 +322,7 @@ module _ (tree : PProgram) (code : Code) (texts : Texts) (nested : AreNested (sc
       where
         settled_near : l.core ≡ l.settled → StandsNear code p img l.core.registers
         settled_near same =
-            let found = scene_of tree code texts w lay img p q (narrow_of tree code texts w lay img by ok p q at) by at l (subst (λ (c : Core). HasCore img p c) same l.has) in
+            let found = scene_of tree code texts w lay img p q (narrow_of tree code texts w lay img by ok p q at) ok by at l (subst (λ (c : Core). HasCore img p c) same l.has) in
             subst (λ (c : Core). StandsNear code p img c.registers) (sym same) (standing_near p q found.0 found.1 l.bound l.settled found.2)
 
         step_near : (c b : Core) → c ≡ l.core → CoreStep code c b → StandsNear code p img l.core.registers

@@ -60,7 +60,7 @@ abbrev control_of : Intrinsic → Pcw
 control_of name = record { intrinsic = true; names = false; segment = 0; psr = 0; pir = 0; level = 0; number = number_of name }
 
 -- it stands at its number in the system's stack
-lies_there : (name : Intrinsic) → slice_get system_stack (0 + number_of name) ≡ Some (intrinsic_pcw (number_of name))
+pub lies_there : (name : Intrinsic) → slice_get system_stack (0 + number_of name) ≡ Some (intrinsic_pcw (number_of name))
 lies_there names.GoTo = refl
 lies_there names.Select = refl
 lies_there names.Arrays = refl
@@ -74,7 +74,7 @@ lies_there names.Happened = refl
 lies_there names.Procure = refl
 lies_there names.Liberate = refl
 
-no_further : (name : Intrinsic) → as_sirw (intrinsic_pcw (number_of name)) ≡ None
+pub no_further : (name : Intrinsic) → as_sirw (intrinsic_pcw (number_of name)) ≡ None
 no_further name = as_sirw-other (intrinsic_pcw (number_of name)) (λ k. let is = sym (pcw_kind (control_of name)) ∙ k in cc)
 
 -- ---- operands
@@ -83,11 +83,11 @@ no_further name = as_sirw-other (intrinsic_pcw (number_of name)) (λ k. let is =
 operand_names : (w : Word) → w.tag ≡ 0 → as_irw w ≡ None
 operand_names w e = irw_laws.other w (λ k. let is = sym (tag_operand w e) ∙ k in cc)
 
--- so it is with the words of a stack above others, where they are operands
-above_operands : (below args words : List Word) → Each (λ (w : Word). w.tag ≡ 0) args → (n : ℕ) (u : Word) → length below + length words ≤ n → slice_get (below ++ reverse (args ++ words)) n ≡ Some u → u.tag ≡ 0
-above_operands below args words are n u high e =
+-- what holds of all these words holds of what is in a stack above the others
+pub above_others : (P : Word → Type 0) (below args words : List Word) → Each P args → (n : ℕ) (u : Word) → length below + length words ≤ n → slice_get (below ++ reverse (args ++ words)) n ≡ Some u → P u
+above_others P below args words are n u high e =
     let long : length (below ++ reverse words) ≡ length below + length words = length-append below (reverse words) ∙ ap (λ (k : ℕ). length below + k) (length-reverse words) in
-    each_at (λ (w : Word). w.tag ≡ 0) (reverse args) (n - length (below ++ reverse words)) u (each_turned (λ (w : Word). w.tag ≡ 0) args are)
+    each_at P (reverse args) (n - length (below ++ reverse words)) u (each_turned P args are)
     (sym (get-behind (below ++ reverse words) (reverse args) (n - length (below ++ reverse words)) n (omega (arith, long, high)))
     ∙ ap (λ (ws : List Word). slice_get ws n) (sym (stack-over below args words)) ∙ e)
 
@@ -115,7 +115,7 @@ module _ (img : Image) (p : ℕ) (core : Core) (has : HasCore img p core) (syste
       (place 0 0) sees (system_cell p img (record { frame = place 0 0; index = number_of name }) refl) (intrinsic_pcw (number_of name)) entry_lies (no_further name)
       (λ kind n u c after there names.
       operand_none u
-      (above_operands core.below g.arguments (i.word ∷ i.words_below) g.are_operands n u (omega (arith, f, many, after))
+      (above_others (λ (w : Word). w.tag ≡ 0) core.below g.arguments (i.word ∷ i.words_below) g.are_operands n u (omega (arith, f, many, after))
       (ap (λ (ws : List Word). slice_get ws n) (sym (words_are img p core has ∙ ap (λ (ws : List Word). core.below ++ reverse ws) whole)) ∙ there)) c names)
     where
       operand_none : (u : Word) → u.tag ≡ 0 → (c : Cell) → cell_of core.registers u ≡ Some c → ⊥

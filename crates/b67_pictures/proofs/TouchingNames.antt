@@ -29,7 +29,7 @@ use Rattle.b67_pictures.proofs.Touching.{NearFrame, NearCell, NamesNear}
 
 module _ (p : ℕ) (img : Image) (r : Registers) where
   -- the word at a place is one only
-  one_word : (x : Place) (v w : Word) → word_at img.stacks x ≡ Some v → word_at img.stacks x ≡ Some w → v ≡ w
+  pub one_word : (x : Place) (v w : Word) → word_at img.stacks x ≡ Some v → word_at img.stacks x ≡ Some w → v ≡ w
   one_word x v w e f = some_same (sym e ∙ f)
 
   -- ---- what is named by a word
@@ -45,7 +45,7 @@ module _ (p : ℕ) (img : Image) (r : Registers) where
       ∙ ap (λ (i : Option Irw). irw_or_sirw r i (as_sirw w)) (irw_laws.other w (λ k. let is = sym (sirw_laws.kind w s reads) ∙ k in cc))
       ∙ ap (λ (o : Option Sirw). irw_or_sirw r None o) reads)
 
-  one_cell : (w : Word) (i : Irw) (f : Place) → as_irw w ≡ Some i → display_at r i.level ≡ Some f → (c : Cell) → cell_of r w ≡ Some c → c ≡ record { frame = f; index = i.index }
+  pub one_cell : (w : Word) (i : Irw) (f : Place) → as_irw w ≡ Some i → display_at r i.level ≡ Some f → (c : Cell) → cell_of r w ≡ Some c → c ≡ record { frame = f; index = i.index }
   one_cell w i f reads shown c e =
       some_same (sym e ∙ ap (λ (o : Option Irw). irw_or_sirw r o (as_sirw w)) reads ∙ ap (λ (o : Option Place). cell_in o i.index) shown)
 
@@ -305,5 +305,36 @@ module _ (p : ℕ) (img : Image) (r : Registers) where
         entry_names =
             record {
               cells = λ d k. subst (NearCell p img) (sym (named_are img entr r IsCell entry_named k)) near;
+              around = λ g v pcw is lies_there pcw_is e. none_some (sym no_control ∙ ap as_pcw (one_word (place r.stack (r.f + 1)) w v lies lies_there) ∙ pcw_is);
+            }
+
+      -- or what is above names near cells
+      module _ (A : Cell → Type 0) (arguments : (n : ℕ) (u : Word) (d : Cell) → r.f + 1 < n → word_at img.stacks (place r.stack n) ≡ Some u → cell_of r u ≡ Some d → A d)
+          (further : (b : Cell) (v : Word) (s : Sirw) → A b → word_at img.stacks (cell_place b) ≡ Some v → as_sirw v ≡ Some s → A (sirw_cell s)) (near_above : (d : Cell) → A d → NearCell p img d) where
+        abbrev IsEither : Cell → Type 0
+        IsEither d = IsCell d ⊎ A d
+
+        goes_further : (b : Cell) (v : Word) (s : Sirw) → IsEither b → word_at img.stacks (cell_place b) ≡ Some v → as_sirw v ≡ Some s → IsEither (sirw_cell s)
+        goes_further b v s (inl same) lies_there is = none_some (sym no_sirw ∙ ap as_sirw (word_there b v same lies_there) ∙ is)
+        goes_further b v s (inr above) lies_there is = inr (further b v s above lies_there is)
+
+        either_near : (d : Cell) → IsEither d → NearCell p img d
+        either_near d (inl same) = subst (NearCell p img) (sym same) near
+        either_near d (inr above) = near_above d above
+
+        either_named : AreNamed img (ops.Plain kinds.Entr) r IsEither
+        either_named =
+            record {
+              couple = λ d couple is e. cc;
+              taken = λ d n v takes lies_there e. inl (one_cell w i f reads shown d (ap (cell_of r) (taken_word n v takes lies_there) ∙ e));
+              reference = λ b v s follows k lies_there is. goes_further b v s k lies_there is;
+              argument = λ d v u n is lies_there kind after above e. inr (arguments n u d after above e);
+              its_argument = λ b d v u n is k lies_there kind after above e. inr (arguments n u d after above e);
+            }
+
+        pub entry_names_above : NamesNear p img (ops.Plain kinds.Entr) r
+        entry_names_above =
+            record {
+              cells = λ d k. either_near d (named_are img entr r IsEither either_named k);
               around = λ g v pcw is lies_there pcw_is e. none_some (sym no_control ∙ ap as_pcw (one_word (place r.stack (r.f + 1)) w v lies lies_there) ∙ pcw_is);
             }

@@ -24,7 +24,7 @@ use Rattle.b67_control.specs.declared.Mscw.{Mscw}
 use Rattle.b67_control.specs.declared.Pcw.{Pcw}
 use Rattle.b67_control.specs.declared.Rcw.{Rcw}
 use Rattle.b67_control.specs.declared.Sirw.{Sirw}
-use Rattle.b67_control.specs.Control.{as_mscw, as_rcw, descriptor_word, irw_word, sirw_word, pcw_word}
+use Rattle.b67_control.specs.Control.{as_mscw, as_rcw, event_word, descriptor_word, irw_word, sirw_word, pcw_word}
 use Rattle.b67_control.proofs.ControlLaws.{as_rcw-rcw_word, Fits-as_rcw, mscw_laws, rcw_laws, as_mscw-mscw_word}
 use Rattle.b67_ops.specs.declared.Couple.{Couple}
 use Rattle.b67_ops.specs.declared.intrinsic.Intrinsic.{Intrinsic}
@@ -54,7 +54,7 @@ use Rattle.b67_pictures.specs.Frames.{CellIs, Refers, CellsAre, block_controls, 
 use Rattle.b67_pictures.proofs.Lying.{Lies, lies_low, lies_around}
 use Rattle.b67_pictures.proofs.Numbers.{get_below}
 use Rattle.b67_pictures.proofs.StackWords.{reverse-cons}
-use Rattle.b67_pictures.proofs.Words.{value_tag, mark_read}
+use Rattle.b67_pictures.proofs.Words.{value_tag, event_kind, mark_read}
 use Rattle.algol_meaning.specs.Critical.{is_evaluation}
 
 -- the number of an intrinsic fits a reference
@@ -135,6 +135,10 @@ module _ (Home : ℕ → ℕ → Type 0) (root : (n : ℕ) → Home 0 n) where
   control_leads : (c : Pcw) → LinksTo Home (pcw_word c)
   control_leads c = leads_kind (pcw_word c) kind.pcw (pcw_kind c) (λ e. cc)
 
+  -- the word of an event
+  event_leads : LinksTo Home (event_word (record {}))
+  event_leads = leads_kind (event_word (record {})) kind.event event_kind (λ e. cc)
+
   pub descriptor_leads : (d : Descriptor) → LinksTo Home (descriptor_word d)
   descriptor_leads d = leads_kind (descriptor_word d) kind.descriptor (tag_descriptor (descriptor_word d) (descriptor_tag d)) (λ e. cc)
 
@@ -194,6 +198,7 @@ module _ (Home : ℕ → ℕ → Type 0) (root : (n : ℕ) → Home 0 n) where
   cell_leads : (o : Wanted) (c : Cell) (w : Word) → CellIs o c w → (Refers o → LinksTo Home w) → LinksTo Home w
   cell_leads (wants.array shape) c w is referred = referred tt
   cell_leads (wants.by_name kind) c w is referred = referred tt
+  cell_leads wants.event c w is referred = referred tt
   cell_leads (wants.value k) (simple v) w is referred = value_leads v w is.1
   cell_leads (wants.value k) (event e) w is referred = absurd is
   cell_leads (wants.value k) (array a) w is referred = absurd is
@@ -215,7 +220,7 @@ module _ (Home : ℕ → ℕ → Type 0) (root : (n : ℕ) → Home 0 n) where
   controls_lead [] = tt
   controls_lead (c ∷ pcws) = (control_leads c, controls_lead pcws)
 
-  -- the descriptors of arrays
+  -- the descriptors of arrays, and the words of events
   array_leads : (bs : List Bounds) (a : Allotted) (w : Word) → DescriptorIs bs a w → LinksTo Home w
   array_leads [] a w is = absurd is
   array_leads (b ∷ []) a w is = subst (LinksTo Home) (sym is.3) (descriptor_leads _)
@@ -229,7 +234,7 @@ module _ (Home : ℕ → ℕ → Type 0) (root : (n : ℕ) → Home 0 n) where
   arrays_lead [] (c ∷ cells) as' (w ∷ words) are = absurd are
   arrays_lead (d ∷ ds) [] as' (w ∷ words) are = absurd are
   arrays_lead (d ∷ ds) (c ∷ cells) [] (w ∷ words) are = absurd are
-  arrays_lead (an_event name ∷ ds) (c ∷ cells) (a ∷ as') (w ∷ words) are = absurd are.0
+  arrays_lead (an_event name ∷ ds) (c ∷ cells) (a ∷ as') (w ∷ words) are = (subst (LinksTo Home) (sym are.0.word_is) event_leads, arrays_lead ds cells as' words are.1)
   arrays_lead (an_array d ∷ ds) (c ∷ cells) (a ∷ as') (w ∷ words) are = (array_leads are.0.cell.bounds a w are.0.descriptor, arrays_lead ds cells as' words are.1)
 
 -- what is known of descriptors and references is of no marks
@@ -239,6 +244,7 @@ KnownLead Home known = (h : Held) (x : Word) → IsKnown known h x → LinksTo H
 module _ (sc : Scopes) (w : World) (lay : Layout) (Home : ℕ → ℕ → Type 0) (root : (n : ℕ) → Home 0 n) (parts : List Part) (i : ℕ) where
   pub denoted_leads : (wanted : Wanted) (c : Cell) (x : Word) → Denotes sc w lay (IsOwn parts) wanted c x → LinksTo Home x
   denoted_leads (wants.array shape) (refers r) x is = subst (LinksTo Home) (sym is.word_is) (cell_word_leads Home root _)
+  denoted_leads wants.event (refers r) x is = subst (LinksTo Home) (sym is.word_is) (cell_word_leads Home root _)
   denoted_leads (wants.by_name kind) (refers r) x is = subst (LinksTo Home) (sym is.word_is) (cell_word_leads Home root _)
   denoted_leads (wants.by_name kind) (named a) x is = subst (LinksTo Home) (sym is.word_is) (cell_word_leads Home root _)
   denoted_leads _ c x is = absurd is

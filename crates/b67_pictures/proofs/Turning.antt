@@ -1,10 +1,10 @@
 -- The turn of a loop, and the choice of a case.
-use Rattle.std.proofs.Common.{◌≡◌, refl, ap, ◌∙◌, ℕ, ◌≤◌, List, Some, Ok, arith}
+use Rattle.std.proofs.Common.{◌≡◌, refl, ap, ◌∙◌, ℕ, ◌≤◌, List, Ok, arith, true}
 use Rattle.b67_list.specs.Numbered.{numbered}
 use Rattle.algol_tree.specs.Plain.{PProgram}
 use Rattle.algol_tree.specs.Scopes.{Scopes, scopes_of}
 use Rattle.algol_meaning.specs.Rest.{Answer, done}
-use Rattle.algol_meaning.specs.World.{Process, Part, able, World}
+use Rattle.algol_meaning.specs.World.{Process, Part, lives, World}
 use Rattle.algol_meaning.specs.Actions.{Turn}
 use Rattle.algol_meaning.specs.Asks.{Ask, turns, ask, resume}
 use Rattle.algol_meaning.specs.Choice.{choice_of}
@@ -12,7 +12,7 @@ use Rattle.b67_ops.specs.declared.Operator.TheVariants as ops
 use Rattle.b67_ops.specs.declared.BranchKind.TheVariants.{Brun}
 use Rattle.b67_segment.specs.declared.code.Code.{Code}
 use Rattle.b67_templates.specs.Programs.{Texts}
-use Rattle.b67_table.specs.declared.ProcessState.TheVariants.{Able}
+use Rattle.b67_pictures.specs.States.{StateIs}
 use Rattle.b67_table.specs.Image.{Image}
 use Rattle.b67_table.specs.Effect as effects
 use Rattle.b67_table.specs.Outcome as outcomes
@@ -35,7 +35,7 @@ use Rattle.b67_pictures.proofs.InFrame.{does_in_frame}
 use Rattle.b67_pictures.proofs.Unmade.{makes, unmade}
 
 module _ (tree : PProgram) (code : Code) (texts : Texts) (fragments : FragmentsArePerformed) (keeps : RestsKeepToTheirText) (order : AllIsMadeInOrder) (w : World) (lay : Layout) (img : Image)
-    (p : ℕ) (q : Process) (part : Part) (outer : List Part) (bound : ℕ) (core : Core) (s : Scene tree code texts w lay img p q part outer bound core) (able_is : q.state ≡ able) (able_p : numbered img.states p ≡ Some Able) where
+    (p : ℕ) (q : Process) (part : Part) (outer : List Part) (bound : ℕ) (core : Core) (s : Scene tree code texts w lay img p q part outer bound core) (able_is : lives q.state ≡ true) (able_p : StateIs q.state (numbered img.states p)) where
   abbrev sc : Scopes
   sc = scopes_of tree
 

@@ -15,7 +15,7 @@ use Rattle.b67_table.specs.References.{cell_word}
 use Rattle.b67_templates.specs.Cells.{Found, found_from, simple_cells, IsVariable}
 use Rattle.b67_templates.specs.Programs.{Texts}
 use Rattle.b67_faithful.proofs.Contradictions.{some_same}
-use Rattle.b67_pictures.specs.Arrays.{Layout, named_from, LeadsToVariable, Names, an_array_named, a_variable_named, IsNamed, IsOwn}
+use Rattle.b67_pictures.specs.Arrays.{Layout, named_from, LeadsToVariable, Names, an_array_named, an_event_named, a_variable_named, IsNamed, IsOwn}
 use Rattle.b67_pictures.specs.Frames.{Frame, Around}
 use Rattle.b67_pictures.proofs.Lying.{IsParent, parents_of, part_own}
 
@@ -33,6 +33,7 @@ module _ (tree : PProgram) (code : Code) (texts : Texts) (w : World) (lay : Layo
     where
       by_name : Names sc w lay h.level n h.couple → h.couple.index ≡ 2 + v.found.number
       by_name (a_variable_named other is) = omega (arith, is.index_is, ap (λ (y : Found). y.number) (some_same (sym is.there ∙ v.there)))
+      by_name (an_event_named is) = absurd (let clash : false ≡ true = sym (ap is_variable is.sort_is) ∙ v.variable in cc)
       by_name (an_array_named declared is) = absurd (let clash : false ≡ true = sym (ap is_variable is.sort_is) ∙ v.variable in cc)
 
   leads_from : IsParent tree code texts w lay p (part ∷ outer) part.instance up ((use_of sc n).block) → LeadsToVariable sc w lay (IsOwn (part ∷ outer)) kind (named_from sc w lay part.instance n) x

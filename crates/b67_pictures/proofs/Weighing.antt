@@ -93,7 +93,7 @@ mutual
   stmt_small (tree.thru e b) = omega (arith, depth_small e, arguments_small e, stmt_small b)
   stmt_small (tree.case e ss) = omega (arith, depth_small e, arguments_small e, stmts_small ss)
   stmt_small (tree.process (tree.called n tree.none) task) = omega arith
-  stmt_small (tree.process (tree.called n (tree.more e es)) task) = omega (arith, arguments_small e, given_small es)
+  stmt_small (tree.process (tree.called n (tree.more e es)) task) = omega (arith, depth_small e, line_small es, arguments_small e, given_small es)
   stmt_small (tree.event act e) = omega arith
   stmt_small (tree.write n spot phrases es) = omega (arith, line_small es, among_small es)
 

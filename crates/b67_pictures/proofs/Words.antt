@@ -1,4 +1,4 @@
--- What the words of values, references and marks are read as.
+-- What the words of values, events, references and marks are read as.
 use Rattle.std.proofs.Common.{◌≡◌, ◌≢◌, refl, sym, ap, ◌∙◌, ℕ, ◌<◌, ◌^◌, Some, None, Bool, true, false, lit<}
 use Rattle.std.specs.Prelude.{◌==◌, if◌then◌else◌}
 use Rattle.algol_meaning.specs.Value.{Value, number, truth}
@@ -6,9 +6,9 @@ use Rattle.b67_word.specs.Word.{Word, field}
 use Rattle.b67_word.proofs.WordLaws.{operand-tag}
 use Rattle.b67_control.specs.Kind as kind
 use Rattle.b67_control.specs.Kind.{kind_of}
-use Rattle.b67_control.specs.Control.{as_irw, as_sirw, as_descriptor, as_mscw, as_pcw, pcw_word, sirw_word}
+use Rattle.b67_control.specs.Control.{as_irw, as_sirw, as_descriptor, as_mscw, as_event, as_pcw, event_word, pcw_word, sirw_word}
 use Rattle.b67_control.specs.declared.Pcw.{Pcw}
-use Rattle.b67_control.proofs.ControlLaws.{as_irw-irw_word, as_sirw-other, as_pcw-other, as_mscw-mscw_word, kind_of-irw_word, descriptor_laws}
+use Rattle.b67_control.proofs.ControlLaws.{as_irw-irw_word, as_sirw-other, as_pcw-other, as_mscw-mscw_word, kind_of-irw_word, event_laws, descriptor_laws}
 use Rattle.b67_ops.specs.declared.Couple.{Couple}
 use Rattle.b67_table.specs.Arrays.{as_indexed, indexed_in}
 use Rattle.b67_table.specs.PrivateRows.{reference, open_mark}
@@ -44,6 +44,20 @@ pcw_describes_nothing x = descriptor_laws.other (pcw_word x) (λ k. let is = sym
 
 pub pcw_refers_nothing : (x : Pcw) → as_sirw (pcw_word x) ≡ None
 pcw_refers_nothing x = as_sirw-other (pcw_word x) (λ k. let is = sym (pcw_kind x) ∙ k in cc)
+
+-- ---- events
+
+pub event_kind : kind_of (event_word (record {})) ≡ kind.event
+event_kind = event_laws.kind (event_word (record {})) (record {}) (event_laws.back (record {}) tt)
+
+pub event_read : as_event (event_word (record {})) ≡ Some (record {})
+event_read = event_laws.back (record {}) tt
+
+pub event_describes_nothing : as_descriptor (event_word (record {})) ≡ None
+event_describes_nothing = descriptor_laws.other (event_word (record {})) (λ k. let is = sym event_kind ∙ k in cc)
+
+pub event_refers_nothing : as_sirw (event_word (record {})) ≡ None
+event_refers_nothing = as_sirw-other (event_word (record {})) (λ k. let is = sym event_kind ∙ k in cc)
 
 -- ---- references
 

@@ -10,7 +10,7 @@ use Rattle.algol_tree.specs.Spelling.{value_of}
 use Rattle.algol_meaning.specs.Lines.{line_of, number_first}
 use Rattle.algol_meaning.specs.Rest.{Answer, done}
 use Rattle.algol_meaning.specs.Value.{Value, number, whole_of}
-use Rattle.algol_meaning.specs.World.{Process, Part, able, World, instance_at}
+use Rattle.algol_meaning.specs.World.{Process, Part, lives, World, instance_at}
 use Rattle.algol_meaning.specs.Actions.{Line}
 use Rattle.algol_meaning.specs.Asks.{Ask, writes, ask, resume}
 use Rattle.algol_meaning.specs.Choice.{choice_of}
@@ -22,7 +22,7 @@ use Rattle.b67_segment.specs.declared.code.Code.{Code}
 use Rattle.b67_segment.specs.declared.code.Format.{Format}
 use Rattle.b67_segment.specs.declared.code.Phrase.{Phrase}
 use Rattle.b67_segment.specs.declared.code.Phrase.TheVariants as parts
-use Rattle.b67_table.specs.declared.ProcessState.TheVariants.{Able}
+use Rattle.b67_pictures.specs.States.{StateIs}
 use Rattle.b67_table.specs.Effect as effects
 use Rattle.b67_table.specs.Image.{Image}
 use Rattle.b67_table.specs.Lines.{before, format_line, line_by, line_for}
@@ -85,7 +85,7 @@ line_is sc code texts j gives ps level format ts vs f =
 -- ---- the action
 
 module _ (tree : PProgram) (code : Code) (texts : Texts) (fragments : FragmentsArePerformed) (keeps : RestsKeepToTheirText) (order : AllIsMadeInOrder) (w : World) (lay : Layout) (img : Image)
-    (p : ℕ) (q : Process) (part : Part) (outer : List Part) (bound : ℕ) (core : Core) (s : Scene tree code texts w lay img p q part outer bound core) (able_is : q.state ≡ able) (able_p : numbered img.states p ≡ Some Able)
+    (p : ℕ) (q : Process) (part : Part) (outer : List Part) (bound : ℕ) (core : Core) (s : Scene tree code texts w lay img p q part outer bound core) (able_is : lives q.state ≡ true) (able_p : StateIs q.state (numbered img.states p))
     (ts : List PhraseText) (vs : List Value) (asks : ask part.rest ≡ writes ts vs) (a : ActionAt (scopes_of tree) (context_in tree code texts w part s.stands.frame.gives) (text_in tree texts w part) (level_in tree w part) (most_in tree w part) (writes ts vs) s.stands.pc s.stands.slots)
     (answered : (r : Answer) (at : ℕ) (left : List Slot) → Acted (scopes_of tree) (context_in tree code texts w part s.stands.frame.gives) (text_in tree texts w part) (level_in tree w part) (most_in tree w part) (writes ts vs) s.stands.pc s.stands.slots a r at left →
     ComesTo (scopes_of tree) (context_in tree code texts w part s.stands.frame.gives) (text_in tree texts w part) (level_in tree w part) (most_in tree w part) (resume (scopes_of tree) part.rest r) at left) where

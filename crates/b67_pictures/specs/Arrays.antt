@@ -8,21 +8,21 @@ use Rattle.algol_tree.specs.Blocks.{block_numbered}
 use Rattle.algol_tree.specs.Scopes.{Scopes, use_of}
 use Rattle.algol_meaning.specs.declared.TheConstants.{MOST_ELEMENTS}
 use Rattle.algol_meaning.specs.Value as meant
-use Rattle.algol_meaning.specs.Value.{Value, Reference, Bounds, ArrayCell, Cell, array, reference}
+use Rattle.algol_meaning.specs.Value.{Value, Reference, EventCell, Bounds, ArrayCell, Cell, event, array, reference}
 use Rattle.algol_meaning.specs.Critical.{is_evaluation}
 use Rattle.algol_meaning.specs.Arrays.{size_of, elements_of, size_of_cells, size_unless, live_elements}
 use Rattle.algol_meaning.specs.World.{NamedCell, Instance, Part, World, instance_at, ancestor, cell_in, followed}
 use Rattle.algol_paths.specs.Arrays.{DeclaredArray, Made, an_array, an_event, Shape, shape_of, lows_of}
 use Rattle.b67_word.specs.declared.Place.{Place}
 use Rattle.b67_word.specs.Word.{Word}
-use Rattle.b67_control.specs.Control.{descriptor_word}
+use Rattle.b67_control.specs.Control.{event_word, descriptor_word}
 use Rattle.b67_ops.specs.declared.Couple.{Couple}
 use Rattle.b67_store.specs.Store.{Rows, row_at, row_limit, counted_words}
 use Rattle.b67_table.specs.Arrays.{array_word}
 use Rattle.b67_table.specs.References.{cell_word}
 use Rattle.b67_templates.specs.Fragments.{HasKind}
 use Rattle.b67_templates.specs.Cells as wants
-use Rattle.b67_templates.specs.Cells.{Wanted, Agrees, Found, found_from, simple_cells, made_of, made_from, made_base, IsVariable, IsDeclaredArray, IsOwnActual}
+use Rattle.b67_templates.specs.Cells.{Wanted, Agrees, Found, found_from, simple_cells, made_of, made_from, made_base, IsVariable, IsDeclaredArray, IsDeclaredEvent, IsOwnActual}
 use Rattle.b67_standing.specs.Stepping.{Held, row, element, variable, cell_named, actual, passed}
 use Rattle.b67_cores.specs.Slots.{Known, ValueIs}
 
@@ -79,10 +79,18 @@ pub record IsMade (declared : DeclaredArray) (c : NamedCell) (a : Allotted) (w :
   pub whole : length cell.elements ≡ elements_of cell.bounds
   pub descriptor : DescriptorIs cell.bounds a w
 
--- .. of what a declaration makes: an array
+-- the cell of an event that is declared so: it has no rows, and the word of an event
+pub record IsEventMade (name : List ℕ) (c : NamedCell) (a : Allotted) (w : Word) : Type 0 where
+  pub named : c.name ≡ name
+  pub cell : EventCell
+  pub is : c.cell ≡ event cell
+  pub none : a ≡ record { mother = None; parts = [] }
+  pub word_is : w ≡ event_word (record {})
+
+-- .. of what a declaration makes: an array, or an event
 abbrev pub IsMadeSo : Made → NamedCell → Allotted → Word → Type 0
 IsMadeSo (an_array declared) c a w = IsMade declared c a w
-IsMadeSo (an_event name) c a w = ⊥
+IsMadeSo (an_event name) c a w = IsEventMade name c a w
 
 -- what an instance has made, in the order of the declarations
 abbrev pub AreMade : List Made → List NamedCell → List Allotted → List Word → Type 0
@@ -221,10 +229,31 @@ module _ (sc : Scopes) (w : World) (lay : Layout) where
     pub laid : numbered lay.places i ≡ Some frame
     pub word_is : word ≡ cell_word (record { frame = frame; index = couple.index })
 
-  -- The word of a parameter's cell, of which that is wanted: a reference to the cell of an array of that shape; to that of a variable of that
-  -- kind, or of an actual of that kind.
+  -- an instance's event by its name
+  pub record IsEventOf (i : ℕ) (name : List ℕ) : Type 0 where
+    pub number : ℕ
+    pub found : made_from 0 (made_of (block_numbered sc.blocks ((instance_at w i).block)).decls) name ≡ Some (record { number = number; made = an_event name })
+    pub cell : EventCell
+    pub is : cell_in ((instance_at w i).cells) name ≡ event cell
+
+  -- the reference leads to the cell of an event; this is its word, wherever it is read
+  pub record LeadsToEvent (Stand : ℕ → Type 0) (r : Reference) (word : Word) : Type 0 where
+    pub own : Stand r.instance
+    pub made : IsEventOf r.instance r.name
+    pub frame : Place
+    pub laid : numbered lay.places r.instance ≡ Some frame
+    pub word_is :
+        word
+        ≡ cell_word (record {
+          frame = frame;
+          index = made_base sc (block_numbered sc.blocks ((instance_at w r.instance).block)) + made.number;
+        })
+
+  -- The word of a parameter's cell, of which that is wanted: a reference to the cell of an array of that shape; to that of an event; to that of a
+  -- variable of that kind, or of an actual of that kind.
   abbrev pub Denotes : (ℕ → Type 0) → Wanted → Cell → Word → Type 0
   Denotes Stand (wants.array shape) (reference r) word = LeadsTo Stand shape r word
+  Denotes Stand wants.event (reference r) word = LeadsToEvent Stand r word
   Denotes Stand (wants.by_name kind) (reference r) word = LeadsToVariable Stand kind r word
   Denotes Stand (wants.by_name kind) (meant.named a) word = IsActual Stand a.instance a.actual kind word
   Denotes Stand _ c word = ⊥
@@ -268,9 +297,10 @@ module _ (sc : Scopes) (w : World) (lay : Layout) where
     pub few : number < row_limit
     pub word_is : word ≡ element_copy at number
 
-  -- the couple is that of a declared array or of a variable, by its name
+  -- the couple is that of a declared array, of a declared event or of a variable, by its name
   pub data Names (level : ℕ) (n : Named) (couple : Couple) : Type 0 where
     an_array_named : (declared : DeclaredArray) → IsDeclaredArray sc level n declared couple → Names level n couple
+    an_event_named : IsDeclaredEvent sc level n couple → Names level n couple
     a_variable_named : (kind : Kind) → IsVariable sc level n kind couple → Names level n couple
 
   -- The reference to the cell that such a name means from a part of instance i; this is its word, wherever it is read.

@@ -11,6 +11,7 @@ use Rattle.algol_meaning.specs.World.{NamedCell, Instance, Part, World, instance
 use Rattle.algol_meaning.specs.Rest.{Answer}
 use Rattle.algol_meaning.specs.Asks.{nothing, ask, resume}
 use Rattle.algol_meaning.specs.Critical.{is_evaluation}
+use Rattle.algol_meaning.specs.Statements.{items_of}
 use Rattle.algol_paths.specs.Arrays.{Made, all_to_make}
 use Rattle.algol_paths.specs.Blocks.{IsSeenAround}
 use Rattle.algol_paths.specs.Laws.{KeepsToText}
@@ -34,7 +35,7 @@ use Rattle.b67_templates.specs.Fragments.{HasKind}
 use Rattle.b67_templates.specs.Programs.{Texts, text_of as text_numbered, context_of}
 use Rattle.b67_templates.specs.Cells as wants
 use Rattle.b67_templates.specs.Cells.{Simple, Wanted, simple_cells, procedures, actuals_of, made_of}
-use Rattle.b67_templates.specs.Code.{RoutinesAt, control_pcws, in_routine}
+use Rattle.b67_templates.specs.Code.{RoutinesAt, KAt, control_pcws, in_routine}
 use Rattle.b67_standing.specs.Stepping.{Slot}
 use Rattle.b67_standing.specs.Standing.{Gives, pushed, StandsFor, ComesTo}
 use Rattle.b67_cores.specs.Cores.{Core}
@@ -47,10 +48,11 @@ use Rattle.b67_pictures.specs.Lent.{Lent}
 -- ---- cells
 
 -- the word of a cell of which that is wanted: of a variable its value, which has the kind of its declaration; of a parameter that stands for an
--- array, for a variable or for an actual a reference, which describes no row
+-- array, for an event, for a variable or for an actual a reference, which describes no row
 abbrev pub CellIs : Wanted → Cell → Word → Type 0
 CellIs (wants.value k) (simple v) w = HasKind k v × ValueIs v w
 CellIs (wants.array shape) (reference r) w = as_descriptor w ≡ None
+CellIs wants.event (reference r) w = as_descriptor w ≡ None
 CellIs (wants.by_name kind) (reference r) w = as_descriptor w ≡ None
 CellIs (wants.by_name kind) (meant.named a) w = as_descriptor w ≡ None
 CellIs _ _ w = ⊥
@@ -130,7 +132,7 @@ module _ (sc : Scopes) (w : World) (lay : Layout) where
     pub formals : (k : ℕ) (s : Simple) → slice_get (simple_cells sc (block_numbered sc.blocks instance.block)) k ≡ Some s → Refers s.wanted →
         (c : NamedCell) × (word : Word) × (slice_get simple k ≡ Some c) × (slice_get values k ≡ Some word) × Denotes sc w lay (IsOwn outer) s.wanted c.cell word
     -- after them lie the control words of the block's procedures and of its actuals, whose code stands at these places, and then the
-    -- descriptors of the arrays that are made
+    -- descriptors of the arrays that are made, and the words of the events that are
     pub ats : List ℕ
     pub each_has_place : length ats ≡ length (actuals_of sc (block_numbered sc.blocks instance.block))
     pub arrays : List NamedCell
@@ -161,6 +163,13 @@ RoutinesStand tree code texts j ats =
     RoutinesAt (scopes_of tree) (context_of code texts (scopes_of tree) j) (text_numbered texts (scopes_of tree) j) (level_of (block_numbered (scopes_of tree).blocks j) + 1)
     (actuals_of (scopes_of tree) (block_numbered (scopes_of tree).blocks j)) ats
     × AllFit (block_controls (scopes_of tree) j ats)
+
+-- what the block with this number has to do stands from some place on
+abbrev pub ItemsStand : PProgram → Code → Texts → ℕ → Type 0
+ItemsStand tree code texts j =
+    (start : ℕ)
+    × KAt (scopes_of tree) (context_of code texts (scopes_of tree) j) (text_numbered texts (scopes_of tree) j) (level_of (block_numbered (scopes_of tree).blocks j))
+    (items_of (block_numbered (scopes_of tree).blocks j)) start
 
 module _ (tree : PProgram) (code : Code) (texts : Texts) (w : World) (lay : Layout) (p : ℕ) where
   -- the number of a part's block, and the segment in which its text stands
@@ -193,6 +202,7 @@ module _ (tree : PProgram) (code : Code) (texts : Texts) (w : World) (lay : Layo
     pub owns : is_evaluation part.purpose ≡ false
     pub framed : Framed (scopes_of tree) w lay p part.instance outer at mark control cells
     pub routines : RoutinesStand tree code texts framed.instance.block framed.ats
+    pub items : ItemsStand tree code texts framed.instance.block
     -- what it has still to make is what its instance has not made
     pub making : framed.later ≡ all_to_make part.rest
 

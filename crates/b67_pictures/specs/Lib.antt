@@ -4,3 +4,5 @@ pub mod Pictures
 pub mod Acting
 pub mod Programs
 pub mod Lent
+pub mod States
+pub mod Events

@@ -1,9 +1,9 @@
 -- How an image pictures a world.
-use Rattle.std.specs.Prelude.{◌≡◌, ℕ, ◌+◌, ◌≤◌, List, [], ◌∷◌, length, Option, Some, None}
+use Rattle.std.specs.Prelude.{◌≡◌, ℕ, ◌+◌, ◌≤◌, true, List, [], ◌∷◌, length, Option, Some, None}
 use Rattle.b67_list.specs.Numbered.{numbered}
 use Rattle.algol_tree.specs.Plain.{PProgram}
 use Rattle.algol_tree.specs.Scopes.{scopes_of}
-use Rattle.algol_meaning.specs.World.{Part, Process, able, ended, WorldFault, World, instance_at}
+use Rattle.algol_meaning.specs.World.{Part, Process, ended, lives, WorldFault, World, instance_at}
 use Rattle.b67_segment.specs.declared.code.Code.{Code}
 use Rattle.b67_templates.specs.Programs.{Texts}
 use Rattle.b67_store.specs.Store.{stack_at, stack_limit}
@@ -11,12 +11,14 @@ use Rattle.b67_control.specs.Display.{place_at}
 use Rattle.b67_table.specs.Beginning.{system_stack}
 use Rattle.b67_table.specs.Chains.{place}
 use Rattle.b67_table.specs.Limits.{most_processes}
-use Rattle.b67_table.specs.declared.ProcessState.TheVariants.{Able, Ended}
+use Rattle.b67_table.specs.declared.ProcessState.TheVariants.{Ended}
 use Rattle.b67_table.specs.Image.{Image, Failure}
 use Rattle.b67_cores.specs.Cores.{Core, size, HasCore, CoreSteps}
 use Rattle.b67_faithful.specs.Weight.{weight}
 use Rattle.b67_pictures.specs.Arrays.{Layout, ArraysAre}
+use Rattle.b67_pictures.specs.Events.{EventsAre}
 use Rattle.b67_pictures.specs.Frames.{most_around, Frames}
+use Rattle.b67_pictures.specs.States.{StateIs}
 
 -- the fault that ended a world, as one of an image
 abbrev pub failure_of : Option WorldFault → Option Failure
@@ -29,7 +31,7 @@ innermost_most tree w [] = 0
 innermost_most tree w (part ∷ outer) = most_around tree ((instance_at w part.instance).block)
 
 module _ (tree : PProgram) (code : Code) (texts : Texts) (w : World) (lay : Layout) (img : Image) where
-  -- A process that is able comes by private operators only to where its core stands for its parts. It depends on no instance, and has
+  -- A process that lives comes by private operators only to where its core stands for its parts. It depends on no instance, and has
   -- no task: that comes with PROCESS.
   pub record Living (p : ℕ) (q : Process) : Type 0 where
     pub independent : q.critical ≡ None
@@ -51,12 +53,13 @@ module _ (tree : PProgram) (code : Code) (texts : Texts) (w : World) (lay : Layo
     pub light : bound + 3 ≤ weight tree w p
 
   pub data Pictured (p : ℕ) (q : Process) : Type 0 where
-    living : q.state ≡ able → numbered img.states p ≡ Some Able → Living p q → Pictured p q
+    living : lives q.state ≡ true → StateIs q.state (numbered img.states p) → Living p q → Pictured p q
     dead : q.state ≡ ended → numbered img.states p ≡ Some Ended → Pictured p q
 
   pub record PicturesBy : Type 0 where
     pub laid : length lay.places ≡ length w.instances
     pub arrays : ArraysAre (scopes_of tree) w lay img.rows
+    pub events : EventsAre (scopes_of tree) w lay img.events
     pub output : img.output ≡ w.output
     pub fault : img.fault ≡ failure_of w.fault
     pub started : img.started ≡ length w.processes

@@ -1,0 +1,218 @@
+-- The making of an event: ENTR on EVENT, after which PUSH makes a cell of its word.
+use Rattle.std.proofs.Common.{◌≡◌, ◌≢◌, ◌⊎◌, inl, inr, refl, sym, ap, ◌∙◌, subst, ℕ, ◌+◌, List, [], ◌∷◌, ◌++◌, length, Option, Some, None, Ok, true, false, arith, length-append}
+use Rattle.std.specs.Prelude.{slice_get}
+use Rattle.b67_list.specs.Numbered.{numbered}
+use Rattle.algol_tree.specs.declared.tree.Named.{Named}
+use Rattle.algol_tree.specs.Blocks.{Block, block_numbered}
+use Rattle.algol_tree.specs.Plain.{PProgram}
+use Rattle.algol_tree.specs.Scopes.{Scopes, scopes_of}
+use Rattle.algol_meaning.specs.Actions.{MakeEvent}
+use Rattle.algol_meaning.specs.Asks.{Ask, makes_event, ask, resume}
+use Rattle.algol_meaning.specs.Choice.{choice, choice_of}
+use Rattle.algol_meaning.specs.Critical.{is_evaluation}
+use Rattle.algol_meaning.specs.Events.{new_event}
+use Rattle.algol_meaning.specs.Rest.{Answer, done}
+use Rattle.algol_meaning.specs.Value.{EventCell, ArrayCell, event, array}
+use Rattle.algol_meaning.specs.World.{NamedCell, Instance, Process, Part, lives, World, or_no_instance, with_instance, with_process}
+use Rattle.algol_paths.specs.Arrays.{Made, an_event, all_to_make, all_left_to_make}
+use Rattle.algol_paths.specs.Laws.{RestsKeepToTheirText, AllIsMadeInOrder}
+use Rattle.b67_word.specs.declared.Place.{Place}
+use Rattle.b67_control.specs.Control.{event_word}
+use Rattle.b67_events.specs.Events.{opened}
+use Rattle.b67_ops.specs.declared.Operator.TheVariants as ops
+use Rattle.b67_ops.specs.declared.PlainKind.TheVariants as kinds
+use Rattle.b67_ops.specs.declared.intrinsic.Intrinsic.TheVariants.{Event}
+use Rattle.b67_segment.specs.declared.code.Code.{Code}
+use Rattle.b67_table.specs.Chains.{place}
+use Rattle.b67_table.specs.Image.{Image}
+use Rattle.b67_table.specs.Private.{frame}
+use Rattle.b67_table.specs.Table.{operator_at}
+use Rattle.b67_templates.specs.Cells.{simple_cells, made_base}
+use Rattle.b67_templates.specs.Programs.{Texts}
+use Rattle.b67_standing.specs.Stepping.{Slot, intrinsic, mark}
+use Rattle.b67_standing.specs.Standing.{ActionAt, Acted, ComesTo}
+use Rattle.b67_cores.specs.Cores.{Core}
+use Rattle.b67_cores.specs.Slots.{SlotsAre}
+use Rattle.b67_cores.specs.Stretches.{FragmentsArePerformed, CellsAreMade}
+use Rattle.b67_fitting.specs.Nested.{AreNested}
+use Rattle.b67_pictures.specs.Acting.{Does}
+use Rattle.b67_pictures.specs.Arrays.{Allotted, Layout, AreMade, ArraysAre, IsOwn}
+use Rattle.b67_pictures.specs.Events.{HasEvent, EventsAre}
+use Rattle.b67_pictures.specs.Frames.{Framed}
+use Rattle.b67_pictures.specs.States.{StateIs}
+use Rattle.b67_pictures.proofs.Calling.{IsEntered, entered_with, none_lying}
+use Rattle.b67_pictures.proofs.Completing.{made_many}
+use Rattle.b67_pictures.proofs.EventCells.{arrays_still, event_has_none, array_in_front, get_first}
+use Rattle.b67_pictures.proofs.EventRows.{event_raw}
+use Rattle.b67_pictures.proofs.EventsChanged.{events_made}
+use Rattle.b67_pictures.proofs.EventsLow.{IsElsewhere, event_in_frame}
+use Rattle.b67_pictures.proofs.Homes.{operator_there}
+use Rattle.b67_pictures.proofs.Lying.{asks_as_own, below_frame, lies_in}
+use Rattle.b67_pictures.proofs.MakingAsked.{makes_event_first}
+use Rattle.b67_pictures.proofs.MakingCells.{none_left, cells_are_made}
+use Rattle.b67_pictures.proofs.MakingFrame as frames
+use Rattle.b67_pictures.proofs.Numbers.{get_below}
+use Rattle.b67_pictures.proofs.Scene.{Scene}
+use Rattle.b67_pictures.proofs.Stage.{choice_is}
+use Rattle.b67_pictures.proofs.Staying.{text_in, level_in, context_in, most_in}
+use Rattle.b67_pictures.proofs.Worlds.{held_of}
+use Rattle.b67_pictures.proofs.Zeros.{cells_length}
+
+module _ (tree : PProgram) (code : Code) (texts : Texts) (nested : AreNested (scopes_of tree)) (fragments : FragmentsArePerformed) (cells_made : CellsAreMade) (keeps : RestsKeepToTheirText) (order : AllIsMadeInOrder)
+    (w : World) (lay : Layout) (img : Image) (p : ℕ) (q : Process) (part : Part) (outer : List Part) (bound : ℕ) (core : Core) (s : Scene tree code texts w lay img p q part outer bound core) (able_is : lives q.state ≡ true) (able_p : StateIs q.state (numbered img.states p))
+    (n : Named) (asks : ask part.rest ≡ makes_event n)
+    (a : ActionAt (scopes_of tree) (context_in tree code texts w part s.stands.frame.gives) (text_in tree texts w part) (level_in tree w part) (most_in tree w part) (makes_event n) s.stands.pc s.stands.slots)
+    (answered : (r : Answer) (at : ℕ) (left : List Slot) → Acted (scopes_of tree) (context_in tree code texts w part s.stands.frame.gives) (text_in tree texts w part) (level_in tree w part) (most_in tree w part) (makes_event n) s.stands.pc s.stands.slots a r at left →
+    ComesTo (scopes_of tree) (context_in tree code texts w part s.stands.frame.gives) (text_in tree texts w part) (level_in tree w part) (most_in tree w part) (resume (scopes_of tree) part.rest r) at left) where
+  abbrev sc : Scopes
+  sc = scopes_of tree
+
+  abbrev i : ℕ
+  i = part.instance
+
+  -- the part has the frame's instance for its own
+  owns : is_evaluation part.purpose ≡ false
+  owns = asks_as_own tree code texts w lay p part outer core.below s.stands.frame (makes_event n) asks (λ e. e)
+
+  abbrev ms : List Made
+  ms = an_event n.name ∷ []
+
+  made_first : all_to_make part.rest ≡ ms ++ all_left_to_make part.rest
+  made_first = makes_event_first part.rest n asks
+
+  abbrev one : NamedCell
+  one = record { name = n.name; cell = event new_event }
+
+  -- an event has no rows
+  abbrev none_allotted : Allotted
+  none_allotted = record { mother = None; parts = [] }
+
+  added : AreMade ms (one ∷ []) (none_allotted ∷ []) (event_word (record {}) ∷ [])
+  added = (record { named = refl; cell = new_event; is = refl; none = refl; word_is = refl }, tt)
+
+  there : operator_at code core.registers ≡ Ok (ops.Plain kinds.Entr, a.1.made)
+  there = operator_there sc s.stands.held code (text_in tree texts w part) (level_in tree w part) s.stands.pc s.stands.slots core (ops.Plain kinds.Entr) a.1.made s.stands.there a.1.stands
+
+  entered : IsEntered tree code texts w lay img p q part outer bound core s Event (intrinsic Event ∷ mark ∷ []) [] a.1.lies []
+  entered =
+      entered_with tree code texts w lay img p q part outer bound core s Event (intrinsic Event ∷ mark ∷ []) [] a.1.lies
+      (none_lying sc s.stands.held (level_in tree w part) (frame core.registers) (length core.below) (intrinsic Event ∷ mark ∷ []) core.words
+      (subst (λ (l : List Slot). SlotsAre sc s.stands.held (level_in tree w part) (frame core.registers) (length core.below) l core.words) a.1.lies s.stands.there.words_are))
+
+  none : entered.others ≡ []
+  none = none_left sc s.stands.held (level_in tree w part) (frame core.registers) (length core.below) entered.others (entered.after_at a.1.made).words_are
+
+  -- ---- the world after it
+
+  abbrev framed : Framed sc w lay p part.instance outer (length s.stands.frame.lower) s.stands.frame.mark s.stands.frame.control s.stands.frame.cells
+  framed = (frames.own_frame tree code texts nested keeps order w lay img p q part outer bound core s owns ms made_first).framed
+
+  abbrev x : Instance
+  x = framed.instance
+
+  abbrev b : Block
+  b = block_numbered sc.blocks x.block
+
+  abbrev number : ℕ
+  number = length framed.declared
+
+  abbrev w' : World
+  w' = frames.w' tree code texts nested keeps order w lay img p q part outer bound core s owns ms made_first (one ∷ []) (none_allotted ∷ []) (event_word (record {}) ∷ []) added
+
+  abbrev lay' : Layout
+  lay' = frames.lay' tree code texts nested keeps order w lay img p q part outer bound core s owns ms made_first (one ∷ []) (none_allotted ∷ []) (event_word (record {}) ∷ []) added
+
+  chosen : choice sc w p ≡ record { action = MakeEvent; world = w'; released = []; started = None }
+  chosen =
+      choice_is sc w p q part outer s.at s.todo
+      ∙ ap (λ (k : Ask). choice_of sc w p q part outer k) asks
+      ∙ ap (λ (o : Option Instance). record {
+        action = MakeEvent;
+        world = with_process (with_instance w part.instance (record (or_no_instance o) { cells = (or_no_instance o).cells ++ one ∷ [] })) p (record q { todo = record part { rest = resume sc part.rest done } ∷ outer });
+        released = [];
+        started = None;
+      }) framed.is
+
+  -- so many cells it has
+  many : length x.cells ≡ length (simple_cells sc b) + number
+  many =
+      omega (
+        arith,
+        ap length framed.has,
+        length-append framed.simple framed.arrays,
+        cells_length (simple_cells sc b) framed.simple framed.values framed.simple_are,
+        (made_many framed.declared framed.arrays (lay.rows i) framed.descriptors framed.made).cells_many,
+      )
+
+  -- ---- its arrays
+
+  rows_many : length (lay.rows i) ≡ number
+  rows_many = (made_many framed.declared framed.arrays (lay.rows i) framed.descriptors framed.made).rows_many
+
+  arrays_now : ArraysAre sc w' lay' img.rows
+  arrays_now =
+      arrays_still sc w w' lay lay' i x (record x { cells = x.cells ++ one ∷ [] }) framed.is refl refl refl (event_has_none x.cells n.name new_event).0 (event_has_none x.cells n.name new_event).1 was
+      (λ j other. frames.rows_elsewhere tree code texts nested keeps order w lay img p q part outer bound core s owns ms made_first (one ∷ []) (none_allotted ∷ []) (event_word (record {}) ∷ []) added j (λ same. other (sym same))) img.rows s.by.arrays
+    where
+      was : (k : ℕ) (name : List ℕ) (c : ArrayCell) (al : Allotted) → slice_get (x.cells ++ one ∷ []) (length (simple_cells sc b) + k) ≡ Some (record { name = name; cell = array c }) → slice_get (lay'.rows i) k ≡ Some al →
+          (slice_get x.cells (length (simple_cells sc b) + k) ≡ Some (record { name = name; cell = array c })) × (slice_get (lay.rows i) k ≡ Some al)
+      was k name c al lies allots =
+          let in_front = array_in_front x.cells n.name new_event (length (simple_cells sc b) + k) name c lies in
+          let low = get_below x.cells (length (simple_cells sc b) + k) (record { name = name; cell = array c }) in_front in (
+            in_front,
+            sym (get_first (lay.rows i) (none_allotted ∷ []) k (omega (arith, low, many, rows_many)))
+                ∙ ap (λ (as' : List Allotted). slice_get as' k)
+                (sym (frames.rows_here tree code texts nested keeps order w lay img p q part outer bound core s owns ms made_first (one ∷ []) (none_allotted ∷ []) (event_word (record {}) ∷ []) added))
+                ∙ allots,
+          )
+
+  -- ---- its events
+
+  abbrev here : Place
+  here = place p (length s.stands.frame.lower + (made_base sc b + number))
+
+  -- where the mark lies
+  here_is : place core.registers.stack core.registers.f ≡ here
+  here_is =
+      ap (λ (k : ℕ). place k core.registers.f) s.has.own
+      ∙ ap (λ (k : ℕ). place p k)
+      (omega (
+        arith,
+        entered.calls.called.mark_at,
+        ap length none,
+        below_frame core.below s.stands.frame.lower s.stands.frame.mark s.stands.frame.control s.stands.frame.cells s.stands.frame.words_are,
+        frames.cells_many tree code texts nested keeps order w lay img p q part outer bound core s owns ms made_first,
+      ))
+
+  -- all others lie below, or in other stacks
+  below_here : (j other : ℕ) (e : EventCell) (at : Place) → HasEvent sc w lay j other e at → at ≢ here
+  below_here j other e at h = by_place (held_of tree code texts w lay img s.by s.ok p q s.at j h.instance h.is h.stands)
+    where
+      high : length s.stands.frame.lower + (made_base sc b + number) ≡ length core.below
+      high =
+          omega (
+            arith,
+            below_frame core.below s.stands.frame.lower s.stands.frame.mark s.stands.frame.control s.stands.frame.cells s.stands.frame.words_are,
+            frames.cells_many tree code texts nested keeps order w lay img p q part outer bound core s owns ms made_first,
+          )
+
+      by_place : IsOwn q.todo j ⊎ IsElsewhere lay p j → at ≢ here
+      by_place (inl own) same =
+          let low = event_in_frame tree code texts w lay p (part ∷ outer) j core.below
+          (lies_in tree code texts w lay p part outer core s.stands s.around j (subst (λ (ps : List Part). IsOwn ps j) s.todo own)) other e at h in
+          omega (arith, low.1, ap (λ (z : Place). z.at) same, high)
+      by_place (inr elsewhere) same = elsewhere h.frame h.laid (ap (λ (z : Place). z.stack) (sym h.at_is ∙ same))
+
+  events_now : EventsAre sc w' lay' (opened (place core.registers.stack core.registers.f) img.events)
+  events_now =
+      subst (λ (z : Place). EventsAre sc w' lay' (opened z img.events)) (sym here_is)
+      (events_made sc w w' lay lay' i x n.name number framed.is refl many (λ j f laid. laid) (place p (length s.stands.frame.lower)) framed.laid img.events below_here s.by.events)
+
+  -- ---- the action
+
+  pub making_event : Does tree code texts w img p
+  making_event =
+      cells_are_made tree code texts nested fragments cells_made keeps order w lay img p q part outer bound core s able_is able_p owns ms made_first (one ∷ []) (none_allotted ∷ []) (event_word (record {}) ∷ []) added Event
+      (intrinsic Event ∷ mark ∷ []) a.1.lies [] entered a.1.made a.0 a.1.stands a.1.push (answered done a.0 [] (refl, refl)) (omega (arith, ap length a.1.lies, s.stands.few)) img.rows
+      (opened (place core.registers.stack core.registers.f) img.events) arrays_now events_now MakeEvent refl
+      (event_raw code img p core s.has a.1.made there entered.reference entered.marked entered.others none entered.calls) chosen
