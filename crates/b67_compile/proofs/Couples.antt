@@ -1,5 +1,5 @@
 -- What the names of a tree tell of couples and of lower bounds is what its declarations say.
-use Rattle.std.proofs.Common.{◌≡◌, ◌+◌, ◌<◌, ◌≤◌, Option, Some, None, refl, sym, ap, ◌∙◌, subst}
+use Rattle.std.proofs.Common.{◌≡◌, ◌+◌, ◌<◌, ◌≤◌, false, Option, Some, None, refl, sym, ap, ◌∙◌, subst}
 use Rattle.algol_tree.specs.declared.TheConstants.{MOST_BLOCK_CELLS}
 use Rattle.algol_tree.specs.declared.token.Spot.{Spot}
 use Rattle.algol_tree.specs.Blocks.{blocks_of_program}
@@ -7,14 +7,15 @@ use Rattle.algol_tree.specs.Cells as cells
 use Rattle.algol_tree.specs.Couples.{Located, declaration_at, result_at, actual_at}
 use Rattle.algol_tree.specs.Plain.{PProgram}
 use Rattle.algol_tree.specs.Scopes.{scopes_of}
-use Rattle.algol_paths.specs.Arrays.{lows_at}
+use Rattle.algol_paths.specs.Arrays.{Lows, lows_at}
 use Rattle.algol_frames.specs.declared.scopes.Couple as found
 use Rattle.algol_frames.specs.declared.scopes.Declared.{Declared}
 use Rattle.algol_scope.specs.Resolved.{couple, located, declaration_of, result_of, actual_of, AreOf}
 use Rattle.b67_ops.specs.declared.Couple.{Couple}
 use Rattle.b67_ops.specs.declared.TheConstants.{MOST_LEVEL}
+use Rattle.b67_templates.specs.Fitting.{is_event}
 use Rattle.b67_emitter.specs.declared.names.Names.{Names}
-use Rattle.b67_emitter.specs.Values.{actuals, couple_found, couple_declared, couples, lows, lows_found, meanings, result_declared, results, AreNear}
+use Rattle.b67_emitter.specs.Values.{actuals, couple_found, couple_declared, couples, lows, lows_found, meanings, meant, result_declared, results, AreNear}
 use Rattle.b67_emit_stmt.specs.Actuals.{AreInner}
 use Rattle.b67_fitting.specs.Fitted.{AreActuals, AreCouples, AreLows, AreResults, spelled}
 use Rattle.algol_lows.specs.Lows.{under}
@@ -72,13 +73,15 @@ module _ (p : PProgram) (names : Names) (are : AreOf p names.scopes.now) where
           there x.spot ∙ ap (λ (z : Located). lows_at (blocks_of_program p) z.spot) same
 
   -- each couple lies near, where that of each declaration, of each result and of each actual does
-  pub couples_near : ((spot : Spot) (d : Located) (c : cells.Couple) → declaration_at p spot ≡ Some d → d.couple ≡ Some c → c.index < 2 + MOST_BLOCK_CELLS) →
+  pub couples_near : ((spot : Spot) (l : Lows) → lows names spot ≡ Some l → is_event (meant names spot) ≡ false) →
+      ((spot : Spot) (d : Located) (c : cells.Couple) → declaration_at p spot ≡ Some d → d.couple ≡ Some c → c.index < 2 + MOST_BLOCK_CELLS) →
       ((spot : Spot) (c : cells.Couple) → result_at p spot ≡ Some c → c.index < 2 + MOST_BLOCK_CELLS) →
       ((spot : Spot) (c : cells.Couple) → actual_at p spot ≡ Some c → c.index < 2 + MOST_BLOCK_CELLS) → AreNear names
-  couples_near near near_result near_actual = record {
+  couples_near apart near near_result near_actual = record {
     own = λ spot c h. own spot c (declaration_of names.scopes.now spot) refl h;
     result = λ spot c h. result c (declaration_of names.scopes.now spot) h;
     actual = λ spot c h. actual spot c h;
+    apart = apart;
   }
     where
       own : (spot : Spot) (c : Couple) (o : Option Declared) → declaration_of names.scopes.now spot ≡ o → couple_declared o ≡ Some c → c.index < 2 + MOST_BLOCK_CELLS

@@ -39,6 +39,7 @@ use Rattle.b67_templates.specs.Fitting.{a_procedure}
 use Rattle.b67_emitter.specs.declared.names.Names.{Names}
 use Rattle.b67_emitter.specs.Values.{meant, meant_declared, meant_sorted}
 use Rattle.b67_fitting.specs.Fitted.{AreMeant, declared_at, meant_as}
+use Rattle.b67_compile.proofs.Fits.{fits, fit_known}
 
 -- ---- by what a name is declared as
 
@@ -58,19 +59,21 @@ modes [] = refl
 modes (f ∷ fs) =
     ap (λ (b : Bool). b ∷ map is_by_name (map parameter_of fs)) (mode f.class f.by_value) ∙ ap (λ (l : List Bool). cells.is_by_name (Some f) ∷ l) (modes fs)
 
-sorted : (ps : Option (List laid.Sort)) (c : Class) (s : Sort) → ((h : Heading) → c ≡ class.procedure h → ps ≡ Some (map parameter_of (formals_of h))) →
+sorted : (ps : Option (List laid.Sort)) (c : Class) (s : Sort) → ((h : Heading) → c ≡ class.procedure h → ps ≡ Some (map parameter_of (formals_of h))) → fits c s ≡ true →
     meant_sorted ps (sort_by c s) ≡ meant_as c s
-sorted ps (class.simple kind) sort.by_name f = refl
-sorted ps (class.simple kind) s f = refl
-sorted ps (class.array kind subscripts) (sort.formal_array lows) f = refl
-sorted ps (class.array kind subscripts) s f = refl
-sorted ps class.event sort.formal_event f = refl
-sorted ps class.event s f = refl
-sorted ps class.task s f = refl
-sorted ps class.label s f = refl
-sorted ps class.file s f = refl
-sorted ps class.unknown s f = refl
-sorted ps (class.procedure h) s f =
+sorted ps (class.simple kind) sort.by_name f fit = refl
+sorted ps (class.simple kind) s f fit = refl
+sorted ps (class.array kind subscripts) (sort.formal_array lows) f fit = refl
+sorted ps (class.array kind subscripts) s f fit = refl
+sorted ps class.event sort.formal_event f fit = refl
+sorted ps class.event sort.by_name f fit = absurd (let clash : false ≡ true = fit in cc)
+sorted ps class.event (sort.formal_array lows) f fit = absurd (let clash : false ≡ true = fit in cc)
+sorted ps class.event s f fit = refl
+sorted ps class.task s f fit = refl
+sorted ps class.label s f fit = refl
+sorted ps class.file s f fit = refl
+sorted ps class.unknown s f fit = refl
+sorted ps (class.procedure h) s f fit =
     ap (λ (o : Option (List laid.Sort)). meant_sorted o (sorts.Procedure h.kind)) (f h refl) ∙ ap (λ (l : List Bool). a_procedure l) (modes (formals_of h))
 
 -- ---- what is known of each name that stands in the text
@@ -115,7 +118,7 @@ module _ (blocks : List Block) (all : List Known) where
   held_part (site.bound e) a h b = held_names a (names_in (site.bound e)) h
   held_part (site.statement s listed) a h b = held_names a (names_in (site.statement s listed)) h
 
-  held_found : (ks : List Known) (spot : Spot) (d : Declared) → AllByRecursion Held ks → known_there ks spot ≡ Some d → IsHeld blocks all d
+  pub held_found : (ks : List Known) (spot : Spot) (d : Declared) → AllByRecursion Held ks → known_there ks spot ≡ Some d → IsHeld blocks all d
   held_found [] spot d h e = absurd (let clash : None ≡ Some d = e in cc)
   held_found (k ∷ ks) spot d h e = decide (same_spot k.spot spot) e (λ q. held_found ks spot d h.1 q)
     where
@@ -142,7 +145,7 @@ parameters_there (k ∷ ks) spot d h e s c = decide (same_spot k.spot spot) refl
 
 -- ---- a program
 
-known_from : (p : PProgram) (spot : Spot) (d : Declared) → declared_at p spot ≡ Some d → known_there (names_known p) spot ≡ Some d
+pub known_from : (p : PProgram) (spot : Spot) (d : Declared) → declared_at p spot ≡ Some d → known_there (names_known p) spot ≡ Some d
 unfolding declared_at
 known_from p spot d h = h
 
@@ -162,7 +165,7 @@ module _ (p : PProgram) (names : Names) (order : IsInOrder p) (are : AreOf p nam
   abbrev all : List Known
   all = names_known p
 
-  all_held : AllByRecursion (Held blocks all) all
+  pub all_held : AllByRecursion (Held blocks all) all
   all_held =
       let pass = all-pass p order names.scopes.now are in
       let holds =
@@ -193,4 +196,5 @@ module _ (p : PProgram) (names : Names) (order : IsInOrder p) (are : AreOf p nam
           let own : known_there all d.spot ≡ Some d = held_found blocks all all spot d all_held known in
           let given : (g : Heading) → d.class ≡ class.procedure g → parameters_of names.scopes.now x.spot ≡ Some (map parameter_of (formals_of g)) =
           λ g c. ap (λ (z : Spot). parameters_of names.scopes.now z) at ∙ are.parameters d.spot ∙ parameters_from p d g own c in
-          ap (λ (z : laid.Sort). meant_sorted (parameters_of names.scopes.now x.spot) z) same ∙ sorted (parameters_of names.scopes.now x.spot) d.class d.sort given
+          ap (λ (z : laid.Sort). meant_sorted (parameters_of names.scopes.now x.spot) z) same
+          ∙ sorted (parameters_of names.scopes.now x.spot) d.class d.sort given (fit_known p spot d known)

@@ -1,6 +1,5 @@
--- An accepted program that is built, with its names, has all that its code wants.
+-- An accepted program of one process, with its names, has all that its code wants.
 use Rattle.std.proofs.Common.{arith, ◌≡◌, ℕ, ◌+◌, ◌<◌, ◌≤◌, suc, Bool, true, false, List, [], ◌∷◌, ◌++◌, length, filter, take, Some, refl, sym, ap, ◌∙◌, subst, length-append, slice_get, if◌then◌else◌}
-use Rattle.std.proofs.lemmas.List.{length-map}
 use Rattle.std.specs.BTreeMap.{BTreeMap}
 use Rattle.std.specs.List.{flat_map, AllByRecursion}
 use Rattle.std.proofs.lemmas.Option.{slice_get_within}
@@ -19,21 +18,23 @@ use Rattle.algol_tree.specs.Plain.{PDecls, PStmts, PBody, PProgram}
 use Rattle.algol_tree.specs.Scopes.{Scopes, scopes_of}
 use Rattle.algol_tree.specs.Sites.{Site}
 use Rattle.algol_tree.specs.Sorts.{Parameter}
-use Rattle.algol_paths.specs.Arrays.{an_array, arrays_in, arrays_of, made_in, lows_at}
+use Rattle.algol_paths.specs.Arrays.{lows_at}
 use Rattle.algol_paths.specs.Segments.{is_procedure, segment_of}
 use Rattle.algol_frames.specs.declared.scopes.Scopes as table
 use Rattle.algol_scope.specs.Resolved.{AreOf}
 use Rattle.algol_scope.proofs.Bodies.{body_is}
 use Rattle.b67_ops.specs.declared.TheConstants.{MOST_LEVEL, OUTER_LEVEL}
-use Rattle.b67_templates.specs.Cells.{Simple, parameter_cells, procedures, actuals_of, events_in, made_of, result_of, simple_cells, variables, zero_cells}
+use Rattle.b67_templates.specs.Cells.{Simple, parameter_cells, procedures, actuals_of, made_of, result_of, simple_cells, variables, zero_cells}
 use Rattle.b67_templates.specs.Fitting.{DeclsFit, StmtsFit}
 use Rattle.algol_lows.specs.declared.bounds.Lows.{Lows}
 use Rattle.b67_emitter.specs.declared.names.Names.{Names}
+use Rattle.b67_emitter.specs.declared.names.Target.{Target}
 use Rattle.b67_emitter.specs.Values.{meanings, AreNear}
 use Rattle.b67_emit_stmt.specs.Actuals.{AreInner}
-use Rattle.b67_emit_stmt.specs.Programs.{AreDue, IsDue}
-use Rattle.b67_emit_stmt.specs.Texts.{Text, texts, texts_in_body}
-use Rattle.b67_fitting.specs.Built.{IsBuilt}
+use Rattle.b67_emit_text.specs.Programs.{AreDue, IsDue}
+use Rattle.b67_emit_text.specs.Targets.{AreTargets}
+use Rattle.b67_emit_text.specs.Texts.{Text, texts, texts_in_body}
+use Rattle.b67_fitting.specs.Alone.{IsAlone}
 use Rattle.b67_fitting.specs.Fitted.{BlockFits, IsToldOf}
 use Rattle.b67_fitting.specs.Names.{HasNames}
 use Rattle.b67_fitting.specs.Nested.{AreParameters, AreTold, IsText, LiesNested}
@@ -41,17 +42,22 @@ use Rattle.b67_fitting.specs.Texts.{HasPlainTexts}
 use Rattle.b67_fitting.specs.Wholes.{HasWholeNumbers}
 use Rattle.b67_fitting.proofs.Fits.{accepted_fit}
 use Rattle.b67_fitting.proofs.Lists.{each_of, nil_back, nil_front, nil_map}
-use Rattle.b67_fitting.proofs.Nesting.{built_programs_lie_nested}
+use Rattle.b67_fitting.proofs.Nesting.{programs_lie_nested}
 use Rattle.b67_fitting.proofs.Numbering.{block_is, each_at}
 use Rattle.b67_fitting.proofs.SurroundedSites.{IsSurrounded, each_number, each_surrounded}
 use Rattle.algol_lows.specs.Lows.{under}
 use Rattle.b67_compile.proofs.Cells.{AreOfFew, HasFew, HaveFew, IsOfOne, all_of_one}
 use Rattle.b67_compile.proofs.Couples.{actuals_inner, actuals_known, couples_known, lows_known, results_known, couples_near}
 use Rattle.b67_compile.proofs.Inner.{actuals_low, none_deep}
+use Rattle.b67_compile.proofs.LabelTargets.{no_event_rows, targets_known}
 use Rattle.b67_compile.proofs.Matching.{all_match, text_of}
 use Rattle.b67_compile.proofs.Meanings.{meant_known}
 use Rattle.b67_compile.proofs.Near.{actual_near, blocks_few, located_near, result_near}
 use Rattle.b67_compile.proofs.Places.{IsOf, block_there, text_block, texts_many}
+
+-- the texts of a program
+abbrev texts_in_program : PProgram → List Text
+texts_in_program (tree.program b) = texts b
 
 pub record Given (p : PProgram) (names : Names) : Type 0 where
   pub resolved : AreOf p names.scopes.now
@@ -61,14 +67,15 @@ pub record Given (p : PProgram) (names : Names) : Type 0 where
   pub whole : HasWholeNumbers p
   pub texts : HasPlainTexts p
   pub named : HasNames p
-  pub built : IsBuilt p
+  pub alone : IsAlone p
+  pub labels : AreTargets (texts_in_program p) names.labels
 
 -- the same of the parts of the program's body
 pub given : (b : Body) (s : table.Scopes) (bounds : BTreeMap Spot Lows) (names : Names) → names.scopes.now ≡ s → names.lows ≡ bounds →
     AreOf (tree.program (plain.body b)) s → ((spot : Spot) → under bounds spot ≡ lows_at (blocks_of_program (tree.program (plain.body b))) spot) →
     Accepted (tree.program (plain.body b)) → IsInOrder (tree.program (plain.body b)) → HasWholeNumbers (tree.program (plain.body b)) → HasPlainTexts (tree.program (plain.body b)) →
-    HasNames (tree.program (plain.body b)) → IsBuilt (tree.program (plain.body b)) → Given (tree.program (tree.body b.spot (plain.decls b.decls) (plain.stmts b.stmts))) names
-given b s bounds names scopes_are bounds_are resolved lows accepted order whole texts named built =
+    HasNames (tree.program (plain.body b)) → IsAlone (tree.program (plain.body b)) → (targets : BTreeMap Spot Target) → names.labels ≡ targets → AreTargets (texts (plain.body b)) targets → Given (tree.program (tree.body b.spot (plain.decls b.decls) (plain.stmts b.stmts))) names
+given b s bounds names scopes_are bounds_are resolved lows accepted order whole texts_are named alone targets targets_are labels =
     subst (λ (z : PBody). Given (tree.program z) names) (body_is b)
     (record {
       resolved = subst (AreOf (tree.program (plain.body b))) (sym scopes_are) resolved;
@@ -76,9 +83,10 @@ given b s bounds names scopes_are bounds_are resolved lows accepted order whole 
       accepted = accepted;
       order = order;
       whole = whole;
-      texts = texts;
+      texts = texts_are;
       named = named;
-      built = built;
+      alone = alone;
+      labels = subst (AreTargets (texts (plain.body b))) (sym targets_are) labels;
     })
 
 -- no block has more cells than a block may have
@@ -110,25 +118,6 @@ length_three xs ys zs = omega (arith, length-append (xs ++ ys) zs, length-append
 zeros_behind : (sc : Scopes) (b : Block) → length (simple_cells sc b) ≡ length (parameter_cells sc b) + length (zero_cells b)
 zeros_behind sc b = length_three (parameter_cells sc b) (result_of b.result b.name) (variables b.decls)
 
--- of what is made by actions not all need be arrays
-arrays_fewer : (ds : PDecls) → length (arrays_of ds) ≤ length (made_of ds)
-arrays_fewer tree.no_decls = omega arith
-arrays_fewer (tree.decls (tree.arrays kind ns pairs) ds) =
-    omega (
-      arith,
-      arrays_fewer ds,
-      length-append (arrays_in kind ns pairs) (arrays_of ds),
-      length-append (made_in kind ns pairs) (made_of ds),
-      length-map (arrays_in kind ns pairs) an_array,
-    )
-arrays_fewer (tree.decls (tree.events ns) ds) = omega (arith, arrays_fewer ds, length-append (events_in ns) (made_of ds))
-arrays_fewer (tree.decls (tree.tasks ns) ds) = omega (arith, arrays_fewer ds, length-append (events_in ns) (made_of ds))
-arrays_fewer (tree.decls (tree.simple kind ns) ds) = arrays_fewer ds
-arrays_fewer (tree.decls (tree.files ns) ds) = arrays_fewer ds
-arrays_fewer (tree.decls (tree.labels ns) ds) = arrays_fewer ds
-arrays_fewer (tree.decls (tree.forward h) ds) = arrays_fewer ds
-arrays_fewer (tree.decls (tree.procedure h t) ds) = arrays_fewer ds
-
 -- each parameter has a cell
 parameters_many : (sc : Scopes) (b : Block) → AreParameters sc b → length (parameter_cells sc b) ≡ length b.parameters
 parameters_many sc b is = as_many b.parameters (parameter_cells sc b) is.told
@@ -145,13 +134,13 @@ module _ (spot : Spot) (ds : PDecls) (ss : PStmts) (names : Names) where
 
   module _ (has : Given p names) where
     pub lies : LiesNested p
-    lies = built_programs_lie_nested p has.accepted has.order has.built has.named
+    lies = programs_lie_nested p has.accepted has.order has.alone has.named
 
     pub few : length (texts (tree.body spot ds ss)) ≤ 1 + MOST_PROCEDURES
     unfolding scopes_of
     few =
         let bs = blocks_of_program p in
-        omega (arith, texts_many spot ds ss has.order has.built has.named, lies.nested.procedures_few (length bs), ap (λ (z : List Block). length (filter is_procedure z)) (all_taken bs))
+        omega (arith, texts_many spot ds ss has.order has.alone has.named, lies.nested.procedures_few (length bs), ap (λ (z : List Block). length (filter is_procedure z)) (all_taken bs))
 
     -- what the tables tell of the names is what the program says of them
     told : IsToldOf p (meanings names)
@@ -160,6 +149,7 @@ module _ (spot : Spot) (ds : PDecls) (ss : PStmts) (names : Names) where
       results = results_known p names has.resolved;
       lows = lows_known p names has.resolved has.lows;
       meant = meant_known p names has.order has.resolved;
+      labels = targets_known spot ds ss names has.order has.alone has.named has.resolved has.labels;
       actuals = actuals_known p names has.resolved;
     }
 
@@ -180,14 +170,14 @@ module _ (spot : Spot) (ds : PDecls) (ss : PStmts) (names : Names) where
         let many : length (parameter_cells sc b) ≡ length b.parameters = parameters_many sc b (subst (AreParameters sc) here text.parameters) in
         let cells : length (simple_cells sc b) + length (procedures b.decls) + length (actuals_of sc b) + length (made_of b.decls) ≤ MOST_BLOCK_CELLS =
         subst (λ (z : Block). length (simple_cells sc z) + length (procedures z.decls) + length (actuals_of sc z) + length (made_of z.decls) ≤ MOST_BLOCK_CELLS) here text.few in
-        let fits : BlockFits p (meanings names) is.block = accepted_fit p (meanings names) has.accepted has.order has.built has.whole has.texts told is.block known in
+        let fits : BlockFits p (meanings names) is.block = accepted_fit p (meanings names) has.accepted has.order has.alone has.whole has.texts told is.block known in
         record {
           segment = ap (segment_of bs) is.number_is ∙ is.segment;
           named = ap (λ (z : Block). z.name) own;
           result = ap (λ (z : Block). z.result) own;
           parameters = ap (λ (z : Block). length (parameter_cells sc z)) own ∙ many;
           level = subst (λ (z : Block). level_of z ≤ MOST_LEVEL) here text.low;
-          few = omega (arith, cells, many, zeros_behind sc b, arrays_fewer b.decls);
+          few = omega (arith, cells, many, zeros_behind sc b);
           decls = subst (λ (j : ℕ). DeclsFit sc (meanings names) (level_of b) j b.decls) (sym is.number_is)
               (subst (λ (z : Block). DeclsFit sc (meanings names) (level_of z) is.block z.decls) here fits.decls);
           fits = subst (λ (j : ℕ). StmtsFit sc (meanings names) (level_of b) j b.stmts) (sym is.number_is)
@@ -197,7 +187,7 @@ module _ (spot : Spot) (ds : PDecls) (ss : PStmts) (names : Names) where
 
     pub due : AreDue (scopes_of p) names (texts (tree.body spot ds ss))
     due number t e =
-        let r = text_block spot ds ss has.order has.built has.named number t e in
+        let r = text_block spot ds ss has.order has.alone has.named number t e in
         subst (Due number) (sym r.is) (due_of number r.block r.tokens r.of)
 
     -- ---- cells
@@ -207,11 +197,11 @@ module _ (spot : Spot) (ds : PDecls) (ss : PStmts) (names : Names) where
     block_few have k known =
         let bs = blocks_of_program p in
         let there = block_there bs k known in
-        subst (HasFew bs (sites_of p)) (each_number p has.order has.built k (block_numbered bs k) there)
+        subst (HasFew bs (sites_of p)) (each_number p has.order has.alone k (block_numbered bs k) there)
         (each_at (λ (b : Block). HasFew bs (sites_of p) (number_at bs b.spot)) bs k (block_numbered bs k) have there)
 
     surrounded : AllByRecursion (λ (x : Site). IsSurrounded (blocks_of_program p) x.around) (sites_of p)
-    surrounded = each_surrounded p has.accepted has.order has.built
+    surrounded = each_surrounded p has.accepted has.order has.alone
 
     all_few : AreOfFew (blocks_of_program p) (sites_of p) (sites_of p)
     all_few =
@@ -219,7 +209,7 @@ module _ (spot : Spot) (ds : PDecls) (ss : PStmts) (names : Names) where
         let all = sites_of p in
         let Known : Block → Type 0 = λ b. number_at bs b.spot < length bs in
         let known : AllByRecursion Known bs =
-        each_by Known bs (λ i b h. subst (λ (n : ℕ). n < length bs) (sym (each_number p has.order has.built i b h)) (slice_get_within bs i b h)) in
+        each_by Known bs (λ i b h. subst (λ (n : ℕ). n < length bs) (sym (each_number p has.order has.alone i b h)) (slice_get_within bs i b h)) in
         let around = each_of (λ (x : Site). IsSurrounded bs x.around) (λ (x : Site). x.around.block < length bs) all (λ x h. h.some) surrounded in
         each_of (IsOfOne bs) (λ (c : Cell). HasFew bs all c.block) (flat_map (cells_at bs) all) (λ c h. block_few (blocks_few bs all (cells_kept p has.accepted)) c.block h)
         (all_of_one bs (filter is_procedure bs) all (texts_in_body (tree.body spot ds ss) OUTER_LEVEL) (all_match spot ds ss has.named) (each_kept_by Known is_procedure bs known) around)
@@ -229,7 +219,7 @@ module _ (spot : Spot) (ds : PDecls) (ss : PStmts) (names : Names) where
     near =
         let bs = blocks_of_program p in
         let all = sites_of p in
-        couples_near p names has.resolved (located_near bs all all_few) (result_near bs all all_few) (actual_near bs all all_few (actual_cells bs all))
+        couples_near p names has.resolved (no_event_rows spot ds ss names has.order has.alone has.named has.resolved has.lows) (located_near bs all all_few) (result_near bs all all_few) (actual_near bs all all_few (actual_cells bs all))
 
     -- ---- levels
 

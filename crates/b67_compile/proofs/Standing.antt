@@ -1,7 +1,8 @@
 -- The code of the texts is that of their program.
-use Rattle.std.proofs.Common.{arith, ◌≡◌, ◌⊎◌, ℕ, zero, suc, ◌<◌, ◌≤◌, true, List, [], ◌∷◌, ◌++◌, length, Option, Some, None, refl, sym, ap, ◌∙◌, subst, slice_get, ◌+◌}
+use Rattle.std.proofs.Common.{arith, ◌≡◌, ◌⊎◌, ℕ, zero, suc, ◌<◌, ◌≤◌, true, List, [], ◌∷◌, ◌++◌, length, Option, Some, None, refl, sym, ap, ◌∙◌, subst, slice_get, ◌+◌, append_assoc}
 use Rattle.algol_tree.specs.declared.token.Spot.{Spot}
 use Rattle.algol_tree.specs.declared.tree.Kind.{Kind}
+use Rattle.algol_tree.specs.declared.tree.Named.{Named}
 use Rattle.algol_tree.specs.Blocks.{Block, block_numbered}
 use Rattle.algol_tree.specs.Cells.{level_of}
 use Rattle.algol_tree.specs.Plain as tree
@@ -9,7 +10,7 @@ use Rattle.algol_tree.specs.Plain.{PDecls, PStmts, PProgram}
 use Rattle.algol_tree.specs.Scopes.{Scopes, scopes_of}
 use Rattle.algol_meaning.specs.Rest.{Item, result}
 use Rattle.algol_meaning.specs.Statements as statements
-use Rattle.algol_meaning.specs.Statements.{items, decls_items}
+use Rattle.algol_meaning.specs.Statements.{event_items, items, decls_items}
 use Rattle.algol_paths.specs.Segments.{is_procedure, segment_of}
 use Rattle.b67_segment.specs.Operators.{Placed}
 use Rattle.b67_segment.specs.Syllables.{Spells}
@@ -22,17 +23,22 @@ use Rattle.b67_templates.specs.Contexts.{yields_of, Context}
 use Rattle.b67_templates.specs.Fragments.{Goes, stop}
 use Rattle.b67_templates.specs.Cells.{actuals_of, zero_cells}
 use Rattle.b67_templates.specs.Code.{RoutinesAt, CellsAt, DeclsAt, HasNoCounts, StmtsAt, KAt, control_pcws}
-use Rattle.b67_templates.specs.Programs.{BodyAt, ProgramAt, context_of}
+use Rattle.b67_templates.specs.Events.{EventsMadeAt}
+use Rattle.b67_templates.specs.Labels.{label_number, label_in, LabelAt}
+use Rattle.b67_templates.specs.Programs.{BodyAt, ProgramAt, Texts, context_of}
 use Rattle.b67_emitter.specs.declared.names.Names.{Names}
 use Rattle.b67_emit_stmt.specs.Drafts.{AreListed}
-use Rattle.b67_emit_stmt.specs.Programs as made
-use Rattle.b67_emit_stmt.specs.Programs.{AreShort, Coded, EndAt}
-use Rattle.b67_emit_stmt.specs.Texts.{Text, texts}
+use Rattle.b67_emit_text.specs.Entries.{Entry}
+use Rattle.b67_emit_text.specs.Programs as made
+use Rattle.b67_emit_text.specs.Programs.{AreShort, Coded, EndAt}
+use Rattle.b67_emit_text.specs.Texts.{Text, texts}
 use Rattle.b67_faithful.specs.Faithful.{IsShort}
+use Rattle.b67_fitting.proofs.Fits.{labels_stand}
 use Rattle.b67_compile.proofs.Listed.{all_listed, is_segment}
 use Rattle.b67_compile.proofs.Matching.{text_of}
 use Rattle.b67_compile.proofs.Places.{block_text, text_block, texts_many}
 use Rattle.b67_compile.proofs.Premises.{Given, due}
+use Rattle.b67_compile.proofs.Labelled.{label_entry}
 
 -- a typed procedure ends with its result
 abbrev ending : Option Kind → List ℕ → List Item
@@ -67,15 +73,29 @@ module _ (sc : Scopes) (context : Context) (ps : List Placed) (level : ℕ) wher
   ending_at None name at e there = (at, there.0, e, stop, there.1)
   ending_at (Some kind) name at e there = (at, stop, there)
 
-  -- the arrays of declarations come before
+  -- events are made one after another
+  events_at : (ns : List Named) (k : List Item) (f t : ℕ) → EventsMadeAt sc context ps level ns f t → HasNoCounts k × KAt sc context ps level k t →
+      HasNoCounts (event_items ns ++ k) × KAt sc context ps level (event_items ns ++ k) f
+  events_at [] k f t s after = (after.0, subst (λ pc. KAt sc context ps level k pc) (sym s) after.1)
+  events_at (n ∷ ns) k f t here after =
+      let rest = events_at ns k here.0 t here.2 after in
+      (rest.0, (f, here.0, stop, here.1, rest.0, rest.1))
+
+  events_and : (ns : List Named) (ds : PDecls) (k : List Item) (f t : ℕ) → EventsMadeAt sc context ps level ns f t →
+      HasNoCounts (decls_items ds ++ k) × KAt sc context ps level (decls_items ds ++ k) t →
+      HasNoCounts ((event_items ns ++ decls_items ds) ++ k) × KAt sc context ps level ((event_items ns ++ decls_items ds) ++ k) f
+  events_and ns ds k f t here after =
+      subst (λ (j : List Item). HasNoCounts j × KAt sc context ps level j f) (sym (append_assoc (event_items ns) (decls_items ds) k)) (events_at ns (decls_items ds ++ k) f t here after)
+
+  -- the arrays and events of declarations come before
   decls_at : (ds : PDecls) (k : List Item) (f t : ℕ) → DeclsAt sc context ps level ds f t → HasNoCounts k × KAt sc context ps level k t →
       HasNoCounts (decls_items ds ++ k) × KAt sc context ps level (decls_items ds ++ k) f
   decls_at tree.no_decls k f t s after = (after.0, subst (λ pc. KAt sc context ps level k pc) (sym s) after.1)
   decls_at (tree.decls (tree.arrays kind ns pairs) ds) k f t here after =
       let rest = decls_at ds k here.0 t here.2 after in
       (rest.0, (f, here.0, stop, here.1, rest.0, rest.1))
-  decls_at (tree.decls (tree.events ns) ds) k f t here after = absurd here
-  decls_at (tree.decls (tree.tasks ns) ds) k f t here after = absurd here
+  decls_at (tree.decls (tree.events ns) ds) k f t here after = events_and ns ds k f here.0 here.1 (decls_at ds k here.0 t here.2 after)
+  decls_at (tree.decls (tree.tasks ns) ds) k f t here after = events_and ns ds k f here.0 here.1 (decls_at ds k here.0 t here.2 after)
   decls_at (tree.decls (tree.simple kind ns) ds) k f t here after = decls_at ds k f t here after
   decls_at (tree.decls (tree.files ns) ds) k f t here after = decls_at ds k f t here after
   decls_at (tree.decls (tree.labels ns) ds) k f t here after = decls_at ds k f t here after
@@ -128,7 +148,7 @@ module _ (spot : Spot) (ds : PDecls) (ss : PStmts) (names : Names) (has : Given 
     pub short_code : length segments ≡ length ts → AreShort segments ts → IsShort p code
     short_code many short k segment h =
         let t = in_both segments ts k segment many h in
-        let r = text_block spot ds ss has.order has.built has.named k t.0 t.1 in
+        let r = text_block spot ds ss has.order has.alone has.named k t.0 t.1 in
         omega (arith, short k segment t.0 h t.1, ap (λ (z : Text). z.tokens) r.is, r.of.short)
 
     pub listable_code : Coded (scopes_of p) formats segments ts → AreShort segments ts → AreListed formats → IsListable code
@@ -142,29 +162,43 @@ module _ (spot : Spot) (ds : PDecls) (ss : PStmts) (names : Names) (has : Given 
             let t = in_both segments ts k segment coded.many h in
             let stands = coded.code k t.0 t.1 in
             let room = (due spot ds ss names has k t.0 t.1).room in
-            some_operator (scopes_of p) (made.context_of (scopes_of p) formats t.0) (coded.placed k) t.0.level t.0.result t.0.name stands.4 segment (coded.spells k segment h)
+            some_operator (scopes_of p) (made.context_of (scopes_of p) formats coded.labels t.0) (coded.placed k) t.0.level t.0.result t.0.name stands.4 segment (coded.spells k segment h)
             (omega (arith, short k segment t.0 h t.1, room)) stands.10
 
     pub program_at : Coded (scopes_of p) formats segments ts → ProgramAt code p
     unfolding scopes_of
     program_at coded = record {
-      many = coded.many ∙ texts_many spot ds ss has.order has.built has.named;
-      texts = record { placed = coded.placed; labels = λ spot. None };
+      many = coded.many ∙ texts_many spot ds ss has.order has.alone has.named;
+      texts = code_texts;
       spells = coded.spells;
       bodies = bodies;
+      labels = labels;
     }
       where
+        code_texts : Texts
+        code_texts = record { placed = coded.placed; labels = coded.labels }
+
+        labels : (j number : ℕ) (name : List ℕ) → j < length (scopes_of p).blocks → label_number (scopes_of p) j name ≡ Some number →
+            LabelAt (scopes_of p) (context_of code code_texts (scopes_of p) j) (coded.placed (segment_of (scopes_of p).blocks j)) (level_of (block_numbered (scopes_of p).blocks j)) (block_numbered (scopes_of p).blocks j) name number
+        labels j number name known h =
+            let label = labels_stand p has.accepted has.order has.alone has.whole has.texts j number name known h in
+            let r = label_entry spot ds ss has.order has.alone has.named j number name known h in
+            let e : Entry = record { level = level_of (block_numbered (scopes_of p).blocks j); name = r.label; stmts = (block_numbered (scopes_of p).blocks j).stmts } in
+            let at = coded.tables (segment_of (scopes_of p).blocks j) r.text r.text_is number e r.entry_is label.0
+            (ap (label_in (block_numbered (scopes_of p).blocks j).stmts) r.name_is ∙ label.1) in
+            record { label = label.0; stands = label.1; target = at.0; next = at.1; place = at.2; branch = at.3 }
+
         bodies : (j : ℕ) → j < length (scopes_of p).blocks → (j ≡ 0) ⊎ (is_procedure (block_numbered (scopes_of p).blocks j) ≡ true) →
-            BodyAt (scopes_of p) (context_of code (record { placed = coded.placed; labels = λ spot. None }) (scopes_of p) j) (coded.placed (segment_of (scopes_of p).blocks j)) (level_of (block_numbered (scopes_of p).blocks j)) (block_numbered (scopes_of p).blocks j) 0
+            BodyAt (scopes_of p) (context_of code code_texts (scopes_of p) j) (coded.placed (segment_of (scopes_of p).blocks j)) (level_of (block_numbered (scopes_of p).blocks j)) (block_numbered (scopes_of p).blocks j) 0
         bodies j known own =
             let sc = scopes_of p in
             let b = block_numbered sc.blocks j in
-            let r = block_text spot ds ss has.order has.built has.named j known own in
+            let r = block_text spot ds ss has.order has.alone has.named j known own in
             let at : Context =
-            record { formats = formats; segment = segment_of sc.blocks j; block = j; level = level_of b; yields = yields_of b.result; labels = λ spot. None } in
+            record { formats = formats; segment = segment_of sc.blocks j; block = j; level = level_of b; yields = yields_of b.result; labels = coded.labels } in
             let there = coded.code (segment_of sc.blocks j) (text_of b r.tokens) r.text in
-            let same : made.context_of sc formats (text_of b r.tokens) ≡ at = ap
-            (λ (n : ℕ). record { formats = formats; segment = segment_of sc.blocks n; block = n; level = level_of b; yields = yields_of b.result; labels = λ spot. None })
+            let same : made.context_of sc formats coded.labels (text_of b r.tokens) ≡ at = ap
+            (λ (n : ℕ). record { formats = formats; segment = segment_of sc.blocks n; block = n; level = level_of b; yields = yields_of b.result; labels = coded.labels })
             r.number_is in
             let ps = coded.placed (segment_of sc.blocks j) in
             let l = level_of b in

@@ -7,6 +7,7 @@ ghost use Rattle.algol_tree.specs.Image as plain;
 ghost use Rattle.algol_scope.specs.Resolved.{AreOf};
 ghost use Rattle.b67_listing.specs.Listings.{IsListable};
 ghost use Rattle.b67_templates.specs.Programs.{ProgramAt};
+ghost use Rattle.b67_fitting.specs.Alone.{IsAlone};
 ghost use Rattle.b67_fitting.specs.Built.{IsBuilt};
 ghost use Rattle.b67_fitting.specs.Names.{HasNames};
 ghost use Rattle.b67_fitting.specs.Texts.{HasPlainTexts};
@@ -18,15 +19,14 @@ use algol_lows::lows_of_program;
 use algol_scope::Scopes;
 use algol_tree::Program;
 use b67_emit_expr::Exprs;
-use b67_emit_stmt::emit_program;
+use b67_emit_text::{emit_program, targets_of};
 use b67_emitter::{ExprEmitter, Names};
 use b67_list::List;
 use b67_segment::Code;
 use std::alloc::{AllocError, Global};
 
-/// The code of a program that declares only simple variables, files, arrays and procedures whose parameters are simple or arrays, in
-/// whatever block: a segment for the program's text and one for each procedure in the order of the text, and a format for each
-/// line that is written, in order.
+/// The code of a program of one process: a segment for the program's text and one for each procedure in the order of the text, and a
+/// format for each line that is written, in order.
 fn code_of<E: ExprEmitter>(
     alloc: Global,
     exprs: &E,
@@ -39,14 +39,15 @@ fn code_of<E: ExprEmitter>(
     requires whole { HasWholeNumbers (plain.program program.now) }
     requires texts { HasPlainTexts (plain.program program.now) }
     requires named { HasNames (plain.program program.now) }
-    requires built { IsBuilt (plain.program program.now) }
+    requires alone { IsAlone (plain.program program.now) }
     ensures code { IfOk result (λ code. ProgramAt code (plain.program program.now)) }
     ensures formats { IfOk result (HasFormats (plain.program program.now)) }
     ensures short { IfOk result (IsShort (plain.program program.now)) }
     ensures listable { IfOk result IsListable }
 {
     let lows = lows_of_program(alloc, program, scopes)?;
-    let names = Names::new(scopes, lows);
+    let labels = targets_of(alloc, &program.body)?;
+    let names = Names::new(scopes, lows, labels);
     let (segments, formats) = emit_program(alloc, exprs, &names, &program.body)?;
     Ok(Code {
         segments: List::of(segments),

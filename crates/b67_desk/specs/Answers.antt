@@ -149,8 +149,7 @@ pub data Replays (budget : ℕ) (schedule : Option (List ℕ)) (input : ℕ) (tr
 abbrev pub at_start : Spot
 at_start = record { line = 1; column = 1 }
 
--- The trees that are built for a command. For one that wants the code of a source those are built that declare only simple variables, files,
--- arrays and procedures whose parameters are simple ones or arrays, and start no process.
+-- The trees that are built for a command. For one that wants the code of a source those are built that start no process.
 abbrev pub IsBuiltFor : Words → PProgram → Type 0
 IsBuiltFor (Run processors budget rule) tree = IsBuilt tree
 IsBuiltFor Check tree = Unit {0}

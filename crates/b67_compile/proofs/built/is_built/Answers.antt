@@ -5,42 +5,30 @@ use Rattle.algol_tree.specs.declared.tree.Body.{Body}
 use Rattle.algol_tree.specs.Image.{body, decls, stmts}
 use Rattle.algol_tree.specs.Plain as tree
 use Rattle.algol_tree.specs.Plain.{PBody}
-use Rattle.algol_frames.specs.declared.scopes.Scopes.{Scopes}
-use Rattle.algol_scope.specs.Resolved.{AreOf}
 use Rattle.algol_scope.proofs.Bodies.{body_is}
 use Rattle.b67_fitting.specs.Built.{IsBuilt}
 use Rattle.b67_compile.specs.Built.{decls_are_built, stmts_are_built}
 use Rattle.b67_compile.proofs.Decided.{built_decided}
-use Rattle.algol_front.proofs.Ordered.{IsSource, source_in_order}
-use Rattle.b67_compile.proofs.Sources.{source_accepted}
 use Rattle.b67_compile.proofs.built.is_built.Goals as goal
 
-decided : (s : Scopes) (b : Body) → AreOf (tree.program (body b)) s → IsSource (tree.program (body b)) →
-    Decides (decls_are_built s (decls b.decls) && stmts_are_built s (stmts b.stmts)) (IsBuilt (tree.program (body b)))
-decided s b are source =
-    let P : PBody → Type 0 = λ z. AreOf (tree.program z) s → IsSource (tree.program z) → Decides (decls_are_built s (decls b.decls) && stmts_are_built s (stmts b.stmts)) (IsBuilt (tree.program z)) in
-    let parts : PBody = tree.body b.spot (decls b.decls) (stmts b.stmts) in
-    subst P (sym (body_is b))
-    (λ a k. built_decided s b.spot (decls b.decls) (stmts b.stmts) a (source_accepted (tree.program parts) k) (source_in_order (tree.program parts) k)) are source
+decided : (b : Body) → Decides (decls_are_built (decls b.decls) && stmts_are_built (stmts b.stmts)) (IsBuilt (tree.program (body b)))
+decided b =
+    let P : PBody → Type 0 = λ z. Decides (decls_are_built (decls b.decls) && stmts_are_built (stmts b.stmts)) (IsBuilt (tree.program z)) in
+    subst P (sym (body_is b)) (built_decided b.spot (decls b.decls) (stmts b.stmts))
 
 pub returns-then-decls_are_built : goal.returns-then-decls_are_built
 returns-then-decls_are_built c =
     let b = c.args.checked.now.program.body in
-    let s = c.args.checked.now.scopes in
-    let simple : true ≡ decls_are_built s (decls b.decls) =
-    sym c.if-decls_are_built.true ∙ c.decls_are_built.ensures ∙ ap (λ ds. decls_are_built s (decls ds)) (c.deref.ensures.value ∙ c.items.ensures) in
-    let inner : c.stmts_are_built.result ≡ stmts_are_built s (stmts b.stmts) =
-    c.stmts_are_built.ensures ∙ ap (λ ss. stmts_are_built s (stmts ss)) (c.deref-then-decls_are_built.ensures.value ∙ c.items-then-decls_are_built.ensures) in
-    Decides-at c.stmts_are_built.result (decls_are_built s (decls b.decls) && stmts_are_built s (stmts b.stmts))
-    (inner ∙ ap (λ z. z && stmts_are_built s (stmts b.stmts)) simple)
-    (decided s b c.args.checked.now.scoped c.args.checked.now.accepted)
+    let simple : true ≡ decls_are_built (decls b.decls) =
+    sym c.if-decls_are_built.true ∙ c.decls_are_built.ensures ∙ ap (λ ds. decls_are_built (decls ds)) (c.deref.ensures.value ∙ c.items.ensures) in
+    let inner : c.stmts_are_built.result ≡ stmts_are_built (stmts b.stmts) =
+    c.stmts_are_built.ensures ∙ ap (λ ss. stmts_are_built (stmts ss)) (c.deref-then-decls_are_built.ensures.value ∙ c.items-then-decls_are_built.ensures) in
+    Decides-at c.stmts_are_built.result (decls_are_built (decls b.decls) && stmts_are_built (stmts b.stmts)) (inner ∙ ap (λ z. z && stmts_are_built (stmts b.stmts)) simple) (decided b)
 
 pub returns-else-decls_are_built : goal.returns-else-decls_are_built
 returns-else-decls_are_built c =
     let b = c.args.checked.now.program.body in
-    let s = c.args.checked.now.scopes in
-    let simple : false ≡ decls_are_built s (decls b.decls) =
-    sym c.if-decls_are_built.false ∙ c.decls_are_built.ensures ∙ ap (λ ds. decls_are_built s (decls ds)) (c.deref.ensures.value ∙ c.items.ensures) in
-    Decides-at c.decls_are_built.result (decls_are_built s (decls b.decls) && stmts_are_built s (stmts b.stmts))
-    (c.if-decls_are_built.false ∙ ap (λ z. z && stmts_are_built s (stmts b.stmts)) simple)
-    (decided s b c.args.checked.now.scoped c.args.checked.now.accepted)
+    let simple : false ≡ decls_are_built (decls b.decls) =
+    sym c.if-decls_are_built.false ∙ c.decls_are_built.ensures ∙ ap (λ ds. decls_are_built (decls ds)) (c.deref.ensures.value ∙ c.items.ensures) in
+    Decides-at c.decls_are_built.result (decls_are_built (decls b.decls) && stmts_are_built (stmts b.stmts))
+    (c.if-decls_are_built.false ∙ ap (λ z. z && stmts_are_built (stmts b.stmts)) simple) (decided b)
