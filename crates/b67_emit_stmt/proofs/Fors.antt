@@ -1,5 +1,5 @@
 -- FOR: what each of its parts needs, from what those before it promise.
-use Rattle.std.proofs.Common.{◌≡◌, ℕ, ◌+◌, ◌≤◌, ◌∙◌, List, refl, sym, subst, arith}
+use Rattle.std.proofs.Common.{◌≡◌, ℕ, ◌+◌, ◌≤◌, ◌∙◌, refl, sym, subst, arith}
 use Rattle.std.specs.Prelude.{IsSome}
 use Rattle.algol_tree.specs.declared.tree.Kind.TheVariants as types
 use Rattle.algol_tree.specs.declared.tree.Named.{Named}

@@ -1,5 +1,5 @@
 -- What declarations make by actions, one declaration after another, after the cells of a block.
-use Rattle.std.proofs.Common.{rules, ◌≡◌, ℕ, zero, suc, ◌+◌, ◌*◌, ◌≤◌, Bool, true, false, List, [], ◌∷◌, length, drop, refl, sym, ap, ◌∙◌, subst, arith, length-append}
+use Rattle.std.proofs.Common.{rules, ◌≡◌, ℕ, zero, suc, ◌+◌, ◌≤◌, Bool, true, false, List, [], ◌∷◌, length, drop, refl, sym, ap, ◌∙◌, subst, arith, length-append}
 use Rattle.std.proofs.lemmas.List.{length-map}
 use Rattle.algol_tree.specs.declared.TheConstants.{MOST_BLOCK_CELLS}
 use Rattle.algol_tree.specs.declared.tree.Body.{Body}
@@ -12,8 +12,8 @@ use Rattle.algol_tree.specs.declared.tree.Named.{Named}
 use Rattle.algol_tree.specs.declared.tree.Pair.{Pair}
 use Rattle.algol_tree.specs.Image.{decl, decls, pairs}
 use Rattle.algol_tree.specs.Plain as tree
-use Rattle.algol_tree.specs.Plain.{PDecl, PDecls, PPair}
-use Rattle.algol_paths.specs.Arrays.{DeclaredArray, Made, an_array, an_event, arrays_in, made_in}
+use Rattle.algol_tree.specs.Plain.{PDecl, PDecls}
+use Rattle.algol_paths.specs.Arrays.{DeclaredArray, an_array, arrays_in, made_in}
 use Rattle.b67_segment.specs.Operators.{Placed, size}
 use Rattle.b67_segment.specs.Building.{Built}
 use Rattle.b67_templates.specs.Cells.{events_in, made_of}
@@ -148,12 +148,6 @@ tasks_are d ns is = ap decl is ∙ own ns
     own ns = search (rules, the_lemmas)
 
 module _ (d : Decl) (ns : List Named) where
-  pub events_room : (s : Known) → d ≡ shapes.Events ns → decls_syllables s (only (decl d)) ≡ 5 * length ns
-  events_room s is = omega (arith, ap (λ (e : PDecl). decls_syllables s (only e)) (events_are d ns is))
-
-  pub tasks_room : (s : Known) → d ≡ shapes.Tasks ns → decls_syllables s (only (decl d)) ≡ 5 * length ns
-  tasks_room s is = omega (arith, ap (λ (e : PDecl). decls_syllables s (only e)) (tasks_are d ns is))
-
   module _ (sc : Place) (later : Later) (level : ℕ) (a x : Built) (h : Emitted a x (λ qs. EventsMadeAt sc later qs level ns (size a.operators) (size x.operators))) where
     abbrev There : PDecl → Type 0
     There e = Emitted a x (λ qs. DeclsAt sc later qs level (only e) (size a.operators) (size x.operators))

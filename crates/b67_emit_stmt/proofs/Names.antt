@@ -1,14 +1,11 @@
 -- The couples of names, and of intrinsics, can be spelled where they stand.
-use Rattle.std.proofs.Common.{◌≡◌, ℕ, ◌+◌, ◌-◌, ◌^◌, ◌≤◌, ◌<◌, Bool, true, false, Option, Some, None, sym, ◌∙◌, refl, subst, arith, lit≤, lit<}
+use Rattle.std.proofs.Common.{◌≡◌, ℕ, ◌+◌, ◌-◌, ◌^◌, ◌≤◌, ◌<◌, Bool, true, false, Option, Some, None, sym, ◌∙◌, refl, subst, arith, lit≤}
 use Rattle.std.specs.Prelude.{if◌then◌else◌, nat_le, IsSome}
 use Rattle.algol_tree.specs.declared.token.Spot.{Spot}
 use Rattle.algol_tree.specs.declared.tree.Kind.{Kind}
 use Rattle.algol_tree.specs.declared.tree.Named.{Named}
 use Rattle.algol_tree.specs.Scopes.{Scopes}
 use Rattle.b67_ops.specs.declared.Couple.{Couple}
-use Rattle.b67_ops.specs.declared.intrinsic.Intrinsic.{Intrinsic}
-use Rattle.b67_ops.specs.declared.intrinsic.Intrinsic.TheVariants.{GoTo, Select, Arrays, Event, Start, Write, Wait, Cause, Reset, Happened, Procure, Liberate}
-use Rattle.b67_ops.specs.Intrinsics.{couple_of_intrinsic}
 use Rattle.b67_ops.specs.Spelling.{level_bits, index_bits, IsSeen}
 use Rattle.b67_templates.specs.Cells.{IsRead, of_variable, of_formal}
 use Rattle.b67_templates.specs.Fitting as fitting
@@ -34,23 +31,6 @@ index_room level =
 
 pub seen : (level : ℕ) (c : Couple) → c.level ≤ level → c.index < 512 → IsSeen level c
 seen level c h k = record { level_seen = h; index_fits = omega (arith, index_room level) }
-
-intrinsic_near : (name : Intrinsic) → (couple_of_intrinsic name).index < 512
-intrinsic_near GoTo = lit< tt
-intrinsic_near Select = lit< tt
-intrinsic_near Arrays = lit< tt
-intrinsic_near Event = lit< tt
-intrinsic_near Start = lit< tt
-intrinsic_near Write = lit< tt
-intrinsic_near Wait = lit< tt
-intrinsic_near Cause = lit< tt
-intrinsic_near Reset = lit< tt
-intrinsic_near Happened = lit< tt
-intrinsic_near Procure = lit< tt
-intrinsic_near Liberate = lit< tt
-
-pub intrinsic_seen : (level : ℕ) (name : Intrinsic) → IsSeen level (couple_of_intrinsic name)
-intrinsic_seen level name = seen level (couple_of_intrinsic name) (omega arith) (intrinsic_near name)
 
 some_same : (c d : Couple) → Some c ≡ Some d → c ≡ d
 some_same c d e = cc

@@ -15,17 +15,14 @@ use Rattle.b67_ops.specs.declared.Couple.{Couple}
 use Rattle.b67_ops.specs.declared.Operator.TheVariants as ops
 use Rattle.b67_ops.specs.declared.PlainKind.{PlainKind}
 use Rattle.b67_ops.specs.declared.PlainKind.TheVariants as kinds
-use Rattle.b67_ops.specs.declared.intrinsic.Intrinsic.{Intrinsic}
-use Rattle.b67_ops.specs.Intrinsics.{couple_of_intrinsic}
 use Rattle.b67_segment.specs.Operators.{Placed, size}
 use Rattle.b67_segment.specs.Building.{Built, level_set}
-use Rattle.b67_templates.specs.Fragments.{Has, IntrinsicAt}
+use Rattle.b67_templates.specs.Fragments.{Has}
 use Rattle.b67_templates.specs.Cells.{IsVariable, IsRead}
 use Rattle.b67_templates.specs.Emitting.{Emitted}
 use Rattle.b67_emit_stmt.specs.Fits.{ExprFits, VariableFits}
 use Rattle.b67_emitter.specs.Values.{HasCode, ValueEmitted}
 use Rattle.b67_emitter.proofs.Composing.{then, weaker}
-use Rattle.b67_emit_stmt.proofs.Drafts.{level_same}
 
 -- ---- levels
 
@@ -56,15 +53,6 @@ value_at s b c level sc later k e q v fit =
     (v.code sc.scopes (context_in sc later (level_set b)) k (subst F (sym q) fit))
 
 -- ---- parts of statements
-
-pub intrinsic_part : (name : Intrinsic) (a b c : Built) → b.level ≡ a.level →
-    Emitted a b (λ qs. Has qs (level_set a) (size a.operators) (ops.Plain kinds.Mkst) (size b.operators)) →
-    Emitted b c (λ qs. Has qs (level_set b) (size b.operators) (ops.Namc (couple_of_intrinsic name)) (size c.operators)) →
-    Emitted a c (λ qs. IntrinsicAt qs (level_set a) name (size a.operators) (size c.operators))
-intrinsic_part name a b c e h k =
-    weaker (λ qs. IntrinsicAt qs (level_set a) name (size a.operators) (size c.operators))
-    (then h (leveled (λ l qs. Has qs l (size b.operators) (ops.Namc (couple_of_intrinsic name)) (size c.operators)) (level_set a) (level_same a b e) k))
-    (λ qs p. (size b.operators, p.0, p.1))
 
 pub reference_part : (sc : Place) (later : Later) (k : Kind) (n : Named) (c : Couple) (a b : Built) → IsVariable sc.scopes (level_set a) n k c →
     Emitted a b (λ qs. Has qs (level_set a) (size a.operators) (ops.Namc c) (size b.operators)) →

@@ -1,5 +1,5 @@
 -- Where a label leads: it is looked for in the list of its block, and its place among those that are noted.
-use Rattle.std.proofs.Common.{◌≡◌, ◌∙◌, ℕ, Bool, true, false, if◌then◌else◌, List, [], ◌∷◌, refl, sym, ap, is_some}
+use Rattle.std.proofs.Common.{◌≡◌, ◌∙◌, ℕ, Bool, true, false, if◌then◌else◌, List, ◌∷◌, refl, sym, ap, is_some}
 use Rattle.std.specs.Borrow.{Bor}
 use Rattle.std.specs.Prelude.{Option, Some, None, option_copied}
 use Rattle.std.specs.declared.boxed.Box.{Box}

@@ -9,7 +9,7 @@ use Rattle.algol_tree.specs.contracts.token.SpotOrd.TheImpl.{ghosts}
 use Rattle.algol_tree.specs.Plain.{PDecls, PStmts}
 use Rattle.b67_emitter.specs.declared.names.Target.{Target}
 use Rattle.b67_emit_text.specs.declared.entries.Declared.{Declared}
-use Rattle.b67_emit_text.specs.Entries.{AllLow, Entry, entries_of, entry_of}
+use Rattle.b67_emit_text.specs.Entries.{AllLow, entries_of, entry_of}
 use Rattle.b67_emit_text.specs.Targets.{Adds, IsSmall, or_target, target_at, target_there, targets_from, targets_in, under}
 use Rattle.b67_emit_text.specs.Texts.{Text}
 

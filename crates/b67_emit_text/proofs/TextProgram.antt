@@ -22,7 +22,7 @@ use Rattle.b67_templates.specs.Cells.{variables, actuals_in_block}
 use Rattle.b67_emit_stmt.specs.declared.draft.Known.{Known}
 use Rattle.b67_emit_text.specs.declared.texts.Procedure.{Procedure}
 use Rattle.b67_emit_stmt.specs.Drafts.{Agrees}
-use Rattle.b67_emit_stmt.specs.Places.{Later, Place}
+use Rattle.b67_emit_stmt.specs.Places.{Later}
 use Rattle.b67_emit_stmt.specs.Lengths.{celled_in}
 use Rattle.b67_emit_text.specs.Codes.{IsNear, result_index, zeros_for}
 use Rattle.b67_emit_text.specs.Programs.{AreDue, block_of}

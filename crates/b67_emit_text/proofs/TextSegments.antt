@@ -41,7 +41,7 @@ use Rattle.b67_emit_stmt.proofs.Levels.{at_after}
 use Rattle.b67_emit_stmt.proofs.Matched.{ready_less}
 use Rattle.b67_emit_stmt.proofs.Notes.{grows_equal, grows_then}
 use Rattle.b67_emit_stmt.proofs.Ready.{ready_after}
-use Rattle.b67_emit_text.specs.Codes.{EmitsText, EmitsTextEnd, EmitsWhole, EndingAt, IsMade, Stands, TextAt, TextEndAt, WholeAt, segment_syllables, text_end_syllables, text_syllables, zeros_for}
+use Rattle.b67_emit_text.specs.Codes.{EmitsText, EmitsTextEnd, EmitsWhole, EndingAt, IsMade, TextAt, TextEndAt, WholeAt, segment_syllables, text_end_syllables, text_syllables, zeros_for}
 use Rattle.b67_emit_text.specs.Entries.{Entry, EntryAt, HeadAimed, HeadAt, entries_of, leads, place_there}
 use Rattle.b67_emit_text.proofs.Spots.{Among, Found, each_there, entries_found, noted_there}
 use Rattle.b67_emit_text.proofs.Tables.{head_kept}

@@ -1,8 +1,9 @@
 -- The code of texts, each in a segment of its own.
-use Rattle.std.specs.Prelude.{◌≡◌, ℕ, ◌+◌, ◌*◌, ◌<◌, ◌≤◌, Option, Some, None, List, length, slice_get}
+use Rattle.std.specs.Prelude.{◌≡◌, ℕ, ◌+◌, ◌*◌, ◌<◌, ◌≤◌, Option, Some, None, List, [], length, slice_get}
 use Rattle.algol_tree.specs.declared.TheConstants.{MOST_BLOCK_CELLS}
 use Rattle.algol_tree.specs.declared.tree.Kind.{Kind}
 use Rattle.algol_tree.specs.Plain.{PExpr, PDecls, PStmts}
+use Rattle.b67_ops.specs.declared.TheConstants.{MOST_LEVEL}
 use Rattle.b67_ops.specs.declared.Couple.{Couple}
 use Rattle.b67_ops.specs.declared.Operator.TheVariants as ops
 use Rattle.b67_ops.specs.declared.PlainKind.TheVariants as kinds
@@ -16,8 +17,8 @@ use Rattle.b67_emit_stmt.specs.declared.draft.Draft.{Draft}
 use Rattle.b67_emit_stmt.specs.declared.draft.Known.{Known}
 use Rattle.b67_emit_stmt.specs.declared.draft.Label.{Label}
 use Rattle.b67_emit_stmt.specs.Actuals.{exprs_of}
-use Rattle.b67_emit_stmt.specs.Bodies.{InsideAt, inside_syllables, variables_in}
-use Rattle.b67_emit_stmt.specs.Drafts.{Agrees, Emits, spots_of}
+use Rattle.b67_emit_stmt.specs.Bodies.{HaveInside, InsideAt, IsSmall, inside_syllables, variables_in}
+use Rattle.b67_emit_stmt.specs.Drafts.{AddsStmts, Agrees, Emits, IsAt, IsReady, spots_of}
 use Rattle.b67_emit_stmt.specs.Fits.{InsideFits}
 use Rattle.b67_emit_stmt.specs.Labels.{label_spots_in}
 use Rattle.b67_emit_stmt.specs.Lengths.{celled_in, routines_syllables}
@@ -96,6 +97,24 @@ abbrev pub EmitsWhole : Known → ℕ → Draft → Draft → Option ℕ → PDe
 EmitsWhole s level before after returned ds ss =
     (sc : Place) → sc.segment ≡ s.segment → InsideFits sc s level ds ss →
     Emits (segment_syllables s level returned ds ss) before after (λ later qs target. WholeAt sc later qs level returned ds ss)
+
+-- The code of the text can begin in the draft, which has no code yet: its level is set, it fits, and there is room.
+pub record CanBegin (s : Known) (level : ℕ) (to : Draft) (returned : Option ℕ) (ds : PDecls) (ss : PStmts) : Type 0 where
+  pub cell : IsNear returned
+  pub set : IsAt level to
+  pub most : level ≤ MOST_LEVEL
+  pub start : size to.out.operators ≡ 0
+  pub bare : to.exits.items ≡ []
+  pub unlabelled : to.labels.items ≡ []
+  pub ready : IsReady s to (segment_syllables s level returned ds ss)
+  pub few : IsSmall (zeros_for returned ds) ds (celled_in s ds ss)
+  pub fits : HaveInside s level ds ss
+
+-- it was added, no exit with it, and the formats and the labels of its statements were noted
+pub record AddsWhole (s : Known) (level : ℕ) (before after : Draft) (returned : Option ℕ) (ds : PDecls) (ss : PStmts) : Type 0 where
+  pub code : EmitsWhole s level before after returned ds ss
+  pub exits : after.exits.items ≡ before.exits.items
+  pub lines : AddsStmts before after ss
 
 -- the code of a text in a segment of its own
 pub record Stands (sc : Place) (later : Later) (segment : Segment) (level : ℕ) (returned : Option ℕ) (ds : PDecls) (ss : PStmts) : Type 0 where

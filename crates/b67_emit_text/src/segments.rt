@@ -16,7 +16,7 @@ ghost use Rattle.b67_emit_stmt.specs.Bodies.{HaveInside, IsSmall};
 ghost use Rattle.b67_emit_stmt.specs.Drafts.{AddsStmts, AreListed, IsAt, IsReady};
 ghost use Rattle.b67_emit_stmt.specs.Lengths.{celled_in};
 ghost use Rattle.b67_emit_text.specs.Entries.{entries_of, entry_of};
-ghost use Rattle.b67_emit_text.specs.Codes.{EmitsText, EmitsTextEnd, EmitsWhole, EndingAt, IsMade, IsNear, segment_syllables, text_end_syllables, text_syllables, zeros_for};
+ghost use Rattle.b67_emit_text.specs.Codes.{AddsWhole, CanBegin, EmitsText, EmitsTextEnd, EndingAt, IsMade, IsNear, segment_syllables, text_end_syllables, text_syllables, zeros_for};
 
 use crate::entries::{Declared, entries_of};
 use crate::heads::{aim_head, append_head};
@@ -123,17 +123,10 @@ fn bare_text<E: ExprEmitter>(
     actuals: &[&Expr],
     to: &mut Draft,
 ) -> Result<(), AllocError>
-    requires cell { IsNear returned }
-    requires level { IsAt emitter.now.level to.old }
-    requires start { size to.old.out.operators ≡ 0 }
-    requires ready { IsReady emitter.now.known.now to.old (segment_syllables emitter.now.known.now emitter.now.level returned (plain.decls ds.now) (plain.stmts ss.now)) }
-    requires few { IsSmall (zeros_for returned (plain.decls ds.now)) (plain.decls ds.now) (celled_in emitter.now.known.now (plain.decls ds.now) (plain.stmts ss.now)) }
-    requires fits { HaveInside emitter.now.known.now emitter.now.level (plain.decls ds.now) (plain.stmts ss.now) }
+    requires begins { CanBegin emitter.now.known.now emitter.now.level to.old returned (plain.decls ds.now) (plain.stmts ss.now) }
     requires own { images actuals.now ≡ celled_in emitter.now.known.now (plain.decls ds.now) (plain.stmts ss.now) }
     requires bare { (entries_of emitter.now.level (plain.decls ds.now) (plain.stmts ss.now) ≡ []) × (length actuals.now ≡ 0) }
-    ensures code { OnOk result (EmitsWhole emitter.now.known.now emitter.now.level to.old to.new returned (plain.decls ds.now) (plain.stmts ss.now)) }
-    ensures exits { OnOk result (to.new.exits.items ≡ to.old.exits.items) }
-    ensures lines { OnOk result (AddsStmts to.old to.new (plain.stmts ss.now)) }
+    ensures { OnOk result (AddsWhole emitter.now.known.now emitter.now.level to.old to.new returned (plain.decls ds.now) (plain.stmts ss.now)) }
 {
     let _begin = text_code(emitter, returned, ds, ss, actuals, to)?;
     Ok(())
@@ -150,25 +143,37 @@ fn headed_text<E: ExprEmitter>(
     actuals: &[&Expr],
     to: &mut Draft,
 ) -> Result<(), AllocError>
-    requires cell { IsNear returned }
-    requires level { IsAt emitter.now.level to.old }
-    requires start { size to.old.out.operators ≡ 0 }
-    requires ready { IsReady emitter.now.known.now to.old (segment_syllables emitter.now.known.now emitter.now.level returned (plain.decls ds.now) (plain.stmts ss.now)) }
-    requires few { IsSmall (zeros_for returned (plain.decls ds.now)) (plain.decls ds.now) (celled_in emitter.now.known.now (plain.decls ds.now) (plain.stmts ss.now)) }
-    requires fits { HaveInside emitter.now.known.now emitter.now.level (plain.decls ds.now) (plain.stmts ss.now) }
-    requires most { emitter.now.level ≤ machine.MOST_LEVEL }
-    requires bare { to.old.exits.items ≡ [] }
-    requires unlabelled { to.old.labels.items ≡ [] }
+    requires begins { CanBegin emitter.now.known.now emitter.now.level to.old returned (plain.decls ds.now) (plain.stmts ss.now) }
     requires found { map entry_of entries.now ≡ entries_of emitter.now.level (plain.decls ds.now) (plain.stmts ss.now) }
     requires own { images actuals.now ≡ celled_in emitter.now.known.now (plain.decls ds.now) (plain.stmts ss.now) }
-    ensures code { OnOk result (EmitsWhole emitter.now.known.now emitter.now.level to.old to.new returned (plain.decls ds.now) (plain.stmts ss.now)) }
-    ensures exits { OnOk result (to.new.exits.items ≡ to.old.exits.items) }
-    ensures lines { OnOk result (AddsStmts to.old to.new (plain.stmts ss.now)) }
+    ensures { OnOk result (AddsWhole emitter.now.known.now emitter.now.level to.old to.new returned (plain.decls ds.now) (plain.stmts ss.now)) }
 {
     append_head(entries, emitter.level, &mut to.out)?;
     let begin = text_code(emitter, returned, ds, ss, actuals, to)?;
     aim_head(entries, begin, &to.labels, &mut to.out);
     Ok(())
+}
+
+/// All the code of a text with these labels.
+fn text_with<E: ExprEmitter>(
+    alloc: Global,
+    emitter: &StmtEmitter<E>,
+    returned: Option<u16>,
+    ds: &[Decl],
+    ss: &[Stmt],
+    entries: &[Declared],
+    to: &mut Draft,
+) -> Result<(), AllocError>
+    requires begins { CanBegin emitter.now.known.now emitter.now.level to.old returned (plain.decls ds.now) (plain.stmts ss.now) }
+    requires found { map entry_of entries.now ≡ entries_of emitter.now.level (plain.decls ds.now) (plain.stmts ss.now) }
+    ensures { OnOk result (AddsWhole emitter.now.known.now emitter.now.level to.old to.new returned (plain.decls ds.now) (plain.stmts ss.now)) }
+{
+    let actuals = actuals_of(alloc, ds, ss, emitter.known.names)?;
+    if is_bare(entries, &actuals) {
+        bare_text(emitter, returned, ds, ss, &actuals, to)
+    } else {
+        headed_text(emitter, returned, ds, ss, entries, &actuals, to)
+    }
 }
 
 /// All the code of a text.
@@ -180,26 +185,11 @@ fn text_whole<E: ExprEmitter>(
     ss: &[Stmt],
     to: &mut Draft,
 ) -> Result<(), AllocError>
-    requires cell { IsNear returned }
-    requires level { IsAt emitter.now.level to.old }
-    requires start { size to.old.out.operators ≡ 0 }
-    requires ready { IsReady emitter.now.known.now to.old (segment_syllables emitter.now.known.now emitter.now.level returned (plain.decls ds.now) (plain.stmts ss.now)) }
-    requires few { IsSmall (zeros_for returned (plain.decls ds.now)) (plain.decls ds.now) (celled_in emitter.now.known.now (plain.decls ds.now) (plain.stmts ss.now)) }
-    requires fits { HaveInside emitter.now.known.now emitter.now.level (plain.decls ds.now) (plain.stmts ss.now) }
-    requires most { emitter.now.level ≤ machine.MOST_LEVEL }
-    requires bare { to.old.exits.items ≡ [] }
-    requires unlabelled { to.old.labels.items ≡ [] }
-    ensures code { OnOk result (EmitsWhole emitter.now.known.now emitter.now.level to.old to.new returned (plain.decls ds.now) (plain.stmts ss.now)) }
-    ensures exits { OnOk result (to.new.exits.items ≡ to.old.exits.items) }
-    ensures lines { OnOk result (AddsStmts to.old to.new (plain.stmts ss.now)) }
+    requires { CanBegin emitter.now.known.now emitter.now.level to.old returned (plain.decls ds.now) (plain.stmts ss.now) }
+    ensures { OnOk result (AddsWhole emitter.now.known.now emitter.now.level to.old to.new returned (plain.decls ds.now) (plain.stmts ss.now)) }
 {
     let entries = entries_of(alloc, ds, ss, emitter.level)?;
-    let actuals = actuals_of(alloc, ds, ss, emitter.known.names)?;
-    if is_bare(&entries, &actuals) {
-        bare_text(emitter, returned, ds, ss, &actuals, to)
-    } else {
-        headed_text(emitter, returned, ds, ss, &entries, &actuals, to)
-    }
+    text_with(alloc, emitter, returned, ds, ss, &entries, to)
 }
 
 /// The code of a text whose block has this level, in a segment of its own, and the formats with those of its lines.

@@ -1,4 +1,4 @@
-use Rattle.std.proofs.Common.{◌≡◌, ◌∙◌, refl, sym}
+use Rattle.std.proofs.Common.{◌∙◌, refl, sym}
 use Rattle.std.specs.Prelude.{option_copied}
 use Rattle.b67_emit_text.proofs.Led.{label_first, label_next}
 use Rattle.b67_emit_text.proofs.entries.+label_before.Goals as goal

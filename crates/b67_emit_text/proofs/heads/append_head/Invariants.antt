@@ -1,5 +1,4 @@
 use Rattle.std.proofs.Common.{◌≡◌, ◌+◌, ◌*◌, map, take, drop}
-use Rattle.std.specs.Prelude.{IsSome}
 use Rattle.std.specs.List.{AllByRecursion}
 use Rattle.b67_segment.specs.Operators.{size}
 use Rattle.b67_emit_text.specs.Entries.{HeadAt, IsLeveled, entry_of}

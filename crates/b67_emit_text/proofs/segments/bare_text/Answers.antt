@@ -1,4 +1,4 @@
-use Rattle.std.proofs.Common.{◌≡◌, ◌∙◌, ℕ, List, length, ap, sym, arith}
+use Rattle.std.proofs.Common.{arith}
 use Rattle.algol_tree.specs.Image.{decls, stmts}
 use Rattle.b67_emit_stmt.specs.Actuals.{images}
 use Rattle.b67_emit_stmt.proofs.Blocks.{images_long}
@@ -11,19 +11,23 @@ text_code-requires g c =
     let s = c.args.emitter.now.known.now in
     let level = c.args.emitter.now.level in
     record {
-      cell = c.requires.cell;
-      level = c.requires.level;
-      ready = bare_ready s level c.args.returned (decls c.args.ds.now) (stmts c.args.ss.now) c.args.to.now c.requires.ready;
+      cell = c.requires.begins.cell;
+      level = c.requires.begins.set;
+      ready = bare_ready s level c.args.returned (decls c.args.ds.now) (stmts c.args.ss.now) c.args.to.now c.requires.begins.ready;
       own = c.requires.own;
-      few = c.requires.few;
-      fits = c.requires.fits;
+      few = c.requires.begins.few;
+      fits = c.requires.begins.fits;
     }
 
-pub returns-clause-code : goal.returns-clause-code
-returns-clause-code g c =
+pub returns : goal.returns
+returns g c =
     let s = c.args.emitter.now.known.now in
     let level = c.args.emitter.now.level in
     let ds = decls c.args.ds.now in
     let ss = stmts c.args.ss.now in
     let none = none_celled (images c.args.actuals.now) _ c.requires.own (omega (arith, images_long c.args.actuals.now, c.requires.bare.1)) in
-    plain_whole s level c.args.returned ds ss c.args.to.now c.requires.start c.requires.bare.0 none c.text_code.new.to c.in_ok-_begin._begin c.in_ok-_begin.ensures.code
+    record {
+      code = plain_whole s level c.args.returned ds ss c.args.to.now c.requires.begins.start c.requires.bare.0 none c.text_code.new.to c.in_ok-_begin._begin c.in_ok-_begin.ensures.code;
+      exits = c.in_ok-_begin.ensures.exits;
+      lines = c.in_ok-_begin.ensures.lines;
+    }

@@ -16,7 +16,7 @@ text_whole-requires g c =
     let new = is_new level c.args.formats.items c.new.result a c.new.ensures c.in_ok-level.ensures.ok c.new-2.ensures.items refl c.new-3.ensures.items in
     record {
       cell = c.requires.cell;
-      level = at_new new c.requires.outer;
+      set = at_new new c.requires.outer;
       most = c.requires.most;
       start = new.start;
       ready = ready_new new s (segment_syllables s level c.args.returned ds ss) c.requires.near c.requires.inner c.requires.many c.requires.segment c.requires.formats (omega (arith, c.requires.room));

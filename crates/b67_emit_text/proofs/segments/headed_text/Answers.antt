@@ -13,12 +13,12 @@ append_head-requires g c =
     let ds = decls c.args.ds.now in
     let ss = stmts c.args.ss.now in
     record {
-      start = c.requires.start;
-      set = c.requires.level.set;
-      outer = c.requires.level.outer;
-      most = c.requires.most;
-      levels = found_leveled s level c.args.returned ds ss c.args.entries.now c.requires.found c.requires.level.outer c.requires.most (low_inside s level ds ss c.requires.fits);
-      room = head_room s level c.args.returned ds ss c.args.entries.now c.requires.found c.args.to.now c.requires.ready;
+      start = c.requires.begins.start;
+      set = c.requires.begins.set.set;
+      outer = c.requires.begins.set.outer;
+      most = c.requires.begins.most;
+      levels = found_leveled s level c.args.returned ds ss c.args.entries.now c.requires.found c.requires.begins.set.outer c.requires.begins.most (low_inside s level ds ss c.requires.begins.fits);
+      room = head_room s level c.args.returned ds ss c.args.entries.now c.requires.found c.args.to.now c.requires.begins.ready;
     }
 
 pub text_code-requires : goal.text_code-requires
@@ -30,14 +30,14 @@ text_code-requires g c =
     let es = map entry_of c.args.entries.now in
     let wide = head_wide s level c.args.returned ds ss c.args.entries.now c.requires.found _ c.in_ok-append_head.ensures.size in
     record {
-      cell = c.requires.cell;
-      level = begun_at s level c.args.returned ds ss c.args.to.now c.requires.start c.requires.level c.requires.bare c.requires.unlabelled es c.requires.found c.append_head.new.out
+      cell = c.requires.begins.cell;
+      level = begun_at s level c.args.returned ds ss c.args.to.now c.requires.begins.start c.requires.begins.set c.requires.begins.bare c.requires.begins.unlabelled es c.requires.found c.append_head.new.out
           c.in_ok-append_head.ensures.head c.in_ok-append_head.ensures.level wide;
-      ready = begun_ready s level c.args.returned ds ss c.args.to.now c.requires.start c.requires.level c.requires.bare c.requires.unlabelled es c.requires.found c.append_head.new.out
-          c.in_ok-append_head.ensures.head c.in_ok-append_head.ensures.level wide c.requires.ready;
+      ready = begun_ready s level c.args.returned ds ss c.args.to.now c.requires.begins.start c.requires.begins.set c.requires.begins.bare c.requires.begins.unlabelled es c.requires.found c.append_head.new.out
+          c.in_ok-append_head.ensures.head c.in_ok-append_head.ensures.level wide c.requires.begins.ready;
       own = c.requires.own;
-      few = c.requires.few;
-      fits = c.requires.fits;
+      few = c.requires.begins.few;
+      fits = c.requires.begins.fits;
     }
 
 pub aim_head-requires : goal.aim_head-requires
@@ -49,13 +49,13 @@ aim_head-requires g c =
     let es = map entry_of c.args.entries.now in
     let wide = head_wide s level c.args.returned ds ss c.args.entries.now c.requires.found _ c.in_ok-append_head.ensures.size in
     record {
-      head = head_there s level c.args.returned ds ss c.args.to.now c.requires.start c.requires.level c.requires.bare c.requires.unlabelled es c.requires.found c.append_head.new.out
-          c.in_ok-append_head.ensures.head c.in_ok-append_head.ensures.level wide c.text_code.new.to c.in_ok-begin.begin c.in_ok-begin.ensures.code c.requires.fits;
-      room = head_room s level c.args.returned ds ss c.args.entries.now c.requires.found c.args.to.now c.requires.ready;
+      head = head_there s level c.args.returned ds ss c.args.to.now c.requires.begins.start c.requires.begins.set c.requires.begins.bare c.requires.begins.unlabelled es c.requires.found c.append_head.new.out
+          c.in_ok-append_head.ensures.head c.in_ok-append_head.ensures.level wide c.text_code.new.to c.in_ok-begin.begin c.in_ok-begin.ensures.code c.requires.begins.fits;
+      room = head_room s level c.args.returned ds ss c.args.entries.now c.requires.found c.args.to.now c.requires.begins.ready;
     }
 
-pub returns-clause-code : goal.returns-clause-code
-returns-clause-code g c =
+pub returns : goal.returns
+returns g c =
     let s = c.args.emitter.now.known.now in
     let level = c.args.emitter.now.level in
     let ds = decls c.args.ds.now in
@@ -63,9 +63,10 @@ returns-clause-code g c =
     let es = map entry_of c.args.entries.now in
     let wide = head_wide s level c.args.returned ds ss c.args.entries.now c.requires.found _ c.in_ok-append_head.ensures.size in
     let A : List Label → Type 0 = λ l. HeadAimed es c.in_ok-begin.begin l c.text_code.new.to.out c.aim_head.new.out in
-    head_whole s level c.args.returned ds ss c.args.to.now c.requires.start c.requires.level c.requires.bare c.requires.unlabelled es c.requires.found c.append_head.new.out
-    c.in_ok-append_head.ensures.head c.in_ok-append_head.ensures.level wide c.text_code.new.to c.in_ok-begin.begin c.in_ok-begin.ensures.code c.in_ok-begin.ensures.exits
-    c.in_ok-begin.ensures.lines c.aim_head.new.out (subst A c.deref.ensures.value c.aim_head.ensures)
-
-pub returns-clause-lines : goal.returns-clause-lines
-returns-clause-lines g c = record { formats = c.in_ok-begin.ensures.lines.formats; labels = c.in_ok-begin.ensures.lines.labels }
+    record {
+      code = head_whole s level c.args.returned ds ss c.args.to.now c.requires.begins.start c.requires.begins.set c.requires.begins.bare c.requires.begins.unlabelled es c.requires.found c.append_head.new.out
+          c.in_ok-append_head.ensures.head c.in_ok-append_head.ensures.level wide c.text_code.new.to c.in_ok-begin.begin c.in_ok-begin.ensures.code c.in_ok-begin.ensures.exits
+          c.in_ok-begin.ensures.lines c.aim_head.new.out (subst A c.deref.ensures.value c.aim_head.ensures);
+      exits = c.in_ok-begin.ensures.exits;
+      lines = record { formats = c.in_ok-begin.ensures.lines.formats; labels = c.in_ok-begin.ensures.lines.labels };
+    }

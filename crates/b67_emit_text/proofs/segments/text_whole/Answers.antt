@@ -1,6 +1,5 @@
-use Rattle.std.proofs.Common.{◌≡◌, ◌∙◌, ℕ, List, length, map, ap, sym, arith}
 use Rattle.algol_tree.specs.Image.{decls, stmts}
-use Rattle.b67_emit_text.proofs.TextHeads.{low_inside, none_found}
+use Rattle.b67_emit_text.proofs.TextHeads.{low_inside}
 use Rattle.b67_emit_text.proofs.segments.text_whole.Goals as goal
 
 pub entries_of-requires : goal.entries_of-requires

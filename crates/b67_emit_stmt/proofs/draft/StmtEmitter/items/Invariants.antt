@@ -1,4 +1,4 @@
-use Rattle.std.proofs.Common.{◌≡◌, ◌+◌, ◌≤◌, List, take}
+use Rattle.std.proofs.Common.{◌≡◌, ◌+◌, ◌≤◌, take}
 use Rattle.algol_tree.specs.Image.{exprs}
 use Rattle.b67_emit_stmt.specs.Lengths.{items_syllables}
 use Rattle.b67_emit_stmt.specs.Places.{Later, Place, LineAt}
