@@ -6,7 +6,7 @@ ghost use Rattle.b67_schedule.specs.Schedules.{entries};
 ghost use Rattle.b67_segment.specs.declared.TheConstants.{MOST_SEGMENT_WORDS};
 ghost use Rattle.b67_table.specs.Sound.{Sound};
 ghost use Rattle.b67_machine.specs.Beginning.{IsFresh};
-ghost use Rattle.b67_words.specs.declared.TheConstants.{MOST_BUDGET};
+ghost use Rattle.b67_words.specs.declared.TheConstants.{MOST_BUDGET, MOST_PROCESSORS};
 ghost use Rattle.b67_stands.specs.Alone.{ByOne};
 ghost use Rattle.b67_stands.specs.Ran.{HasRun, HasRunAlone};
 ghost use Rattle.b67_stands.specs.Running.{answer_of};
@@ -166,7 +166,7 @@ fn run_named<
     requires sound { Sound machine.code }
     requires segments { All (λ segment. length segment.words ≤ MOST_SEGMENT_WORDS) machine.code.segments }
     requires budget { (budget ≡ N.budget) × (1 ≤ budget) × (budget ≤ MOST_BUDGET) }
-    requires processors { (processors ≡ N.processors) × (1 ≤ processors) × (processors ≤ 8) }
+    requires processors { (processors ≡ N.processors) × (1 ≤ processors) × (processors ≤ MOST_PROCESSORS) }
     requires acts { (acts.name ≡ N.name) × (acts.parts ≡ N.parts) × (acts.parts ≡ processors) }
     requires leaves { (leaves.name ≡ L.name) × (leaves.parts ≡ L.parts) × (leaves.parts ≡ processors) }
     requires rule { (n takes : ℕ) → P.pick rule n takes ≡ N.pick n takes }
@@ -203,7 +203,7 @@ pub fn run_by_processors<C: Core + Send, G: Gate + Sync, R: Threads + Wait + Syn
     requires sound { Sound machine.code }
     requires segments { All (λ segment. length segment.words ≤ MOST_SEGMENT_WORDS) machine.code.segments }
     requires budget { (1 ≤ budget) × (budget ≤ MOST_BUDGET) }
-    requires processors { (1 ≤ processors) × (processors ≤ 8) }
+    requires processors { (1 ≤ processors) × (processors ≤ MOST_PROCESSORS) }
     requires none { counts.old.items ≡ [] }
     requires room { processors ≤ vec_capacity counts.old }
     ensures ran { IfOk result (λ ran. HasRun machine.code budget ran.machine ran.schedule ran.answer) }
