@@ -52,27 +52,27 @@ use Rattle.b67_faithful.specs.Correspondence.{as_action}
 use Rattle.b67_faithful.proofs.Choices.{length_set_numbered}
 use Rattle.b67_faithful.proofs.Contradictions.{true_false}
 use Rattle.b67_fitting.specs.Nested.{AreNested}
+use Rattle.b67_rows.proofs.AskedElements.{array_asked}
+use Rattle.b67_rows.proofs.Cored.{registers_now}
+use Rattle.b67_rows.proofs.IntrinsicRows.{without_call, enter_class}
+use Rattle.b67_rows.proofs.Numbers.{numbered_set, numbered_other}
+use Rattle.b67_rows.proofs.Rows.{action_not_plain, action_is}
+use Rattle.b67_rows.proofs.Unmade.{makes, unmade}
+use Rattle.b67_frames.specs.Arrays.{Layout, named_from}
+use Rattle.b67_frames.specs.Events.{event_there}
+use Rattle.b67_frames.proofs.EventRows.{acted_releases, acted_raw}
+use Rattle.b67_scenes.specs.Pictures.{Pictures, PicturesBy}
+use Rattle.b67_scenes.specs.States.{StateIs}
+use Rattle.b67_scenes.proofs.EventHomes.{cell_there}
+use Rattle.b67_scenes.proofs.Freeing.{LivesIn, all_freed, freed_beside}
+use Rattle.b67_scenes.proofs.Homes.{operator_there}
+use Rattle.b67_scenes.proofs.Scene.{Scene}
+use Rattle.b67_scenes.proofs.Stage.{state_there, process_is, choice_is, gives_within}
+use Rattle.b67_scenes.proofs.Staying.{text_in, level_in, context_in, most_in}
 use Rattle.b67_pictures.specs.Acting.{Does, gave}
-use Rattle.b67_pictures.specs.Arrays.{Layout, named_from}
-use Rattle.b67_pictures.specs.Events.{event_there}
-use Rattle.b67_pictures.specs.Pictures.{Pictures, PicturesBy}
-use Rattle.b67_pictures.specs.States.{StateIs}
-use Rattle.b67_pictures.proofs.AskedElements.{array_asked}
 use Rattle.b67_pictures.proofs.AskingEvents.{OnEvent, on_event as on_event_there, open_as, is_open_there, world_has}
-use Rattle.b67_pictures.proofs.Cored.{registers_now}
 use Rattle.b67_pictures.proofs.EventChanging.{event_world, event_pictured}
-use Rattle.b67_pictures.proofs.EventHomes.{cell_there}
-use Rattle.b67_pictures.proofs.EventRows.{acted_releases, acted_raw}
-use Rattle.b67_pictures.proofs.Freeing.{LivesIn, all_freed, freed_beside}
-use Rattle.b67_pictures.proofs.Homes.{operator_there}
 use Rattle.b67_pictures.proofs.InFrame.{does_in_frame}
-use Rattle.b67_pictures.proofs.IntrinsicRows.{without_call, enter_class}
-use Rattle.b67_pictures.proofs.Numbers.{numbered_set, numbered_other}
-use Rattle.b67_pictures.proofs.Rows.{action_not_plain, action_is}
-use Rattle.b67_pictures.proofs.Scene.{Scene}
-use Rattle.b67_pictures.proofs.Stage.{state_there, process_is, choice_is, gives_within}
-use Rattle.b67_pictures.proofs.Staying.{text_in, level_in, context_in, most_in}
-use Rattle.b67_pictures.proofs.Unmade.{makes, unmade}
 
 -- an event that a process acts on, whatever it does with it
 module _ (tree : PProgram) (code : Code) (texts : Texts) (nested : AreNested (scopes_of tree)) (fragments : FragmentsArePerformed) (keeps : RestsKeepToTheirText) (order : AllIsMadeInOrder)

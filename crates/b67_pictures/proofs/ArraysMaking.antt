@@ -23,7 +23,7 @@ use Rattle.b67_ops.specs.declared.PlainKind.TheVariants as kinds
 use Rattle.b67_ops.specs.declared.intrinsic.Intrinsic.TheVariants.{Arrays}
 use Rattle.b67_segment.specs.Operators.{Placed}
 use Rattle.b67_segment.specs.declared.code.Code.{Code}
-use Rattle.b67_pictures.specs.States.{StateIs}
+use Rattle.b67_scenes.specs.States.{StateIs}
 use Rattle.b67_table.specs.Effect as effects
 use Rattle.b67_table.specs.Ending.{failed}
 use Rattle.b67_table.specs.Image.{Image}
@@ -38,32 +38,32 @@ use Rattle.b67_standing.specs.Standing.{ActionAt, Acted, ComesTo, operands}
 use Rattle.b67_cores.specs.Cores.{Core}
 use Rattle.b67_cores.specs.Stretches.{FragmentsArePerformed, CellsAreMade}
 use Rattle.b67_fitting.specs.Nested.{AreNested}
+use Rattle.b67_rows.proofs.IntrinsicRows.{enter_class}
+use Rattle.b67_rows.proofs.Rows.{action_not_plain, action_is, fault_not_plain}
+use Rattle.b67_frames.specs.Arrays.{Layout, Allotted, AreMade, ArraysAre}
+use Rattle.b67_frames.specs.Frames.{Framed}
+use Rattle.b67_frames.proofs.ArraySizes.{HasDimensions, has_dimensions, bounds_lows}
+use Rattle.b67_frames.proofs.ArraysMade.{rows_after, Makes, allotted_new, descriptors_new, new_made, arrays_after}
+use Rattle.b67_frames.proofs.MakingRow.{size_faults, room_faults, arrays_raw}
+use Rattle.b67_scenes.specs.Pictures.{Pictures}
+use Rattle.b67_scenes.proofs.ArraysGiven.{arrays_given, given_lie, given_fit, given_whole}
+use Rattle.b67_scenes.proofs.Calling.{IsCall, call, IsEntered}
+use Rattle.b67_scenes.proofs.Homes.{operator_there}
+use Rattle.b67_scenes.proofs.MakingFrame as frames
+use Rattle.b67_scenes.proofs.Scene.{Scene}
+use Rattle.b67_scenes.proofs.Stage.{faults_so, choice_is, faulted}
+use Rattle.b67_scenes.proofs.Staying.{text_in, level_in, context_in, most_in}
 use Rattle.b67_pictures.specs.Acting.{Does, failed_by}
-use Rattle.b67_pictures.specs.Arrays.{Layout, Allotted, AreMade, ArraysAre}
-use Rattle.b67_pictures.specs.Frames.{Framed}
-use Rattle.b67_pictures.specs.Pictures.{Pictures}
-use Rattle.b67_pictures.proofs.ArraySizes.{HasDimensions, has_dimensions, bounds_lows}
-use Rattle.b67_pictures.proofs.ArraysGiven.{arrays_given, given_lie, given_fit, given_whole}
-use Rattle.b67_pictures.proofs.ArraysMade.{rows_after, Makes, allotted_new, descriptors_new, new_made, arrays_after}
-use Rattle.b67_pictures.proofs.Calling.{IsCall, call, IsEntered}
 use Rattle.b67_pictures.proofs.Dispatching.{IsDone}
-use Rattle.b67_pictures.proofs.Homes.{operator_there}
-use Rattle.b67_pictures.proofs.IntrinsicRows.{enter_class}
-use Rattle.b67_pictures.proofs.MakingFrame as frames
-use Rattle.b67_pictures.proofs.MakingRow.{size_faults, room_faults, arrays_raw}
-use Rattle.b67_pictures.proofs.Rows.{action_not_plain, action_is, fault_not_plain}
-use Rattle.b67_pictures.proofs.Scene.{Scene}
-use Rattle.b67_pictures.proofs.Stage.{faults_so, choice_is, faulted}
-use Rattle.b67_pictures.proofs.Staying.{text_in, level_in, context_in, most_in}
 use Rattle.algol_meaning.specs.Critical.{is_evaluation}
 use Rattle.algol_paths.specs.Arrays.{Made, made_in, an_array, arrays_in, all_to_make, all_left_to_make}
-use Rattle.b67_pictures.specs.Events.{EventsAre}
-use Rattle.b67_pictures.proofs.EventsKept.{HaveNoEvent, event_in_front, events_replaced}
-use Rattle.b67_pictures.proofs.Lying.{asks_as_own}
-use Rattle.b67_pictures.proofs.MakingAsked.{makes_first}
+use Rattle.b67_rows.proofs.MakingAsked.{makes_first}
+use Rattle.b67_rows.proofs.Segmented.{length_mapped}
+use Rattle.b67_frames.specs.Events.{EventsAre}
+use Rattle.b67_frames.proofs.EventsKept.{HaveNoEvent, event_in_front, events_replaced}
+use Rattle.b67_frames.proofs.Lying.{asks_as_own}
+use Rattle.b67_frames.proofs.Zeros.{cells_length}
 use Rattle.b67_pictures.proofs.MakingCells.{none_left, cells_are_made}
-use Rattle.b67_pictures.proofs.Segmented.{length_mapped}
-use Rattle.b67_pictures.proofs.Zeros.{cells_length}
 
 -- there are as many arrays as names
 made_arrays_many : (kind : Kind) (ns : List Named) (pairs : List PPair) → length (made_in kind ns pairs) ≡ length ns

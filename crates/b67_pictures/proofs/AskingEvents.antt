@@ -38,24 +38,24 @@ use Rattle.b67_cores.specs.Stretches.{CoreAt, FragmentsArePerformed}
 use Rattle.b67_cores.proofs.Bits.{truth_is_truth}
 use Rattle.b67_faithful.specs.Correspondence.{as_action}
 use Rattle.b67_fitting.specs.Nested.{AreNested}
+use Rattle.b67_rows.proofs.AskedElements.{array_asked}
+use Rattle.b67_rows.proofs.IntrinsicRows.{without_call, enter_class}
+use Rattle.b67_rows.proofs.Rows.{action_not_plain, action_is}
+use Rattle.b67_rows.proofs.Slotted.{Top, top_slot}
+use Rattle.b67_rows.proofs.Unmade.{makes, unmade}
+use Rattle.b67_rows.proofs.Words.{reference_read}
+use Rattle.b67_frames.specs.Arrays.{Layout, named_from}
+use Rattle.b67_frames.specs.Events.{event_there}
+use Rattle.b67_frames.proofs.EventRows.{told_core, told_raw}
+use Rattle.b67_scenes.specs.States.{StateIs}
+use Rattle.b67_scenes.proofs.Calling.{IsEntered, entered_with, one_lying}
+use Rattle.b67_scenes.proofs.EventHomes.{cell_there, EventHome, event_home, has_there}
+use Rattle.b67_scenes.proofs.Homes.{operator_there}
+use Rattle.b67_scenes.proofs.Scene.{Scene}
+use Rattle.b67_scenes.proofs.Stage.{choice_is}
+use Rattle.b67_scenes.proofs.Staying.{text_in, level_in, context_in, most_in}
 use Rattle.b67_pictures.specs.Acting.{Does}
-use Rattle.b67_pictures.specs.Arrays.{Layout, named_from}
-use Rattle.b67_pictures.specs.Events.{event_there}
-use Rattle.b67_pictures.specs.States.{StateIs}
-use Rattle.b67_pictures.proofs.AskedElements.{array_asked}
-use Rattle.b67_pictures.proofs.Calling.{IsEntered, entered_with, one_lying}
-use Rattle.b67_pictures.proofs.EventHomes.{cell_there, EventHome, event_home, has_there}
-use Rattle.b67_pictures.proofs.EventRows.{told_core, told_raw}
-use Rattle.b67_pictures.proofs.Homes.{operator_there}
 use Rattle.b67_pictures.proofs.InFrame.{does_in_frame}
-use Rattle.b67_pictures.proofs.IntrinsicRows.{without_call, enter_class}
-use Rattle.b67_pictures.proofs.Rows.{action_not_plain, action_is}
-use Rattle.b67_pictures.proofs.Scene.{Scene}
-use Rattle.b67_pictures.proofs.Slotted.{Top, top_slot}
-use Rattle.b67_pictures.proofs.Stage.{choice_is}
-use Rattle.b67_pictures.proofs.Staying.{text_in, level_in, context_in, most_in}
-use Rattle.b67_pictures.proofs.Unmade.{makes, unmade}
-use Rattle.b67_pictures.proofs.Words.{reference_read}
 
 -- ---- where an intrinsic is called with the reference of an event
 

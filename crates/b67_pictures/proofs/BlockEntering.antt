@@ -29,7 +29,7 @@ use Rattle.b67_ops.specs.declared.PlainKind.TheVariants as kinds
 use Rattle.b67_segment.specs.Operators.{Placed}
 use Rattle.b67_segment.specs.Syllables.{Spells}
 use Rattle.b67_segment.specs.declared.code.Code.{Code}
-use Rattle.b67_pictures.specs.States.{StateIs}
+use Rattle.b67_scenes.specs.States.{StateIs}
 use Rattle.b67_table.specs.Chains.{place}
 use Rattle.b67_table.specs.Image.{Image}
 use Rattle.b67_table.specs.Private.{frame, display_at}
@@ -52,30 +52,30 @@ use Rattle.b67_cores.specs.Stretches.{BlocksBegin, FragmentsArePerformed}
 use Rattle.b67_faithful.specs.Faithful.{IsShort}
 use Rattle.b67_faithful.specs.Weight.{tokens_around}
 use Rattle.b67_fitting.specs.Nested.{LiesNested}
-use Rattle.b67_pictures.specs.Arrays.{Layout}
+use Rattle.b67_rows.proofs.AskedEntries.{blocks_seen, block_unmade}
+use Rattle.b67_frames.specs.Arrays.{Layout}
+use Rattle.b67_frames.specs.Frames.{block_controls, controls_count, most_around, IsComplete, Owned, run_level}
+use Rattle.b67_frames.proofs.ControlWords.{controls_fit}
+use Rattle.b67_frames.proofs.Completing.{complete_of}
 use Rattle.b67_pictures.specs.Acting.{Does}
-use Rattle.b67_pictures.specs.Frames.{block_controls, controls_count, most_around, IsComplete, Owned, run_level}
-use Rattle.b67_pictures.proofs.ControlWords.{controls_fit}
-use Rattle.b67_pictures.proofs.AskedEntries.{blocks_seen, block_unmade}
-use Rattle.b67_pictures.proofs.Completing.{complete_of}
 use Rattle.b67_letters.specs.Letters.{called_by}
-use Rattle.b67_pictures.proofs.EnterBlockRow.{block_leads, block_calls}
-use Rattle.b67_pictures.proofs.Entries.{Calls}
-use Rattle.b67_pictures.proofs.FreshCells.{none_given, none_are, none_lead}
-use Rattle.b67_pictures.proofs.EntryRow.{Leads}
-use Rattle.b67_pictures.proofs.GivenWords.{none_wanted, ActualsAre}
+use Rattle.b67_rows.proofs.EnterBlockRow.{block_leads, block_calls}
+use Rattle.b67_rows.proofs.EntryRow.{Leads}
+use Rattle.b67_rows.proofs.GivenWords.{none_wanted, ActualsAre}
+use Rattle.b67_rows.proofs.Growing.{plain_items}
+use Rattle.b67_rows.proofs.Segmented.{inner_segment}
+use Rattle.b67_rows.proofs.StoreRow.{most_is}
+use Rattle.b67_rows.proofs.Unmade.{makes, unmade}
+use Rattle.b67_frames.proofs.FreshCells.{none_given, none_are, none_lead}
+use Rattle.b67_frames.proofs.Linked.{Linked, begins_core, own_linked, linked_low, level_around}
+use Rattle.b67_scenes.proofs.Entries.{Calls}
+use Rattle.b67_scenes.proofs.Scene.{Scene, shown_frame}
+use Rattle.b67_scenes.proofs.Stage.{choice_is}
+use Rattle.b67_scenes.proofs.Staying.{text_in, level_in, context_in, most_in, names_in}
 use Rattle.b67_pictures.proofs.FrameEntering.{AreCells, Body, GoesOnBehind, entering}
-use Rattle.b67_pictures.proofs.Growing.{plain_items}
-use Rattle.b67_pictures.proofs.Linked.{Linked, begins_core, own_linked, linked_low, level_around}
-use Rattle.b67_pictures.proofs.Scene.{Scene, shown_frame}
-use Rattle.b67_pictures.proofs.Segmented.{inner_segment}
-use Rattle.b67_pictures.proofs.Stage.{choice_is}
-use Rattle.b67_pictures.proofs.Staying.{text_in, level_in, context_in, most_in, names_in}
-use Rattle.b67_pictures.proofs.StoreRow.{most_is}
-use Rattle.b67_pictures.proofs.Unmade.{makes, unmade}
 use Rattle.b67_table.specs.Look.{seen}
 use Rattle.b67_table.specs.References.{cell_of}
-use Rattle.b67_pictures.proofs.Lying.{part_own, owned_frame, asks_as_own, runs_at}
+use Rattle.b67_frames.proofs.Lying.{part_own, owned_frame, asks_as_own, runs_at}
 
 module _ (tree : PProgram) (code : Code) (texts : Texts) (nested : LiesNested tree) (short : IsShort tree code)
     (fragments : FragmentsArePerformed) (begins_so : BlocksBegin) (starts : InnerBlocksStart) (follow : InnerBlocksFollow) (keeps : RestsKeepToTheirText) (order : AllIsMadeInOrder)

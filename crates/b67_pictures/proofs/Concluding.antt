@@ -9,8 +9,8 @@ use Rattle.b67_templates.specs.Programs.{Texts}
 use Rattle.b67_cores.proofs.Making.{cells_are_made}
 use Rattle.b67_cores.proofs.Placing.{fragments_are_performed}
 use Rattle.b67_fitting.specs.Nested.{AreNested}
+use Rattle.b67_frames.proofs.ClosedArrays.{frames_close}
 use Rattle.b67_pictures.specs.Programs.{NestedProgramsAreFaithful}
-use Rattle.b67_pictures.proofs.ClosedArrays.{frames_close}
 use Rattle.b67_pictures.proofs.ArraysMaking.{making_done}
 use Rattle.b67_pictures.proofs.TouchingApart.{processes_apart}
 use Rattle.b67_pictures.proofs.ElementActions.{element_read_done, index_done, element_store_done, passing_done}

@@ -18,13 +18,13 @@ use Rattle.b67_cores.proofs.Performing.{steps_keep}
 use Rattle.b67_faithful.specs.Faithful.{longest}
 use Rattle.b67_faithful.specs.Simulation.{AreFew}
 use Rattle.b67_faithful.proofs.Counting.{longest_is}
-use Rattle.b67_pictures.specs.Arrays.{Layout}
-use Rattle.b67_pictures.specs.Frames.{Frames}
-use Rattle.b67_pictures.specs.Pictures.{Living, Pictured, living, dead, PicturesBy}
-use Rattle.b67_pictures.proofs.Numbers.{numbered_beyond}
-use Rattle.b67_pictures.proofs.Plainly.{no_operator}
+use Rattle.b67_rows.proofs.Numbers.{numbered_beyond}
+use Rattle.b67_frames.specs.Arrays.{Layout}
+use Rattle.b67_frames.specs.Frames.{Frames}
+use Rattle.b67_frames.proofs.Lying.{runs_low}
+use Rattle.b67_scenes.specs.Pictures.{Living, Pictured, living, dead, PicturesBy}
+use Rattle.b67_scenes.proofs.Plainly.{no_operator}
 use Rattle.b67_pictures.proofs.Simulating.{gives_interrupts, faults_interrupts}
-use Rattle.b67_pictures.proofs.Lying.{runs_low}
 
 -- ---- a process that does not live performs nothing
 

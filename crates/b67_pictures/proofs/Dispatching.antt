@@ -19,7 +19,7 @@ use Rattle.algol_meaning.specs.Asks.{Ask, nothing, reads, reads_element, indexes
 use Rattle.algol_paths.specs.Laws.{RestsKeepToTheirText, AllIsMadeInOrder}
 use Rattle.b67_ops.specs.declared.Couple.{Couple}
 use Rattle.b67_segment.specs.declared.code.Code.{Code}
-use Rattle.b67_pictures.specs.States.{StateIs}
+use Rattle.b67_scenes.specs.States.{StateIs}
 use Rattle.b67_table.specs.Image.{Image}
 use Rattle.b67_templates.specs.Contexts.{Yields}
 use Rattle.b67_templates.specs.Cells.{Simple, Found, found_from, simple_cells, IsVariable, IsRead, of_variable, of_formal}
@@ -30,10 +30,10 @@ use Rattle.b67_standing.specs.Laws.{RestsGoOn}
 use Rattle.b67_cores.specs.Cores.{Core}
 use Rattle.b67_cores.specs.Stretches.{FragmentsArePerformed}
 use Rattle.b67_fitting.specs.Nested.{AreNested, LiesNested}
-use Rattle.b67_pictures.specs.Arrays.{Layout}
+use Rattle.b67_frames.specs.Arrays.{Layout}
+use Rattle.b67_scenes.proofs.Scene.{Scene}
+use Rattle.b67_scenes.proofs.Staying.{text_in, level_in, context_in, most_in, names_in}
 use Rattle.b67_pictures.specs.Acting.{Does}
-use Rattle.b67_pictures.proofs.Scene.{Scene}
-use Rattle.b67_pictures.proofs.Staying.{text_in, level_in, context_in, most_in, names_in}
 use Rattle.b67_pictures.proofs.Resolving.{resolving}
 use Rattle.b67_pictures.proofs.Evaluating.{ActualsAreEntered, WaitsAfter, ReturnsAfter, evaluating_value, evaluating_place}
 use Rattle.b67_pictures.proofs.StoringThere.{storing_there}

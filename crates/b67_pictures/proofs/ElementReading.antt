@@ -21,7 +21,7 @@ use Rattle.b67_segment.specs.declared.code.Code.{Code}
 use Rattle.b67_control.specs.declared.Descriptor.{Descriptor}
 use Rattle.b67_store.specs.Store.{Row, row_at}
 use Rattle.b67_table.specs.Arrays.{index_in}
-use Rattle.b67_pictures.specs.States.{StateIs}
+use Rattle.b67_scenes.specs.States.{StateIs}
 use Rattle.b67_table.specs.Ending.{failed}
 use Rattle.b67_table.specs.Image.{Image}
 use Rattle.b67_table.specs.Effect as effects
@@ -34,24 +34,24 @@ use Rattle.b67_standing.specs.Standing.{ActionAt, Acted, ComesTo, ElementReadAt}
 use Rattle.b67_cores.specs.Cores.{Core, with_core}
 use Rattle.b67_cores.specs.Stretches.{FragmentsArePerformed}
 use Rattle.b67_fitting.specs.Nested.{AreNested}
-use Rattle.b67_pictures.specs.Arrays.{Layout, HoldElements}
+use Rattle.b67_rows.proofs.AskedElements.{array_asked}
+use Rattle.b67_rows.proofs.IndexRows.{with_one, load_gives, load_faults, load_raw, load_class}
+use Rattle.b67_rows.proofs.Described.{whole_array}
+use Rattle.b67_rows.proofs.Rows.{action_not_plain, fault_not_plain, action_is}
+use Rattle.b67_rows.proofs.Unmade.{makes, unmade}
+use Rattle.b67_rows.proofs.Words.{value_tag}
+use Rattle.b67_frames.specs.Arrays.{Layout, HoldElements}
+use Rattle.b67_frames.proofs.ElementRows.{ElementFound, element_found}
+use Rattle.b67_frames.proofs.Subscripts.{index_below}
+use Rattle.b67_scenes.specs.Pictures.{Pictures}
+use Rattle.b67_scenes.proofs.ArrayHomes.{MeantArray, array_home}
+use Rattle.b67_scenes.proofs.Homes.{operator_there}
+use Rattle.b67_scenes.proofs.Indices.{in_place, has_room, LastIndex, last_index}
+use Rattle.b67_scenes.proofs.Scene.{Scene}
+use Rattle.b67_scenes.proofs.Stage.{choice_is, faults_so, faulted}
+use Rattle.b67_scenes.proofs.Staying.{text_in, level_in, context_in, most_in}
 use Rattle.b67_pictures.specs.Acting.{Does, failed_by}
-use Rattle.b67_pictures.specs.Pictures.{Pictures}
-use Rattle.b67_pictures.proofs.ArrayHomes.{MeantArray, array_home}
-use Rattle.b67_pictures.proofs.AskedElements.{array_asked}
-use Rattle.b67_pictures.proofs.ElementRows.{ElementFound, element_found}
-use Rattle.b67_pictures.proofs.Homes.{operator_there}
-use Rattle.b67_pictures.proofs.IndexRows.{with_one, load_gives, load_faults, load_raw, load_class}
-use Rattle.b67_pictures.proofs.Described.{whole_array}
-use Rattle.b67_pictures.proofs.Indices.{in_place, has_room, LastIndex, last_index}
 use Rattle.b67_pictures.proofs.InFrame.{does_in_frame}
-use Rattle.b67_pictures.proofs.Rows.{action_not_plain, fault_not_plain, action_is}
-use Rattle.b67_pictures.proofs.Scene.{Scene}
-use Rattle.b67_pictures.proofs.Stage.{choice_is, faults_so, faulted}
-use Rattle.b67_pictures.proofs.Staying.{text_in, level_in, context_in, most_in}
-use Rattle.b67_pictures.proofs.Subscripts.{index_below}
-use Rattle.b67_pictures.proofs.Unmade.{makes, unmade}
-use Rattle.b67_pictures.proofs.Words.{value_tag}
 
 module _ (tree : PProgram) (code : Code) (texts : Texts) (nested : AreNested (scopes_of tree)) (fragments : FragmentsArePerformed) (keeps : RestsKeepToTheirText) (order : AllIsMadeInOrder)
     (w : World) (lay : Layout) (img : Image) (p : ℕ) (q : Process) (part : Part) (outer : List Part) (bound : ℕ) (core : Core) (s : Scene tree code texts w lay img p q part outer bound core)

@@ -24,7 +24,7 @@ use Rattle.b67_ops.specs.declared.PlainKind.TheVariants as kinds
 use Rattle.b67_segment.specs.Operators.{Placed}
 use Rattle.b67_segment.specs.declared.code.Code.{Code}
 use Rattle.b67_store.specs.Store.{Rows, stack_limit, with_row_word}
-use Rattle.b67_pictures.specs.States.{StateIs}
+use Rattle.b67_scenes.specs.States.{StateIs}
 use Rattle.b67_table.specs.Effect as effects
 use Rattle.b67_table.specs.Image.{Image, with_rows}
 use Rattle.b67_table.specs.Outcome as outcomes
@@ -43,41 +43,41 @@ use Rattle.b67_letters.specs.declared.Letter.TheVariants as letters
 use Rattle.b67_letters.specs.Letters.{told_by, element_or_not, stored_letter, operator_letter}
 use Rattle.b67_faithful.specs.Correspondence.{as_action}
 use Rattle.b67_faithful.specs.Weight.{weight}
-use Rattle.b67_pictures.specs.Arrays.{Layout, AreMade, HoldElements, ArraysAre, IsElement, AreKnown, IsOwn}
+use Rattle.b67_rows.proofs.Cored.{registers_now, has_now, others_have, system_stays}
+use Rattle.b67_rows.proofs.IndexRows.{without_two, two_seen, stored_gives, stored_raw, stored_class}
+use Rattle.b67_frames.specs.Arrays.{Layout, AreMade, HoldElements, ArraysAre, IsElement, AreKnown, IsOwn}
+use Rattle.b67_frames.specs.Frames.{CellsAre, most_around, IsChained, Frame, Stands, run_level}
+use Rattle.b67_frames.proofs.ArraysKept.{arrays_unchanged}
+use Rattle.b67_frames.proofs.ElementRows.{ElementFound, element_found}
+use Rattle.b67_frames.proofs.Knowing.{KeepsArrays, known_is, known_of}
+use Rattle.b67_frames.proofs.Expressions.{expression_resumed}
+use Rattle.b67_frames.proofs.Lying.{StayBelow, shape_on}
+use Rattle.b67_frames.proofs.MadeArrays.{IsPast, past_values}
+use Rattle.b67_scenes.specs.Pictures.{Living, PicturesBy}
+use Rattle.b67_scenes.proofs.ElementHomes.{at_element, ElementHome, element_home}
+use Rattle.b67_scenes.proofs.Homes.{operator_there}
+use Rattle.b67_scenes.proofs.Kept.{AreAlike, alike_but}
+use Rattle.b67_scenes.proofs.Landing.{living_of}
 use Rattle.b67_pictures.specs.Acting.{Does, gave}
-use Rattle.b67_pictures.specs.Frames.{CellsAre, most_around, IsChained, Frame, Stands, run_level}
-use Rattle.b67_pictures.specs.Pictures.{Living, PicturesBy}
-use Rattle.b67_pictures.proofs.ArraysKept.{arrays_unchanged}
-use Rattle.b67_pictures.proofs.Cored.{registers_now, has_now, others_have, system_stays}
-use Rattle.b67_pictures.proofs.ElementHomes.{at_element, ElementHome, element_home}
-use Rattle.b67_pictures.proofs.ElementRows.{ElementFound, element_found}
-use Rattle.b67_pictures.proofs.Homes.{operator_there}
-use Rattle.b67_pictures.proofs.IndexRows.{without_two, two_seen, stored_gives, stored_raw, stored_class}
-use Rattle.b67_pictures.proofs.Kept.{AreAlike, alike_but}
-use Rattle.b67_pictures.proofs.Knowing.{KeepsArrays, known_is, known_of}
-use Rattle.b67_pictures.proofs.Expressions.{expression_resumed}
-use Rattle.b67_pictures.proofs.Landing.{living_of}
-use Rattle.b67_pictures.proofs.Lying.{StayBelow, shape_on}
-use Rattle.b67_pictures.proofs.MadeArrays.{IsPast, past_values}
 use Rattle.b67_faithful.proofs.Choices.{length_set_numbered}
-use Rattle.b67_pictures.proofs.Numbers.{numbered_set}
-use Rattle.b67_pictures.proofs.OwnCells.{OwnCells, framed_cells}
-use Rattle.b67_pictures.proofs.Rows.{action_not_plain, action_is}
-use Rattle.b67_pictures.proofs.Scene.{Scene}
-use Rattle.b67_pictures.proofs.Slotted.{Top, top_slot}
-use Rattle.b67_pictures.proofs.StackWords.{length-set}
-use Rattle.b67_pictures.proofs.Stage.{gives_within, choice_is, goes_on, weight_of}
-use Rattle.b67_pictures.proofs.Staying.{text_in, level_in, context_in, most_in, IsAsHeavy, same_weight, FrameStill, frame_still, still_low}
-use Rattle.b67_pictures.proofs.StoredCells.{made_stays}
-use Rattle.b67_pictures.proofs.StoredElement.{element_stored, element_keeps}
+use Rattle.b67_rows.proofs.Numbers.{numbered_set}
+use Rattle.b67_rows.proofs.Rows.{action_not_plain, action_is}
+use Rattle.b67_rows.proofs.Slotted.{Top, top_slot}
+use Rattle.b67_rows.proofs.StackWords.{length-set}
+use Rattle.b67_rows.proofs.Unmade.{makes, unmade}
+use Rattle.b67_rows.proofs.Words.{value_tag}
+use Rattle.b67_frames.proofs.OwnCells.{OwnCells, framed_cells}
+use Rattle.b67_frames.proofs.StoredCells.{made_stays}
+use Rattle.b67_frames.proofs.StoredElement.{element_stored, element_keeps}
+use Rattle.b67_scenes.proofs.Scene.{Scene}
+use Rattle.b67_scenes.proofs.Stage.{gives_within, choice_is, goes_on, weight_of}
+use Rattle.b67_scenes.proofs.Staying.{text_in, level_in, context_in, most_in, IsAsHeavy, same_weight, FrameStill, frame_still, still_low}
+use Rattle.b67_scenes.proofs.StoringFrames.{changed, stored_world, same_of, same_ancestors, as_heavy, ChangedCells, Stored, known_stored, frame_stored}
 use Rattle.b67_pictures.proofs.StoringVariable.{length_cells}
-use Rattle.b67_pictures.proofs.StoringFrames.{changed, stored_world, same_of, same_ancestors, as_heavy, ChangedCells, Stored, known_stored, frame_stored}
-use Rattle.b67_pictures.proofs.Unmade.{makes, unmade}
-use Rattle.b67_pictures.proofs.Words.{value_tag}
 use Rattle.b67_templates.specs.Code.{in_routine}
 use Rattle.b67_templates.specs.Contexts.{Yields}
 use Rattle.algol_meaning.specs.Critical.{is_evaluation}
-use Rattle.b67_pictures.proofs.EventsKept.{event_before, events_replaced}
+use Rattle.b67_frames.proofs.EventsKept.{event_before, events_replaced}
 
 module _ (tree : PProgram) (code : Code) (texts : Texts) (fragments : FragmentsArePerformed) (kept : RestsKeepToTheirText) (order : AllIsMadeInOrder) (w : World) (lay : Layout) (img : Image)
     (p : ℕ) (q : Process) (part : Part) (outer : List Part) (bound : ℕ) (core : Core) (s : Scene tree code texts w lay img p q part outer bound core)

@@ -31,28 +31,28 @@ use Rattle.b67_table.specs.Table.{table, operator_at}
 use Rattle.b67_standing.specs.Standing.{ActionAt}
 use Rattle.b67_cores.specs.Cores.{Core, HasCore}
 use Rattle.b67_faithful.proofs.Contradictions.{none_some}
-use Rattle.b67_pictures.specs.Arrays.{Layout, IsOwn}
+use Rattle.b67_frames.specs.Arrays.{Layout, IsOwn}
+use Rattle.b67_frames.proofs.ArraysKept.{arrays_unchanged}
+use Rattle.b67_frames.proofs.Closing.{IsClosed, FramesClose}
+use Rattle.b67_frames.proofs.ExitRow.{ended_at, exit_raw, exit_class, exit_action}
+use Rattle.b67_scenes.specs.Pictures.{Pictures, dead, PicturesBy}
+use Rattle.b67_scenes.proofs.Homes.{operator_there}
+use Rattle.b67_scenes.proofs.Independent.{none_critical, none_dependent}
+use Rattle.b67_scenes.proofs.Kept.{AreAlike, alike_but}
 use Rattle.b67_pictures.specs.Acting.{Does, gave}
-use Rattle.b67_pictures.specs.Pictures.{Pictures, dead, PicturesBy}
-use Rattle.b67_pictures.proofs.ArraysKept.{arrays_unchanged}
-use Rattle.b67_pictures.proofs.Closing.{IsClosed, FramesClose}
-use Rattle.b67_pictures.proofs.ExitRow.{ended_at, exit_raw, exit_class, exit_action}
-use Rattle.b67_pictures.proofs.Homes.{operator_there}
-use Rattle.b67_pictures.proofs.Independent.{none_critical, none_dependent}
-use Rattle.b67_pictures.proofs.Kept.{AreAlike, alike_but}
 use Rattle.b67_faithful.proofs.Choices.{length_set_numbered}
-use Rattle.b67_pictures.proofs.Numbers.{numbered_set, numbered_other}
-use Rattle.b67_pictures.proofs.Rows.{action_not_plain}
-use Rattle.b67_pictures.proofs.Scene.{Scene, frame_is}
-use Rattle.b67_pictures.proofs.Stage.{state_there, choice_is, comes_to, gives_within}
-use Rattle.b67_pictures.proofs.Staying.{text_in, level_in, context_in, most_in}
-use Rattle.b67_pictures.proofs.Lying.{owned_frame}
-use Rattle.b67_pictures.specs.Frames.{Owned}
-use Rattle.b67_pictures.specs.Events.{EventsAre}
-use Rattle.b67_pictures.proofs.EventsLow.{IsElsewhere, event_outside}
-use Rattle.b67_pictures.proofs.Worlds.{held_of}
+use Rattle.b67_rows.proofs.Numbers.{numbered_set, numbered_other}
+use Rattle.b67_rows.proofs.Rows.{action_not_plain}
+use Rattle.b67_frames.proofs.Lying.{owned_frame}
+use Rattle.b67_frames.specs.Frames.{Owned}
+use Rattle.b67_frames.specs.Events.{EventsAre}
+use Rattle.b67_frames.proofs.EventsLow.{IsElsewhere, event_outside}
+use Rattle.b67_scenes.proofs.Scene.{Scene, frame_is}
+use Rattle.b67_scenes.proofs.Stage.{state_there, choice_is, comes_to, gives_within}
+use Rattle.b67_scenes.proofs.Staying.{text_in, level_in, context_in, most_in}
+use Rattle.b67_scenes.proofs.Worlds.{held_of}
 use Rattle.b67_events.specs.Events.{is_from}
-use Rattle.b67_pictures.proofs.EventsKept.{events_left}
+use Rattle.b67_frames.proofs.EventsKept.{events_left}
 use Rattle.b67_table.specs.declared.ProcessState.{ProcessState}
 use Rattle.b67_table.specs.Beginning.{base_mark}
 use Rattle.b67_table.specs.Linkage.{base_control}

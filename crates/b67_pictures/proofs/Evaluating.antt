@@ -31,7 +31,7 @@ use Rattle.b67_ops.specs.declared.PlainKind.TheVariants as kinds
 use Rattle.b67_segment.specs.declared.code.Code.{Code}
 use Rattle.b67_store.specs.Store.{word_at}
 use Rattle.b67_table.specs.declared.Cell as cells
-use Rattle.b67_pictures.specs.States.{StateIs}
+use Rattle.b67_scenes.specs.States.{StateIs}
 use Rattle.b67_table.specs.Chains.{place}
 use Rattle.b67_table.specs.Image.{Image}
 use Rattle.b67_table.specs.Private.{frame}
@@ -51,31 +51,31 @@ use Rattle.b67_cores.specs.Stretches.{FragmentsArePerformed}
 use Rattle.b67_faithful.specs.Correspondence.{as_action}
 use Rattle.b67_faithful.specs.Faithful.{IsShort}
 use Rattle.b67_fitting.specs.Nested.{LiesNested}
+use Rattle.b67_rows.proofs.AccidentalRow.{value_entered_raw, value_entered_letter, place_entered_raw, place_entered_letter}
+use Rattle.b67_rows.proofs.ActualsSeen.{actual_seen, value_keeps, place_keeps}
+use Rattle.b67_rows.proofs.PlaceRow.{place_reached_class}
+use Rattle.b67_rows.proofs.Reaching.{Reaches, reached_through}
+use Rattle.b67_rows.proofs.ReachingRows.{value_reached_class}
+use Rattle.b67_rows.proofs.Rows.{action_not_plain, action_is}
+use Rattle.b67_rows.proofs.Spelled.{HaveTexts}
+use Rattle.b67_rows.proofs.Unmade.{makes, unmade}
+use Rattle.b67_rows.proofs.Words.{pcw_refers_nothing}
+use Rattle.b67_frames.specs.Arrays.{Layout}
+use Rattle.b67_frames.specs.Frames.{most_around}
+use Rattle.b67_frames.proofs.Expressions.{evaluated_is, located_is}
+use Rattle.b67_frames.proofs.Linked.{begins_core}
+use Rattle.b67_frames.proofs.Segmenting.{ActualsHaveRoom}
+use Rattle.b67_scenes.proofs.ActualEntries as entries
+use Rattle.b67_scenes.proofs.ActualEntries.{Takes}
+use Rattle.b67_scenes.proofs.ActualHomes.{routine_of, same_place}
+use Rattle.b67_scenes.proofs.Homes.{operator_there}
+use Rattle.b67_scenes.proofs.NameHomes.{ActualNamed}
+use Rattle.b67_scenes.proofs.Scene.{Scene}
+use Rattle.b67_scenes.proofs.Stage.{choice_is}
+use Rattle.b67_scenes.proofs.Staying.{text_in, level_in, context_in, most_in}
 use Rattle.b67_pictures.specs.Acting.{Does}
-use Rattle.b67_pictures.specs.Arrays.{Layout}
-use Rattle.b67_pictures.specs.Frames.{most_around}
-use Rattle.b67_pictures.proofs.AccidentalRow.{value_entered_raw, value_entered_letter, place_entered_raw, place_entered_letter}
-use Rattle.b67_pictures.proofs.ActualEntries as entries
-use Rattle.b67_pictures.proofs.ActualEntries.{Takes}
-use Rattle.b67_pictures.proofs.ActualHomes.{routine_of, same_place}
-use Rattle.b67_pictures.proofs.ActualsSeen.{actual_seen, value_keeps, place_keeps}
 use Rattle.b67_pictures.proofs.EvaluationEntering.{Evaluation, Awaits, entering_evaluation}
-use Rattle.b67_pictures.proofs.Expressions.{evaluated_is, located_is}
-use Rattle.b67_pictures.proofs.Homes.{operator_there}
-use Rattle.b67_pictures.proofs.Linked.{begins_core}
-use Rattle.b67_pictures.proofs.NameHomes.{ActualNamed}
-use Rattle.b67_pictures.proofs.PlaceRow.{place_reached_class}
-use Rattle.b67_pictures.proofs.Reaching.{Reaches, reached_through}
-use Rattle.b67_pictures.proofs.ReachingRows.{value_reached_class}
 use Rattle.b67_pictures.proofs.Resolving.{FindsName, finds_name}
-use Rattle.b67_pictures.proofs.Rows.{action_not_plain, action_is}
-use Rattle.b67_pictures.proofs.Scene.{Scene}
-use Rattle.b67_pictures.proofs.Segmenting.{ActualsHaveRoom}
-use Rattle.b67_pictures.proofs.Spelled.{HaveTexts}
-use Rattle.b67_pictures.proofs.Stage.{choice_is}
-use Rattle.b67_pictures.proofs.Staying.{text_in, level_in, context_in, most_in}
-use Rattle.b67_pictures.proofs.Unmade.{makes, unmade}
-use Rattle.b67_pictures.proofs.Words.{pcw_refers_nothing}
 
 -- what the entry of an actual's code needs of the code of the program: it is short, and stands in its segments; from the start of the code of
 -- an actual the machine comes to where it stands for its value and for its place, and has room for that; and a frame may be lent

@@ -25,7 +25,7 @@ use Rattle.b67_control.specs.Display.{place_at}
 use Rattle.b67_segment.specs.Operators.{Placed}
 use Rattle.b67_segment.specs.declared.code.Code.{Code}
 use Rattle.b67_store.specs.Store.{stack_limit}
-use Rattle.b67_pictures.specs.States.{StateIs}
+use Rattle.b67_scenes.specs.States.{StateIs}
 use Rattle.b67_table.specs.Chains.{place}
 use Rattle.b67_table.specs.Effect as effects
 use Rattle.b67_table.specs.Image.{Image}
@@ -48,32 +48,32 @@ use Rattle.b67_faithful.specs.Correspondence.{operator_action}
 use Rattle.b67_faithful.specs.Faithful.{IsShort}
 use Rattle.b67_faithful.specs.Weight.{tokens_around, part_weight, weight, parts_weight}
 use Rattle.b67_fitting.specs.Nested.{LiesNested}
+use Rattle.b67_rows.proofs.Cored.{has_now, others_have, system_stays}
+use Rattle.b67_rows.proofs.Displays.{shown, shown_below}
+use Rattle.b67_rows.proofs.EntryRow.{lower_of}
+use Rattle.b67_rows.proofs.Numbers.{numbered_set, most_or_more}
+use Rattle.b67_rows.proofs.Spelled.{HaveTexts}
+use Rattle.b67_frames.specs.Arrays.{Layout, IsActual, IsOwn, AreKnown}
+use Rattle.b67_frames.specs.Frames.{most_around, run_level, IsChained, Frame, Waits, Around, of_lent}
+use Rattle.b67_frames.specs.Lent.{IsAsked, IsOfExpression, Lent}
+use Rattle.b67_frames.proofs.ArraysKept.{arrays_unchanged}
+use Rattle.b67_frames.proofs.Expressions.{expression_resumed}
+use Rattle.b67_frames.proofs.Knowing.{known_of}
+use Rattle.b67_frames.proofs.Linked.{Linked}
+use Rattle.b67_frames.proofs.Lying.{StayBelow, shape_on}
+use Rattle.b67_frames.proofs.EventsKept.{events_unchanged}
+use Rattle.b67_scenes.specs.Pictures.{Living, Pictures, PicturesBy}
+use Rattle.b67_scenes.proofs.ActualEntries as entries
+use Rattle.b67_scenes.proofs.ActualEntries.{Takes}
+use Rattle.b67_scenes.proofs.ActualHomes.{ActualHome}
+use Rattle.b67_scenes.proofs.Ancestors.{same_place}
+use Rattle.b67_scenes.proofs.Kept.{alike_by}
+use Rattle.b67_scenes.proofs.Landing.{steps_none, living_of}
+use Rattle.b67_scenes.proofs.Scene.{Scene}
+use Rattle.b67_scenes.proofs.Stage.{gives_within, limit_beyond, goes_on, weight_of}
+use Rattle.b67_scenes.proofs.Staying.{text_in, level_in, context_in, most_in, FrameStill, frame_still, still_low, parts_weigh}
 use Rattle.b67_pictures.specs.Acting.{Does, gave, stopped}
-use Rattle.b67_pictures.specs.Arrays.{Layout, IsActual, IsOwn, AreKnown}
-use Rattle.b67_pictures.specs.Frames.{most_around, run_level, IsChained, Frame, Waits, Around, of_lent}
-use Rattle.b67_pictures.specs.Lent.{IsAsked, IsOfExpression, Lent}
-use Rattle.b67_pictures.specs.Pictures.{Living, Pictures, PicturesBy}
-use Rattle.b67_pictures.proofs.ActualEntries as entries
-use Rattle.b67_pictures.proofs.ActualEntries.{Takes}
-use Rattle.b67_pictures.proofs.ActualHomes.{ActualHome}
-use Rattle.b67_pictures.proofs.Ancestors.{same_place}
-use Rattle.b67_pictures.proofs.ArraysKept.{arrays_unchanged}
-use Rattle.b67_pictures.proofs.Cored.{has_now, others_have, system_stays}
-use Rattle.b67_pictures.proofs.Displays.{shown, shown_below}
-use Rattle.b67_pictures.proofs.EntryRow.{lower_of}
-use Rattle.b67_pictures.proofs.Expressions.{expression_resumed}
 use Rattle.b67_pictures.proofs.FrameEntering.{around_of}
-use Rattle.b67_pictures.proofs.Kept.{alike_by}
-use Rattle.b67_pictures.proofs.Knowing.{known_of}
-use Rattle.b67_pictures.proofs.Landing.{steps_none, living_of}
-use Rattle.b67_pictures.proofs.Linked.{Linked}
-use Rattle.b67_pictures.proofs.Lying.{StayBelow, shape_on}
-use Rattle.b67_pictures.proofs.Numbers.{numbered_set, most_or_more}
-use Rattle.b67_pictures.proofs.Scene.{Scene}
-use Rattle.b67_pictures.proofs.Spelled.{HaveTexts}
-use Rattle.b67_pictures.proofs.Stage.{gives_within, limit_beyond, goes_on, weight_of}
-use Rattle.b67_pictures.proofs.Staying.{text_in, level_in, context_in, most_in, FrameStill, frame_still, still_low, parts_weigh}
-use Rattle.b67_pictures.proofs.EventsKept.{events_unchanged}
 
 -- a selector is one word, or none
 one_selector : (b selector : Bool) → length (selected b selector) ≤ 1

@@ -25,7 +25,7 @@ use Rattle.b67_ops.specs.declared.PlainKind.TheVariants as kinds
 use Rattle.b67_segment.specs.declared.code.Code.{Code}
 use Rattle.b67_store.specs.Store.{Rows}
 use Rattle.b67_table.specs.declared.Below.{Below}
-use Rattle.b67_pictures.specs.States.{StateIs}
+use Rattle.b67_scenes.specs.States.{StateIs}
 use Rattle.b67_table.specs.Arrays.{as_indexed}
 use Rattle.b67_table.specs.Chains.{place}
 use Rattle.b67_table.specs.Effect.{gives}
@@ -46,38 +46,38 @@ use Rattle.b67_cores.specs.Stretches.{FragmentsArePerformed}
 use Rattle.b67_faithful.specs.Correspondence.{operator_action}
 use Rattle.b67_faithful.proofs.Contradictions.{true_false}
 use Rattle.b67_fitting.specs.Nested.{AreNested}
-use Rattle.b67_pictures.specs.Arrays.{Layout, ArraysAre, AreKnown, HeldIs, IsOwn}
+use Rattle.b67_rows.proofs.Cored.{has_now, others_have, system_stays}
+use Rattle.b67_rows.proofs.LeaveRow.{Leaves, after, outer_is}
+use Rattle.b67_rows.proofs.Numbers.{numbered_set}
+use Rattle.b67_rows.proofs.ReturnRow.{operand_given, return_raw, return_class, return_action}
+use Rattle.b67_rows.proofs.Rows.{action_not_plain}
+use Rattle.b67_rows.proofs.Slotted.{Top, top_slot}
+use Rattle.b67_rows.proofs.Spelled.{HaveTexts}
+use Rattle.b67_rows.proofs.Words.{value_tag}
+use Rattle.b67_frames.specs.Arrays.{Layout, ArraysAre, AreKnown, HeldIs, IsOwn}
+use Rattle.b67_frames.specs.Frames.{Waits}
+use Rattle.b67_frames.specs.Lent.{Lent}
+use Rattle.b67_frames.proofs.ArraysKept.{arrays_unchanged}
+use Rattle.b67_frames.proofs.Knowing.{known_is, known_of}
+use Rattle.b67_frames.specs.Events.{EventsAre, HasEvent}
+use Rattle.b67_frames.proofs.EventsLow.{IsElsewhere, event_outside}
+use Rattle.b67_scenes.specs.Pictures.{Living, Pictures, PicturesBy}
+use Rattle.b67_scenes.proofs.ElementHomes.{element_home}
+use Rattle.b67_scenes.proofs.Homes.{operator_there}
+use Rattle.b67_scenes.proofs.Kept.{alike_by, stay_below}
+use Rattle.b67_scenes.proofs.NamedVariables.{names_variable}
+use Rattle.b67_scenes.proofs.Scene.{Scene}
+use Rattle.b67_scenes.proofs.Stage.{choice_is, gives_within, goes_on}
+use Rattle.b67_scenes.proofs.Staying.{text_in, level_in, context_in, most_in}
+use Rattle.b67_scenes.proofs.Worlds.{held_of}
 use Rattle.b67_pictures.specs.Acting.{Does, gave}
-use Rattle.b67_pictures.specs.Frames.{Waits}
-use Rattle.b67_pictures.specs.Lent.{Lent}
-use Rattle.b67_pictures.specs.Pictures.{Living, Pictures, PicturesBy}
-use Rattle.b67_pictures.proofs.ArraysKept.{arrays_unchanged}
-use Rattle.b67_pictures.proofs.Cored.{has_now, others_have, system_stays}
-use Rattle.b67_pictures.proofs.ElementHomes.{element_home}
-use Rattle.b67_pictures.proofs.Homes.{operator_there}
-use Rattle.b67_pictures.proofs.Kept.{alike_by, stay_below}
-use Rattle.b67_pictures.proofs.Knowing.{known_is, known_of}
-use Rattle.b67_pictures.proofs.LeaveRow.{Leaves, after, outer_is}
 use Rattle.b67_pictures.proofs.LeavingWords as leaving
 use Rattle.b67_pictures.proofs.LeavingWords.{IsGiven, value_given, place_given, known_given, leaves_so, rows_are, low, shown_home}
-use Rattle.b67_pictures.proofs.NamedVariables.{names_variable}
-use Rattle.b67_pictures.proofs.Numbers.{numbered_set}
 use Rattle.b67_pictures.proofs.PartAround as around
 use Rattle.b67_pictures.proofs.PartAround.{smaller, living_now}
-use Rattle.b67_pictures.proofs.ReturnRow.{operand_given, return_raw, return_class, return_action}
-use Rattle.b67_pictures.proofs.Rows.{action_not_plain}
-use Rattle.b67_pictures.proofs.Scene.{Scene}
-use Rattle.b67_pictures.proofs.Slotted.{Top, top_slot}
-use Rattle.b67_pictures.proofs.Spelled.{HaveTexts}
-use Rattle.b67_pictures.proofs.Stage.{choice_is, gives_within, goes_on}
-use Rattle.b67_pictures.proofs.Staying.{text_in, level_in, context_in, most_in}
-use Rattle.b67_pictures.proofs.Words.{value_tag}
-use Rattle.b67_pictures.specs.Events.{EventsAre, HasEvent}
-use Rattle.b67_pictures.proofs.EventsLow.{IsElsewhere, event_outside}
-use Rattle.b67_pictures.proofs.Worlds.{held_of}
 use Rattle.b67_events.specs.Events.{is_from, event_at}
 use Rattle.b67_events.proofs.EventLaws.{one_event}
-use Rattle.b67_pictures.proofs.EventsKept.{events_by}
+use Rattle.b67_frames.proofs.EventsKept.{events_by}
 
 -- ---- the word of a place
 

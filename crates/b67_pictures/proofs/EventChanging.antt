@@ -43,32 +43,32 @@ use Rattle.b67_faithful.specs.Weight.{weight}
 use Rattle.b67_faithful.proofs.Choices.{length_set_numbered}
 use Rattle.b67_faithful.proofs.Contradictions.{some_same}
 use Rattle.b67_fitting.specs.Nested.{AreNested}
-use Rattle.b67_pictures.specs.Arrays.{Layout, AreMade, ArraysAre, AreKnown, IsOwn}
-use Rattle.b67_pictures.specs.Events.{event_there, EventsAre}
-use Rattle.b67_pictures.specs.Frames.{CellsAre, most_around, IsChained, Frame, Stands, run_level}
-use Rattle.b67_pictures.specs.Pictures.{Living, living, PicturesBy}
-use Rattle.b67_pictures.specs.States.{StateIs}
-use Rattle.b67_pictures.proofs.Cored.{has_now, others_have, system_stays}
-use Rattle.b67_pictures.proofs.EventCells.{arrays_still, event_keeps_none, array_beside, made_changes, keeps_event, beside_set}
-use Rattle.b67_pictures.proofs.EventHomes.{cell_there, own_there, has_there}
-use Rattle.b67_pictures.proofs.EventsChanged.{events_changed}
-use Rattle.b67_pictures.proofs.Expressions.{expression_resumed}
-use Rattle.b67_pictures.proofs.Kept.{AreAlike, alike_but}
-use Rattle.b67_pictures.proofs.Knowing.{KeepsArrays, known_of}
-use Rattle.b67_pictures.proofs.IntrinsicRows.{without_call}
-use Rattle.b67_pictures.proofs.Landing.{living_of}
-use Rattle.b67_pictures.proofs.Lying.{Lies, StayBelow, shape_on}
-use Rattle.b67_pictures.proofs.MadeArrays.{get_past, IsPast, past_events}
-use Rattle.b67_pictures.proofs.Numbers.{numbered_set}
-use Rattle.b67_pictures.proofs.OwnCells.{OwnCells}
-use Rattle.b67_pictures.proofs.OwnEvents.{OwnEvent}
-use Rattle.b67_pictures.proofs.Scene.{Scene}
-use Rattle.b67_pictures.proofs.Stage.{comes_to, weight_of}
-use Rattle.b67_pictures.proofs.Staying.{text_in, level_in, context_in, most_in, IsAsHeavy, same_weight, FrameStill, frame_still, still_low}
-use Rattle.b67_pictures.proofs.StoredRows.{get_set}
-use Rattle.b67_pictures.proofs.StoringFrames.{changed, stored_world, changed_at, same_of, same_ancestors, as_heavy, ChangedCells, Stored, known_stored, frame_stored}
+use Rattle.b67_rows.proofs.Cored.{has_now, others_have, system_stays}
+use Rattle.b67_rows.proofs.IntrinsicRows.{without_call}
+use Rattle.b67_rows.proofs.Numbers.{numbered_set}
+use Rattle.b67_frames.specs.Arrays.{Layout, AreMade, ArraysAre, AreKnown, IsOwn}
+use Rattle.b67_frames.specs.Events.{event_there, EventsAre}
+use Rattle.b67_frames.specs.Frames.{CellsAre, most_around, IsChained, Frame, Stands, run_level}
+use Rattle.b67_frames.proofs.EventCells.{arrays_still, event_keeps_none, array_beside, made_changes, keeps_event, beside_set}
+use Rattle.b67_frames.proofs.EventsChanged.{events_changed}
+use Rattle.b67_frames.proofs.Expressions.{expression_resumed}
+use Rattle.b67_frames.proofs.Knowing.{KeepsArrays, known_of}
+use Rattle.b67_frames.proofs.Lying.{Lies, StayBelow, shape_on}
+use Rattle.b67_frames.proofs.MadeArrays.{get_past, IsPast, past_events}
+use Rattle.b67_frames.proofs.OwnCells.{OwnCells}
+use Rattle.b67_frames.proofs.OwnEvents.{OwnEvent}
+use Rattle.b67_frames.proofs.StoredRows.{get_set}
+use Rattle.b67_frames.proofs.Zeros.{cells_length}
+use Rattle.b67_scenes.specs.Pictures.{Living, living, PicturesBy}
+use Rattle.b67_scenes.specs.States.{StateIs}
+use Rattle.b67_scenes.proofs.EventHomes.{cell_there, own_there, has_there}
+use Rattle.b67_scenes.proofs.Kept.{AreAlike, alike_but}
+use Rattle.b67_scenes.proofs.Landing.{living_of}
+use Rattle.b67_scenes.proofs.Scene.{Scene}
+use Rattle.b67_scenes.proofs.Stage.{comes_to, weight_of}
+use Rattle.b67_scenes.proofs.Staying.{text_in, level_in, context_in, most_in, IsAsHeavy, same_weight, FrameStill, frame_still, still_low}
+use Rattle.b67_scenes.proofs.StoringFrames.{changed, stored_world, changed_at, same_of, same_ancestors, as_heavy, ChangedCells, Stored, known_stored, frame_stored}
 use Rattle.b67_pictures.proofs.StoringVariable.{length_cells}
-use Rattle.b67_pictures.proofs.Zeros.{cells_length}
 
 -- who lives in a world lives in its image
 lives_there : (x : State) (o : Option ProcessState) → StateIs x o → lives x ≡ true → is_live o ≡ true

@@ -26,16 +26,16 @@ use Rattle.b67_standing.specs.Stepping.{operand, ready}
 use Rattle.b67_standing.specs.Standing.{ActionAt}
 use Rattle.b67_cores.specs.Cores.{Core}
 use Rattle.b67_cores.specs.Slots.{ValueIs}
-use Rattle.b67_pictures.specs.Arrays.{Layout}
+use Rattle.b67_rows.proofs.Rows.{fault_not_plain, action_is}
+use Rattle.b67_rows.proofs.Breaking.{break_raw}
+use Rattle.b67_rows.proofs.Slotted.{Top, top_slot}
+use Rattle.b67_frames.specs.Arrays.{Layout}
+use Rattle.b67_scenes.specs.Pictures.{Pictures}
+use Rattle.b67_scenes.proofs.Homes.{operator_there}
+use Rattle.b67_scenes.proofs.Stage.{faults_so, choice_is, faulted}
+use Rattle.b67_scenes.proofs.Scene.{Scene}
+use Rattle.b67_scenes.proofs.Staying.{text_in, level_in, context_in, most_in}
 use Rattle.b67_pictures.specs.Acting.{Does, failed_by}
-use Rattle.b67_pictures.specs.Pictures.{Pictures}
-use Rattle.b67_pictures.proofs.Rows.{fault_not_plain, action_is}
-use Rattle.b67_pictures.proofs.Breaking.{break_raw}
-use Rattle.b67_pictures.proofs.Homes.{operator_there}
-use Rattle.b67_pictures.proofs.Slotted.{Top, top_slot}
-use Rattle.b67_pictures.proofs.Stage.{faults_so, choice_is, faulted}
-use Rattle.b67_pictures.proofs.Scene.{Scene}
-use Rattle.b67_pictures.proofs.Staying.{text_in, level_in, context_in, most_in}
 
 -- of an operator without a result the first operand is as it stands
 ready_same : (op : Op) (v w : Value) (f : NumFault) → result_of op v w ≡ Err f → ready op v ≡ v

@@ -30,7 +30,7 @@ use Rattle.b67_ops.specs.declared.TheConstants.{OUTER_LEVEL}
 use Rattle.b67_segment.specs.Operators.{Placed}
 use Rattle.b67_segment.specs.declared.code.Code.{Code}
 use Rattle.b67_store.specs.Store.{stack_limit}
-use Rattle.b67_pictures.specs.States.{StateIs}
+use Rattle.b67_scenes.specs.States.{StateIs}
 use Rattle.b67_table.specs.Chains.{place}
 use Rattle.b67_table.specs.Image.{Image}
 use Rattle.b67_table.specs.Linkage.{entered_mark, control_word}
@@ -51,36 +51,36 @@ use Rattle.b67_faithful.specs.Faithful.{IsShort}
 use Rattle.b67_faithful.specs.Weight.{tokens_around, part_weight, weight, parts_weight}
 use Rattle.b67_faithful.proofs.Contradictions.{none_some}
 use Rattle.b67_fitting.specs.Nested.{LiesNested, IsText}
-use Rattle.b67_pictures.specs.Arrays.{Allotted, Layout, AreMade, AreKnown, IsOwn}
+use Rattle.b67_rows.proofs.Cored.{has_now, others_have, system_stays}
+use Rattle.b67_rows.proofs.EntryRow.{lower_of}
+use Rattle.b67_rows.proofs.GivenWords.{ActualsAre}
+use Rattle.b67_rows.proofs.Growing.{numbered_last, numbered_before, numbered_low, numbered_earlier}
+use Rattle.b67_rows.proofs.Numbers.{numbered_set}
+use Rattle.b67_rows.proofs.Segmented.{length_mapped}
+use Rattle.b67_rows.proofs.StackWords.{length-stack}
+use Rattle.b67_rows.proofs.Texted.{block_keeps, block_makes}
+use Rattle.b67_frames.specs.Arrays.{Allotted, Layout, AreMade, AreKnown, IsOwn}
+use Rattle.b67_frames.specs.Frames.{block_controls, controls_count, most_around, CellsAre, IsChained, IsComplete, home_of, inside, Framed, RoutinesStand, ItemsStand, Frame, Waits, Around, of_own, run_level}
+use Rattle.b67_frames.proofs.ArraysKept.{rows_but, rows_there, rows_other, no_elements, no_rows, arrays_joined}
+use Rattle.b67_frames.proofs.ControlWords.{block_few, routines_long, controls_many}
+use Rattle.b67_frames.proofs.Expressions.{expression_resumed}
+use Rattle.b67_frames.proofs.Formals.{LeadAll, lead_there}
+use Rattle.b67_frames.proofs.FreshCells.{fresh_are, fresh_lead, simple_many, words_long}
+use Rattle.b67_frames.proofs.Knowing.{denotes_lasts, known_of}
+use Rattle.b67_frames.proofs.Linked.{all_each, level_around, shown_chained}
+use Rattle.b67_frames.proofs.Lying.{StayBelow, part_own, shape_on, runs_at}
+use Rattle.b67_frames.proofs.Zeros.{zero_word, cells_length}
+use Rattle.b67_frames.proofs.EventsKept.{events_joined}
+use Rattle.b67_scenes.specs.Pictures.{Living, Pictures, PicturesBy}
+use Rattle.b67_scenes.proofs.Ancestors.{same_place}
+use Rattle.b67_scenes.proofs.Entries as entries
+use Rattle.b67_scenes.proofs.Entries.{Calls}
+use Rattle.b67_scenes.proofs.Kept.{AreAlike}
+use Rattle.b67_scenes.proofs.Landing.{living_of}
+use Rattle.b67_scenes.proofs.Scene.{Scene}
+use Rattle.b67_scenes.proofs.Stage.{gives_within, goes_on, weight_of}
+use Rattle.b67_scenes.proofs.Staying.{text_in, level_in, context_in, most_in, FrameStill, frame_still, still_low, same_instance, parts_remain, known_stays, parts_weigh, names_in}
 use Rattle.b67_pictures.specs.Acting.{Does, gave}
-use Rattle.b67_pictures.specs.Frames.{block_controls, controls_count, most_around, CellsAre, IsChained, IsComplete, home_of, inside, Framed, RoutinesStand, ItemsStand, Frame, Waits, Around, of_own, run_level}
-use Rattle.b67_pictures.specs.Pictures.{Living, Pictures, PicturesBy}
-use Rattle.b67_pictures.proofs.Ancestors.{same_place}
-use Rattle.b67_pictures.proofs.ArraysKept.{rows_but, rows_there, rows_other, no_elements, no_rows, arrays_joined}
-use Rattle.b67_pictures.proofs.ControlWords.{block_few, routines_long, controls_many}
-use Rattle.b67_pictures.proofs.Cored.{has_now, others_have, system_stays}
-use Rattle.b67_pictures.proofs.EntryRow.{lower_of}
-use Rattle.b67_pictures.proofs.Expressions.{expression_resumed}
-use Rattle.b67_pictures.proofs.Entries as entries
-use Rattle.b67_pictures.proofs.Entries.{Calls}
-use Rattle.b67_pictures.proofs.Formals.{LeadAll, lead_there}
-use Rattle.b67_pictures.proofs.FreshCells.{fresh_are, fresh_lead, simple_many, words_long}
-use Rattle.b67_pictures.proofs.GivenWords.{ActualsAre}
-use Rattle.b67_pictures.proofs.Growing.{numbered_last, numbered_before, numbered_low, numbered_earlier}
-use Rattle.b67_pictures.proofs.Kept.{AreAlike}
-use Rattle.b67_pictures.proofs.Knowing.{denotes_lasts, known_of}
-use Rattle.b67_pictures.proofs.Landing.{living_of}
-use Rattle.b67_pictures.proofs.Linked.{all_each, level_around, shown_chained}
-use Rattle.b67_pictures.proofs.Lying.{StayBelow, part_own, shape_on, runs_at}
-use Rattle.b67_pictures.proofs.Numbers.{numbered_set}
-use Rattle.b67_pictures.proofs.Scene.{Scene}
-use Rattle.b67_pictures.proofs.Segmented.{length_mapped}
-use Rattle.b67_pictures.proofs.StackWords.{length-stack}
-use Rattle.b67_pictures.proofs.Stage.{gives_within, goes_on, weight_of}
-use Rattle.b67_pictures.proofs.Staying.{text_in, level_in, context_in, most_in, FrameStill, frame_still, still_low, same_instance, parts_remain, known_stays, parts_weigh, names_in}
-use Rattle.b67_pictures.proofs.Texted.{block_keeps, block_makes}
-use Rattle.b67_pictures.proofs.Zeros.{zero_word, cells_length}
-use Rattle.b67_pictures.proofs.EventsKept.{events_joined}
 
 -- the new instance of a block or a procedure, and its part
 abbrev pub new_instance : Scopes → ℕ → ℕ → ℕ → List Cell → Instance

@@ -18,7 +18,7 @@ use Rattle.b67_word.specs.Word.{Word}
 use Rattle.b67_segment.specs.declared.code.Code.{Code}
 use Rattle.b67_store.specs.Store.{Rows}
 use Rattle.b67_table.specs.declared.Below.{Below}
-use Rattle.b67_pictures.specs.States.{StateIs}
+use Rattle.b67_scenes.specs.States.{StateIs}
 use Rattle.b67_table.specs.Chains.{place}
 use Rattle.b67_table.specs.Image.{Image}
 use Rattle.b67_table.specs.Outcome as outcomes
@@ -31,31 +31,31 @@ use Rattle.b67_cores.specs.Stretches.{FragmentsArePerformed}
 use Rattle.b67_faithful.specs.Correspondence.{operator_action}
 use Rattle.b67_faithful.proofs.Contradictions.{some_same}
 use Rattle.b67_faithful.proofs.Choices.{length_set_numbered}
-use Rattle.b67_pictures.specs.Arrays.{Layout, ArraysAre, AreKnown, IsOwn}
+use Rattle.b67_rows.proofs.Cored.{has_now, others_have, system_stays}
+use Rattle.b67_rows.proofs.LeaveRow.{Leaves, after, outer_is}
+use Rattle.b67_rows.proofs.Numbers.{numbered_set}
+use Rattle.b67_rows.proofs.Parting.{parted, same_but, same_ancestors, others_stay}
+use Rattle.b67_rows.proofs.Spelled.{HaveTexts}
+use Rattle.b67_frames.specs.Arrays.{Layout, ArraysAre, AreKnown, IsOwn}
+use Rattle.b67_frames.specs.Frames.{Waits, Owned}
+use Rattle.b67_frames.proofs.ArraysKept.{arrays_unchanged}
+use Rattle.b67_frames.proofs.Closing.{IsClosed, FramesClose}
+use Rattle.b67_frames.proofs.Lying.{StayBelow, owned_frame}
+use Rattle.b67_frames.specs.Events.{EventsAre}
+use Rattle.b67_frames.proofs.EventsLow.{IsElsewhere, event_outside}
+use Rattle.b67_scenes.specs.Pictures.{Living, Pictures, PicturesBy}
+use Rattle.b67_scenes.proofs.Independent.{none_dependent}
+use Rattle.b67_scenes.proofs.Kept.{AreAlike, alike_but}
+use Rattle.b67_scenes.proofs.Scene.{Scene}
+use Rattle.b67_scenes.proofs.Stage.{choice_is, gives_within, goes_on}
+use Rattle.b67_scenes.proofs.Worlds.{held_of}
 use Rattle.b67_pictures.specs.Acting.{Does, gave}
-use Rattle.b67_pictures.specs.Frames.{Waits, Owned}
-use Rattle.b67_pictures.specs.Pictures.{Living, Pictures, PicturesBy}
-use Rattle.b67_pictures.proofs.ArraysKept.{arrays_unchanged}
-use Rattle.b67_pictures.proofs.Closing.{IsClosed, FramesClose}
-use Rattle.b67_pictures.proofs.Cored.{has_now, others_have, system_stays}
-use Rattle.b67_pictures.proofs.Independent.{none_dependent}
-use Rattle.b67_pictures.proofs.Kept.{AreAlike, alike_but}
-use Rattle.b67_pictures.proofs.LeaveRow.{Leaves, after, outer_is}
 use Rattle.b67_pictures.proofs.LeavingWords as leaving
 use Rattle.b67_pictures.proofs.LeavingWords.{IsGiven, known_given, leaves_so, rows_are, low, shown_home}
-use Rattle.b67_pictures.proofs.Lying.{StayBelow, owned_frame}
-use Rattle.b67_pictures.proofs.Numbers.{numbered_set}
 use Rattle.b67_pictures.proofs.PartAround as around
 use Rattle.b67_pictures.proofs.PartAround.{smaller, living_now}
-use Rattle.b67_pictures.proofs.Parting.{parted, same_but, same_ancestors, others_stay}
-use Rattle.b67_pictures.proofs.Scene.{Scene}
-use Rattle.b67_pictures.proofs.Spelled.{HaveTexts}
-use Rattle.b67_pictures.proofs.Stage.{choice_is, gives_within, goes_on}
-use Rattle.b67_pictures.specs.Events.{EventsAre}
-use Rattle.b67_pictures.proofs.EventsLow.{IsElsewhere, event_outside}
-use Rattle.b67_pictures.proofs.Worlds.{held_of}
 use Rattle.b67_events.specs.Events.{is_from}
-use Rattle.b67_pictures.proofs.EventsKept.{events_left}
+use Rattle.b67_frames.proofs.EventsKept.{events_left}
 
 module _ (tree : PProgram) (code : Code) (texts : Texts) (stand : HaveTexts tree code texts) (fragments : FragmentsArePerformed) (keeps : RestsKeepToTheirText) (order : AllIsMadeInOrder) (closing : FramesClose)
     (w : World) (lay : Layout) (img : Image) (p : ℕ) (q : Process) (part next : Part) (parts : List Part) (bound : ℕ) (core : Core)

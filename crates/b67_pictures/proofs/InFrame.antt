@@ -17,7 +17,7 @@ use Rattle.b67_control.specs.Display.{place_at}
 use Rattle.b67_segment.specs.declared.code.Code.{Code}
 use Rattle.b67_templates.specs.Programs.{Texts}
 use Rattle.b67_store.specs.Store.{stack_limit}
-use Rattle.b67_pictures.specs.States.{StateIs}
+use Rattle.b67_scenes.specs.States.{StateIs}
 use Rattle.b67_table.specs.Image.{Image}
 use Rattle.b67_table.specs.Effect as effects
 use Rattle.b67_table.specs.Outcome as outcomes
@@ -31,22 +31,22 @@ use Rattle.b67_cores.specs.Cores.{Core, size, HasCore, with_core}
 use Rattle.b67_cores.specs.Slots.{Known}
 use Rattle.b67_cores.specs.Stretches.{CoreAt, FragmentsArePerformed}
 use Rattle.b67_cores.proofs.Moving.{slots_length}
-use Rattle.b67_pictures.specs.Arrays.{Layout, AreKnown, IsOwn}
+use Rattle.b67_rows.proofs.Cored.{has_now, others_have, system_stays}
+use Rattle.b67_rows.proofs.Numbers.{numbered_set, most_or_more}
+use Rattle.b67_frames.specs.Arrays.{Layout, AreKnown, IsOwn}
+use Rattle.b67_frames.specs.Frames.{IsChained, Frame}
+use Rattle.b67_frames.proofs.ArraysKept.{arrays_unchanged}
+use Rattle.b67_frames.proofs.EventsKept.{events_unchanged}
+use Rattle.b67_frames.proofs.Expressions.{expression_resumed}
+use Rattle.b67_frames.proofs.Knowing.{known_of}
+use Rattle.b67_frames.proofs.Lying.{StayBelow, shape_on}
+use Rattle.b67_scenes.specs.Pictures.{Pictures, PicturesBy}
+use Rattle.b67_scenes.proofs.Kept.{alike_by}
+use Rattle.b67_scenes.proofs.Landing.{steps_none, living_of}
+use Rattle.b67_scenes.proofs.Scene.{Scene}
+use Rattle.b67_scenes.proofs.Stage.{gives_within, limit_beyond, goes_on, weight_of}
+use Rattle.b67_scenes.proofs.Staying.{text_in, level_in, context_in, most_in, FrameStill, frame_still, frame_low, chained_stays, top_stays, parts_weigh, names_in}
 use Rattle.b67_pictures.specs.Acting.{Does, gave, stopped}
-use Rattle.b67_pictures.specs.Frames.{IsChained, Frame}
-use Rattle.b67_pictures.specs.Pictures.{Pictures, PicturesBy}
-use Rattle.b67_pictures.proofs.ArraysKept.{arrays_unchanged}
-use Rattle.b67_pictures.proofs.EventsKept.{events_unchanged}
-use Rattle.b67_pictures.proofs.Expressions.{expression_resumed}
-use Rattle.b67_pictures.proofs.Cored.{has_now, others_have, system_stays}
-use Rattle.b67_pictures.proofs.Kept.{alike_by}
-use Rattle.b67_pictures.proofs.Knowing.{known_of}
-use Rattle.b67_pictures.proofs.Landing.{steps_none, living_of}
-use Rattle.b67_pictures.proofs.Lying.{StayBelow, shape_on}
-use Rattle.b67_pictures.proofs.Numbers.{numbered_set, most_or_more}
-use Rattle.b67_pictures.proofs.Scene.{Scene}
-use Rattle.b67_pictures.proofs.Stage.{gives_within, limit_beyond, goes_on, weight_of}
-use Rattle.b67_pictures.proofs.Staying.{text_in, level_in, context_in, most_in, FrameStill, frame_still, frame_low, chained_stays, top_stays, parts_weigh, names_in}
 use Rattle.b67_templates.specs.Contexts.{Yields}
 
 -- the registers but for S, F and the place

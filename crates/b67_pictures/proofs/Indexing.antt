@@ -28,7 +28,7 @@ use Rattle.b67_templates.specs.Programs.{Texts}
 use Rattle.b67_store.specs.Store.{Row, row_at}
 use Rattle.b67_table.specs.Arrays.{array_word, index_in}
 use Rattle.b67_table.specs.declared.Class.TheVariants as classes
-use Rattle.b67_pictures.specs.States.{StateIs}
+use Rattle.b67_scenes.specs.States.{StateIs}
 use Rattle.b67_table.specs.Ending.{failed}
 use Rattle.b67_table.specs.Image.{Image}
 use Rattle.b67_table.specs.Effect as effects
@@ -44,23 +44,23 @@ use Rattle.b67_cores.specs.Cores.{Core, with_core}
 use Rattle.b67_cores.specs.Slots.{Known, SlotIs, SlotsAre}
 use Rattle.b67_cores.specs.Stretches.{FragmentsArePerformed}
 use Rattle.b67_fitting.specs.Nested.{AreNested}
-use Rattle.b67_pictures.specs.Arrays.{Layout, row_length, HoldElements, row_copy, element_copy, IsRow, IsElement, HeldIs, IsOwn}
+use Rattle.b67_rows.proofs.AskedElements.{array_asked}
+use Rattle.b67_rows.proofs.IndexRows.{with_one, index_gives, index_faults, index_raw, index_class, mother_gives, mother_faults, mother_raw, mother_class}
+use Rattle.b67_rows.proofs.Described.{whole_array}
+use Rattle.b67_rows.proofs.Rows.{action_not_plain, fault_not_plain, action_is}
+use Rattle.b67_rows.proofs.Unmade.{makes, unmade}
+use Rattle.b67_frames.specs.Arrays.{Layout, row_length, HoldElements, row_copy, element_copy, IsRow, IsElement, HeldIs, IsOwn}
+use Rattle.b67_frames.proofs.ElementRows.{array_read, RowFound, row_found}
+use Rattle.b67_frames.proofs.Subscripts.{index_below}
+use Rattle.b67_scenes.specs.Pictures.{Pictures}
+use Rattle.b67_scenes.proofs.ArrayHomes.{MeantArray, array_home}
+use Rattle.b67_scenes.proofs.Homes.{operator_there}
+use Rattle.b67_scenes.proofs.Indices.{Finds, in_place, has_room, LastIndex, last_index, FirstIndex, first_of_two}
+use Rattle.b67_scenes.proofs.Scene.{Scene}
+use Rattle.b67_scenes.proofs.Stage.{choice_is, faults_so, faulted}
+use Rattle.b67_scenes.proofs.Staying.{text_in, level_in, context_in, most_in}
 use Rattle.b67_pictures.specs.Acting.{Does, failed_by}
-use Rattle.b67_pictures.specs.Pictures.{Pictures}
-use Rattle.b67_pictures.proofs.ArrayHomes.{MeantArray, array_home}
-use Rattle.b67_pictures.proofs.AskedElements.{array_asked}
-use Rattle.b67_pictures.proofs.ElementRows.{array_read, RowFound, row_found}
-use Rattle.b67_pictures.proofs.Homes.{operator_there}
-use Rattle.b67_pictures.proofs.IndexRows.{with_one, index_gives, index_faults, index_raw, index_class, mother_gives, mother_faults, mother_raw, mother_class}
-use Rattle.b67_pictures.proofs.Described.{whole_array}
-use Rattle.b67_pictures.proofs.Indices.{Finds, in_place, has_room, LastIndex, last_index, FirstIndex, first_of_two}
 use Rattle.b67_pictures.proofs.InFrame.{does_in_frame}
-use Rattle.b67_pictures.proofs.Rows.{action_not_plain, fault_not_plain, action_is}
-use Rattle.b67_pictures.proofs.Scene.{Scene}
-use Rattle.b67_pictures.proofs.Stage.{choice_is, faults_so, faulted}
-use Rattle.b67_pictures.proofs.Staying.{text_in, level_in, context_in, most_in}
-use Rattle.b67_pictures.proofs.Subscripts.{index_below}
-use Rattle.b67_pictures.proofs.Unmade.{makes, unmade}
 
 -- one more is known
 pub more_known : (known : List Known) (one : Known) (sc : Scopes) (level home base : ℕ) (slots : List Slot) (words : List Word) → SlotsAre sc known level home base slots words → SlotsAre sc (one ∷ known) level home base slots words

@@ -32,11 +32,18 @@ use Rattle.b67_listing.specs.Listings.{HasOperators, IsListable}
 use Rattle.b67_faithful.specs.Faithful.{HasFormats, IsShort, Faithful}
 use Rattle.b67_fitting.specs.Names.{HasNames}
 use Rattle.b67_fitting.specs.Nested.{AreNested, LiesNested}
-use Rattle.b67_pictures.proofs.Yielding.{no_value, no_element}
+use Rattle.b67_rows.proofs.Yielding.{no_value, no_element}
+use Rattle.b67_rows.proofs.Spelled.{have_texts}
+use Rattle.b67_frames.specs.Frames.{Shape, of_own, of_lent}
+use Rattle.b67_frames.proofs.Closing.{FramesClose}
+use Rattle.b67_frames.proofs.Lying.{asks_as_own, frame_gives}
+use Rattle.b67_frames.proofs.Segmenting.{block_small, actuals_fit}
+use Rattle.b67_scenes.proofs.Scene.{scene_of}
+use Rattle.b67_scenes.proofs.Lasting.{acts_alone}
+use Rattle.b67_scenes.proofs.Starting.{first_pictured}
+use Rattle.b67_scenes.proofs.Worlds.{narrow_of}
 use Rattle.b67_pictures.specs.Acting.{Does}
-use Rattle.b67_pictures.specs.Frames.{Shape, of_own, of_lent}
 use Rattle.b67_pictures.specs.Programs.{NestedProgramsAreFaithful}
-use Rattle.b67_pictures.proofs.Closing.{FramesClose}
 use Rattle.b67_pictures.proofs.Dispatching.{IsDone, OthersAreDone}
 use Rattle.b67_pictures.proofs.Settling.{AreFreed, scene_settled}
 use Rattle.b67_pictures.proofs.Evaluating.{ActualsAreEntered}
@@ -48,17 +55,10 @@ use Rattle.b67_pictures.proofs.ProcedureEntering.{entering_procedure}
 use Rattle.b67_pictures.proofs.EvaluationLeaving.{left_value, left_place}
 use Rattle.b67_pictures.proofs.Jumping.{jumping}
 use Rattle.b67_pictures.proofs.Leaving.{leaving, leaving_with}
-use Rattle.b67_pictures.proofs.Lying.{asks_as_own, frame_gives}
-use Rattle.b67_pictures.proofs.Scene.{scene_of}
-use Rattle.b67_pictures.proofs.Segmenting.{block_small, actuals_fit}
-use Rattle.b67_pictures.proofs.Spelled.{have_texts}
-use Rattle.b67_pictures.proofs.Lasting.{acts_alone}
 use Rattle.b67_pictures.proofs.Quiet.{SettledAct}
 use Rattle.b67_pictures.proofs.Simulating as simulating
 use Rattle.b67_pictures.proofs.Simulating.{StandApart}
-use Rattle.b67_pictures.proofs.Starting.{first_pictured}
 use Rattle.b67_pictures.proofs.Counting.{operators_are_few}
-use Rattle.b67_pictures.proofs.Worlds.{narrow_of}
 
 -- what is done with arrays: an element is read, indexed, or stored, a parameter is passed on, and arrays are made
 pub record ArraysAreDone (tree : PProgram) (code : Code) (texts : Texts) : Type 0 where

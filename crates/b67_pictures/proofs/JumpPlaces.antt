@@ -29,23 +29,23 @@ use Rattle.b67_standing.specs.Standing.{ActionAt, ComesTo, GoesToAt}
 use Rattle.b67_cores.specs.Cores.{Core, stack_of}
 use Rattle.b67_fitting.specs.Names.{HasNames}
 use Rattle.b67_fitting.specs.Nested.{LiesNested}
-use Rattle.b67_pictures.specs.Arrays.{Layout}
-use Rattle.b67_pictures.specs.Frames.{most_around, IsComplete, ItemsStand, Owned}
-use Rattle.b67_pictures.proofs.AskedJumps.{goes_seen, goes_unmade}
-use Rattle.b67_pictures.proofs.Closing.{FramesClose}
-use Rattle.b67_pictures.proofs.Completing.{complete_of}
-use Rattle.b67_pictures.proofs.JumpCut.{Way, way}
-use Rattle.b67_pictures.proofs.LabelRoom.{label_room}
-use Rattle.b67_pictures.proofs.Levels.{level_up}
-use Rattle.b67_pictures.proofs.Linked.{begins_core}
-use Rattle.b67_pictures.proofs.Lying.{IsParent, parents_in, part_own, owned_frame, asks_as_own}
-use Rattle.b67_pictures.proofs.NamedArrays.{up_complete}
-use Rattle.b67_pictures.proofs.Scene.{Scene}
-use Rattle.b67_pictures.proofs.Segmented.{segment_low}
+use Rattle.b67_rows.proofs.Segmented.{segment_low}
+use Rattle.b67_rows.proofs.Spelled.{HasText, HaveTexts}
+use Rattle.b67_frames.specs.Arrays.{Layout}
+use Rattle.b67_frames.specs.Frames.{most_around, IsComplete, ItemsStand, Owned}
+use Rattle.b67_frames.proofs.AskedJumps.{goes_seen, goes_unmade}
+use Rattle.b67_frames.proofs.Closing.{FramesClose}
+use Rattle.b67_frames.proofs.Completing.{complete_of}
+use Rattle.b67_frames.proofs.LabelRoom.{label_room}
+use Rattle.b67_frames.proofs.Levels.{level_up}
+use Rattle.b67_frames.proofs.Linked.{begins_core}
+use Rattle.b67_frames.proofs.Lying.{IsParent, parents_in, part_own, owned_frame, asks_as_own}
+use Rattle.b67_frames.proofs.NamedArrays.{up_complete}
+use Rattle.b67_scenes.proofs.JumpCut.{Way, way}
+use Rattle.b67_scenes.proofs.Scene.{Scene}
+use Rattle.b67_scenes.proofs.Stage.{weight_of}
+use Rattle.b67_scenes.proofs.Staying.{text_in, level_in, context_in, most_in, names_in}
 use Rattle.b67_pictures.proofs.Selecting.{segment_short, within_segment}
-use Rattle.b67_pictures.proofs.Spelled.{HasText, HaveTexts}
-use Rattle.b67_pictures.proofs.Stage.{weight_of}
-use Rattle.b67_pictures.proofs.Staying.{text_in, level_in, context_in, most_in, names_in}
 
 -- in the table of each segment stand the branches for its labels
 abbrev pub LabelsStand : PProgram → Code → Texts → Type 0

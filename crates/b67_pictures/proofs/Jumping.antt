@@ -47,41 +47,41 @@ use Rattle.b67_faithful.specs.Correspondence.{as_action}
 use Rattle.b67_faithful.specs.Weight.{weight}
 use Rattle.b67_fitting.specs.Names.{HasNames}
 use Rattle.b67_fitting.specs.Nested.{LiesNested}
+use Rattle.b67_rows.proofs.Cored.{has_now, others_have, system_stays}
+use Rattle.b67_rows.proofs.Displays.{same_is, IsEntered, shown, shown_top, rebuilt_seen}
+use Rattle.b67_rows.proofs.IntrinsicRows.{enter_class}
+use Rattle.b67_rows.proofs.Numbers.{numbered_set}
+use Rattle.b67_rows.proofs.Parting.{IsSameBut}
+use Rattle.b67_rows.proofs.Rows.{action_not_plain, action_is}
+use Rattle.b67_rows.proofs.Spelled.{HasText, HaveTexts}
+use Rattle.b67_frames.specs.Arrays.{Layout, IsOwn}
+use Rattle.b67_frames.specs.Frames.{IsChained, most_around, IsComplete, Frame, Owned, of_own, run_level}
+use Rattle.b67_frames.specs.Events.{EventsAre}
+use Rattle.b67_frames.proofs.ArraysKept.{arrays_unchanged}
+use Rattle.b67_frames.proofs.Closing.{FramesClose}
+use Rattle.b67_frames.proofs.Hanging.{Hangs, hangs}
+use Rattle.b67_frames.proofs.EventsLow.{IsElsewhere}
+use Rattle.b67_frames.proofs.JumpClosing.{events_left, AreClosed, image_left}
+use Rattle.b67_frames.proofs.JumpRow.{jumped, Jumps, after_jump, jump_raw}
+use Rattle.b67_frames.proofs.Linked.{Begins_with, begins_core, begins_front}
+use Rattle.b67_frames.proofs.Lying.{StayBelow, owned_frame, frame_gives, runs_at}
+use Rattle.b67_frames.proofs.OwnCells.{framed_cells, none_later}
+use Rattle.b67_scenes.specs.Pictures.{Living, Pictures, PicturesBy}
+use Rattle.b67_scenes.specs.States.{StateIs}
+use Rattle.b67_scenes.proofs.Calling.{IsCall, call}
+use Rattle.b67_scenes.proofs.Homes.{operator_there}
+use Rattle.b67_scenes.proofs.Independent.{none_critical, none_dependent}
+use Rattle.b67_scenes.proofs.JumpCut.{Way}
+use Rattle.b67_scenes.proofs.JumpEvents.{events_jump}
+use Rattle.b67_scenes.proofs.JumpWorld.{leave_processes, leave_output, leave_fault, leave_many, leave_same, same_up, leave_below, leave_alike}
+use Rattle.b67_scenes.proofs.Landing.{steps_none, living_of}
+use Rattle.b67_scenes.proofs.Scene.{Scene, frame_is}
+use Rattle.b67_scenes.proofs.Stage.{choice_is, gives_within, goes_on, weight_of}
+use Rattle.b67_scenes.proofs.Staying.{text_in, level_in, context_in, most_in, names_in, frame_low, FrameStill, frame_still, still_low, same_weight}
+use Rattle.b67_scenes.proofs.Worlds.{held_of}
 use Rattle.b67_pictures.specs.Acting.{Does, gave}
-use Rattle.b67_pictures.specs.Arrays.{Layout, IsOwn}
-use Rattle.b67_pictures.specs.Frames.{IsChained, most_around, IsComplete, Frame, Owned, of_own, run_level}
-use Rattle.b67_pictures.specs.Events.{EventsAre}
-use Rattle.b67_pictures.specs.Pictures.{Living, Pictures, PicturesBy}
-use Rattle.b67_pictures.specs.States.{StateIs}
-use Rattle.b67_pictures.proofs.ArraysKept.{arrays_unchanged}
-use Rattle.b67_pictures.proofs.Calling.{IsCall, call}
-use Rattle.b67_pictures.proofs.Closing.{FramesClose}
-use Rattle.b67_pictures.proofs.Cored.{has_now, others_have, system_stays}
-use Rattle.b67_pictures.proofs.Displays.{same_is, IsEntered, shown, shown_top, rebuilt_seen}
-use Rattle.b67_pictures.proofs.Hanging.{Hangs, hangs}
-use Rattle.b67_pictures.proofs.Homes.{operator_there}
-use Rattle.b67_pictures.proofs.Independent.{none_critical, none_dependent}
-use Rattle.b67_pictures.proofs.IntrinsicRows.{enter_class}
-use Rattle.b67_pictures.proofs.EventsLow.{IsElsewhere}
-use Rattle.b67_pictures.proofs.JumpClosing.{events_left, AreClosed, image_left}
-use Rattle.b67_pictures.proofs.JumpCut.{Way}
-use Rattle.b67_pictures.proofs.JumpEvents.{events_jump}
 use Rattle.b67_pictures.proofs.JumpPlaces as places
 use Rattle.b67_pictures.proofs.JumpPlaces.{LabelsStand, way_there, comes_there}
-use Rattle.b67_pictures.proofs.JumpRow.{jumped, Jumps, after_jump, jump_raw}
-use Rattle.b67_pictures.proofs.JumpWorld.{leave_processes, leave_output, leave_fault, leave_many, leave_same, same_up, leave_below, leave_alike}
-use Rattle.b67_pictures.proofs.Landing.{steps_none, living_of}
-use Rattle.b67_pictures.proofs.Linked.{Begins_with, begins_core, begins_front}
-use Rattle.b67_pictures.proofs.Lying.{StayBelow, owned_frame, frame_gives, runs_at}
-use Rattle.b67_pictures.proofs.Numbers.{numbered_set}
-use Rattle.b67_pictures.proofs.OwnCells.{framed_cells, none_later}
-use Rattle.b67_pictures.proofs.Parting.{IsSameBut}
-use Rattle.b67_pictures.proofs.Rows.{action_not_plain, action_is}
-use Rattle.b67_pictures.proofs.Scene.{Scene, frame_is}
-use Rattle.b67_pictures.proofs.Spelled.{HasText, HaveTexts}
-use Rattle.b67_pictures.proofs.Stage.{choice_is, gives_within, goes_on, weight_of}
-use Rattle.b67_pictures.proofs.Staying.{text_in, level_in, context_in, most_in, names_in, frame_low, FrameStill, frame_still, still_low, same_weight}
-use Rattle.b67_pictures.proofs.Worlds.{held_of}
 
 -- where no process depends on any instance, none depends on one of these
 none_of_them : (w : World) → ((i : ℕ) → some_depends w.processes i ≡ false) → (is : List ℕ) → some_depends_on_any w.processes is ≡ false

@@ -16,7 +16,7 @@ use Rattle.b67_segment.specs.declared.code.Code.{Code}
 use Rattle.b67_templates.specs.Contexts.{Yields}
 use Rattle.b67_templates.specs.Programs.{Texts}
 use Rattle.b67_table.specs.declared.Below.{Below}
-use Rattle.b67_pictures.specs.States.{StateIs}
+use Rattle.b67_scenes.specs.States.{StateIs}
 use Rattle.b67_table.specs.Image.{Image}
 use Rattle.b67_table.specs.Private.{frame}
 use Rattle.b67_table.specs.Table.{operator_at}
@@ -24,21 +24,21 @@ use Rattle.b67_standing.specs.Stepping.{operand}
 use Rattle.b67_standing.specs.Standing.{ActionAt, Gives}
 use Rattle.b67_cores.specs.Cores.{Core}
 use Rattle.b67_cores.specs.Stretches.{FragmentsArePerformed}
-use Rattle.b67_pictures.specs.Arrays.{Layout, AreKnown, IsOwn}
+use Rattle.b67_rows.proofs.LeaveRow.{Leaves, leave_raw, leave_class, leave_action}
+use Rattle.b67_rows.proofs.ReturnRow.{operand_given, return_raw, return_class, return_action}
+use Rattle.b67_rows.proofs.Rows.{action_not_plain}
+use Rattle.b67_rows.proofs.Slotted.{Top, top_slot}
+use Rattle.b67_rows.proofs.Spelled.{HaveTexts}
+use Rattle.b67_rows.proofs.Words.{value_tag}
+use Rattle.b67_frames.specs.Arrays.{Layout, AreKnown, IsOwn}
+use Rattle.b67_frames.specs.Frames.{Waits}
+use Rattle.b67_frames.proofs.Closing.{FramesClose}
+use Rattle.b67_scenes.proofs.Homes.{operator_there}
+use Rattle.b67_scenes.proofs.Scene.{Scene}
+use Rattle.b67_scenes.proofs.Staying.{text_in, level_in, context_in, most_in}
 use Rattle.b67_pictures.specs.Acting.{Does}
-use Rattle.b67_pictures.specs.Frames.{Waits}
-use Rattle.b67_pictures.proofs.Closing.{FramesClose}
 use Rattle.b67_pictures.proofs.FrameLeaving.{e, leaving_frame}
-use Rattle.b67_pictures.proofs.Homes.{operator_there}
-use Rattle.b67_pictures.proofs.LeaveRow.{Leaves, leave_raw, leave_class, leave_action}
 use Rattle.b67_pictures.proofs.LeavingWords.{IsGiven, nothing_given, value_given, known_given, b, display}
-use Rattle.b67_pictures.proofs.ReturnRow.{operand_given, return_raw, return_class, return_action}
-use Rattle.b67_pictures.proofs.Rows.{action_not_plain}
-use Rattle.b67_pictures.proofs.Scene.{Scene}
-use Rattle.b67_pictures.proofs.Slotted.{Top, top_slot}
-use Rattle.b67_pictures.proofs.Spelled.{HaveTexts}
-use Rattle.b67_pictures.proofs.Staying.{text_in, level_in, context_in, most_in}
-use Rattle.b67_pictures.proofs.Words.{value_tag}
 
 module _ (tree : PProgram) (code : Code) (texts : Texts) (stand : HaveTexts tree code texts) (fragments : FragmentsArePerformed) (keeps : RestsKeepToTheirText) (order : AllIsMadeInOrder) (closing : FramesClose)
     (w : World) (lay : Layout) (img : Image) (p : ℕ) (q : Process) (part next : Part) (parts : List Part) (bound : ℕ) (core : Core)

@@ -29,17 +29,17 @@ use Rattle.b67_standing.specs.Standing.{pushed}
 use Rattle.b67_cores.specs.Cores.{Core}
 use Rattle.b67_cores.specs.Slots.{ValueIs, Known, newest, SlotsAre}
 use Rattle.b67_cores.proofs.Moving.{slots_length}
-use Rattle.b67_pictures.specs.Arrays.{Layout}
-use Rattle.b67_pictures.specs.Frames.{Waits}
-use Rattle.b67_pictures.proofs.Displays.{IsEntered, shown, shown_top, rebuilt_seen}
-use Rattle.b67_pictures.proofs.FrameBelow as under
-use Rattle.b67_pictures.proofs.Hanging.{Hangs, hangs}
-use Rattle.b67_pictures.proofs.Independent.{none_critical}
+use Rattle.b67_rows.proofs.Displays.{IsEntered, shown, shown_top, rebuilt_seen}
+use Rattle.b67_rows.proofs.LeaveRow.{Leaves, given_words}
+use Rattle.b67_frames.specs.Arrays.{Layout}
+use Rattle.b67_frames.specs.Frames.{Waits}
+use Rattle.b67_frames.proofs.Hanging.{Hangs, hangs}
+use Rattle.b67_frames.proofs.Linked.{Begins_with, begins_core}
+use Rattle.b67_scenes.proofs.FrameBelow as under
+use Rattle.b67_scenes.proofs.Independent.{none_critical}
+use Rattle.b67_scenes.proofs.Scene.{Scene, frame_is}
+use Rattle.b67_scenes.proofs.Staying.{level_in, most_in}
 use Rattle.b67_pictures.proofs.Indexing.{more_known}
-use Rattle.b67_pictures.proofs.LeaveRow.{Leaves, given_words}
-use Rattle.b67_pictures.proofs.Linked.{Begins_with, begins_core}
-use Rattle.b67_pictures.proofs.Scene.{Scene, frame_is}
-use Rattle.b67_pictures.proofs.Staying.{level_in, most_in}
 
 -- what a part gives, and the word of it
 pub data IsGiven : Yields → Answer → Option Word → Type 0 where

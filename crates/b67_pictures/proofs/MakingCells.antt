@@ -45,24 +45,24 @@ use Rattle.b67_faithful.specs.Correspondence.{as_action}
 use Rattle.b67_faithful.specs.Weight.{weight}
 use Rattle.b67_faithful.proofs.Choices.{length_set_numbered}
 use Rattle.b67_fitting.specs.Nested.{AreNested}
+use Rattle.b67_rows.proofs.Cored.{has_now, others_have, system_stays}
+use Rattle.b67_rows.proofs.IntrinsicRows.{enter_class}
+use Rattle.b67_rows.proofs.Numbers.{most_or_more}
+use Rattle.b67_rows.proofs.Rows.{action_not_plain, action_is}
+use Rattle.b67_frames.specs.Arrays.{Allotted, Layout, AreMade, ArraysAre}
+use Rattle.b67_frames.specs.Events.{EventsAre}
+use Rattle.b67_frames.specs.Frames.{most_around, IsChained, Frame, run_level}
+use Rattle.b67_frames.proofs.MakingRow.{with_descriptors}
+use Rattle.b67_scenes.specs.Pictures.{Living, Pictures, PicturesBy}
+use Rattle.b67_scenes.specs.States.{StateIs}
+use Rattle.b67_scenes.proofs.Calling.{IsEntered}
+use Rattle.b67_scenes.proofs.Homes.{operator_there}
+use Rattle.b67_scenes.proofs.Landing.{living_of}
+use Rattle.b67_scenes.proofs.MakingFrame as frames
+use Rattle.b67_scenes.proofs.Scene.{Scene}
+use Rattle.b67_scenes.proofs.Stage.{gives_within, limit_beyond, goes_on}
+use Rattle.b67_scenes.proofs.Staying.{text_in, level_in, context_in, most_in, names_in}
 use Rattle.b67_pictures.specs.Acting.{Does, gave, stopped}
-use Rattle.b67_pictures.specs.Arrays.{Allotted, Layout, AreMade, ArraysAre}
-use Rattle.b67_pictures.specs.Events.{EventsAre}
-use Rattle.b67_pictures.specs.Frames.{most_around, IsChained, Frame, run_level}
-use Rattle.b67_pictures.specs.Pictures.{Living, Pictures, PicturesBy}
-use Rattle.b67_pictures.specs.States.{StateIs}
-use Rattle.b67_pictures.proofs.Calling.{IsEntered}
-use Rattle.b67_pictures.proofs.Cored.{has_now, others_have, system_stays}
-use Rattle.b67_pictures.proofs.Homes.{operator_there}
-use Rattle.b67_pictures.proofs.IntrinsicRows.{enter_class}
-use Rattle.b67_pictures.proofs.Landing.{living_of}
-use Rattle.b67_pictures.proofs.MakingFrame as frames
-use Rattle.b67_pictures.proofs.MakingRow.{with_descriptors}
-use Rattle.b67_pictures.proofs.Numbers.{most_or_more}
-use Rattle.b67_pictures.proofs.Rows.{action_not_plain, action_is}
-use Rattle.b67_pictures.proofs.Scene.{Scene}
-use Rattle.b67_pictures.proofs.Stage.{gives_within, limit_beyond, goes_on}
-use Rattle.b67_pictures.proofs.Staying.{text_in, level_in, context_in, most_in, names_in}
 
 pub none_left : (sc : Scopes) (known : List Known) (level home base : ℕ) (ws : List Word) → SlotsAre sc known level home base [] ws → ws ≡ []
 none_left sc known level home base [] are = refl

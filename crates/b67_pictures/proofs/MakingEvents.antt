@@ -35,28 +35,28 @@ use Rattle.b67_cores.specs.Cores.{Core}
 use Rattle.b67_cores.specs.Slots.{SlotsAre}
 use Rattle.b67_cores.specs.Stretches.{FragmentsArePerformed, CellsAreMade}
 use Rattle.b67_fitting.specs.Nested.{AreNested}
+use Rattle.b67_rows.proofs.MakingAsked.{makes_event_first}
+use Rattle.b67_rows.proofs.Numbers.{get_below}
+use Rattle.b67_frames.specs.Arrays.{Allotted, Layout, AreMade, ArraysAre, IsOwn}
+use Rattle.b67_frames.specs.Events.{HasEvent, EventsAre}
+use Rattle.b67_frames.specs.Frames.{Framed}
+use Rattle.b67_frames.proofs.Completing.{made_many}
+use Rattle.b67_frames.proofs.EventCells.{arrays_still, event_has_none, array_in_front, get_first}
+use Rattle.b67_frames.proofs.EventRows.{event_raw}
+use Rattle.b67_frames.proofs.EventsChanged.{events_made}
+use Rattle.b67_frames.proofs.EventsLow.{IsElsewhere, event_in_frame}
+use Rattle.b67_frames.proofs.Lying.{asks_as_own, below_frame, lies_in}
+use Rattle.b67_frames.proofs.Zeros.{cells_length}
+use Rattle.b67_scenes.specs.States.{StateIs}
+use Rattle.b67_scenes.proofs.Calling.{IsEntered, entered_with, none_lying}
+use Rattle.b67_scenes.proofs.Homes.{operator_there}
+use Rattle.b67_scenes.proofs.MakingFrame as frames
+use Rattle.b67_scenes.proofs.Scene.{Scene}
+use Rattle.b67_scenes.proofs.Stage.{choice_is}
+use Rattle.b67_scenes.proofs.Staying.{text_in, level_in, context_in, most_in}
+use Rattle.b67_scenes.proofs.Worlds.{held_of}
 use Rattle.b67_pictures.specs.Acting.{Does}
-use Rattle.b67_pictures.specs.Arrays.{Allotted, Layout, AreMade, ArraysAre, IsOwn}
-use Rattle.b67_pictures.specs.Events.{HasEvent, EventsAre}
-use Rattle.b67_pictures.specs.Frames.{Framed}
-use Rattle.b67_pictures.specs.States.{StateIs}
-use Rattle.b67_pictures.proofs.Calling.{IsEntered, entered_with, none_lying}
-use Rattle.b67_pictures.proofs.Completing.{made_many}
-use Rattle.b67_pictures.proofs.EventCells.{arrays_still, event_has_none, array_in_front, get_first}
-use Rattle.b67_pictures.proofs.EventRows.{event_raw}
-use Rattle.b67_pictures.proofs.EventsChanged.{events_made}
-use Rattle.b67_pictures.proofs.EventsLow.{IsElsewhere, event_in_frame}
-use Rattle.b67_pictures.proofs.Homes.{operator_there}
-use Rattle.b67_pictures.proofs.Lying.{asks_as_own, below_frame, lies_in}
-use Rattle.b67_pictures.proofs.MakingAsked.{makes_event_first}
 use Rattle.b67_pictures.proofs.MakingCells.{none_left, cells_are_made}
-use Rattle.b67_pictures.proofs.MakingFrame as frames
-use Rattle.b67_pictures.proofs.Numbers.{get_below}
-use Rattle.b67_pictures.proofs.Scene.{Scene}
-use Rattle.b67_pictures.proofs.Stage.{choice_is}
-use Rattle.b67_pictures.proofs.Staying.{text_in, level_in, context_in, most_in}
-use Rattle.b67_pictures.proofs.Worlds.{held_of}
-use Rattle.b67_pictures.proofs.Zeros.{cells_length}
 
 module _ (tree : PProgram) (code : Code) (texts : Texts) (nested : AreNested (scopes_of tree)) (fragments : FragmentsArePerformed) (cells_made : CellsAreMade) (keeps : RestsKeepToTheirText) (order : AllIsMadeInOrder)
     (w : World) (lay : Layout) (img : Image) (p : ℕ) (q : Process) (part : Part) (outer : List Part) (bound : ℕ) (core : Core) (s : Scene tree code texts w lay img p q part outer bound core) (able_is : lives q.state ≡ true) (able_p : StateIs q.state (numbered img.states p))

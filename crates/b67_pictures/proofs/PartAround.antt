@@ -30,23 +30,23 @@ use Rattle.b67_cores.specs.Cores.{Core, size, HasCore}
 use Rattle.b67_cores.specs.Slots.{Known, newest, SlotsAre}
 use Rattle.b67_cores.specs.Stretches.{CoreAt, FragmentsArePerformed}
 use Rattle.b67_faithful.specs.Weight.{weight}
-use Rattle.b67_pictures.specs.Arrays.{Layout, AreKnown, IsOwn}
-use Rattle.b67_pictures.specs.Frames.{IsChained, most_around, Frame, Waits, run_level}
-use Rattle.b67_pictures.specs.Pictures.{Living}
-use Rattle.b67_pictures.proofs.Expressions.{expression_resumed}
-use Rattle.b67_pictures.proofs.Knowing.{known_of}
-use Rattle.b67_pictures.proofs.Landing.{steps_none, living_of}
-use Rattle.b67_pictures.proofs.LeaveRow.{without_frame}
+use Rattle.b67_rows.proofs.LeaveRow.{without_frame}
+use Rattle.b67_rows.proofs.Parting.{IsSameBut}
+use Rattle.b67_rows.proofs.Spelled.{HasText, HaveTexts}
+use Rattle.b67_rows.proofs.Unmade.{makes, unmade}
+use Rattle.b67_frames.specs.Arrays.{Layout, AreKnown, IsOwn}
+use Rattle.b67_frames.specs.Frames.{IsChained, most_around, Frame, Waits, run_level}
+use Rattle.b67_frames.proofs.Expressions.{expression_resumed}
+use Rattle.b67_frames.proofs.Knowing.{known_of}
+use Rattle.b67_frames.proofs.Lying.{StayBelow, known_after, shape_on}
+use Rattle.b67_scenes.specs.Pictures.{Living}
+use Rattle.b67_scenes.proofs.Landing.{steps_none, living_of}
+use Rattle.b67_scenes.proofs.Scene.{Scene}
+use Rattle.b67_scenes.proofs.Stage.{weight_of}
+use Rattle.b67_scenes.proofs.Staying.{text_in, level_in, most_in, FrameStill, frame_still, still_low, same_weight, context_in, names_in}
+use Rattle.b67_scenes.proofs.Stuffed.{known_both}
 use Rattle.b67_pictures.proofs.LeavingWords as leaving
 use Rattle.b67_pictures.proofs.LeavingWords.{IsGiven, known_given, same_f, low, height, top, hung, shown_home, nameless, words_are, same_newest, one_more, few}
-use Rattle.b67_pictures.proofs.Lying.{StayBelow, known_after, shape_on}
-use Rattle.b67_pictures.proofs.Parting.{IsSameBut}
-use Rattle.b67_pictures.proofs.Scene.{Scene}
-use Rattle.b67_pictures.proofs.Spelled.{HasText, HaveTexts}
-use Rattle.b67_pictures.proofs.Stage.{weight_of}
-use Rattle.b67_pictures.proofs.Staying.{text_in, level_in, most_in, FrameStill, frame_still, still_low, same_weight, context_in, names_in}
-use Rattle.b67_pictures.proofs.Stuffed.{known_both}
-use Rattle.b67_pictures.proofs.Unmade.{makes, unmade}
 
 module _ (tree : PProgram) (code : Code) (texts : Texts) (stand : HaveTexts tree code texts) (fragments : FragmentsArePerformed) (keeps : RestsKeepToTheirText) (order : AllIsMadeInOrder)
     (w : World) (lay : Layout) (img : Image) (p : ℕ) (q : Process) (part next : Part) (parts : List Part) (bound : ℕ) (core : Core)

@@ -25,7 +25,7 @@ use Rattle.b67_segment.specs.Operators.{Placed}
 use Rattle.b67_segment.specs.declared.code.Code.{Code}
 use Rattle.b67_templates.specs.Programs.{Texts}
 use Rattle.b67_table.specs.Chains.{place}
-use Rattle.b67_pictures.specs.States.{StateIs}
+use Rattle.b67_scenes.specs.States.{StateIs}
 use Rattle.b67_table.specs.Image.{Image}
 use Rattle.b67_table.specs.Effect as effects
 use Rattle.b67_table.specs.Outcome as outcomes
@@ -39,25 +39,25 @@ use Rattle.b67_cores.specs.Cores.{Core, with_core}
 use Rattle.b67_cores.specs.Slots.{Known, newest}
 use Rattle.b67_cores.specs.Stretches.{CoreAt, FragmentsArePerformed}
 use Rattle.b67_fitting.specs.Nested.{AreNested}
-use Rattle.b67_pictures.specs.Arrays.{Layout, Denotes, named_from, IsOwn}
+use Rattle.b67_rows.proofs.AskedElements.{array_asked, array_seen}
+use Rattle.b67_rows.proofs.PassRow.{pass_raw, pass_class}
+use Rattle.b67_rows.proofs.TopRow.{with_other}
+use Rattle.b67_rows.proofs.Rows.{action_not_plain, action_is}
+use Rattle.b67_rows.proofs.Slotted.{Top, top_slot}
+use Rattle.b67_rows.proofs.Unmade.{makes, unmade}
+use Rattle.b67_rows.proofs.Words.{reference_read}
+use Rattle.b67_frames.specs.Arrays.{Layout, Denotes, named_from, IsOwn}
+use Rattle.b67_scenes.proofs.ArrayPlaces.{array_index}
+use Rattle.b67_scenes.proofs.EventHomes.{cell_there, FormalEvent, formal_event_there}
+use Rattle.b67_scenes.proofs.FormalHomes.{FormalHome, formal_home, leads_so}
+use Rattle.b67_scenes.proofs.Homes.{operator_there}
+use Rattle.b67_scenes.proofs.NameHomes.{NameCellHome, NameStands, for_variable, for_actual, LeadsOn, leads_on, name_stands}
+use Rattle.b67_scenes.proofs.Scene.{Scene}
+use Rattle.b67_scenes.proofs.Stage.{choice_is}
+use Rattle.b67_scenes.proofs.Staying.{text_in, level_in, context_in, most_in}
 use Rattle.b67_pictures.specs.Acting.{Does}
-use Rattle.b67_pictures.proofs.AskedElements.{array_asked, array_seen}
-use Rattle.b67_pictures.proofs.ArrayPlaces.{array_index}
-use Rattle.b67_pictures.proofs.EventHomes.{cell_there, FormalEvent, formal_event_there}
-use Rattle.b67_pictures.proofs.FormalHomes.{FormalHome, formal_home, leads_so}
-use Rattle.b67_pictures.proofs.Homes.{operator_there}
 use Rattle.b67_pictures.proofs.Indexing.{more_known}
 use Rattle.b67_pictures.proofs.InFrame.{does_in_frame}
-use Rattle.b67_pictures.proofs.NameHomes.{NameCellHome, NameStands, for_variable, for_actual, LeadsOn, leads_on, name_stands}
-use Rattle.b67_pictures.proofs.PassRow.{pass_raw, pass_class}
-use Rattle.b67_pictures.proofs.TopRow.{with_other}
-use Rattle.b67_pictures.proofs.Rows.{action_not_plain, action_is}
-use Rattle.b67_pictures.proofs.Scene.{Scene}
-use Rattle.b67_pictures.proofs.Slotted.{Top, top_slot}
-use Rattle.b67_pictures.proofs.Stage.{choice_is}
-use Rattle.b67_pictures.proofs.Staying.{text_in, level_in, context_in, most_in}
-use Rattle.b67_pictures.proofs.Unmade.{makes, unmade}
-use Rattle.b67_pictures.proofs.Words.{reference_read}
 
 -- ---- what a process finds that stands at LODT
 

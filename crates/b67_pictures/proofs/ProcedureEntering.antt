@@ -27,7 +27,7 @@ use Rattle.b67_ops.specs.declared.TheConstants.{OUTER_LEVEL}
 use Rattle.b67_segment.specs.declared.code.Code.{Code}
 use Rattle.b67_segment.specs.declared.code.Segment.{Segment}
 use Rattle.b67_store.specs.Store.{word_at}
-use Rattle.b67_pictures.specs.States.{StateIs}
+use Rattle.b67_scenes.specs.States.{StateIs}
 use Rattle.b67_table.specs.Chains.{place}
 use Rattle.b67_table.specs.Image.{Image}
 use Rattle.b67_table.specs.Private.{frame, display_at}
@@ -46,33 +46,33 @@ use Rattle.b67_cores.specs.Stretches.{BlocksBegin, FragmentsArePerformed, contro
 use Rattle.b67_faithful.specs.Faithful.{IsShort}
 use Rattle.b67_faithful.specs.Weight.{tokens_around}
 use Rattle.b67_fitting.specs.Nested.{LiesNested, IsDeclared, AreParameters}
-use Rattle.b67_pictures.specs.Arrays.{Layout, named_from, LeadsToEvent, LeadsToVariable, IsNamed, IsOwn}
+use Rattle.b67_rows.proofs.AskedEntries.{InReferred, InEntry, enters_seen, entered_in_bound}
+use Rattle.b67_rows.proofs.EnterProcedureRow.{procedure_leads, procedure_calls}
+use Rattle.b67_rows.proofs.GivenWords.{AreFit, are_fit, fit_many, ActualsAre}
+use Rattle.b67_rows.proofs.Numbers.{get_within, get_below}
+use Rattle.b67_rows.proofs.Segmented.{before_whole, segment_low, procedure_segment, get_mapped, length_mapped}
+use Rattle.b67_rows.proofs.StackWords.{get-front, get-behind}
+use Rattle.b67_rows.proofs.Parents.{length_around}
+use Rattle.b67_rows.proofs.Unmade.{makes, unmade}
+use Rattle.b67_rows.proofs.Words.{reference_read}
+use Rattle.b67_frames.specs.Arrays.{Layout, named_from, LeadsToEvent, LeadsToVariable, IsNamed, IsOwn}
+use Rattle.b67_frames.specs.Frames.{block_controls, controls_count, most_around, IsComplete}
+use Rattle.b67_frames.proofs.ControlWords.{get_control, controls_fit}
+use Rattle.b67_frames.proofs.Formals.{AreGivenCells, given_are}
+use Rattle.b67_frames.proofs.FreshCells.{simple_many, words_long}
+use Rattle.b67_frames.proofs.Linked.{Linked, begins_core, own_linked, linked_lies, linked_low, level_around}
+use Rattle.b67_frames.proofs.Lying.{Lies, lies_in, IsParent, parents_in, part_own}
+use Rattle.b67_frames.proofs.NamedEvents.{event_leads}
+use Rattle.b67_frames.proofs.NamedArrays.{IsSeenMade, both_seen, up_complete, named_leads}
+use Rattle.b67_frames.proofs.Segmenting.{needs}
+use Rattle.b67_frames.proofs.VariablesGiven.{variable_leads}
+use Rattle.b67_scenes.proofs.Entries.{Calls}
+use Rattle.b67_scenes.proofs.Narrowing.{made_or_around}
+use Rattle.b67_scenes.proofs.Scene.{Scene}
+use Rattle.b67_scenes.proofs.Stage.{choice_is}
+use Rattle.b67_scenes.proofs.Staying.{text_in, level_in, context_in, most_in, names_in}
 use Rattle.b67_pictures.specs.Acting.{Does}
-use Rattle.b67_pictures.specs.Frames.{block_controls, controls_count, most_around, IsComplete}
-use Rattle.b67_pictures.proofs.AskedEntries.{InReferred, InEntry, enters_seen, entered_in_bound}
-use Rattle.b67_pictures.proofs.ControlWords.{get_control, controls_fit}
-use Rattle.b67_pictures.proofs.EnterProcedureRow.{procedure_leads, procedure_calls}
-use Rattle.b67_pictures.proofs.Entries.{Calls}
-use Rattle.b67_pictures.proofs.Formals.{AreGivenCells, given_are}
 use Rattle.b67_pictures.proofs.FrameEntering.{AreCells, Body, GoesOnBehind, entering}
-use Rattle.b67_pictures.proofs.FreshCells.{simple_many, words_long}
-use Rattle.b67_pictures.proofs.GivenWords.{AreFit, are_fit, fit_many, ActualsAre}
-use Rattle.b67_pictures.proofs.Linked.{Linked, begins_core, own_linked, linked_lies, linked_low, level_around}
-use Rattle.b67_pictures.proofs.Lying.{Lies, lies_in, IsParent, parents_in, part_own}
-use Rattle.b67_pictures.proofs.NamedEvents.{event_leads}
-use Rattle.b67_pictures.proofs.NamedArrays.{IsSeenMade, both_seen, up_complete, named_leads}
-use Rattle.b67_pictures.proofs.Narrowing.{made_or_around}
-use Rattle.b67_pictures.proofs.Numbers.{get_within, get_below}
-use Rattle.b67_pictures.proofs.Scene.{Scene}
-use Rattle.b67_pictures.proofs.Segmenting.{needs}
-use Rattle.b67_pictures.proofs.Segmented.{before_whole, segment_low, procedure_segment, get_mapped, length_mapped}
-use Rattle.b67_pictures.proofs.StackWords.{get-front, get-behind}
-use Rattle.b67_pictures.proofs.Stage.{choice_is}
-use Rattle.b67_pictures.proofs.Parents.{length_around}
-use Rattle.b67_pictures.proofs.Staying.{text_in, level_in, context_in, most_in, names_in}
-use Rattle.b67_pictures.proofs.Unmade.{makes, unmade}
-use Rattle.b67_pictures.proofs.VariablesGiven.{variable_leads}
-use Rattle.b67_pictures.proofs.Words.{reference_read}
 
 -- what makes the arrays of a procedure, and its statements, with the control words of those that it declares, need no more words than its
 -- segment has room for

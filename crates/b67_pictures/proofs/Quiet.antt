@@ -7,18 +7,18 @@ use Rattle.algol_meaning.specs.World.{Process, lives, World}
 use Rattle.b67_segment.specs.declared.code.Code.{Code}
 use Rattle.b67_templates.specs.Programs.{Texts}
 use Rattle.b67_store.specs.Store.{stack_limit}
-use Rattle.b67_pictures.specs.States.{StateIs}
+use Rattle.b67_scenes.specs.States.{StateIs}
 use Rattle.b67_table.specs.Image.{Image}
 use Rattle.b67_table.specs.Outcome.{gives}
 use Rattle.b67_table.specs.Table.{table, plain}
 use Rattle.b67_table.specs.Runs.{Plains, stay, go}
 use Rattle.b67_cores.specs.Cores.{Core, HasCore, with_core, size, CoreStep, CoreSteps, here, onward}
 use Rattle.b67_cores.specs.Stretches.{StepsArePerformed, StepsComeToLimit}
-use Rattle.b67_pictures.specs.Arrays.{Layout}
+use Rattle.b67_frames.specs.Arrays.{Layout}
+use Rattle.b67_scenes.specs.Pictures.{Living, PicturesBy}
+use Rattle.b67_scenes.proofs.Plainly.{steps_fit, stepped, within_or_beyond, Nearer, step_made, pictured_nearer, plain_pictured}
 use Rattle.b67_pictures.specs.Acting.{Does, gave, failed_by, stopped}
-use Rattle.b67_pictures.specs.Pictures.{Living, PicturesBy}
 use Rattle.b67_pictures.proofs.Releasing.{IsReleased}
-use Rattle.b67_pictures.proofs.Plainly.{steps_fit, stepped, within_or_beyond, Nearer, step_made, pictured_nearer, plain_pictured}
 
 -- Its operator is its action, and releases whom that releases.
 pub record Settled (tree : PProgram) (code : Code) (texts : Texts) (w : World) (img : Image) (p : ℕ) : Type 0 where

@@ -24,7 +24,7 @@ use Rattle.b67_store.specs.Store.{word_at}
 use Rattle.b67_table.specs.Chains.{place}
 use Rattle.b67_table.specs.declared.Cell as cells
 use Rattle.b67_table.specs.References.{cell_in, couple_cell}
-use Rattle.b67_pictures.specs.States.{StateIs}
+use Rattle.b67_scenes.specs.States.{StateIs}
 use Rattle.b67_table.specs.Image.{Image}
 use Rattle.b67_table.specs.Effect as effects
 use Rattle.b67_table.specs.Outcome as outcomes
@@ -34,24 +34,24 @@ use Rattle.b67_standing.specs.Standing.{ActionAt, Acted, ComesTo}
 use Rattle.b67_cores.specs.Cores.{Core, IsCore, with_core}
 use Rattle.b67_cores.specs.Stretches.{CoreAt, FragmentsArePerformed}
 use Rattle.b67_faithful.specs.Correspondence.{as_action}
-use Rattle.b67_pictures.specs.Arrays.{Layout, named_from}
+use Rattle.b67_rows.proofs.Asked.{reads_seen}
+use Rattle.b67_rows.proofs.Rows.{action_not_plain, action_is, words_are}
+use Rattle.b67_rows.proofs.StackWords.{get-front}
+use Rattle.b67_frames.specs.Arrays.{Layout, named_from}
+use Rattle.b67_scenes.proofs.Homes.{operator_there, Home, home}
+use Rattle.b67_scenes.proofs.Scene.{Scene}
+use Rattle.b67_scenes.proofs.Stage.{choice_is}
+use Rattle.b67_scenes.proofs.Staying.{text_in, level_in, context_in, most_in, names_in}
 use Rattle.b67_pictures.specs.Acting.{Does}
-use Rattle.b67_pictures.proofs.Asked.{reads_seen}
-use Rattle.b67_pictures.proofs.Homes.{operator_there, Home, home}
 use Rattle.b67_pictures.proofs.InFrame.{does_in_frame}
-use Rattle.b67_pictures.proofs.Rows.{action_not_plain, action_is, words_are}
-use Rattle.b67_pictures.proofs.Scene.{Scene}
-use Rattle.b67_pictures.proofs.Stage.{choice_is}
-use Rattle.b67_pictures.proofs.StackWords.{get-front}
-use Rattle.b67_pictures.proofs.Staying.{text_in, level_in, context_in, most_in, names_in}
 use Rattle.b67_cores.specs.Slots.{ValueIs}
 use Rattle.b67_fitting.specs.Nested.{AreNested}
-use Rattle.b67_pictures.proofs.NameHomes.{NameHome, ActualNamed, NameStands, for_variable, for_actual, name_stands}
-use Rattle.b67_pictures.proofs.Reaching.{Reaches, reached_there, reached_through}
-use Rattle.b67_pictures.proofs.ReachingRows.{with_top, value_reached_class, value_read_raw, value_read_letter}
-use Rattle.b67_pictures.proofs.VariableHomes.{VariableHome}
-use Rattle.b67_pictures.proofs.Words.{value_tag, no_sirw, no_pcw}
-use Rattle.b67_pictures.proofs.Unmade.{makes, unmade}
+use Rattle.b67_rows.proofs.Reaching.{Reaches, reached_there, reached_through}
+use Rattle.b67_rows.proofs.ReachingRows.{with_top, value_reached_class, value_read_raw, value_read_letter}
+use Rattle.b67_rows.proofs.Words.{value_tag, no_sirw, no_pcw}
+use Rattle.b67_rows.proofs.Unmade.{makes, unmade}
+use Rattle.b67_scenes.proofs.NameHomes.{NameHome, ActualNamed, NameStands, for_variable, for_actual, name_stands}
+use Rattle.b67_scenes.proofs.VariableHomes.{VariableHome}
 
 module _ (tree : PProgram) (code : Code) (texts : Texts) (fragments : FragmentsArePerformed) (keeps : RestsKeepToTheirText) (order : AllIsMadeInOrder) (w : World) (lay : Layout) (img : Image)
     (p : ℕ) (q : Process) (part : Part) (outer : List Part) (bound : ℕ) (core : Core) (s : Scene tree code texts w lay img p q part outer bound core) (able_is : lives q.state ≡ true) (able_p : StateIs q.state (numbered img.states p)) where

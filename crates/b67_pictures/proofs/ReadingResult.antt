@@ -21,7 +21,7 @@ use Rattle.b67_ops.specs.declared.Operator.TheVariants as ops
 use Rattle.b67_segment.specs.declared.code.Code.{Code}
 use Rattle.b67_store.specs.Store.{word_at}
 use Rattle.b67_table.specs.Chains.{place}
-use Rattle.b67_pictures.specs.States.{StateIs}
+use Rattle.b67_scenes.specs.States.{StateIs}
 use Rattle.b67_table.specs.Image.{Image}
 use Rattle.b67_table.specs.Effect as effects
 use Rattle.b67_table.specs.Outcome as outcomes
@@ -39,25 +39,25 @@ use Rattle.b67_standing.specs.Standing.{ActionAt, Acted, ComesTo}
 use Rattle.b67_cores.specs.Cores.{Core, IsCore, with_core}
 use Rattle.b67_cores.specs.Stretches.{CoreAt, FragmentsArePerformed}
 use Rattle.b67_faithful.specs.Correspondence.{as_action}
-use Rattle.b67_pictures.specs.Arrays.{Layout}
+use Rattle.b67_rows.proofs.Rows.{action_not_plain, action_is}
+use Rattle.b67_rows.proofs.StackWords.{get-front, get-behind}
+use Rattle.b67_rows.proofs.Yielding.{result_given}
+use Rattle.b67_rows.proofs.ReachingRows.{with_top}
+use Rattle.b67_rows.proofs.ValueRow.{reads_value, value_raw, value_class}
+use Rattle.b67_rows.proofs.Words.{value_tag, no_sirw, no_pcw}
+use Rattle.b67_rows.proofs.Unmade.{makes, unmade}
+use Rattle.b67_frames.specs.Arrays.{Layout}
+use Rattle.b67_frames.proofs.FreshCells.{cells_joined}
+use Rattle.b67_frames.proofs.Linked.{begins_core}
+use Rattle.b67_frames.proofs.Variables.{Cell_of, variable_cell, cell_front, Holds_value, value_of_cell}
+use Rattle.b67_frames.proofs.Lying.{owned_frame, asks_as_own, frame_gives}
+use Rattle.b67_frames.specs.Frames.{Owned}
+use Rattle.b67_scenes.proofs.Homes.{operator_there}
+use Rattle.b67_scenes.proofs.Scene.{Scene, shown_frame}
+use Rattle.b67_scenes.proofs.Stage.{choice_is}
+use Rattle.b67_scenes.proofs.Staying.{text_in, level_in, context_in, most_in}
 use Rattle.b67_pictures.specs.Acting.{Does}
-use Rattle.b67_pictures.proofs.FreshCells.{cells_joined}
-use Rattle.b67_pictures.proofs.Homes.{operator_there}
 use Rattle.b67_pictures.proofs.InFrame.{does_in_frame}
-use Rattle.b67_pictures.proofs.Linked.{begins_core}
-use Rattle.b67_pictures.proofs.Rows.{action_not_plain, action_is}
-use Rattle.b67_pictures.proofs.Scene.{Scene, shown_frame}
-use Rattle.b67_pictures.proofs.Stage.{choice_is}
-use Rattle.b67_pictures.proofs.StackWords.{get-front, get-behind}
-use Rattle.b67_pictures.proofs.Yielding.{result_given}
-use Rattle.b67_pictures.proofs.Staying.{text_in, level_in, context_in, most_in}
-use Rattle.b67_pictures.proofs.ReachingRows.{with_top}
-use Rattle.b67_pictures.proofs.ValueRow.{reads_value, value_raw, value_class}
-use Rattle.b67_pictures.proofs.Variables.{Cell_of, variable_cell, cell_front, Holds_value, value_of_cell}
-use Rattle.b67_pictures.proofs.Words.{value_tag, no_sirw, no_pcw}
-use Rattle.b67_pictures.proofs.Unmade.{makes, unmade}
-use Rattle.b67_pictures.proofs.Lying.{owned_frame, asks_as_own, frame_gives}
-use Rattle.b67_pictures.specs.Frames.{Owned}
 
 itself : (n : ℕ) → (n == n) ≡ true
 itself n = grind (arith, nat_tests)

@@ -32,7 +32,7 @@ use Rattle.b67_segment.specs.declared.code.Code.{Code}
 use Rattle.b67_store.specs.Store.{word_at}
 use Rattle.b67_table.specs.Chains.{place}
 use Rattle.b67_table.specs.declared.Cell as cells
-use Rattle.b67_pictures.specs.States.{StateIs}
+use Rattle.b67_scenes.specs.States.{StateIs}
 use Rattle.b67_table.specs.Effect as effects
 use Rattle.b67_table.specs.Image.{Image}
 use Rattle.b67_table.specs.Outcome as outcomes
@@ -48,27 +48,27 @@ use Rattle.b67_cores.specs.Slots.{Known, newest}
 use Rattle.b67_cores.specs.Stretches.{CoreAt, FragmentsArePerformed}
 use Rattle.b67_faithful.specs.Correspondence.{as_action}
 use Rattle.b67_fitting.specs.Nested.{AreNested}
-use Rattle.b67_pictures.specs.Arrays.{Layout, LeadsToVariable, IsOwn}
+use Rattle.b67_rows.proofs.AskedElements.{array_asked, array_seen}
+use Rattle.b67_rows.proofs.PlaceRow.{place_reached_class, place_left_raw, place_left_letter, no_place_raw}
+use Rattle.b67_rows.proofs.Reaching.{Reaches, reached_through}
+use Rattle.b67_rows.proofs.Rows.{action_not_plain, fault_not_plain, action_is}
+use Rattle.b67_rows.proofs.Slotted.{Top, top_slot}
+use Rattle.b67_rows.proofs.TopRow.{with_other}
+use Rattle.b67_rows.proofs.Unmade.{makes, unmade}
+use Rattle.b67_rows.proofs.Words.{value_tag, no_sirw, no_pcw, pcw_refers_nothing, reference_read}
+use Rattle.b67_frames.specs.Arrays.{Layout, LeadsToVariable, IsOwn}
+use Rattle.b67_frames.proofs.Linked.{begins_core}
+use Rattle.b67_scenes.specs.Pictures.{Pictures}
+use Rattle.b67_scenes.proofs.Homes.{operator_there}
+use Rattle.b67_scenes.proofs.NameHomes.{NameCellHome, NameHome, ActualNamed, NameStands, for_variable, for_actual, name_stands}
+use Rattle.b67_scenes.proofs.ActualHomes.{routine_of, same_place}
+use Rattle.b67_scenes.proofs.Scene.{Scene}
+use Rattle.b67_scenes.proofs.Stage.{faults_so, choice_is, faulted}
+use Rattle.b67_scenes.proofs.Staying.{text_in, level_in, context_in, most_in}
+use Rattle.b67_scenes.proofs.VariableHomes.{VariableHome}
 use Rattle.b67_pictures.specs.Acting.{Does, failed_by}
-use Rattle.b67_pictures.specs.Pictures.{Pictures}
-use Rattle.b67_pictures.proofs.AskedElements.{array_asked, array_seen}
-use Rattle.b67_pictures.proofs.Homes.{operator_there}
 use Rattle.b67_pictures.proofs.Indexing.{more_known}
 use Rattle.b67_pictures.proofs.InFrame.{does_in_frame}
-use Rattle.b67_pictures.proofs.Linked.{begins_core}
-use Rattle.b67_pictures.proofs.NameHomes.{NameCellHome, NameHome, ActualNamed, NameStands, for_variable, for_actual, name_stands}
-use Rattle.b67_pictures.proofs.ActualHomes.{routine_of, same_place}
-use Rattle.b67_pictures.proofs.PlaceRow.{place_reached_class, place_left_raw, place_left_letter, no_place_raw}
-use Rattle.b67_pictures.proofs.Reaching.{Reaches, reached_through}
-use Rattle.b67_pictures.proofs.Rows.{action_not_plain, fault_not_plain, action_is}
-use Rattle.b67_pictures.proofs.Scene.{Scene}
-use Rattle.b67_pictures.proofs.Slotted.{Top, top_slot}
-use Rattle.b67_pictures.proofs.Stage.{faults_so, choice_is, faulted}
-use Rattle.b67_pictures.proofs.Staying.{text_in, level_in, context_in, most_in}
-use Rattle.b67_pictures.proofs.TopRow.{with_other}
-use Rattle.b67_pictures.proofs.Unmade.{makes, unmade}
-use Rattle.b67_pictures.proofs.VariableHomes.{VariableHome}
-use Rattle.b67_pictures.proofs.Words.{value_tag, no_sirw, no_pcw, pcw_refers_nothing, reference_read}
 
 -- ---- what a process finds that stands at EVAL
 

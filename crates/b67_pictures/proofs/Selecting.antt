@@ -27,7 +27,7 @@ use Rattle.b67_segment.specs.declared.code.Code.{Code}
 use Rattle.b67_segment.specs.declared.code.Segment.{Segment}
 use Rattle.b67_segment.proofs.Fetches.{length-syllables}
 use Rattle.b67_segment.proofs.Texts.{text-append}
-use Rattle.b67_pictures.specs.States.{StateIs}
+use Rattle.b67_scenes.specs.States.{StateIs}
 use Rattle.b67_table.specs.Effect as effects
 use Rattle.b67_table.specs.Ending.{failed}
 use Rattle.b67_table.specs.Image.{Image}
@@ -44,18 +44,18 @@ use Rattle.b67_cores.specs.Cores.{Core, with_core}
 use Rattle.b67_cores.specs.Stretches.{FragmentsArePerformed}
 use Rattle.algol_paths.specs.Laws.{RestsKeepToTheirText, AllIsMadeInOrder}
 use Rattle.b67_faithful.specs.Correspondence.{as_action}
-use Rattle.b67_pictures.specs.Arrays.{Layout}
+use Rattle.b67_rows.proofs.Rows.{action_not_plain, action_is, fault_not_plain}
+use Rattle.b67_rows.proofs.IntrinsicRows.{without_call, enter_class, select_raw, select_faults}
+use Rattle.b67_rows.proofs.Unmade.{makes, unmade}
+use Rattle.b67_frames.specs.Arrays.{Layout}
+use Rattle.b67_scenes.specs.Pictures.{Pictures}
+use Rattle.b67_scenes.proofs.Calling.{wholes_of, IsCall, call}
+use Rattle.b67_scenes.proofs.Homes.{operator_there}
+use Rattle.b67_scenes.proofs.Stage.{choice_is, faults_so, faulted}
+use Rattle.b67_scenes.proofs.Scene.{Scene}
+use Rattle.b67_scenes.proofs.Staying.{text_in, level_in, context_in, most_in}
 use Rattle.b67_pictures.specs.Acting.{Does, failed_by}
-use Rattle.b67_pictures.specs.Pictures.{Pictures}
-use Rattle.b67_pictures.proofs.Rows.{action_not_plain, action_is, fault_not_plain}
-use Rattle.b67_pictures.proofs.Calling.{wholes_of, IsCall, call}
-use Rattle.b67_pictures.proofs.Homes.{operator_there}
-use Rattle.b67_pictures.proofs.IntrinsicRows.{without_call, enter_class, select_raw, select_faults}
-use Rattle.b67_pictures.proofs.Stage.{choice_is, faults_so, faulted}
-use Rattle.b67_pictures.proofs.Scene.{Scene}
-use Rattle.b67_pictures.proofs.Staying.{text_in, level_in, context_in, most_in}
 use Rattle.b67_pictures.proofs.InFrame.{does_in_frame}
-use Rattle.b67_pictures.proofs.Unmade.{makes, unmade}
 
 -- ---- places of a segment
 

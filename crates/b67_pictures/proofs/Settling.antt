@@ -21,15 +21,15 @@ use Rattle.b67_cores.specs.Cores.{Core}
 use Rattle.b67_cores.specs.Stretches.{FragmentsArePerformed}
 use Rattle.b67_faithful.proofs.Choices.{ReleasesNone, NoEvent, frees}
 use Rattle.b67_fitting.specs.Nested.{LiesNested}
-use Rattle.b67_pictures.specs.Arrays.{Layout}
-use Rattle.b67_pictures.specs.States.{StateIs}
+use Rattle.b67_frames.specs.Arrays.{Layout}
+use Rattle.b67_scenes.specs.States.{StateIs}
+use Rattle.b67_scenes.proofs.Scene.{Scene}
+use Rattle.b67_scenes.proofs.Stage.{choice_is}
+use Rattle.b67_scenes.proofs.Staying.{text_in, level_in, context_in, most_in}
 use Rattle.b67_pictures.proofs.Dispatching.{OthersAreDone, scene_does}
 use Rattle.b67_pictures.proofs.Evaluating.{ActualsAreEntered}
 use Rattle.b67_pictures.proofs.Quiet.{Settled}
 use Rattle.b67_pictures.proofs.Releasing.{IsReleased, none_released}
-use Rattle.b67_pictures.proofs.Scene.{Scene}
-use Rattle.b67_pictures.proofs.Stage.{choice_is}
-use Rattle.b67_pictures.proofs.Staying.{text_in, level_in, context_in, most_in}
 
 -- the head asks for an action on an event, or it does not
 data IsOfEvent (k : Ask) : Type 0 where

@@ -36,12 +36,12 @@ use Rattle.b67_faithful.specs.Simulation.{AreFew, Acted, Comes, acts, stops, Sim
 use Rattle.b67_faithful.proofs.Contradictions.{true_false, gives_same, faults_same, gives_faults}
 use Rattle.b67_faithful.proofs.Counting.{simulations_are_faithful}
 use Rattle.b67_faithful.proofs.Ways.{may_lead}
-use Rattle.b67_pictures.specs.Arrays.{Layout}
+use Rattle.b67_rows.proofs.Numbers.{numbered_beyond}
+use Rattle.b67_frames.specs.Arrays.{Layout}
+use Rattle.b67_scenes.specs.Pictures.{Living, Pictured, living, dead, PicturesBy, Pictures}
+use Rattle.b67_scenes.proofs.Showing.{able_acts, no_limit, IsAble, able_one, able_alike, ends_alike, is_light}
 use Rattle.b67_pictures.specs.Acting.{Does, gave, failed_by, stopped}
-use Rattle.b67_pictures.specs.Pictures.{Living, Pictured, living, dead, PicturesBy, Pictures}
-use Rattle.b67_pictures.proofs.Numbers.{numbered_beyond}
 use Rattle.b67_pictures.proofs.Quiet.{SettledAct, through_plain, Operates, plainly, acting, operates, Settles, settles}
-use Rattle.b67_pictures.proofs.Showing.{able_acts, no_limit, IsAble, able_one, able_alike, ends_alike, is_light}
 
 -- ---- an outcome is one
 

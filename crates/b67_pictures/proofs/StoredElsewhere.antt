@@ -26,13 +26,13 @@ use Rattle.b67_standing.specs.Laws.{RestsGoOn}
 use Rattle.b67_cores.specs.Cores.{Core, HasCore}
 use Rattle.b67_fitting.specs.Nested.{AreNested}
 use Rattle.b67_footprints.specs.Keeping.{NamesOperand}
-use Rattle.b67_pictures.specs.Arrays.{Layout, AreMade, IsOwn, ArraysAre}
-use Rattle.b67_pictures.specs.Events.{EventsAre}
-use Rattle.b67_pictures.specs.Frames.{CellsAre}
-use Rattle.b67_pictures.specs.Pictures.{Pictured, PicturesBy}
-use Rattle.b67_pictures.proofs.Knowing.{KeepsArrays}
-use Rattle.b67_pictures.proofs.StoringFrames.{stored_world, ChangedCells}
-use Rattle.b67_pictures.proofs.StoringOthers.{stored_pictured}
+use Rattle.b67_frames.specs.Arrays.{Layout, AreMade, IsOwn, ArraysAre}
+use Rattle.b67_frames.specs.Events.{EventsAre}
+use Rattle.b67_frames.specs.Frames.{CellsAre}
+use Rattle.b67_frames.proofs.Knowing.{KeepsArrays}
+use Rattle.b67_scenes.specs.Pictures.{Pictured, PicturesBy}
+use Rattle.b67_scenes.proofs.StoringFrames.{stored_world, ChangedCells}
+use Rattle.b67_scenes.proofs.StoringOthers.{stored_pictured}
 use Rattle.b67_pictures.proofs.TouchingCores.{core_stays, core_holds}
 
 module _ (tree : PProgram) (code : Code) (texts : Texts) (nested : AreNested (scopes_of tree)) (rests : RestsGoOn) (w : World) (lay : Layout) (img new : Image) (by : PicturesBy tree code texts w lay img) (ok : IsOk (scopes_of tree) IsWhole w)

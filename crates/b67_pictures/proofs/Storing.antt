@@ -23,7 +23,7 @@ use Rattle.b67_ops.specs.declared.Operator.TheVariants as ops
 use Rattle.b67_ops.specs.declared.PlainKind.TheVariants as kinds
 use Rattle.b67_segment.specs.Operators.{Placed}
 use Rattle.b67_segment.specs.declared.code.Code.{Code}
-use Rattle.b67_pictures.specs.States.{StateIs}
+use Rattle.b67_scenes.specs.States.{StateIs}
 use Rattle.b67_table.specs.Arrays.{as_indexed}
 use Rattle.b67_table.specs.Chains.{place}
 use Rattle.b67_table.specs.Image.{Image}
@@ -36,15 +36,15 @@ use Rattle.b67_standing.specs.Standing.{ActionAt, Acted, ComesTo}
 use Rattle.b67_cores.specs.Cores.{Core}
 use Rattle.b67_cores.specs.Slots.{ValueIs, SlotsAre}
 use Rattle.b67_cores.specs.Stretches.{FragmentsArePerformed}
-use Rattle.b67_pictures.specs.Arrays.{Layout}
+use Rattle.b67_rows.proofs.Asked.{stores_seen}
+use Rattle.b67_rows.proofs.Slotted.{Top, top_slot}
+use Rattle.b67_rows.proofs.Words.{reference_read, reference_unindexed}
+use Rattle.b67_frames.specs.Arrays.{Layout}
+use Rattle.b67_frames.specs.Frames.{Stands, run_level}
+use Rattle.b67_scenes.proofs.Homes.{operator_there, Home, home}
+use Rattle.b67_scenes.proofs.Scene.{Scene}
+use Rattle.b67_scenes.proofs.Staying.{text_in, level_in, context_in, most_in}
 use Rattle.b67_pictures.specs.Acting.{Does}
-use Rattle.b67_pictures.specs.Frames.{Stands, run_level}
-use Rattle.b67_pictures.proofs.Asked.{stores_seen}
-use Rattle.b67_pictures.proofs.Homes.{operator_there, Home, home}
-use Rattle.b67_pictures.proofs.Scene.{Scene}
-use Rattle.b67_pictures.proofs.Slotted.{Top, top_slot}
-use Rattle.b67_pictures.proofs.Staying.{text_in, level_in, context_in, most_in}
-use Rattle.b67_pictures.proofs.Words.{reference_read, reference_unindexed}
 use Rattle.b67_pictures.proofs.StoringVariable.{variable_stored}
 use Rattle.algol_meaning.specs.Critical.{is_evaluation}
 

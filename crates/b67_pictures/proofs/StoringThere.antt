@@ -17,7 +17,7 @@ use Rattle.b67_control.proofs.ControlLaws.{irw_laws, sirw_laws}
 use Rattle.b67_ops.specs.declared.Operator.TheVariants as ops
 use Rattle.b67_ops.specs.declared.PlainKind.TheVariants as kinds
 use Rattle.b67_segment.specs.declared.code.Code.{Code}
-use Rattle.b67_pictures.specs.States.{StateIs}
+use Rattle.b67_scenes.specs.States.{StateIs}
 use Rattle.b67_table.specs.Arrays.{as_indexed, indexed_in}
 use Rattle.b67_table.specs.Image.{Image}
 use Rattle.b67_table.specs.Private.{frame}
@@ -29,18 +29,18 @@ use Rattle.b67_standing.specs.Standing.{ActionAt, Acted, ComesTo}
 use Rattle.b67_cores.specs.Cores.{Core}
 use Rattle.b67_cores.specs.Stretches.{FragmentsArePerformed}
 use Rattle.b67_fitting.specs.Nested.{AreNested}
-use Rattle.b67_pictures.specs.Arrays.{Layout, LeadsToVariable, IsOwn}
+use Rattle.b67_rows.proofs.Slotted.{Top, top_slot}
+use Rattle.b67_rows.proofs.Words.{cell_describes_nothing}
+use Rattle.b67_frames.specs.Arrays.{Layout, LeadsToVariable, IsOwn}
+use Rattle.b67_frames.proofs.Knowing.{known_is}
+use Rattle.b67_scenes.proofs.Homes.{operator_there}
+use Rattle.b67_scenes.proofs.NamedVariables.{NamesVariable, names_variable}
+use Rattle.b67_scenes.proofs.Scene.{Scene}
+use Rattle.b67_scenes.proofs.Staying.{text_in, level_in, context_in, most_in}
+use Rattle.b67_scenes.proofs.VariableHomes.{VariableHome}
 use Rattle.b67_pictures.specs.Acting.{Does}
-use Rattle.b67_pictures.proofs.Homes.{operator_there}
-use Rattle.b67_pictures.proofs.Knowing.{known_is}
-use Rattle.b67_pictures.proofs.NamedVariables.{NamesVariable, names_variable}
-use Rattle.b67_pictures.proofs.Scene.{Scene}
-use Rattle.b67_pictures.proofs.Slotted.{Top, top_slot}
-use Rattle.b67_pictures.proofs.Staying.{text_in, level_in, context_in, most_in}
 use Rattle.b67_pictures.proofs.Storing.{two_words}
 use Rattle.b67_pictures.proofs.StoringVariable.{variable_stored}
-use Rattle.b67_pictures.proofs.VariableHomes.{VariableHome}
-use Rattle.b67_pictures.proofs.Words.{cell_describes_nothing}
 
 -- a reference that is read alike everywhere is read in no other way
 pub no_other_reference : (w : Word) (s : Sirw) → as_sirw w ≡ Some s → as_irw w ≡ None

@@ -25,7 +25,7 @@ use Rattle.b67_ops.specs.declared.PlainKind.TheVariants as kinds
 use Rattle.b67_segment.specs.Operators.{Placed}
 use Rattle.b67_segment.specs.declared.code.Code.{Code}
 use Rattle.b67_store.specs.Store.{stack_limit}
-use Rattle.b67_pictures.specs.States.{StateIs}
+use Rattle.b67_scenes.specs.States.{StateIs}
 use Rattle.b67_table.specs.Arrays.{as_indexed}
 use Rattle.b67_table.specs.Chains.{place}
 use Rattle.b67_table.specs.Image.{Image}
@@ -43,35 +43,35 @@ use Rattle.b67_cores.specs.Stretches.{CoreAt, FragmentsArePerformed}
 use Rattle.b67_cores.proofs.Moving.{slots_length}
 use Rattle.b67_faithful.specs.Correspondence.{as_action}
 use Rattle.b67_faithful.specs.Weight.{weight}
-use Rattle.b67_pictures.specs.Arrays.{Layout, AreMade, AreKnown, IsOwn}
+use Rattle.b67_rows.proofs.Cored.{registers_now, has_now, others_have, system_stays}
+use Rattle.b67_frames.specs.Arrays.{Layout, AreMade, AreKnown, IsOwn}
+use Rattle.b67_frames.specs.Frames.{CellsAre, most_around, IsChained, Frame, Stands, run_level}
+use Rattle.b67_frames.proofs.ArraysKept.{arrays_stored}
+use Rattle.b67_frames.proofs.FreshCells.{words_long}
+use Rattle.b67_frames.proofs.Knowing.{KeepsArrays, keeps_stored, known_of}
+use Rattle.b67_frames.proofs.Expressions.{expression_resumed}
+use Rattle.b67_frames.proofs.Lying.{StayBelow, shape_on}
+use Rattle.b67_scenes.specs.Pictures.{Living, PicturesBy}
+use Rattle.b67_scenes.proofs.Kept.{AreAlike, alike_but}
+use Rattle.b67_scenes.proofs.Landing.{living_of}
 use Rattle.b67_pictures.specs.Acting.{Does, gave}
-use Rattle.b67_pictures.specs.Frames.{CellsAre, most_around, IsChained, Frame, Stands, run_level}
-use Rattle.b67_pictures.specs.Pictures.{Living, PicturesBy}
-use Rattle.b67_pictures.proofs.ArraysKept.{arrays_stored}
-use Rattle.b67_pictures.proofs.Cored.{registers_now, has_now, others_have, system_stays}
-use Rattle.b67_pictures.proofs.Kept.{AreAlike, alike_but}
-use Rattle.b67_pictures.proofs.FreshCells.{words_long}
-use Rattle.b67_pictures.proofs.Knowing.{KeepsArrays, keeps_stored, known_of}
-use Rattle.b67_pictures.proofs.Expressions.{expression_resumed}
-use Rattle.b67_pictures.proofs.Landing.{living_of}
-use Rattle.b67_pictures.proofs.Lying.{StayBelow, shape_on}
 use Rattle.b67_faithful.proofs.Choices.{length_set_numbered}
-use Rattle.b67_pictures.proofs.Numbers.{get_below, numbered_set}
-use Rattle.b67_pictures.proofs.Rows.{action_not_plain, action_is}
-use Rattle.b67_pictures.proofs.Scene.{Scene}
-use Rattle.b67_pictures.proofs.Stage.{gives_within, choice_is, goes_on, weight_of}
-use Rattle.b67_pictures.proofs.StackWords.{length-set}
-use Rattle.b67_pictures.proofs.Staying.{text_in, level_in, context_in, most_in, IsAsHeavy, same_weight, FrameStill, frame_still, still_low}
-use Rattle.b67_pictures.proofs.StoreRow.{with_cell, stores_variable, store_raw, store_class}
-use Rattle.b67_pictures.proofs.StoringFrames.{changed, stored_world, changed_at, same_of, same_ancestors, as_heavy, ChangedCells, Stored, known_stored, frame_stored}
-use Rattle.b67_pictures.proofs.Unmade.{makes, unmade}
-use Rattle.b67_pictures.proofs.Variables.{cell_changed, changed_front, references_stored}
-use Rattle.b67_pictures.proofs.Words.{value_tag}
-use Rattle.b67_pictures.proofs.VariableHomes.{VariableHome}
+use Rattle.b67_rows.proofs.Numbers.{get_below, numbered_set}
+use Rattle.b67_rows.proofs.Rows.{action_not_plain, action_is}
+use Rattle.b67_rows.proofs.StackWords.{length-set}
+use Rattle.b67_rows.proofs.StoreRow.{with_cell, stores_variable, store_raw, store_class}
+use Rattle.b67_rows.proofs.Unmade.{makes, unmade}
+use Rattle.b67_rows.proofs.Words.{value_tag}
+use Rattle.b67_frames.proofs.Variables.{cell_changed, changed_front, references_stored}
+use Rattle.b67_scenes.proofs.Scene.{Scene}
+use Rattle.b67_scenes.proofs.Stage.{gives_within, choice_is, goes_on, weight_of}
+use Rattle.b67_scenes.proofs.Staying.{text_in, level_in, context_in, most_in, IsAsHeavy, same_weight, FrameStill, frame_still, still_low}
+use Rattle.b67_scenes.proofs.StoringFrames.{changed, stored_world, changed_at, same_of, same_ancestors, as_heavy, ChangedCells, Stored, known_stored, frame_stored}
+use Rattle.b67_scenes.proofs.VariableHomes.{VariableHome}
 use Rattle.b67_templates.specs.Code.{in_routine}
 use Rattle.b67_templates.specs.Contexts.{Yields}
 use Rattle.algol_meaning.specs.Critical.{is_evaluation}
-use Rattle.b67_pictures.proofs.EventsKept.{event_before, events_replaced}
+use Rattle.b67_frames.proofs.EventsKept.{event_before, events_replaced}
 
 pub length_cells : (cells : List NamedCell) (name : List ℕ) (c : Cell) → length (cells_with cells name c) ≡ length cells
 length_cells [] name c = refl

@@ -54,31 +54,31 @@ use Rattle.b67_faithful.proofs.Contradictions.{some_same, none_some}
 use Rattle.b67_fitting.specs.Nested.{AreNested}
 use Rattle.b67_footprints.specs.Laws.{LeadsBelow}
 use Rattle.b67_footprints.proofs.Apart.{others_stay_private}
-use Rattle.b67_pictures.specs.Arrays.{Layout}
-use Rattle.b67_pictures.specs.Pictures.{Living, PicturesBy}
-use Rattle.b67_pictures.proofs.GivenWords.{AreFit, none_wanted, are_fit, Taken, taken_words}
-use Rattle.b67_pictures.proofs.Asked.{reads_seen, stores_seen}
-use Rattle.b67_pictures.proofs.AskedEntries.{enters_seen}
-use Rattle.b67_pictures.proofs.NameHomes.{NameCellHome, NameStands, LeadsOn, home_of_name, leads_on, name_stands}
+use Rattle.b67_rows.proofs.GivenWords.{AreFit, none_wanted, are_fit, Taken, taken_words}
+use Rattle.b67_rows.proofs.Asked.{reads_seen, stores_seen}
+use Rattle.b67_rows.proofs.AskedEntries.{enters_seen}
+use Rattle.b67_rows.proofs.Slotted.{Top, top_slot}
+use Rattle.b67_rows.proofs.Yielding.{result_given}
+use Rattle.b67_rows.proofs.Words.{no_sirw, reference_read}
+use Rattle.b67_rows.proofs.Touching.{NearFrame, own_frame, own_cell, NamesNear}
+use Rattle.b67_rows.proofs.TouchingOperators.{StandsNear, privately, near_reaches, operator_private}
+use Rattle.b67_rows.proofs.TouchingNames.{value_names, value_names_through, through_named, none_named, branch_names, cell_named, refers_named, no_kind, block_names, entry_names}
+use Rattle.b67_frames.specs.Arrays.{Layout}
+use Rattle.b67_frames.proofs.TouchingCalls.{under_top, over_top, call_names}
+use Rattle.b67_frames.proofs.TouchingWords.{couple_fits, procedure_fits, pcw_kind}
+use Rattle.b67_frames.proofs.Lying.{asks_as_own, frame_gives, runs_low, runs_deep}
+use Rattle.b67_scenes.specs.Pictures.{Living, PicturesBy}
+use Rattle.b67_scenes.proofs.NameHomes.{NameCellHome, NameStands, LeadsOn, home_of_name, leads_on, name_stands}
+use Rattle.b67_scenes.proofs.Scene.{Scene, scene_of, shown_frame}
+use Rattle.b67_scenes.proofs.Worlds.{narrow_of}
+use Rattle.b67_scenes.proofs.Staying.{text_in, level_in, context_in, most_in, names_in}
+use Rattle.b67_scenes.proofs.TouchingOthers.{LivesThere, lives_there, own_stacks}
+use Rattle.b67_scenes.proofs.TouchingCells.{IsOperand, IsEntry, Names, variable_there, result_there, procedure_there}
+use Rattle.b67_scenes.proofs.TouchingEvents.{happened_near, acted_near, event_made_near}
+use Rattle.b67_scenes.proofs.TouchingScene.{by_names, by_class}
 use Rattle.b67_pictures.proofs.Resolving.{FindsName, finds_name, resolved_name}
 use Rattle.b67_pictures.proofs.StoringThere.{FindsVariable, finds_variable}
-use Rattle.b67_pictures.proofs.Scene.{Scene, scene_of, shown_frame}
-use Rattle.b67_pictures.proofs.Worlds.{narrow_of}
-use Rattle.b67_pictures.proofs.Slotted.{Top, top_slot}
-use Rattle.b67_pictures.proofs.Yielding.{result_given}
-use Rattle.b67_pictures.proofs.Staying.{text_in, level_in, context_in, most_in, names_in}
-use Rattle.b67_pictures.proofs.Words.{no_sirw, reference_read}
-use Rattle.b67_pictures.proofs.Touching.{NearFrame, own_frame, own_cell, NamesNear}
-use Rattle.b67_pictures.proofs.TouchingOperators.{StandsNear, privately, near_reaches, operator_private}
-use Rattle.b67_pictures.proofs.TouchingOthers.{LivesThere, lives_there, own_stacks}
-use Rattle.b67_pictures.proofs.TouchingCells.{IsOperand, IsEntry, Names, variable_there, result_there, procedure_there}
-use Rattle.b67_pictures.proofs.TouchingCalls.{under_top, over_top, call_names}
 use Rattle.b67_pictures.proofs.TouchingElements.{element_read_near, indexed_near, element_stored_near, passed_near, made_near}
-use Rattle.b67_pictures.proofs.TouchingEvents.{happened_near, acted_near, event_made_near}
-use Rattle.b67_pictures.proofs.TouchingNames.{value_names, value_names_through, through_named, none_named, branch_names, cell_named, refers_named, no_kind, block_names, entry_names}
-use Rattle.b67_pictures.proofs.TouchingScene.{by_names, by_class}
-use Rattle.b67_pictures.proofs.TouchingWords.{couple_fits, procedure_fits, pcw_kind}
-use Rattle.b67_pictures.proofs.Lying.{asks_as_own, frame_gives, runs_low, runs_deep}
 
 -- ---- a process at its action
 

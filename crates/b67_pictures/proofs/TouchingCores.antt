@@ -23,10 +23,10 @@ use Rattle.b67_cores.specs.Cores.{Core, over, HasCore}
 use Rattle.b67_fitting.specs.Nested.{AreNested}
 use Rattle.b67_footprints.specs.Keeping.{Stores, NamesOperand}
 use Rattle.b67_footprints.proofs.CoresKept.{cores_stay, cores_hold_stores}
-use Rattle.b67_pictures.specs.Arrays.{Layout}
-use Rattle.b67_pictures.specs.Pictures.{PicturesBy}
+use Rattle.b67_frames.specs.Arrays.{Layout}
+use Rattle.b67_scenes.specs.Pictures.{PicturesBy}
+use Rattle.b67_scenes.proofs.TouchingOthers.{own_stacks}
 use Rattle.b67_pictures.proofs.TouchingApart.{leads_below}
-use Rattle.b67_pictures.proofs.TouchingOthers.{own_stacks}
 
 module _ (tree : PProgram) (code : Code) (texts : Texts) (nested : AreNested (scopes_of tree)) (rests : RestsGoOn) (w : World) (lay : Layout) (img new : Image) (by : PicturesBy tree code texts w lay img) (ok : IsOk (scopes_of tree) IsWhole w)
     (p : ℕ) (r : Registers) (op : Operator) (next : ℕ) (lives : Lives img p r) (stands : operator_at code r ≡ Ok (op, next)) (given : raw code img p ≡ gives new) (q : ℕ) (other : p ≢ q) (core : Core)

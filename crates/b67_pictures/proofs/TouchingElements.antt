@@ -30,24 +30,24 @@ use Rattle.b67_cores.specs.Cores.{Core}
 use Rattle.b67_fitting.specs.Nested.{AreNested}
 use Rattle.b67_footprints.specs.Reaching.{TakesBy}
 use Rattle.b67_footprints.proofs.Operators.{indexed_is}
-use Rattle.b67_pictures.specs.Arrays.{Layout, IsElement, IsOwn}
-use Rattle.b67_pictures.proofs.ArrayHomes.{MeantArray, array_home}
-use Rattle.b67_pictures.proofs.ArraysGiven.{arrays_given, given_lie}
-use Rattle.b67_pictures.proofs.AskedElements.{array_asked}
-use Rattle.b67_pictures.proofs.Described.{IsDescriptor, is_descriptor, IsFound, itself}
-use Rattle.b67_pictures.proofs.ElementHomes.{at_element, ElementHome, element_home}
-use Rattle.b67_pictures.proofs.IndexRows.{top_word, under_word}
-use Rattle.b67_pictures.proofs.Knowing.{known_is}
-use Rattle.b67_pictures.proofs.Indices.{Finds, LastIndex, last_index, FirstIndex, first_of_two}
+use Rattle.b67_rows.proofs.AskedElements.{array_asked}
+use Rattle.b67_rows.proofs.Described.{IsDescriptor, is_descriptor, IsFound, itself}
+use Rattle.b67_rows.proofs.IndexRows.{top_word, under_word}
+use Rattle.b67_rows.proofs.Slotted.{Top, top_slot}
+use Rattle.b67_rows.proofs.Touching.{own_cell}
+use Rattle.b67_rows.proofs.TouchingNames.{cell_named, found_named}
+use Rattle.b67_rows.proofs.TouchingOperators.{StandsNear}
+use Rattle.b67_frames.specs.Arrays.{Layout, IsElement, IsOwn}
+use Rattle.b67_frames.proofs.Knowing.{known_is}
+use Rattle.b67_frames.proofs.TouchingCalls.{call_names, over_top}
+use Rattle.b67_scenes.proofs.ArrayHomes.{MeantArray, array_home}
+use Rattle.b67_scenes.proofs.ArraysGiven.{arrays_given, given_lie}
+use Rattle.b67_scenes.proofs.ElementHomes.{at_element, ElementHome, element_home}
+use Rattle.b67_scenes.proofs.Indices.{Finds, LastIndex, last_index, FirstIndex, first_of_two}
+use Rattle.b67_scenes.proofs.Scene.{Scene}
+use Rattle.b67_scenes.proofs.Staying.{text_in, level_in, context_in, most_in}
+use Rattle.b67_scenes.proofs.TouchingScene.{by_names}
 use Rattle.b67_pictures.proofs.Passing.{FindsFormal, finds_formal}
-use Rattle.b67_pictures.proofs.Scene.{Scene}
-use Rattle.b67_pictures.proofs.Slotted.{Top, top_slot}
-use Rattle.b67_pictures.proofs.Staying.{text_in, level_in, context_in, most_in}
-use Rattle.b67_pictures.proofs.Touching.{own_cell}
-use Rattle.b67_pictures.proofs.TouchingCalls.{call_names, over_top}
-use Rattle.b67_pictures.proofs.TouchingNames.{cell_named, found_named}
-use Rattle.b67_pictures.proofs.TouchingOperators.{StandsNear}
-use Rattle.b67_pictures.proofs.TouchingScene.{by_names}
 
 module _ (tree : PProgram) (code : Code) (texts : Texts) (nested : AreNested (scopes_of tree)) where
   abbrev sc : Scopes

@@ -14,7 +14,7 @@ use Rattle.b67_table.specs.Ending.{failed}
 use Rattle.b67_table.specs.Table.{table, plain}
 use Rattle.b67_faithful.specs.Correspondence.{operator_action}
 use Rattle.b67_faithful.specs.Weight.{weight}
-use Rattle.b67_pictures.specs.Pictures.{Pictures}
+use Rattle.b67_scenes.specs.Pictures.{Pictures}
 
 module _ (tree : PProgram) (code : Code) (texts : Texts) (w : World) (img : Image) (p : ℕ) where
   -- It is the source's action, and gives an image of the world after it where the process is able, or keeps the source's fault. Or it comes

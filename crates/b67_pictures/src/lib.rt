@@ -1,5 +1,5 @@
-//! How images of the machine picture worlds of the source: the frame of each instance with its cells, the words and the place at which
-//! each process stands for what it has still to do, and that every operator keeps it so.
+//! That every operator keeps the picture of a world of the source in an image of the machine: the actions of the source one after
+//! another, on the scenes of `b67_scenes`, and the law that this makes of it.
 #![tactic(auto)]
 
 ghost use Rattle.b67_pictures.specs.Programs.{NestedProgramsAreFaithful};

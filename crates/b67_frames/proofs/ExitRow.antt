@@ -1,0 +1,176 @@
+-- EXIT of a base frame.
+use Rattle.std.proofs.Common.{◌≡◌, ◌⊎◌, inl, inr, refl, ap, ◌∙◌, ℕ, zero, suc, ◌+◌, List, [], ◌∷◌, ◌++◌, length, take, drop, Option, Some, None, Bool, true, false, Ok}
+use Rattle.std.specs.Prelude.{if◌then◌else◌, nat_eq, slice_get, reverse}
+use Rattle.b67_list.specs.Numbered.{set_numbered}
+use Rattle.algol_meaning.specs.Value.{Cell, simple, event, array, named, reference}
+use Rattle.algol_meaning.specs.World.{NamedCell}
+use Rattle.algol_meaning.specs.Actions as act
+use Rattle.algol_meaning.specs.Actions.{Action}
+use Rattle.b67_word.specs.declared.Place.{Place}
+use Rattle.b67_word.specs.Word.{Word}
+use Rattle.b67_control.specs.declared.Pcw.{Pcw}
+use Rattle.b67_control.specs.declared.Registers.{Registers}
+use Rattle.b67_control.specs.declared.Descriptor.{Descriptor}
+use Rattle.b67_control.specs.Control.{as_descriptor}
+use Rattle.b67_ops.specs.declared.Operator.TheVariants as ops
+use Rattle.b67_ops.specs.declared.PlainKind.TheVariants as kinds
+use Rattle.b67_segment.specs.declared.code.Code.{Code}
+use Rattle.b67_store.specs.Store.{Rows, words_of, closed_at}
+use Rattle.b67_events.specs.Events.{closed_from}
+use Rattle.b67_table.specs.declared.Class.TheVariants as classes
+use Rattle.b67_table.specs.declared.ProcessState.{ProcessState}
+use Rattle.b67_table.specs.declared.ProcessState.TheVariants.{Ended}
+use Rattle.b67_table.specs.Effect.{Effect, gives}
+use Rattle.b67_table.specs.Outcome as outcomes
+use Rattle.b67_table.specs.Image.{Image, with_rows, is_ended}
+use Rattle.b67_table.specs.Linkage.{closed_by, array_closed, arrays_closed, caused_by, frame_left, is_critical, leave_base, leave_other}
+use Rattle.b67_table.specs.Private.{frame}
+use Rattle.b67_table.specs.Program.{Program, Change, done, changed, does, effect_of, asked, answer, fault, registers, end_process, close_events}
+use Rattle.b67_table.specs.Questions.{with_critical, unless, live_criticals}
+use Rattle.b67_num.specs.declared.FaultKind.TheVariants.{CriticalBlockExit}
+use Rattle.b67_table.specs.Rows.{row, exit}
+use Rattle.b67_table.specs.Table.{raw, table, operator_at, class_at}
+use Rattle.b67_templates.specs.Cells as wants
+use Rattle.b67_templates.specs.Cells.{Simple, Wanted}
+use Rattle.b67_cores.specs.Stretches.{control_words}
+use Rattle.b67_cores.specs.Cores.{Core, HasCore}
+use Rattle.b67_letters.specs.Letters.{left_letter}
+use Rattle.b67_faithful.specs.Correspondence.{action_of, operator_action}
+use Rattle.b67_rows.proofs.Rows.{raw_is, words_are, action_is}
+use Rattle.b67_rows.proofs.StackWords.{take-seam}
+use Rattle.b67_rows.proofs.Words.{value_tag, no_descriptor, pcw_describes_nothing}
+use Rattle.b67_frames.specs.Frames.{CellIs, CellsAre}
+
+-- ---- the cells of a frame describe no rows
+
+abbrev pub DescribeNothing : List Word → Type 0
+DescribeNothing [] = Unit {0}
+DescribeNothing (w ∷ words) = (as_descriptor w ≡ None) × DescribeNothing words
+
+cell_describes_nothing : (o : Wanted) (c : Cell) (w : Word) → CellIs o c w → as_descriptor w ≡ None
+cell_describes_nothing (wants.value k) (simple v) w is = no_descriptor w (value_tag v w is.1)
+cell_describes_nothing (wants.value k) (event e) w is = absurd is
+cell_describes_nothing (wants.value k) (array a) w is = absurd is
+cell_describes_nothing (wants.value k) (named n) w is = absurd is
+cell_describes_nothing (wants.value k) (reference r) w is = absurd is
+cell_describes_nothing (wants.array shape) (simple v) w is = absurd is
+cell_describes_nothing (wants.array shape) (event e) w is = absurd is
+cell_describes_nothing (wants.array shape) (array a) w is = absurd is
+cell_describes_nothing (wants.array shape) (named n) w is = absurd is
+cell_describes_nothing (wants.array shape) (reference r) w is = is
+cell_describes_nothing wants.event (reference r) w is = is
+cell_describes_nothing (wants.by_name kind) (simple v) w is = absurd is
+cell_describes_nothing (wants.by_name kind) (event e) w is = absurd is
+cell_describes_nothing (wants.by_name kind) (array a) w is = absurd is
+cell_describes_nothing (wants.by_name kind) (named n) w is = is
+cell_describes_nothing (wants.by_name kind) (reference r) w is = is
+cell_describes_nothing _ c w is = absurd is
+
+pub cells_describe_nothing : (ss : List Simple) (cells : List NamedCell) (words : List Word) → CellsAre ss cells words → DescribeNothing words
+cells_describe_nothing [] [] [] are = tt
+cells_describe_nothing [] [] (w ∷ words) are = absurd are
+cells_describe_nothing [] (c ∷ cells) words are = absurd are
+cells_describe_nothing (s ∷ ss) [] words are = absurd are
+cells_describe_nothing (s ∷ ss) (c ∷ cells) [] are = absurd are
+cells_describe_nothing (s ∷ ss) (c ∷ cells) (w ∷ words) are = (cell_describes_nothing s.wanted c.cell w are.1, cells_describe_nothing ss cells words are.2)
+
+-- nor do control words
+pub controls_describe_nothing : (pcws : List Pcw) → DescribeNothing (control_words pcws)
+controls_describe_nothing [] = tt
+controls_describe_nothing (c ∷ pcws) = (pcw_describes_nothing c, controls_describe_nothing pcws)
+
+describe_both : (words more : List Word) → DescribeNothing words → DescribeNothing more → DescribeNothing (words ++ more)
+describe_both [] more none others = others
+describe_both (w ∷ words) more none others = (none.0, describe_both words more none.1 others)
+
+-- so no row is closed
+pub none_closed : (words : List Word) (next : Change) → DescribeNothing words → arrays_closed words next ≡ next
+none_closed [] next none = refl
+none_closed (w ∷ words) next none =
+    ap (λ (d : Option Descriptor). closed_by d array_closed (arrays_closed words next)) none.0
+    ∙ none_closed words next none.1
+
+-- ---- no critical places
+
+-- a process that has ended, or has no critical place
+abbrev pub IsFree : ProcessState → Registers → Type 0
+IsFree state r = (is_ended state ≡ true) ⊎ (r.critical ≡ None)
+
+free_passed : (state : ProcessState) (r : Registers) (places : List Place) → IsFree state r → places ≡ [] → unless (is_ended state) (with_critical r.critical places) places ≡ []
+free_passed state r places (inl e) none = ap (λ (b : Bool). unless b (with_critical r.critical places) places) e ∙ none
+free_passed state r places (inr e) none =
+    ap (λ (c : Option Place). unless (is_ended state) (with_critical c places) places) e
+    ∙ ap (λ (ps : List Place). unless (is_ended state) ps ps) none
+    ∙ either (is_ended state)
+  where
+    either : (b : Bool) → unless b [] [] ≡ []
+    either true = refl
+    either false = refl
+
+pub no_criticals : (states : List ProcessState) (regs : List Registers) →
+    ((k : ℕ) (state : ProcessState) (r : Registers) → slice_get states k ≡ Some state → slice_get regs k ≡ Some r → IsFree state r) → live_criticals states regs ≡ []
+no_criticals [] regs free = refl
+no_criticals (state ∷ states) [] free = refl
+no_criticals (state ∷ states) (r ∷ regs) free =
+    free_passed state r (live_criticals states regs) (free zero state r refl refl) (no_criticals states regs (λ k. free (suc k)))
+
+-- ---- the row
+
+-- the image in which a process has ended: its stack and its events are closed, and with these rows
+abbrev pub ended_at : Image → Rows → ℕ → Registers → Image
+ended_at img rows p r =
+    record img {
+      rows = rows;
+      stacks = closed_at img.stacks r.stack;
+      events = closed_from r.stack 0 img.events;
+      regs = set_numbered img.regs p r;
+      states = set_numbered img.states p Ended;
+    }
+
+module _ (code : Code) (img : Image) (p : ℕ) (core : Core) (has : HasCore img p core) (next : ℕ) (at : operator_at code core.registers ≡ Ok (ops.Plain kinds.Exit, next))
+    (mark control : Word) (cells : List Word) (below : core.below ≡ mark ∷ control ∷ cells) (counted : core.registers.cells ≡ length cells) (base : frame core.registers ≡ 0)
+    (idle : core.registers.task ≡ None) (rows : Rows) (closed : (q : ℕ) (more : Change) → changed q (arrays_closed cells more) img ≡ changed q more (with_rows img rows)) (free : live_criticals img.states img.regs ≡ []) where
+  abbrev r : Registers
+  r = core.registers
+
+  abbrev pub left : Registers
+  left = record r { place = next }
+
+  abbrev tested : Program → Effect Image
+  tested t = effect_of p img (asked img t)
+
+  -- what is done with the words of the cells
+  abbrev left_with : ℕ → List Word → Program
+  left_with f ws = if nat_eq f 0 then leave_base r ws next else leave_other r ws f []
+
+  abbrev ends : List Word → Change
+  ends ws = frame_left r.stack 0 ws (registers left (caused_by r.task (end_process r.stack done)))
+
+  whole : words_of img.stacks r.stack ≡ (mark ∷ control ∷ cells) ++ reverse core.words
+  whole = words_are img p core has ∙ ap (λ (ws : List Word). ws ++ reverse core.words) below
+
+  cells_there : take r.cells (drop (0 + 2) (words_of img.stacks r.stack)) ≡ cells
+  cells_there =
+      ap (λ (ws : List Word). take r.cells (drop (0 + 2) ws)) whole
+      ∙ take-seam cells (reverse core.words) r.cells counted
+
+  exit_does : does p (exit r next) img ≡ gives (ended_at img rows p left)
+  exit_does =
+      ap (λ (f : ℕ). tested (left_with f (take r.cells (drop (f + 2) (words_of img.stacks r.stack))))) base
+      ∙ ap (λ (ws : List Word). tested (leave_base r ws next)) cells_there
+      ∙ ap (λ (places : List Place). tested (if is_critical r.stack (0 ∷ []) places then fault CriticalBlockExit else answer (ends cells))) free
+      ∙ ap gives (closed p (close_events r.stack 0 (registers left (caused_by r.task (end_process r.stack done)))))
+      ∙ ap (λ (t : Option Place). gives (changed p (close_events r.stack 0 (registers left (caused_by t (end_process r.stack done)))) (with_rows img rows))) idle
+
+  pub exit_raw : raw code img p ≡ gives (ended_at img rows p left)
+  unfolding row
+  exit_raw = raw_is code img p core has (ops.Plain kinds.Exit) next at ∙ exit_does
+
+  pub exit_class : class_at (ops.Plain kinds.Exit) r.place ≡ classes.Action
+  unfolding class_at row
+  exit_class = refl
+
+  pub exit_action : table code img p ≡ outcomes.gives (ended_at img rows p left) → operator_action code img p ≡ Some act.End
+  exit_action t =
+      action_is code img p core has (ops.Plain kinds.Exit) next at (outcomes.gives (ended_at img rows p left)) t
+      ∙ ap (λ (f : ℕ). Some (action_of (left_letter f))) base

@@ -1,0 +1,85 @@
+-- What the rest of an expression asks for, and that it stays one over each answer.
+use Rattle.std.proofs.Common.{◌≡◌, refl, []}
+use Rattle.algol_tree.specs.Scopes.{Scopes}
+use Rattle.algol_meaning.specs.Rest.{Hole, read, element, index, happens, broken, enter, inside, subscript, argument, left, right, negated, inverted, condition, Half, val, busy, Actuals, pass, in_value, Aim, resolve, place_index, inside_place, place_subscript, HalfPlace, at, aims, Rest, giving, giving_place, evaluating, locating, Answer, done, cell, entered}
+use Rattle.algol_meaning.specs.Settle.{put, put_place}
+use Rattle.algol_meaning.specs.Asks.{Ask, reads_result, leaves, stores, selects, turns, goes_to, enters_block, starts, acts, writes, makes_arrays, makes_event, ask_hole, ask_actuals, ask_aim, ask, evaluated_of, located_of, resume}
+use Rattle.algol_paths.specs.Arrays.{all_to_make}
+use Rattle.b67_frames.specs.Lent.{IsOfExpression}
+
+-- an expression asks for no part of a statement, for no result of a procedure, and for no entry of a block; it leaves with a value or a place
+abbrev pub IsExpressionAsk : Ask → Type 0
+IsExpressionAsk (reads_result name) = ⊥
+IsExpressionAsk (leaves done) = ⊥
+IsExpressionAsk (leaves (cell c)) = ⊥
+IsExpressionAsk (leaves entered) = ⊥
+IsExpressionAsk (stores p v) = ⊥
+IsExpressionAsk (selects v ss) = ⊥
+IsExpressionAsk turns = ⊥
+IsExpressionAsk (goes_to n) = ⊥
+IsExpressionAsk (enters_block b) = ⊥
+IsExpressionAsk (starts n gs task) = ⊥
+IsExpressionAsk (acts act n) = ⊥
+IsExpressionAsk (writes phrases vs) = ⊥
+IsExpressionAsk (makes_arrays kind ns pairs vs) = ⊥
+IsExpressionAsk (makes_event n) = ⊥
+IsExpressionAsk _ = Unit {0}
+
+mutual
+  hole_asks : (h : Hole) → IsExpressionAsk (ask_hole h)
+  hole_asks (read n) = tt
+  hole_asks (element n ks i) = tt
+  hole_asks (index n ks i e es) = tt
+  hole_asks (happens n) = tt
+  hole_asks (broken op v w fault) = tt
+  hole_asks (enter n gs) = tt
+  hole_asks inside = tt
+  hole_asks (subscript n ks h es) = hole_asks h
+  hole_asks (argument n x) = actuals_ask x
+  hole_asks (left op h b) = hole_asks h
+  hole_asks (right op v h) = hole_asks h
+  hole_asks (negated h) = hole_asks h
+  hole_asks (inverted h) = hole_asks h
+  hole_asks (condition h x y) = hole_asks h
+
+  actuals_ask : (x : Actuals) → IsExpressionAsk (ask_actuals x)
+  actuals_ask (pass gs n sorts es) = tt
+  actuals_ask (in_value gs h sorts es) = hole_asks h
+
+aim_asks : (x : Aim) → IsExpressionAsk (ask_aim x)
+aim_asks (resolve n) = tt
+aim_asks (place_index n ks i es) = tt
+aim_asks inside_place = tt
+aim_asks (place_subscript n ks h es) = hole_asks h
+
+pub expression_asks : (r : Rest) → IsOfExpression r → IsExpressionAsk (ask r)
+expression_asks (evaluating h) is = hole_asks h
+expression_asks (locating x) is = aim_asks x
+expression_asks (giving v) is = tt
+expression_asks (giving_place p) is = tt
+expression_asks _ is = absurd is
+
+-- an expression that is settled is one
+pub evaluated_is : (h : Half) → IsOfExpression (evaluated_of h)
+evaluated_is (val v) = tt
+evaluated_is (busy h) = tt
+
+pub located_is : (x : HalfPlace) → IsOfExpression (located_of x)
+located_is (at p) = tt
+located_is (aims a) = tt
+
+-- and so it is after an answer
+pub expression_resumed : (sc : Scopes) (r : Rest) (a : Answer) → IsOfExpression r → IsOfExpression (resume sc r a)
+expression_resumed sc (evaluating h) a is = evaluated_is (put sc h a)
+expression_resumed sc (locating x) a is = located_is (put_place sc x a)
+expression_resumed sc (giving v) a is = tt
+expression_resumed sc (giving_place p) a is = tt
+expression_resumed sc _ a is = absurd is
+
+-- it makes nothing
+pub expression_makes : (r : Rest) → IsOfExpression r → all_to_make r ≡ []
+expression_makes (evaluating h) is = refl
+expression_makes (locating x) is = refl
+expression_makes (giving v) is = refl
+expression_makes (giving_place p) is = refl
+expression_makes _ is = absurd is

@@ -1,0 +1,156 @@
+-- The name of a declared array that is given to a procedure leads to the cell of an array, which its instance has made.
+use Rattle.std.proofs.Common.{◌≡◌, ◌⊎◌, inl, inr, sym, ap, ◌∙◌, subst, ℕ, zero, suc, ◌+◌, ◌≤◌, List, [], ◌∷◌, Some, true, false, arith}
+use Rattle.std.specs.Prelude.{slice_get}
+use Rattle.algol_tree.specs.declared.tree.Named.{Named}
+use Rattle.algol_tree.specs.Blocks.{block_numbered}
+use Rattle.algol_tree.specs.Plain.{PProgram}
+use Rattle.algol_tree.specs.Scopes.{Scopes, scopes_of, use_of}
+use Rattle.algol_tree.specs.Sorts.{is_variable, is_formal}
+use Rattle.algol_meaning.specs.Rest.{Given, valued, passed, refers, names}
+use Rattle.algol_meaning.specs.World.{Instance, Part, World, instance_at, or_no_instance, ancestor, cell_in}
+use Rattle.algol_paths.specs.Arrays.{DeclaredArray, an_array, Shape, shape_of}
+use Rattle.algol_paths.specs.Blocks.{IsSeen, IsSeenAround}
+use Rattle.b67_word.specs.Word.{Word}
+use Rattle.b67_ops.specs.declared.Couple.{Couple}
+use Rattle.b67_segment.specs.declared.code.Code.{Code}
+use Rattle.b67_table.specs.References.{cell_word}
+use Rattle.b67_templates.specs.Cells.{Agrees, simple_cells, made_base, found_from, IsDeclaredArray, made_of, made_from, FoundMade}
+use Rattle.b67_templates.specs.Programs.{Texts}
+use Rattle.b67_faithful.proofs.Contradictions.{some_same}
+use Rattle.b67_rows.proofs.AskedEntries.{InReferred}
+use Rattle.b67_frames.specs.Arrays.{Layout, named_from, LeadsTo, Names, an_array_named, an_event_named, a_variable_named, IsNamed, IsOwn}
+use Rattle.b67_frames.specs.Frames.{IsComplete, Frame, Around}
+use Rattle.b67_frames.proofs.Lying.{Lies, lies_frame, IsParent, parents_of, part_own}
+use Rattle.b67_frames.proofs.OwnCells.{OwnCells, framed_cells, OwnArray, none_later, all_made, own_array}
+
+-- a name that is seen, where all is made that its block declares, or as one in a bound
+abbrev pub IsSeenMade : PProgram → World → Layout → Part → Named → Type 0
+IsSeenMade tree w lay part n =
+    IsSeen (scopes_of tree) ((instance_at w part.instance).block) n
+    × (IsComplete (scopes_of tree) w lay part.instance ⊎ IsSeenAround (scopes_of tree) ((instance_at w part.instance).block) n)
+
+-- each of those that are given is so
+pub both_seen : (tree : PProgram) (w : World) (lay : Layout) (part : Part) (gs : List Given) → InReferred (IsSeen (scopes_of tree) ((instance_at w part.instance).block)) gs →
+    IsComplete (scopes_of tree) w lay part.instance ⊎ InReferred (IsSeenAround (scopes_of tree) ((instance_at w part.instance).block)) gs → InReferred (IsSeenMade tree w lay part) gs
+both_seen tree w lay part gs seen (inl none) = none_made gs seen
+  where
+    none_made : (xs : List Given) → InReferred (IsSeen (scopes_of tree) ((instance_at w part.instance).block)) xs → InReferred (IsSeenMade tree w lay part) xs
+    none_made [] is = tt
+    none_made (refers n ∷ xs) is = ((is.0, inl none), none_made xs is.1)
+    none_made (valued v ∷ xs) is = none_made xs is
+    none_made (passed c ∷ xs) is = none_made xs is
+    none_made (names e ∷ xs) is = none_made xs is
+both_seen tree w lay part gs seen (inr around_it) = all_around gs seen around_it
+  where
+    all_around : (xs : List Given) → InReferred (IsSeen (scopes_of tree) ((instance_at w part.instance).block)) xs → InReferred (IsSeenAround (scopes_of tree) ((instance_at w part.instance).block)) xs →
+        InReferred (IsSeenMade tree w lay part) xs
+    all_around [] is more = tt
+    all_around (refers n ∷ xs) is more = ((is.0, inr more.0), all_around xs is.1 more.1)
+    all_around (valued v ∷ xs) is more = all_around xs is more
+    all_around (passed c ∷ xs) is more = all_around xs is more
+    all_around (names e ∷ xs) is more = all_around xs is more
+
+module _ (tree : PProgram) (code : Code) (texts : Texts) (w : World) (lay : Layout) (p : ℕ) (part : Part) (outer : List Part) (words : List Word) (f : Frame tree code texts w lay p part outer words)
+    (a : Around tree code texts w lay p outer f.lower f.mark f.control f.gives) where
+  abbrev sc : Scopes
+  sc = scopes_of tree
+
+  abbrev block : ℕ
+  block = (instance_at w part.instance).block
+
+  -- so far up all arrays are made
+  pub up_complete : (k : ℕ) → IsComplete (scopes_of tree) w lay part.instance ⊎ (1 ≤ k) → (1 ≤ k → IsComplete (scopes_of tree) w lay (ancestor w k part.instance)) → IsComplete (scopes_of tree) w lay (ancestor w k part.instance)
+  up_complete zero (inl whole) further = whole
+  up_complete zero (inr far) further = absurd (omega (arith, far))
+  up_complete (suc k) made further = further (omega arith)
+
+  module _ (level : ℕ) (n : Named) (seen : IsSeenMade tree w lay part n) (shape : Shape) (d : DeclaredArray) (c : Couple) (v : IsDeclaredArray sc level n d c) (agrees : Agrees shape (shape_of d))
+      (x : Word) (h : IsNamed sc w lay (IsOwn (part ∷ outer)) part.instance n x) where
+    abbrev up : ℕ
+    up = (use_of sc n).up
+
+    abbrev home : ℕ
+    home = ancestor w up part.instance
+
+    -- the name of an array in a bound is one of a block around
+    in_bound : (1 ≤ up) ⊎ (is_variable ((use_of sc n).sort) ≡ true) ⊎ (is_formal ((use_of sc n).sort) ≡ true) → 1 ≤ up
+    in_bound (inl far) = far
+    in_bound (inr (inl is)) = absurd (let clash : false ≡ true = sym (ap is_variable v.sort_is) ∙ is in cc)
+    in_bound (inr (inr is)) = absurd (let clash : false ≡ true = sym (ap is_formal v.sort_is) ∙ is in cc)
+
+    far_or_made : IsComplete sc w lay part.instance ⊎ IsSeenAround sc block n → IsComplete sc w lay part.instance ⊎ (1 ≤ up)
+    far_or_made (inl whole) = inl whole
+    far_or_made (inr around_it) = inr (in_bound around_it.1)
+
+    parent : IsParent tree code texts w lay p (part ∷ outer) part.instance up ((use_of sc n).block)
+    parent = parents_of tree code texts w lay p part outer words f a part.instance (part_own tree code texts w lay p part outer words f) up ((use_of sc n).block) seen.0
+
+    module _ (l : Lies tree code texts w lay p (part ∷ outer) home words) where
+      abbrev here : Instance
+      here = l.owned.framed.instance
+
+      instance_here : instance_at w home ≡ here
+      instance_here = ap (instance_at w) (sym l.instance_is) ∙ ap or_no_instance l.owned.framed.is
+
+      block_here : here.block ≡ (use_of sc n).block
+      block_here = sym (ap (λ (y : Instance). y.block) instance_here) ∙ parent.block
+
+      complete : IsComplete sc w lay l.part.instance
+      complete = subst (λ (i : ℕ). IsComplete sc w lay i) (sym l.instance_is) (up_complete up (far_or_made seen.1) parent.complete)
+
+      abbrev own : OwnCells sc w lay l.part.instance here
+      own = framed_cells sc w lay l.owned.framed
+
+      there : made_from 0 (made_of (block_numbered sc.blocks here.block).decls) n.name ≡ Some (record { number = v.made.number; made = an_array d })
+      there = ap (λ (j : ℕ). made_from 0 (made_of (block_numbered sc.blocks j).decls) n.name) block_here ∙ v.made.there
+
+      found : OwnArray sc w lay l.part.instance here own n.name v.made.number d
+      found =
+          own_array sc w lay l.part.instance here own n.name v.made.number d there
+          (all_made sc w lay l.part.instance here own n.name v.made.number d there (none_later sc w lay l.part.instance here own complete))
+          (ap (λ (j : ℕ). found_from 0 (simple_cells sc (block_numbered sc.blocks j)) n.name) block_here ∙ v.made.apart)
+
+      same_block : (instance_at w home).block ≡ (use_of sc n).block
+      same_block = ap (λ (y : Instance). y.block) instance_here ∙ block_here
+
+      index_is : h.couple.index ≡ made_base sc (block_numbered sc.blocks ((instance_at w home).block)) + v.made.number
+      index_is = by_name h.names
+        where
+          by_name : Names sc w lay h.level n h.couple → h.couple.index ≡ made_base sc (block_numbered sc.blocks ((instance_at w home).block)) + v.made.number
+          by_name (an_array_named other is) =
+              omega (
+                arith,
+                is.made.index_is,
+                ap (λ (y : FoundMade). y.number) (some_same (sym is.made.there ∙ v.made.there)),
+                ap (λ (j : ℕ). made_base sc (block_numbered sc.blocks j)) same_block,
+              )
+          by_name (an_event_named is) =
+              omega (
+                arith,
+                is.made.index_is,
+                ap (λ (y : FoundMade). y.number) (some_same (sym is.made.there ∙ v.made.there)),
+                ap (λ (j : ℕ). made_base sc (block_numbered sc.blocks j)) same_block,
+              )
+          by_name (a_variable_named kind is) = absurd (let clash : false ≡ true = sym (ap is_variable v.sort_is) ∙ is.variable in cc)
+
+      leads_there : LeadsTo sc w lay (IsOwn (part ∷ outer)) shape (named_from sc w lay part.instance n) x
+      leads_there =
+          record {
+            own = parent.own;
+            declared = d;
+            agrees = agrees;
+            cell = found.cell;
+            allotted = found.allotted;
+            array = record {
+              number = v.made.number;
+              found = ap (λ (y : Instance). made_from 0 (made_of (block_numbered sc.blocks y.block).decls) n.name) instance_here ∙ there;
+              is = ap (λ (k : ℕ). cell_in ((instance_at w k).cells) n.name) (sym l.instance_is) ∙ found.of.is;
+              allotted = ap (λ (k : ℕ). slice_get (lay.rows k) v.made.number) (sym l.instance_is) ∙ found.has.allotted;
+            };
+            frame = h.frame;
+            laid = h.laid;
+            word_is = h.word_is ∙ ap (λ (k : ℕ). cell_word (record { frame = h.frame; index = k })) index_is;
+          }
+
+    pub named_leads : LeadsTo sc w lay (IsOwn (part ∷ outer)) shape (named_from sc w lay part.instance n) x
+    named_leads = leads_there (lies_frame tree code texts w lay p part outer words f a home parent.own)

@@ -1,0 +1,71 @@
+-- A row that is opened, and a word that is written into a row.
+use Rattle.std.proofs.Common.{◌≡◌, ◌≢◌, refl, ap, ◌∙◌, ℕ, zero, suc, ◌+◌, ◌≤◌, [], ◌∷◌, set, Option, Some, None, IsSome, arith}
+use Rattle.b67_word.specs.Word.{Word}
+use Rattle.b67_store.specs.Store.{least_free, opened_at, Row, Rows, row_at, row_with, with_row_word, live_words, counted_words}
+use Rattle.b67_store.proofs.StoreLaws.{opened_here, opened_others, changed_here, changed_others, free_here, counts}
+use Rattle.b67_frames.specs.Arrays.{open_rows}
+
+-- ---- a row is opened
+
+-- the least free number is no higher than there are open rows
+pub least_low : (rows : Rows) → least_free rows ≤ open_rows rows
+least_low [] = omega arith
+least_low (None ∷ rows) = omega arith
+least_low (Some row ∷ rows) = omega (arith, least_low rows)
+
+open_more : (rows : Rows) (n : ℕ) (row : Row) → row_at rows n ≡ None → open_rows (opened_at rows n row) ≡ open_rows rows + 1
+open_more [] zero row free = refl
+open_more [] (suc n) row free = open_more [] n row free
+open_more (None ∷ rows) zero row free = omega arith
+open_more (Some r ∷ rows) zero row free = absurd (let clash : Some r ≡ None = free in cc)
+open_more (None ∷ rows) (suc n) row free = open_more rows n row free
+open_more (Some r ∷ rows) (suc n) row free = omega (arith, open_more rows n row free)
+
+-- this row at the least free number
+abbrev pub row_opened : Rows → Row → Rows
+row_opened rows row = opened_at rows (least_free rows) row
+
+module _ (rows : Rows) (row : Row) where
+  pub opened_is : row_at (row_opened rows row) (least_free rows) ≡ Some row
+  opened_is = opened_here rows (least_free rows) row
+
+  pub opened_keeps : (n : ℕ) → n ≢ least_free rows → row_at (row_opened rows row) n ≡ row_at rows n
+  opened_keeps n other = opened_others rows (least_free rows) n row other
+
+  pub least_is_free : row_at rows (least_free rows) ≡ None
+  least_is_free = free_here rows
+
+  pub opened_counts : counted_words (row_opened rows row) ≡ counted_words rows + live_words (Some row)
+  opened_counts = counts.opened rows (least_free rows) row (free_here rows)
+
+  pub opened_many : open_rows (row_opened rows row) ≡ open_rows rows + 1
+  opened_many = open_more rows (least_free rows) row (free_here rows)
+
+-- ---- a word is written
+
+same_open : (rows : Rows) (n at : ℕ) (word : Word) → open_rows (set rows n (row_with (row_at rows n) at word)) ≡ open_rows rows
+same_open [] n at word = refl
+same_open (None ∷ rows) zero at word = refl
+same_open (Some row ∷ rows) zero at word = refl
+same_open (None ∷ rows) (suc n) at word = same_open rows n at word
+same_open (Some row ∷ rows) (suc n) at word = omega (arith, same_open rows n at word)
+
+written_at : (rows : Rows) (n at : ℕ) (word : Word) (row : Row) → row_at rows n ≡ Some row → row_at (set rows n (row_with (row_at rows n) at word)) n ≡ Some (record row { words = set row.words at word })
+written_at rows n at word row there =
+    ap (λ (o : Option Row). row_at (set rows n (row_with o at word)) n) there ∙ changed_here rows n (record row { words = set row.words at word }) (is_some there)
+  where
+    is_some : {o : Option Row} → o ≡ Some row → IsSome o
+    is_some e = rw e refl
+
+module _ (rows : Rows) (n at : ℕ) (word : Word) where
+  pub written_is : (row : Row) → row_at rows n ≡ Some row → row_at (with_row_word rows n at word) n ≡ Some (record row { words = set row.words at word })
+  written_is row there = written_at rows n at word row there
+
+  pub written_keeps : (k : ℕ) → k ≢ n → row_at (with_row_word rows n at word) k ≡ row_at rows k
+  written_keeps k other = changed_others rows n k (row_with (row_at rows n) at word) other
+
+  pub written_counts : counted_words (with_row_word rows n at word) ≡ counted_words rows
+  written_counts = counts.written rows n at word
+
+  pub written_many : open_rows (with_row_word rows n at word) ≡ open_rows rows
+  written_many = same_open rows n at word

@@ -1,0 +1,4 @@
+pub mod Arrays
+pub mod Frames
+pub mod Lent
+pub mod Events

@@ -1,0 +1,53 @@
+-- Words of a stack that are read as descriptors, or as whole numbers.
+use Rattle.std.proofs.Common.{◌≡◌, refl, sym, ap, ◌∙◌, ℕ, ◌+◌, Some, None, Bool, true, false, ℤ}
+use Rattle.b67_word.specs.declared.Place.{Place}
+use Rattle.b67_word.specs.Word.{Word, as_whole}
+use Rattle.b67_word.proofs.WordLaws.{as_whole-operand}
+use Rattle.b67_control.specs.declared.Descriptor.{Descriptor}
+use Rattle.b67_control.specs.declared.Irw.{Irw}
+use Rattle.b67_control.specs.declared.Registers.{Registers}
+use Rattle.b67_control.specs.declared.Sirw.{Sirw}
+use Rattle.b67_control.specs.Control.{as_irw, as_sirw, as_descriptor}
+use Rattle.b67_control.proofs.ControlLaws.{irw_laws, as_sirw-other, descriptor_laws}
+use Rattle.b67_store.specs.Store.{word_at}
+use Rattle.b67_table.specs.Arrays.{is_array}
+use Rattle.b67_table.specs.Chains.{place}
+use Rattle.b67_table.specs.Image.{Image}
+use Rattle.b67_table.specs.Private.{display_at}
+use Rattle.b67_table.specs.References.{cell_place, sirw_cell}
+use Rattle.b67_cores.specs.Slots.{IsNumber}
+use Rattle.b67_rows.proofs.Touching.{NearCell}
+
+pub whole_read : (z : ℤ) (w : Word) → IsNumber z w → as_whole w ≡ Some z
+whole_read z w i = ap as_whole i.is ∙ as_whole-operand z i.whole
+
+-- a descriptor is no reference
+pub record IsDescriptor (w : Word) (d : Descriptor) : Type 0 where
+  pub reads : as_descriptor w ≡ Some d
+  pub no_irw : as_irw w ≡ None
+  pub no_sirw : as_sirw w ≡ None
+
+pub is_descriptor : (w : Word) (d : Descriptor) → as_descriptor w ≡ Some d → IsDescriptor w d
+is_descriptor w d e =
+    record {
+      reads = e;
+      no_irw = irw_laws.other w (λ k. let is = sym (descriptor_laws.kind w d e) ∙ k in cc);
+      no_sirw = as_sirw-other w (λ k. let is = sym (descriptor_laws.kind w d e) ∙ k in cc);
+    }
+
+-- an array, not indexed
+abbrev pub whole_array : Bool → Bool → ℕ → ℕ → Descriptor
+whole_array copied mother size n = record { presence = true; copy = copied; indexed = false; mother = mother; length = size; address = n }
+
+pub is_whole_array : (copied mother : Bool) (size n : ℕ) → is_array mother (whole_array copied mother size n) ≡ true
+is_whole_array copied true size n = refl
+is_whole_array copied false size n = refl
+
+-- A word of process p that is a descriptor itself, or refers to a near cell in which one lies, or in which a reference to the near cell of one lies.
+pub data IsFound (p : ℕ) (img : Image) (r : Registers) (x : Word) : Type 0 where
+  itself : as_irw x ≡ None → as_sirw x ≡ None → IsFound p img r x
+  in_cell : (i : Irw) (home : Place) (w : Word) → as_irw x ≡ Some i → display_at r i.level ≡ Some home → NearCell p img (record { frame = home; index = i.index }) →
+      word_at img.stacks (place home.stack (home.at + i.index)) ≡ Some w → as_sirw w ≡ None → IsFound p img r x
+  through_cell : (i : Irw) (home : Place) (v : Word) (s : Sirw) (w : Word) → as_irw x ≡ Some i → display_at r i.level ≡ Some home → NearCell p img (record { frame = home; index = i.index }) →
+      word_at img.stacks (place home.stack (home.at + i.index)) ≡ Some v → as_sirw v ≡ Some s → NearCell p img (sirw_cell s) → word_at img.stacks (cell_place (sirw_cell s)) ≡ Some w → as_sirw w ≡ None →
+      IsFound p img r x

@@ -1,0 +1,115 @@
+-- ENTR on an intrinsic: the intrinsic is given the words above its reference, the first one first.
+use Rattle.std.proofs.Common.{length-append, ◌≡◌, sym, ap, ◌∙◌, ℕ, ◌+◌, ◌-◌, ◌<◌, List, [], ◌∷◌, ◌++◌, length, take, drop, Option, Some, None, Bool, true, false, Ok, arith, append_assoc}
+use Rattle.std.specs.Prelude.{if◌then◌else◌, nat_lt, ◌&&◌, slice_get, reverse}
+use Rattle.std.proofs.lemmas.Bool.Decides.{nat_tests}
+use Rattle.std.proofs.lemmas.List.{length-reverse}
+use Rattle.b67_word.specs.declared.Place.{Place}
+use Rattle.b67_word.specs.Word.{Word}
+use Rattle.b67_control.specs.declared.Registers.{Registers}
+use Rattle.b67_control.specs.declared.Irw.{Irw}
+use Rattle.b67_control.specs.declared.Mscw.{Mscw}
+use Rattle.b67_control.specs.declared.Pcw.{Pcw}
+use Rattle.b67_control.specs.declared.Sirw.{Sirw}
+use Rattle.b67_control.specs.Control.{as_irw, as_sirw, as_mscw, as_pcw}
+use Rattle.b67_ops.specs.declared.Operator.TheVariants as ops
+use Rattle.b67_ops.specs.declared.PlainKind.TheVariants as kinds
+use Rattle.b67_segment.specs.declared.code.Code.{Code}
+use Rattle.b67_store.specs.Store.{words_of, word_at}
+use Rattle.b67_table.specs.declared.Cell.{Cell}
+use Rattle.b67_table.specs.declared.Reached.{Reached}
+use Rattle.b67_table.specs.Names.{intrinsic_numbered}
+use Rattle.b67_table.specs.Effect.{Effect}
+use Rattle.b67_table.specs.Image.{Image}
+use Rattle.b67_table.specs.Look.{Look, found, at, ◌>->◌, valid}
+use Rattle.b67_table.specs.Chains.{place}
+use Rattle.b67_table.specs.Program.{Program, Change, does, effect_of, asked, see, ◌>>=◌}
+use Rattle.b67_table.specs.Private.{display_at, floor}
+use Rattle.b67_table.specs.References.{cell_in, irw_or_sirw, reached_in, one_sirw, invalid}
+use Rattle.b67_table.specs.Intrinsics.{intrinsic, intrinsic_row}
+use Rattle.b67_table.specs.Rows.{enter, enter_by, enter_procedure, not_entered}
+use Rattle.b67_table.specs.Table.{operator_at}
+use Rattle.b67_cores.specs.Cores.{Core, HasCore}
+use Rattle.b67_rows.proofs.Rows.{words_are}
+use Rattle.b67_rows.proofs.StackWords.{word-under, stack-over, drop-seam, take-all, length-stack}
+use Rattle.b67_rows.proofs.StoreRow.{most_is}
+
+pub below_is : (m n : ℕ) → m < n → nat_lt m n ≡ true
+below_is m n h = grind (arith, nat_tests)
+
+-- the arguments above a reference and a mark, above other words
+pub record Called (core : Core) (arguments : List Word) (reference marked : Word) (below : List Word) : Type 0 where
+  pub words : core.words ≡ arguments ++ reference ∷ marked ∷ below
+  pub mark_at : core.registers.f ≡ length core.below + length below
+
+module _ (code : Code) (img : Image) (p : ℕ) (core : Core) (has : HasCore img p core) (next : ℕ) (there : operator_at code core.registers ≡ Ok (ops.Plain kinds.Entr, next))
+    (arguments : List Word) (reference marked : Word) (below : List Word) (called : Called core arguments reference marked below)
+    (m : Mscw) (reads_mark : as_mscw marked ≡ Some m) (unentered : m.entered ≡ false)
+    (level index : ℕ) (frame : Place) (reads : as_irw reference ≡ Some (record { level = level; index = index })) (shown : display_at core.registers level ≡ Some frame)
+    (entry : Word) (lies : word_at img.stacks (record { stack = frame.stack; at = frame.at + index }) ≡ Some entry) (no_sirw : as_sirw entry ≡ None)
+    (pcw : Pcw) (reads_entry : as_pcw entry ≡ Some pcw) (is_intrinsic : pcw.intrinsic ≡ true) where
+  abbrev r : Registers
+  r = core.registers
+
+  abbrev cell : Cell
+  cell = record { frame = frame; index = index }
+
+  abbrev tested : Program → Effect Change
+  tested t = asked img t
+
+  whole : words_of img.stacks r.stack ≡ core.below ++ reverse (arguments ++ reference ∷ marked ∷ below)
+  whole = words_are img p core has ∙ ap (λ (ws : List Word). core.below ++ reverse ws) called.words
+
+  long : r.s ≡ length core.below + length below + 2 + length arguments
+  long = omega (arith, has.is.top, ap length called.words, length-append arguments (reference ∷ marked ∷ below))
+
+  mark_word : word_at img.stacks (place r.stack r.f) ≡ Some marked
+  mark_word =
+      ap (λ (ws : List Word). slice_get ws r.f) (whole ∙ ap (λ (ws : List Word). core.below ++ reverse ws) (sym (append_assoc arguments (reference ∷ []) (marked ∷ below))))
+      ∙ word-under core.below (arguments ++ reference ∷ []) marked below r.f called.mark_at
+
+  reference_word : word_at img.stacks (place r.stack (r.f + 1)) ≡ Some reference
+  reference_word =
+      ap (λ (ws : List Word). slice_get ws (r.f + 1)) whole
+      ∙ word-under core.below arguments reference (marked ∷ below) (r.f + 1) (omega (arith, called.mark_at))
+
+  -- the words above the reference, the first one first
+  arguments_are : take (r.s - (r.f + 2)) (drop (r.f + 2) (words_of img.stacks r.stack)) ≡ reverse arguments
+  arguments_are =
+      ap (λ (ws : List Word). take (r.s - (r.f + 2)) (drop (r.f + 2) ws)) (whole ∙ stack-over core.below arguments (reference ∷ marked ∷ below))
+      ∙ ap (take (r.s - (r.f + 2)))
+      (drop-seam (core.below ++ reverse (reference ∷ marked ∷ below)) (reverse arguments) (r.f + 2)
+      (omega (arith, called.mark_at, length-stack core.below (reference ∷ marked ∷ below))))
+      ∙ take-all (reverse arguments) (r.s - (r.f + 2)) (omega (arith, long, called.mark_at, length-reverse arguments))
+
+  abbrev on_mark : Mscw → Program
+  on_mark x = see (at (place r.stack (r.f + 1)) (λ (w : Option Word). valid w)) >>= (λ (above : Word). enter_by code r next x above (irw_or_sirw r (as_irw above) (as_sirw above)))
+
+  abbrev on_word : Word → Look Mscw
+  on_word v = valid (as_mscw v) >-> not_entered
+
+  abbrev on_pcw : Place → Pcw → Program
+  on_pcw home x = enter_procedure code r next m x (Some home)
+
+  abbrev on_entry : Reached → Program
+  on_entry v = see (valid (as_pcw v.word)) >>= on_pcw v.cell.frame
+
+  pub enter_asked : asked img (enter code core.registers next) ≡ asked img (intrinsic_row (intrinsic_numbered pcw.number) code core.registers next m (reverse arguments))
+  enter_asked =
+      ap (λ (b : Bool). tested (see (if b && nat_lt (r.f + 1) r.s then at (place r.stack r.f) (λ (w : Option Word). valid w >-> on_word) else invalid) >>= on_mark))
+      (most_is (floor r) r.f (omega (arith, called.mark_at, has.is.bottom)))
+      ∙ ap (λ (b : Bool). tested (see (if b then at (place r.stack r.f) (λ (w : Option Word). valid w >-> on_word) else invalid) >>= on_mark))
+      (below_is (r.f + 1) r.s (omega (arith, called.mark_at, long)))
+      ∙ ap (λ (o : Option Word). tested (see (valid o >-> on_word) >>= on_mark)) mark_word
+      ∙ ap (λ (o : Option Mscw). tested (see (valid o >-> not_entered) >>= on_mark)) reads_mark
+      ∙ ap (λ (b : Bool). tested (see (if b then invalid else found m) >>= on_mark)) unentered
+      ∙ ap (λ (o : Option Word). tested (see (valid o) >>= (λ (above : Word). enter_by code r next m above (irw_or_sirw r (as_irw above) (as_sirw above))))) reference_word
+      ∙ ap (λ (i : Option Irw). tested (enter_by code r next m reference (irw_or_sirw r i (as_sirw reference)))) reads
+      ∙ ap (λ (o : Option Place). tested (enter_by code r next m reference (cell_in o index))) shown
+      ∙ ap (λ (o : Option Word). tested (see (reached_in cell o >-> (λ (v : Reached). one_sirw (as_sirw v.word) v)) >>= on_entry)) lies
+      ∙ ap (λ (o : Option Sirw). tested (see (one_sirw o (record { word = entry; cell = cell })) >>= on_entry)) no_sirw
+      ∙ ap (λ (o : Option Pcw). tested (see (valid o) >>= on_pcw frame)) reads_entry
+      ∙ ap (λ (b : Bool). tested (if b then intrinsic pcw.number code r next m else enter_procedure code r next m (record pcw { intrinsic = false }) (Some frame))) is_intrinsic
+      ∙ ap (λ (ws : List Word). tested (intrinsic_row (intrinsic_numbered pcw.number) code r next m ws)) arguments_are
+
+  pub enter_does : does p (enter code core.registers next) img ≡ effect_of p img (asked img (intrinsic_row (intrinsic_numbered pcw.number) code core.registers next m (reverse arguments)))
+  enter_does = ap (effect_of p img) enter_asked

@@ -1,0 +1,171 @@
+-- EXIT and RETN of a frame that is not the base frame.
+use Rattle.std.proofs.Common.{◌≡◌, refl, sym, ap, ◌∙◌, ℕ, ◌+◌, ◌≤◌, List, [], ◌∷◌, ◌++◌, length, take, drop, Option, Some, None, Bool, false, Ok, arith, append_assoc, length-append}
+use Rattle.std.specs.Prelude.{if◌then◌else◌, nat_eq, reverse}
+use Rattle.algol_meaning.specs.Actions as act
+use Rattle.b67_num.specs.declared.FaultKind.TheVariants.{CriticalBlockExit}
+use Rattle.b67_word.specs.declared.Place.{Place}
+use Rattle.b67_word.specs.Word.{Word}
+use Rattle.b67_control.specs.declared.Registers.{Registers}
+use Rattle.b67_control.specs.Display.{place_at}
+use Rattle.b67_ops.specs.declared.Operator.TheVariants as ops
+use Rattle.b67_ops.specs.declared.PlainKind.TheVariants as kinds
+use Rattle.b67_segment.specs.declared.code.Code.{Code}
+use Rattle.b67_store.specs.Store.{Stacks, Rows, words_of, with_stack, with_cut, with_push}
+use Rattle.b67_events.specs.Events.{closed_from}
+use Rattle.b67_table.specs.declared.Below.{Below}
+use Rattle.b67_table.specs.declared.Class.TheVariants as classes
+use Rattle.b67_table.specs.declared.Leaving.{Leaving}
+use Rattle.b67_table.specs.Effect.{Effect, gives}
+use Rattle.b67_table.specs.Outcome as outcomes
+use Rattle.b67_table.specs.Image.{Image, with_stacks, with_rows, with_registers, with_events}
+use Rattle.b67_table.specs.Chains.{place, left_to, rebuilt}
+use Rattle.b67_table.specs.Linkage.{arrays_closed, frame_left, is_critical, if_not_critical, leave_base, leave_other, leave, leaving, left}
+use Rattle.b67_table.specs.Look.{found, ◌>->◌, seen}
+use Rattle.b67_table.specs.Moves.{pushed}
+use Rattle.b67_table.specs.Private.{frame, at_or}
+use Rattle.b67_table.specs.Program.{Program, Change, done, changed, effect_of, asked, answer, fault, registers, cut, close_events}
+use Rattle.b67_table.specs.Questions.{live_criticals}
+use Rattle.b67_table.specs.Rows.{row}
+use Rattle.b67_table.specs.Table.{raw, table, operator_at, class_at}
+use Rattle.b67_cores.specs.Cores.{Core, IsCore, HasCore, with_core, stack_of}
+use Rattle.b67_letters.specs.declared.Letter.TheVariants.{End, Leave}
+use Rattle.b67_letters.specs.Letters.{left_letter}
+use Rattle.b67_faithful.specs.Correspondence.{action_of, operator_action}
+use Rattle.b67_letters.proofs.Looks.{then_seen, see_found}
+use Rattle.b67_rows.proofs.Rows.{raw_is, words_are, action_is}
+use Rattle.b67_rows.proofs.StackWords.{take-seam, drop-seam, stack-over, length-stack, words-set, set-set}
+use Rattle.std.proofs.lemmas.Bool.Decides.{nat_tests}
+
+pub not_zero : (n : ℕ) → 1 ≤ n → nat_eq n 0 ≡ false
+not_zero n h = grind (arith, nat_tests)
+
+-- the word of a result that is given back
+abbrev pub given_words : Option Word → List Word
+given_words None = []
+given_words (Some x) = x ∷ []
+
+-- The core of the part around: the words under the frame that is left at a place, parted at its own floor, and the result on top.
+abbrev pub without_frame : Core → List Word → List Word → ℕ → Leaving → Option Word → Core
+without_frame core below words f l given =
+    record { below = below; words = given_words given ++ words; registers = left core.registers (f + length (given_words given)) f l }
+
+-- The frame of a core, above the words of the part around: the rows that its cells describe are closed, and the marks under it lead to where
+-- the machine goes on.
+pub record Leaves (img : Image) (core : Core) (below words : List Word) (mark control : Word) (cells : List Word) (b : Below) (display : List (Option Place)) : Type 0 where
+  pub is : core.below ≡ (below ++ reverse words) ++ mark ∷ control ∷ cells
+  pub some : 1 ≤ length (below ++ reverse words)
+  pub frame_is : frame core.registers ≡ length (below ++ reverse words)
+  pub counted : core.registers.cells ≡ length cells
+  pub rows : Rows
+  pub closed : (q : ℕ) (next : Change) → changed q (arrays_closed cells next) img ≡ changed q next (with_rows img rows)
+  pub left_to : seen img.stacks (left_to (place core.registers.stack (length (below ++ reverse words)))) ≡ Ok b
+  pub rebuilt : seen img.stacks (rebuilt (place core.registers.stack b.frame) b.control.caller_level) ≡ Ok display
+  -- no process depends on a frame
+  pub free : live_criticals img.states img.regs ≡ []
+
+module _ (code : Code) (img : Image) (p : ℕ) (core : Core) (has : HasCore img p core) (next : ℕ)
+    (below words : List Word) (mark control : Word) (cells : List Word) (b : Below) (display : List (Option Place)) (e : Leaves img core below words mark control cells b display) where
+  abbrev r : Registers
+  r = core.registers
+
+  abbrev lower : List Word
+  lower = below ++ reverse words
+
+  abbrev f : ℕ
+  f = length lower
+
+  abbrev leaving_of : Leaving
+  leaving_of = record { below = b; display = display }
+
+  abbrev tested : Program → Effect Image
+  tested t = effect_of p img (asked img t)
+
+  whole : words_of img.stacks r.stack ≡ lower ++ mark ∷ control ∷ (cells ++ reverse core.words)
+  whole = words_are img p core has ∙ ap (λ (ws : List Word). ws ++ reverse core.words) e.is ∙ append_assoc lower (mark ∷ control ∷ cells) (reverse core.words)
+
+  cells_there : take r.cells (drop (f + 2) (words_of img.stacks r.stack)) ≡ cells
+  cells_there =
+      ap (λ (ws : List Word). take r.cells (drop (f + 2) ws)) (whole ∙ sym (append_assoc lower (mark ∷ control ∷ []) (cells ++ reverse core.words)))
+      ∙ ap (take r.cells) (drop-seam (lower ++ mark ∷ control ∷ []) (cells ++ reverse core.words) (f + 2) (sym (length-append lower (mark ∷ control ∷ []))))
+      ∙ take-seam cells (reverse core.words) r.cells e.counted
+
+  cut_there : with_cut img.stacks r.stack f ≡ with_stack img.stacks r.stack lower
+  cut_there =
+      ap (λ (ws : List Word). with_stack img.stacks r.stack (take f ws)) whole
+      ∙ ap (with_stack img.stacks r.stack) (take-seam lower (mark ∷ control ∷ (cells ++ reverse core.words)) f refl)
+
+  -- the result lies on the words of the part around
+  pushed_there : (x : Word) → with_push (with_cut img.stacks r.stack f) r.stack x ≡ with_stack img.stacks r.stack (below ++ reverse (x ∷ words))
+  pushed_there x =
+      ap (λ (ss : Stacks). with_push ss r.stack x) cut_there
+      ∙ ap (λ (ws : List Word). with_stack (with_stack img.stacks r.stack lower) r.stack (ws ++ x ∷ [])) (words-set img.stacks r.stack (stack_of core) lower has.stack)
+      ∙ set-set img.stacks r.stack lower (lower ++ x ∷ [])
+      ∙ ap (with_stack img.stacks r.stack) (sym (stack-over below (x ∷ []) words))
+
+  leaving_seen : seen img.stacks (leaving (place r.stack f)) ≡ Ok leaving_of
+  leaving_seen =
+      then_seen img.stacks (left_to (place r.stack f)) b
+      (λ (x : Below). rebuilt (place r.stack x.frame) x.control.caller_level >-> (λ (d : List (Option Place)). found (record { below = x; display = d }))) e.left_to
+      ∙ then_seen img.stacks (rebuilt (place r.stack b.frame) b.control.caller_level) display (λ (d : List (Option Place)). found (record { below = b; display = d })) e.rebuilt
+
+  module _ (given : Option Word) where
+    abbrev pub outer_core : Core
+    outer_core = without_frame core below words f leaving_of given
+
+    -- what is done with the words of the cells
+    abbrev left_with : ℕ → List Word → Program
+    left_with n ws = if nat_eq n 0 then leave_base r ws next else leave_other r ws n (given_words given)
+
+    abbrev gone : Change
+    gone = close_events r.stack f (cut r.stack f (pushed r.stack (given_words given) (registers (left r (f + length (given_words given)) f leaving_of) done)))
+
+    abbrev after_leaving : List Word → Leaving → Program
+    after_leaving ws l =
+        if_not_critical r.stack (f ∷ [])
+        (answer (frame_left r.stack f ws (cut r.stack f (pushed r.stack (given_words given) (registers (left r (f + length (given_words given)) f l) done)))))
+
+    -- the events of the frame are closed
+    abbrev pub after : Image
+    after = with_core (with_events (with_rows img e.rows) (closed_from r.stack f img.events)) p outer_core
+
+    changed_to : changed p gone (with_rows img e.rows) ≡ after
+    changed_to = by_given given
+      where
+        by_given : (g : Option Word) →
+            changed p (close_events r.stack f (cut r.stack f (pushed r.stack (given_words g) (registers (left r (f + length (given_words g)) f leaving_of) done)))) (with_rows img e.rows)
+            ≡ with_core (with_events (with_rows img e.rows) (closed_from r.stack f img.events)) p (without_frame core below words f leaving_of g)
+        by_given None = ap (λ (ss : Stacks). with_registers (with_stacks (with_events (with_rows img e.rows) (closed_from r.stack f img.events)) ss) p (left r (f + 0) f leaving_of)) cut_there
+        by_given (Some x) = ap (λ (ss : Stacks). with_registers (with_stacks (with_events (with_rows img e.rows) (closed_from r.stack f img.events)) ss) p (left r (f + 1) f leaving_of)) (pushed_there x)
+
+    pub leave_does : tested (leave r next (given_words given)) ≡ gives after
+    leave_does =
+        ap (λ (n : ℕ). tested (left_with n (take r.cells (drop (n + 2) (words_of img.stacks r.stack))))) e.frame_is
+        ∙ ap (λ (ws : List Word). tested (left_with f ws)) cells_there
+        ∙ ap (λ (t : Bool). tested (if t then leave_base r cells next else leave_other r cells f (given_words given))) (not_zero f e.some)
+        ∙ ap (λ (x : Effect Change). effect_of p img x) (see_found img (leaving (place r.stack f)) leaving_of (after_leaving cells) leaving_seen)
+        ∙ ap (λ (places : List Place). tested (if is_critical r.stack (f ∷ []) places then fault CriticalBlockExit else answer (arrays_closed cells gone))) e.free
+        ∙ ap gives (e.closed p gone)
+        ∙ ap gives changed_to
+
+    -- the new core is one, where the display names the frame below, and its cells end at the floor
+    pub outer_is : place_at display b.control.caller_level ≡ Some (place r.stack b.frame) → length below ≡ b.frame + 2 + b.control.caller_cells → IsCore outer_core
+    outer_is top long =
+        let own : frame outer_core.registers ≡ b.frame = ap at_or top in
+        record { bottom = omega (arith, own, long); top = omega (arith, length-stack below words, length-append (given_words given) words) }
+
+  -- ---- EXIT
+
+  module _ (at : operator_at code core.registers ≡ Ok (ops.Plain kinds.Exit, next)) where
+    pub leave_raw : raw code img p ≡ gives (after None)
+    unfolding row
+    leave_raw = raw_is code img p core has (ops.Plain kinds.Exit) next at ∙ leave_does None
+
+    pub leave_class : class_at (ops.Plain kinds.Exit) r.place ≡ classes.Action
+    unfolding class_at row
+    leave_class = refl
+
+    pub leave_action : table code img p ≡ outcomes.gives (after None) → operator_action code img p ≡ Some act.Leave
+    leave_action t =
+        action_is code img p core has (ops.Plain kinds.Exit) next at (outcomes.gives (after None)) t
+        ∙ ap (λ (n : ℕ). Some (action_of (left_letter n))) e.frame_is
+        ∙ ap (λ (t : Bool). Some (action_of (if t then End else Leave))) (not_zero f e.some)

@@ -1,0 +1,92 @@
+-- EVAL by what is reached from the cell that is named: of a value the cell is left, and code that gives no place is a fault.
+use Rattle.std.proofs.Common.{◌≡◌, refl, ap, ◌∙◌, ℕ, ◌+◌, ◌-◌, ◌≤◌, List, ◌∷◌, Option, Some, None, Bool, false, Result, Ok, arith}
+use Rattle.std.specs.Prelude.{if◌then◌else◌, ◌==◌}
+use Rattle.b67_num.specs.declared.FaultKind.TheVariants.{NotAVariable}
+use Rattle.b67_word.specs.Word.{Word}
+use Rattle.b67_control.specs.declared.Registers.{Registers}
+use Rattle.b67_control.specs.declared.Pcw.{Pcw}
+use Rattle.b67_control.specs.Control.{as_pcw}
+use Rattle.b67_ops.specs.declared.Operator.TheVariants as ops
+use Rattle.b67_ops.specs.declared.PlainKind.TheVariants as kinds
+use Rattle.b67_segment.specs.declared.code.Code.{Code}
+use Rattle.b67_store.specs.Store.{Stacks}
+use Rattle.b67_table.specs.declared.Cell.{Cell}
+use Rattle.b67_table.specs.declared.Class.TheVariants as classes
+use Rattle.b67_table.specs.declared.InterruptKind.{InterruptKind}
+use Rattle.b67_table.specs.declared.InterruptKind.TheVariants.{StackUnderflow}
+use Rattle.b67_table.specs.declared.Reached.{Reached}
+use Rattle.b67_table.specs.Effect.{Effect, gives, faults}
+use Rattle.b67_table.specs.Image.{Image, with_stacks, with_registers}
+use Rattle.b67_table.specs.Look.{Look, found, stops, ◌>->◌, valid, seen}
+use Rattle.b67_table.specs.Moves.{replaced}
+use Rattle.b67_table.specs.Private.{floor}
+use Rattle.b67_table.specs.Program.{Program, Change, answer, fault, does, effect_of, asked, see, ◌>>=◌}
+use Rattle.b67_table.specs.References.{cell_word, cell_of, reached, from_top, invalid}
+use Rattle.b67_table.specs.Linkage.{accidental}
+use Rattle.b67_table.specs.Rows.{row, evaluate, cell_or_entry}
+use Rattle.b67_table.specs.Table.{raw, operator_at, class_at}
+use Rattle.b67_letters.specs.declared.Letter.TheVariants.{Resolve}
+use Rattle.b67_letters.specs.Letters.{told_by, entered_or, place_letter, operator_letter}
+use Rattle.b67_letters.proofs.Looks.{see_found}
+use Rattle.b67_cores.specs.Cores.{Core, HasCore, with_core}
+use Rattle.b67_rows.proofs.Reaching.{Reaches}
+use Rattle.b67_rows.proofs.Rows.{raw_is}
+use Rattle.b67_rows.proofs.StoreRow.{most_is}
+use Rattle.b67_rows.proofs.TopRow.{with_other, one_long, word_on_top, top_replaced}
+
+module _ (code : Code) (img : Image) (p : ℕ) (core : Core) (has : HasCore img p core) (next : ℕ) (at : operator_at code core.registers ≡ Ok (ops.Plain kinds.Eval, next))
+    (x : Word) (words : List Word) (top : core.words ≡ x ∷ words) (from to : Cell) (names : cell_of core.registers x ≡ Some from) (w : Word) (reaches : Reaches img.stacks from w to) where
+  abbrev r : Registers
+  r = core.registers
+
+  abbrev tested : Program → Effect Image
+  tested t = effect_of p img (asked img t)
+
+  abbrev go_on : Reached → Program
+  go_on v = cell_or_entry r next v (as_pcw v.word)
+
+  abbrev on_top : Word → Look Reached
+  on_top u = reached (cell_of r u)
+
+  high : floor r + 1 ≤ r.s
+  high = omega (arith, one_long img p core has x words top, has.is.bottom)
+
+  found_so : does p (evaluate r next) img ≡ tested (cell_or_entry r next (record { word = w; cell = to }) (as_pcw w))
+  found_so =
+      ap (λ (b : Bool). tested (see ((if b then from_top r 0 else stops StackUnderflow) >-> on_top) >>= go_on)) (most_is (floor r + 1) r.s high)
+      ∙ ap (λ (o : Option Word). tested (see (valid o >-> on_top) >>= go_on)) (word_on_top img p core has x words top)
+      ∙ ap (λ (o : Option Cell). tested (see (reached o) >>= go_on)) names
+      ∙ ap (λ (e : Effect Change). effect_of p img e) (see_found img (reached (Some from)) (record { word = w; cell = to }) go_on reaches)
+
+  pub place_reached_class : class_at (ops.Plain kinds.Eval) r.place ≡ classes.Action
+  unfolding class_at row
+  place_reached_class = refl
+
+  pub place_reached : raw code img p ≡ tested (cell_or_entry r next (record { word = w; cell = to }) (as_pcw w))
+  unfolding row
+  place_reached = raw_is code img p core has (ops.Plain kinds.Eval) next at ∙ found_so
+
+  pub place_reached_letter : operator_letter (ops.Plain kinds.Eval) img r ≡ Some (entered_or Resolve (as_pcw w))
+  place_reached_letter =
+      ap (λ (b : Bool). told_by place_letter (seen img.stacks ((if b then from_top r 0 else stops StackUnderflow) >-> on_top))) (most_is (floor r + 1) r.s high)
+      ∙ ap (λ (o : Option Word). told_by place_letter (seen img.stacks (valid o >-> on_top))) (word_on_top img p core has x words top)
+      ∙ ap (λ (o : Option Cell). told_by place_letter (seen img.stacks (reached o))) names
+      ∙ ap (λ (e : Result Reached InterruptKind). told_by place_letter e) reaches
+
+  -- of a value the reference to its cell comes in place of the one on top
+  pub place_left_raw : w.tag ≡ 0 → as_pcw w ≡ None → raw code img p ≡ gives (with_core img p (with_other core (cell_word to) words next))
+  place_left_raw tag no_pcw =
+      place_reached
+      ∙ ap (λ (o : Option Pcw). tested (cell_or_entry r next (record { word = w; cell = to }) o)) no_pcw
+      ∙ ap (λ (t : ℕ). tested (see (if t == 0 then found w else invalid) >>= (λ (v : Word). answer (replaced r next 1 (cell_word to))))) tag
+      ∙ ap (λ (ss : Stacks). gives (with_registers (with_stacks img ss) p (record r { s = r.s - 1 + 1; place = next }))) (top_replaced img p core has x words top (cell_word to))
+
+  pub place_left_letter : as_pcw w ≡ None → operator_letter (ops.Plain kinds.Eval) img r ≡ Some Resolve
+  place_left_letter no_pcw = place_reached_letter ∙ ap (λ (o : Option Pcw). Some (entered_or Resolve o)) no_pcw
+
+  -- code that gives no place is a fault
+  pub no_place_raw : (c : Pcw) → as_pcw w ≡ Some c → c.names ≡ false → raw code img p ≡ faults NotAVariable
+  no_place_raw c reads no_names =
+      place_reached
+      ∙ ap (λ (o : Option Pcw). tested (cell_or_entry r next (record { word = w; cell = to }) o)) reads
+      ∙ ap (λ (b : Bool). tested (if b then accidental r next 1 c to.frame 1 else fault NotAVariable)) no_names

@@ -1,0 +1,81 @@
+-- RETN of a frame that is not the base frame, with an operand on top, which it gives back.
+use Rattle.std.proofs.Common.{◌≡◌, refl, ap, ◌∙◌, ℕ, ◌+◌, ◌-◌, List, [], ◌∷◌, ◌++◌, length, Option, Some, Bool, true, Ok, arith}
+use Rattle.std.specs.Prelude.{if◌then◌else◌, nat_eq, not, ◌&&◌, ◌==◌, slice_get, reverse}
+use Rattle.algol_meaning.specs.Actions as act
+use Rattle.b67_word.specs.declared.Place.{Place}
+use Rattle.b67_word.specs.Word.{Word}
+use Rattle.b67_control.specs.declared.Registers.{Registers}
+use Rattle.b67_ops.specs.declared.Operator.TheVariants as ops
+use Rattle.b67_ops.specs.declared.PlainKind.TheVariants as kinds
+use Rattle.b67_segment.specs.declared.code.Code.{Code}
+use Rattle.b67_store.specs.Store.{word_at}
+use Rattle.b67_table.specs.declared.Below.{Below}
+use Rattle.b67_table.specs.declared.Class.TheVariants as classes
+use Rattle.b67_table.specs.Chains.{place}
+use Rattle.b67_table.specs.Effect.{Effect, gives}
+use Rattle.b67_table.specs.Outcome as outcomes
+use Rattle.b67_table.specs.Image.{Image}
+use Rattle.b67_table.specs.Linkage.{leave}
+use Rattle.b67_table.specs.Look.{stops, valid}
+use Rattle.b67_table.specs.Private.{floor, frame}
+use Rattle.b67_table.specs.Program.{Program, does, effect_of, asked, see, ◌>>=◌}
+use Rattle.b67_table.specs.References.{from_top, invalid}
+use Rattle.b67_table.specs.declared.InterruptKind.TheVariants.{StackUnderflow}
+use Rattle.b67_table.specs.Rows.{row, is_result, return_value}
+use Rattle.b67_table.specs.Table.{raw, table, operator_at, class_at}
+use Rattle.b67_cores.specs.Cores.{Core, HasCore}
+use Rattle.b67_faithful.specs.Correspondence.{operator_action}
+use Rattle.b67_rows.proofs.LeaveRow.{not_zero, Leaves, after, leave_does}
+use Rattle.b67_rows.proofs.Rows.{raw_is, words_are, action_is}
+use Rattle.b67_rows.proofs.StackWords.{word-over}
+use Rattle.b67_rows.proofs.StoreRow.{most_is}
+use Rattle.std.proofs.lemmas.Bool.Decides.{nat_tests}
+
+zero_is : (n : ℕ) → n ≡ 0 → (n == 0) ≡ true
+zero_is n e = grind (arith, e, nat_tests)
+
+-- an operand may be given back
+pub operand_given : (x : Word) → x.tag ≡ 0 → is_result x ≡ true
+operand_given x tag = rw (zero_is x.tag tag) refl
+
+module _ (code : Code) (img : Image) (p : ℕ) (core : Core) (has : HasCore img p core) (next : ℕ) (there : operator_at code core.registers ≡ Ok (ops.Plain kinds.Retn, next))
+    (below words : List Word) (mark control : Word) (cells : List Word) (b : Below) (display : List (Option Place)) (e : Leaves img core below words mark control cells b display)
+    (x : Word) (rest : List Word) (on_top : core.words ≡ x ∷ rest) (result : is_result x ≡ true) where
+  abbrev r : Registers
+  r = core.registers
+
+  abbrev tested : Program → Effect Image
+  tested t = effect_of p img (asked img t)
+
+  abbrev f : ℕ
+  f = length (below ++ reverse words)
+
+  top_word : word_at img.stacks (place r.stack (r.s - (0 + 1))) ≡ Some x
+  top_word =
+      ap (λ (ws : List Word). slice_get ws (r.s - (0 + 1))) (words_are img p core has ∙ ap (λ (ws : List Word). core.below ++ reverse ws) on_top)
+      ∙ word-over core.below x rest (r.s - (0 + 1)) (omega (arith, has.is.top, ap length on_top))
+
+  abbrev on_word : Word → Program
+  on_word y = if is_result y && not (nat_eq (frame r) 0) then leave r next (y ∷ []) else see invalid
+
+  abbrev pub returned : Image
+  returned = after code img p core has next below words mark control cells b display e (Some x)
+
+  return_does : does p (return_value r next) img ≡ gives returned
+  return_does =
+      ap (λ (t : Bool). tested (see (if t then from_top r 0 else stops StackUnderflow) >>= on_word)) (most_is (floor r + 1) r.s (omega (arith, has.is.bottom, has.is.top, ap length on_top)))
+      ∙ ap (λ (o : Option Word). tested (see (valid o) >>= on_word)) top_word
+      ∙ ap (λ (t : Bool). tested (if is_result x && not t then leave r next (x ∷ []) else see invalid)) (ap (λ (n : ℕ). nat_eq n 0) e.frame_is ∙ not_zero f e.some)
+      ∙ ap (λ (t : Bool). tested (if t && true then leave r next (x ∷ []) else see invalid)) result
+      ∙ leave_does code img p core has next below words mark control cells b display e (Some x)
+
+  pub return_raw : raw code img p ≡ gives returned
+  unfolding row
+  return_raw = raw_is code img p core has (ops.Plain kinds.Retn) next there ∙ return_does
+
+  pub return_class : class_at (ops.Plain kinds.Retn) r.place ≡ classes.Action
+  unfolding class_at row
+  return_class = refl
+
+  pub return_action : table code img p ≡ outcomes.gives returned → operator_action code img p ≡ Some act.Leave
+  return_action t = action_is code img p core has (ops.Plain kinds.Retn) next there (outcomes.gives returned) t

@@ -1,0 +1,51 @@
+-- The branch back to the start of a loop, and EXIT of a base frame.
+use Rattle.std.proofs.Common.{◌≡◌, sym, ap, ◌∙◌, ℕ, zero, suc, ◌≤◌, List, [], ◌∷◌, Option, Some, None, Bool, false, Ok, arith}
+use Rattle.std.specs.Prelude.{if◌then◌else◌, nat_lt}
+use Rattle.std.proofs.lemmas.Bool.Decides.{nat_tests}
+use Rattle.b67_word.specs.Word.{Word}
+use Rattle.b67_ops.specs.declared.Operator.TheVariants as ops
+use Rattle.b67_ops.specs.declared.BranchKind.TheVariants.{Brun}
+use Rattle.b67_segment.specs.declared.code.Code.{Code}
+use Rattle.b67_store.specs.Store.{Stacks, stack_at, with_stack}
+use Rattle.b67_table.specs.declared.Class.TheVariants as classes
+use Rattle.b67_table.specs.Effect.{gives}
+use Rattle.b67_table.specs.Image.{Image, with_stacks, with_registers}
+use Rattle.b67_table.specs.PrivateRows.{branch}
+use Rattle.b67_table.specs.Rows.{Row, row, private_part, acts, turn}
+use Rattle.b67_table.specs.Table.{raw, operator_at, class_at, class_by, by_row}
+use Rattle.b67_letters.specs.declared.Letter.TheVariants.{Turn}
+use Rattle.b67_letters.specs.Letters.{operator_letter}
+use Rattle.b67_cores.specs.Cores.{Core, HasCore, with_core, stack_of}
+use Rattle.b67_rows.proofs.Rows.{raw_is}
+
+pub not_below : (m n : ℕ) → n ≤ m → nat_lt m n ≡ false
+not_below m n h = grind (arith, nat_tests)
+
+-- the core at another place
+abbrev pub at_place : Core → ℕ → Core
+at_place core place = record core { registers = record core.registers { place = place } }
+
+same_stack : (stacks : Stacks) (n : ℕ) (ws : List Word) → stack_at stacks n ≡ Some ws → with_stack stacks n ws ≡ stacks
+same_stack [] n ws e = cc
+same_stack (None ∷ zs) zero ws e = cc
+same_stack (Some z ∷ zs) zero ws e = ap (λ (o : Option (List Word)). o ∷ zs) (sym e)
+same_stack (z ∷ zs) (suc n) ws e = ap (λ ys. z ∷ ys) (same_stack zs n ws e)
+
+module _ (code : Code) (img : Image) (p : ℕ) (core : Core) (has : HasCore img p core) (target next : ℕ) (at : operator_at code core.registers ≡ Ok (ops.Branch Brun target, next))
+    (back : target ≤ core.registers.place) where
+  abbrev row_with : Bool → Row
+  row_with forward = if forward then private_part (branch Brun target) else acts (turn Brun target)
+
+  pub turn_raw : raw code img p ≡ gives (with_core img p (at_place core target))
+  unfolding row
+  turn_raw =
+      raw_is code img p core has (ops.Branch Brun target) next at
+      ∙ ap (λ (b : Bool). by_row (row_with b) code img p core.registers next) (not_below core.registers.place target back)
+      ∙ ap (λ (ss : Stacks). gives (with_registers (with_stacks img ss) p (record core.registers { place = target }))) (sym (same_stack img.stacks core.registers.stack (stack_of core) has.stack))
+
+  pub turns_back : operator_letter (ops.Branch Brun target) img core.registers ≡ Some Turn
+  turns_back = ap (λ (b : Bool). if b then None else Some Turn) (not_below core.registers.place target back)
+
+  pub turn_class : class_at (ops.Branch Brun target) core.registers.place ≡ classes.Action
+  unfolding class_at row
+  turn_class = ap (λ (b : Bool). class_by (row_with b)) (not_below core.registers.place target back)

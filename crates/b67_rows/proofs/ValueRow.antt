@@ -1,0 +1,44 @@
+-- VALC on the cell of a variable.
+use Rattle.std.proofs.Common.{◌≡◌, ap, ℕ, ◌+◌, Option, Some, None, Ok}
+use Rattle.b67_word.specs.declared.Place.{Place}
+use Rattle.b67_word.specs.Word.{Word}
+use Rattle.b67_control.specs.Control.{as_sirw, as_pcw}
+use Rattle.b67_ops.specs.declared.Couple.{Couple}
+use Rattle.b67_ops.specs.declared.Operator.TheVariants as ops
+use Rattle.b67_segment.specs.declared.code.Code.{Code}
+use Rattle.b67_store.specs.Store.{word_at}
+use Rattle.b67_table.specs.declared.Cell.{Cell}
+use Rattle.b67_table.specs.declared.Class.TheVariants as classes
+use Rattle.b67_table.specs.Effect.{gives}
+use Rattle.b67_table.specs.Image.{Image}
+use Rattle.b67_table.specs.Private.{display_at}
+use Rattle.b67_table.specs.References.{cell_in, couple_cell}
+use Rattle.b67_table.specs.Table.{raw, operator_at, class_at}
+use Rattle.b67_letters.specs.declared.Letter.TheVariants.{Read}
+use Rattle.b67_letters.specs.Letters.{operator_letter}
+use Rattle.b67_cores.specs.Cores.{Core, HasCore, with_core}
+use Rattle.b67_rows.proofs.Reaching.{Reaches, reached_there}
+use Rattle.b67_rows.proofs.ReachingRows.{with_top, value_reached_class, value_read_raw, value_read_letter}
+
+module _ (code : Code) (img : Image) (p : ℕ) (core : Core) (has : HasCore img p core) (couple : Couple) (next : ℕ) (at : operator_at code core.registers ≡ Ok (ops.Valc couple, next))
+    (frame : Place) (shown : display_at core.registers couple.level ≡ Some frame)
+    (w : Word) (lies : word_at img.stacks (record { stack = frame.stack; at = frame.at + couple.index }) ≡ Some w)
+    (tag : w.tag ≡ 0) (no_sirw : as_sirw w ≡ None) (no_pcw : as_pcw w ≡ None) where
+  abbrev cell : Cell
+  cell = record { frame = frame; index = couple.index }
+
+  named : couple_cell core.registers couple.level couple.index ≡ Some cell
+  named = ap (λ (o : Option Place). cell_in o couple.index) shown
+
+  reaches : Reaches img.stacks cell w cell
+  reaches = reached_there img.stacks cell w lies no_sirw
+
+  -- what it reaches is no procedure, so it is read
+  pub reads_value : operator_letter (ops.Valc couple) img core.registers ≡ Some Read
+  reads_value = value_read_letter code img p core has couple next at cell cell named w reaches no_pcw
+
+  pub value_raw : raw code img p ≡ gives (with_core img p (with_top core w next))
+  value_raw = value_read_raw code img p core has couple next at cell cell named w reaches tag no_pcw
+
+  pub value_class : class_at (ops.Valc couple) core.registers.place ≡ classes.Action
+  value_class = value_reached_class code img p core has couple next at cell cell named w reaches

@@ -1,0 +1,87 @@
+-- Where a process finds an element whose descriptor lies on its stack: in an array of an instance whose frame lies there, too.
+use Rattle.std.proofs.Common.{◌≡◌, sym, ap, ◌∙◌, subst, ℕ, ◌≤◌, List, [], ◌∷◌, Some, true, false, arith}
+use Rattle.algol_tree.specs.declared.tree.Kind.{Kind}
+use Rattle.algol_tree.specs.Plain.{PProgram}
+use Rattle.algol_tree.specs.Scopes.{Scopes, scopes_of}
+use Rattle.algol_meaning.specs.Value.{Reference, Bounds, ArrayCell}
+use Rattle.algol_meaning.specs.World.{Process, Part, World}
+use Rattle.b67_word.specs.Word.{Word}
+use Rattle.b67_control.specs.declared.Descriptor.{Descriptor}
+use Rattle.b67_segment.specs.declared.code.Code.{Code}
+use Rattle.b67_templates.specs.Programs.{Texts}
+use Rattle.b67_table.specs.Arrays.{as_indexed}
+use Rattle.b67_table.specs.Image.{Image}
+use Rattle.b67_cores.specs.Cores.{Core}
+use Rattle.b67_frames.specs.Arrays.{Allotted, Layout, AreSized, IsOwn, HasArray, IsArrayOf, IsIn, IsElement}
+use Rattle.b67_frames.proofs.ElementRows.{element_copy_read}
+use Rattle.b67_frames.proofs.FewElements.{OneSized, one_sized, TwoSized, two_sized}
+use Rattle.b67_frames.proofs.Lying.{Lies, lies_in}
+use Rattle.b67_frames.proofs.OwnCells.{OwnArray, known_array, framed_cells}
+use Rattle.b67_scenes.proofs.Scene.{Scene}
+
+-- the place of an element in its row is a number that a descriptor can hold
+place_few : (sc : Scopes) (w : World) (lay : Layout) (bs : List Bounds) (ks : List ℕ) (index at : ℕ) → AreSized bs → IsIn sc w lay bs ks index at → at ≤ 1048576
+place_few sc w lay [] ks index at sized within = absurd within
+place_few sc w lay (b ∷ []) [] index at sized within = absurd within
+place_few sc w lay (b ∷ []) (k ∷ []) index at sized within = let one : OneSized b = one_sized b sized in omega (arith, one.few, within.1, within.2)
+place_few sc w lay (b ∷ []) (k ∷ l ∷ ks) index at sized within = absurd within
+place_few sc w lay (b ∷ c ∷ []) [] index at sized within = absurd within
+place_few sc w lay (b ∷ c ∷ []) (j ∷ []) index at sized within = absurd within
+place_few sc w lay (b ∷ c ∷ []) (j ∷ k ∷ []) index at sized within = let two : TwoSized b c = two_sized b c sized in omega (arith, two.second.few, within.1, within.3)
+place_few sc w lay (b ∷ c ∷ []) (j ∷ k ∷ l ∷ ks) index at sized within = absurd within
+place_few sc w lay (b ∷ c ∷ d ∷ bs) ks index at sized within = absurd within
+
+-- the descriptor of an element, so far in the row of this number
+abbrev pub at_element : ℕ → ℕ → Descriptor
+at_element at n = record { presence = true; copy = true; indexed = true; mother = false; length = at; address = n }
+
+module _ (tree : PProgram) (code : Code) (texts : Texts) (w : World) (lay : Layout) (img : Image)
+    (p : ℕ) (q : Process) (part : Part) (outer : List Part) (bound : ℕ) (core : Core) (s : Scene tree code texts w lay img p q part outer bound core)
+    (r : Reference) (ks : List ℕ) (kind : Kind) (word : Word) (e : IsElement (scopes_of tree) w lay (IsOwn (part ∷ outer)) r ks kind word) where
+  abbrev sc : Scopes
+  sc = scopes_of tree
+
+  -- The instance of its array is one of the parts', and has that array. The word is read as the descriptor of the element.
+  pub record ElementHome : Type 0 where
+    pub lies : Lies tree code texts w lay p (part ∷ outer) r.instance core.below
+    pub own : IsOwn (part ∷ outer) lies.part.instance
+    pub home_is : r.instance ≡ lies.part.instance
+    pub of : IsArrayOf sc w lay lies.part.instance r.name e.declared e.cell e.allotted
+    pub has : HasArray sc w lay lies.part.instance of.number e.declared e.cell e.allotted
+    pub reads : as_indexed word ≡ Some (at_element e.at e.number)
+
+  module _ (own_home : IsOwn (part ∷ outer) r.instance) (l : Lies tree code texts w lay p (part ∷ outer) r.instance core.below) where
+    abbrev i : ℕ
+    i = l.part.instance
+
+    here_is : r.instance ≡ i
+    here_is = sym l.instance_is
+
+    of_here : IsArrayOf sc w lay i r.name e.declared e.cell e.allotted
+    of_here = subst (λ (j : ℕ). IsArrayOf sc w lay j r.name e.declared e.cell e.allotted) here_is e.array
+
+    abbrev Known_there : Type 0
+    Known_there =
+        (found : OwnArray sc w lay i l.owned.framed.instance (framed_cells sc w lay l.owned.framed) r.name of_here.number e.declared) × (found.cell ≡ e.cell) × (found.allotted ≡ e.allotted)
+
+    known_there : Known_there
+    known_there = known_array sc w lay i l.owned.framed.instance (framed_cells sc w lay l.owned.framed) r.name e.declared e.cell e.allotted of_here
+
+    home_there : ElementHome
+    home_there =
+        record {
+          lies = l;
+          own = subst (λ (j : ℕ). IsOwn (part ∷ outer) j) (sym l.instance_is) own_home;
+          home_is = here_is;
+          of = of_here;
+          has =
+              subst (λ (rows : Allotted). HasArray sc w lay i of_here.number e.declared e.cell rows) known_there.2
+              (subst (λ (c : ArrayCell). HasArray sc w lay i of_here.number e.declared c known_there.0.allotted) known_there.1 known_there.0.has);
+          reads =
+              ap as_indexed e.word_is
+              ∙ element_copy_read sc w lay e.at e.number
+              (place_few sc w lay e.cell.bounds ks e.index e.at (subst (λ (c : ArrayCell). AreSized c.bounds) known_there.1 known_there.0.sized) e.within) e.few;
+        }
+
+  pub element_home : ElementHome
+  element_home = home_there e.own (lies_in tree code texts w lay p part outer core s.stands s.around r.instance e.own)

@@ -1,0 +1,117 @@
+-- Where a process finds the cell of a parameter that stands for an array: in the frame of one of its parts. It leads to the array's cell.
+use Rattle.std.proofs.Common.{◌≡◌, sym, ap, ◌∙◌, ℕ, ◌+◌, ◌<◌, ◌^◌, List, ◌∷◌, Some}
+use Rattle.algol_tree.specs.declared.tree.Named.{Named}
+use Rattle.algol_tree.specs.Plain.{PProgram}
+use Rattle.algol_tree.specs.Scopes.{Scopes, scopes_of}
+use Rattle.algol_meaning.specs.Value.{Reference, Cell, reference}
+use Rattle.algol_meaning.specs.World.{Part, Process, World, instance_at, cell_at}
+use Rattle.algol_paths.specs.Arrays.{Shape}
+use Rattle.algol_paths.specs.Blocks.{IsSeen}
+use Rattle.b67_word.specs.declared.Place.{Place}
+use Rattle.b67_word.specs.Word.{Word}
+use Rattle.b67_control.specs.Control.{as_sirw}
+use Rattle.b67_ops.specs.declared.Couple.{Couple}
+use Rattle.b67_segment.specs.declared.code.Code.{Code}
+use Rattle.b67_store.specs.Store.{word_at}
+use Rattle.b67_table.specs.Chains.{place}
+use Rattle.b67_table.specs.Image.{Image}
+use Rattle.b67_table.specs.Private.{display_at}
+use Rattle.b67_table.specs.References.{cell_word}
+use Rattle.b67_templates.specs.Cells as wants
+use Rattle.b67_templates.specs.Cells.{Agrees, IsFormalArray}
+use Rattle.b67_templates.specs.Programs.{Texts}
+use Rattle.b67_cores.specs.Cores.{Core}
+use Rattle.b67_fitting.specs.Nested.{AreNested}
+use Rattle.b67_faithful.proofs.Contradictions.{some_same}
+use Rattle.b67_frames.specs.Arrays.{Layout, IsOwn, LeadsTo, Denotes, named_from}
+use Rattle.b67_scenes.proofs.ArrayPlaces.{array_index, ArrayPlace, array_place, place_read}
+use Rattle.b67_scenes.proofs.Scene.{Scene}
+use Rattle.b67_scenes.proofs.Staying.{names_in}
+use Rattle.b67_scenes.proofs.CellHomes.{CellHome, cell_home}
+
+-- ---- references of other parts
+
+-- a reference that leads from some parts leads from more, for each shape with which all agree that agree with the first
+pub leads_so : (sc : Scopes) (w : World) (lay : Layout) (parts parts' : List Part) → ((j : ℕ) → IsOwn parts j → IsOwn parts' j) → (shape shape' : Shape) → ((a : Shape) → Agrees shape a → Agrees shape' a) →
+    (r : Reference) (word : Word) → LeadsTo sc w lay (IsOwn parts) shape r word → LeadsTo sc w lay (IsOwn parts') shape' r word
+leads_so sc w lay parts parts' owned shape shape' agree r word h =
+    record {
+      own = owned r.instance h.own;
+      declared = h.declared;
+      agrees = agree _ h.agrees;
+      cell = h.cell;
+      allotted = h.allotted;
+      array = h.array;
+      frame = h.frame;
+      laid = h.laid;
+      word_is = h.word_is;
+    }
+
+-- ---- the parameter's cell
+
+module _ (tree : PProgram) (code : Code) (texts : Texts) (nested : AreNested (scopes_of tree)) (w : World) (lay : Layout) (img : Image)
+    (p : ℕ) (q : Process) (part : Part) (outer : List Part) (bound : ℕ) (core : Core) (s : Scene tree code texts w lay img p q part outer bound core) where
+  abbrev sc : Scopes
+  sc = scopes_of tree
+
+  abbrev level : ℕ
+  level = names_in tree w part
+
+  -- what a name means there, where it is no reference
+  abbrev named : Named → Reference
+  named n = named_from sc w lay part.instance n
+
+  -- Its cell has a reference to an array; the word of the cell, which the couple names, refers to the array's descriptor.
+  pub record FormalHome (n : Named) (shape : Shape) (couple : Couple) : Type 0 where
+    pub r : Reference
+    pub cell_is : cell_at w (named n) ≡ reference r
+    pub word : Word
+    pub leads : LeadsTo sc w lay (IsOwn (part ∷ outer)) shape r word
+    pub target : ArrayPlace tree code texts w lay img p q part outer bound core s r.instance r.name leads.declared leads.cell leads.allotted leads.array
+    pub reads : as_sirw word ≡ Some (record { stack = p; displacement = target.at; index = array_index tree code texts w lay img p q part outer bound core s r.instance leads.array.number })
+    pub at : ℕ
+    pub shown : display_at core.registers couple.level ≡ Some (place p at)
+    pub lies : word_at img.stacks (place p (at + couple.index)) ≡ Some word
+    pub fits : (couple.level < 32) × (couple.index < 2 ^ 14)
+
+  module _ (n : Named) (shape : Shape) (couple : Couple) (seen : IsSeen sc ((instance_at w part.instance).block) n) (v : IsFormalArray sc level n shape couple) where
+    h : CellHome tree code texts nested w lay img p q part outer bound core s n (wants.array shape) couple
+    h = cell_home tree code texts nested w lay img p q part outer bound core s n (wants.array shape) couple v.found tt seen v.there v.wanted_is v.level_is v.index_is
+
+    module _ (r : Reference) (cell_is : cell_at w (named n) ≡ reference r) (leads : LeadsTo sc w lay (IsOwn (part ∷ outer)) shape r h.word) where
+      abbrev IsTarget : Type 0
+      IsTarget = ArrayPlace tree code texts w lay img p q part outer bound core s r.instance r.name leads.declared leads.cell leads.allotted leads.array
+
+      target : IsTarget
+      target = array_place tree code texts w lay img p q part outer bound core s r.instance leads.own r.name leads.declared leads.cell leads.allotted leads.array
+
+      abbrev far_away : ℕ
+      far_away = array_index tree code texts w lay img p q part outer bound core s r.instance leads.array.number
+
+      frame_is : leads.frame ≡ place p target.at
+      frame_is = some_same (sym leads.laid ∙ target.laid)
+
+      home_there : FormalHome n shape couple
+      home_there =
+          record {
+            r = r;
+            cell_is = cell_is;
+            word = h.word;
+            leads = leads;
+            target = target;
+            reads =
+                ap as_sirw leads.word_is
+                ∙ ap (λ (f : Place). as_sirw (cell_word (record { frame = f; index = far_away }))) frame_is
+                ∙ place_read tree code texts w lay img p q part outer bound core s nested r.instance r.name leads.declared leads.cell leads.allotted leads.array target;
+            at = h.at;
+            shown = h.shown;
+            lies = h.lies;
+            fits = h.fits;
+          }
+
+    pub formal_home : FormalHome n shape couple
+    formal_home = by_cell h.cell h.cell_is h.denotes
+      where
+        by_cell : (c : Cell) → cell_at w (named n) ≡ c → Denotes sc w lay (IsOwn (part ∷ outer)) (wants.array shape) c h.word → FormalHome n shape couple
+        by_cell (reference r) is leads = home_there r is leads
+        by_cell _ is leads = absurd leads

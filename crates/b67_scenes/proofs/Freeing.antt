@@ -1,0 +1,130 @@
+-- Processes that wait are able again, in a world and in its image: whom an event releases.
+use Rattle.std.proofs.Common.{◌≡◌, ◌≢◌, ◌⊎◌, inl, inr, refl, sym, ap, ◌∙◌, subst, ℕ, zero, suc, List, [], ◌∷◌, Option, Some, true}
+use Rattle.std.specs.Prelude.{slice_set}
+use Rattle.b67_list.specs.Numbered.{numbered, set_numbered}
+use Rattle.algol_tree.specs.Plain.{PProgram}
+use Rattle.algol_tree.specs.Scopes.{scopes_of}
+use Rattle.algol_meaning.specs.World.{Process, able, lives, World, process_at, or_no_process, with_process, set_able, set_all_able}
+use Rattle.algol_standing.specs.Worlds.{IsListed}
+use Rattle.b67_segment.specs.declared.code.Code.{Code}
+use Rattle.b67_templates.specs.Programs.{Texts}
+use Rattle.b67_table.specs.declared.ProcessState.{ProcessState}
+use Rattle.b67_table.specs.declared.ProcessState.TheVariants.{Able}
+use Rattle.b67_table.specs.Image.{Image, with_states, is_live}
+use Rattle.b67_table.specs.Writes.{able_again}
+use Rattle.b67_cores.specs.Cores.{Core, HasCore}
+use Rattle.b67_faithful.proofs.Choices.{length_set_numbered}
+use Rattle.b67_faithful.proofs.Contradictions.{true_false}
+use Rattle.b67_rows.proofs.Numbers.{same_or_not, numbered_set, numbered_other}
+use Rattle.b67_frames.specs.Arrays.{Layout}
+use Rattle.b67_frames.proofs.ArraysKept.{arrays_unchanged}
+use Rattle.b67_frames.proofs.EventsKept.{events_unchanged}
+use Rattle.b67_scenes.specs.Pictures.{Living, Pictured, living, dead, PicturesBy}
+use Rattle.b67_scenes.specs.States.{StateIs}
+use Rattle.b67_scenes.proofs.Kept.{alike_by, living_alike}
+use Rattle.b67_scenes.proofs.Stage.{state_there, process_is, comes_to}
+
+-- the process is there, and lives
+pub record LivesIn (w : World) (m : ℕ) : Type 0 where
+  pub process : Process
+  pub is : numbered w.processes m ≡ Some process
+  pub alive : lives process.state ≡ true
+
+module _ (tree : PProgram) (code : Code) (texts : Texts) (lay : Layout) where
+  module _ (w : World) (img : Image) (by : PicturesBy tree code texts w lay img) (m : ℕ) (o : Process) (at : numbered w.processes m ≡ Some o) (alive : lives o.state ≡ true) where
+    abbrev o' : Process
+    o' = record o { state = able }
+
+    abbrev w' : World
+    w' = with_process w m o'
+
+    abbrev img' : Image
+    img' = with_states img (set_numbered img.states m Able)
+
+    same_core : (r : ℕ) (core : Core) → is_live (numbered (set_numbered img.states m Able) r) ≡ true → HasCore img r core → HasCore img' r core
+    same_core r core live has = record { live = live; registers = has.registers; own = has.own; stack = has.stack; is = has.is }
+
+    able_now : Living tree code texts w lay img m o → numbered (set_numbered img.states m Able) m ≡ Some Able
+    able_now l = let old = state_there (numbered img.states m) l.has.live in numbered_set img.states m old.0 Able old.1
+
+    goes_on : Pictured tree code texts w lay img m o → Pictured tree code texts w' lay img' m o'
+    goes_on (dead e s) = true_false alive (ap lives e)
+    goes_on (living a s l) =
+        let now : numbered (set_numbered img.states m Able) m ≡ Some Able = able_now l in
+        let later : Living tree code texts w' lay img' m o =
+        living_alike tree code texts w w' lay lay m (alike_by w w' lay m refl) img img' o (ap (λ (x : Process). x.todo) (process_is w m o at)) (ap (λ (x : Process). x.todo) (process_is w' m o' (numbered_set w.processes m o o' at)))
+        (λ core has. same_core m core (ap is_live now) has) l in
+        living refl (subst (λ (x : Option ProcessState). StateIs able x) (sym now) tt)
+        (record {
+          independent = later.independent;
+          without_task = later.without_task;
+          core = later.core;
+          has = later.has;
+          free = later.free;
+          idle = later.idle;
+          sees = later.sees;
+          small = later.small;
+          settled = later.settled;
+          bound = later.bound;
+          count = later.count;
+          steps = later.steps;
+          frames = later.frames;
+          room = later.room;
+          light = later.light;
+        })
+
+    freed_so : PicturesBy tree code texts w' lay img'
+    freed_so =
+        comes_to tree code texts w lay img by m o at w' lay img' o' refl by.laid (arrays_unchanged (scopes_of tree) w w' lay img.rows refl by.arrays) (events_unchanged (scopes_of tree) w w' lay img.events refl by.events)
+        (λ r other. alike_by w w' lay r refl) by.output refl refl refl (length_set_numbered img.states m Able) (λ r other. numbered_other img.states m r Able (λ e. other (sym e))) refl
+        (λ r core other has. same_core r core (ap is_live (numbered_other img.states m r Able (λ e. other (sym e))) ∙ has.live) has) (goes_on (by.each m o at))
+
+    one_freed : PicturesBy tree code texts (set_able w m) lay (with_states img (set_numbered img.states m Able))
+    one_freed = subst (λ (x : Process). PicturesBy tree code texts (with_process w m (record x { state = able })) lay img') (sym (process_is w m o at)) freed_so
+
+  -- who lived before lives then
+  lives_then : (w : World) (m : ℕ) (o : Process) → numbered w.processes m ≡ Some o → (k : ℕ) → LivesIn w k → LivesIn (set_able w m) k
+  lives_then w m o at k h = by_number (same_or_not k m)
+    where
+      by_number : (k ≡ m) ⊎ (k ≢ m) → LivesIn (set_able w m) k
+      by_number (inl same) =
+          record {
+            process = record (process_at w m) { state = able };
+            is = ap (λ (n : ℕ). numbered (set_numbered w.processes m (record (process_at w m) { state = able })) n) same ∙ numbered_set w.processes m o (record (process_at w m) { state = able }) at;
+            alive = refl;
+          }
+      by_number (inr other) = record { process = h.process; is = numbered_other w.processes m k (record (process_at w m) { state = able }) (λ (e : m ≡ k). other (sym e)) ∙ h.is; alive = h.alive }
+
+  -- these are freed in their order
+  pub all_freed : (ps : List ℕ) (w : World) (img : Image) → PicturesBy tree code texts w lay img → ((k : ℕ) → IsListed ps k → LivesIn w k) → PicturesBy tree code texts (set_all_able w ps) lay (with_states img (able_again ps img.states))
+  all_freed [] w img by alive = by
+  all_freed (m ∷ ps) w img by alive =
+      let h : LivesIn w m = alive m (inl refl) in
+      all_freed ps (set_able w m) (with_states img (set_numbered img.states m Able)) (one_freed w img by m h.process h.is h.alive) (λ k listed. lives_then w m h.process h.is k (alive k (inr listed)))
+
+-- ---- another process goes on beside them
+
+set_swap : {A : Type 0} (xs : List A) (k j : ℕ) (x y : A) → k ≢ j → slice_set (slice_set xs k x) j y ≡ slice_set (slice_set xs j y) k x
+set_swap [] k j x y other = refl
+set_swap (z ∷ zs) zero zero x y other = absurd (other refl)
+set_swap (z ∷ zs) zero (suc j) x y other = refl
+set_swap (z ∷ zs) (suc k) zero x y other = refl
+set_swap (z ∷ zs) (suc k) (suc j) x y other = ap (λ (ys : List _). z ∷ ys) (set_swap zs k j x y (λ e. other (ap suc e)))
+
+numbered_swap : {A : Type 0} (xs : List A) (k j : ℕ) (x y : A) → k ≢ j → set_numbered (set_numbered xs k x) j y ≡ set_numbered (set_numbered xs j y) k x
+numbered_swap xs zero zero x y other = refl
+numbered_swap xs zero (suc j) x y other = refl
+numbered_swap xs (suc k) zero x y other = refl
+numbered_swap xs (suc k) (suc j) x y other = set_swap xs k j x y (λ e. other (ap suc e))
+
+pub freed_beside : (ps : List ℕ) (w : World) (p : ℕ) (q : Process) → (IsListed ps p → ⊥) → set_all_able (with_process w p q) ps ≡ with_process (set_all_able w ps) p q
+freed_beside [] w p q none = refl
+freed_beside (m ∷ ps) w p q none = ap (λ (u : World). set_all_able u ps) one ∙ freed_beside ps (set_able w m) p q (λ listed. none (inr listed))
+  where
+    other : p ≢ m
+    other e = none (inl (sym e))
+
+    one : set_able (with_process w p q) m ≡ with_process (set_able w m) p q
+    one =
+        ap (λ (o : Option Process). with_process (with_process w p q) m (record (or_no_process o) { state = able })) (numbered_other w.processes p m q other)
+        ∙ ap (λ (qs : List Process). record w { processes = qs }) (numbered_swap w.processes p m q (record (process_at w m) { state = able }) other)

@@ -1,0 +1,105 @@
+-- Where a process finds a variable: in the frame of one of its parts.
+use Rattle.std.proofs.Common.{◌≡◌, sym, ap, ◌∙◌, ℕ, ◌+◌, ◌-◌, ◌≤◌, List, ◌∷◌, length, Some, Ok, arith}
+use Rattle.std.specs.Prelude.{slice_get}
+use Rattle.b67_list.specs.Numbered.{numbered}
+use Rattle.algol_tree.specs.declared.tree.Kind.{Kind}
+use Rattle.algol_tree.specs.declared.tree.Named.{Named}
+use Rattle.algol_tree.specs.Blocks.{block_numbered, around}
+use Rattle.algol_tree.specs.Plain.{PProgram}
+use Rattle.algol_tree.specs.Scopes.{Scopes, scopes_of, use_of}
+use Rattle.algol_meaning.specs.Value.{Reference}
+use Rattle.algol_meaning.specs.World.{Part, Process, World, instance_at, ancestor}
+use Rattle.algol_paths.specs.Blocks.{IsSeen}
+use Rattle.b67_ops.specs.declared.Couple.{Couple}
+use Rattle.b67_ops.specs.declared.Operator.{Operator}
+use Rattle.b67_ops.specs.declared.TheConstants.{OUTER_LEVEL}
+use Rattle.b67_segment.specs.Operators.{Placed}
+use Rattle.b67_segment.specs.Fetching.{fetched}
+use Rattle.b67_segment.specs.declared.code.Code.{Code}
+use Rattle.b67_segment.proofs.Among.{fetched-spelled}
+use Rattle.b67_table.specs.Chains.{place}
+use Rattle.b67_table.specs.Image.{Image}
+use Rattle.b67_table.specs.Private.{display_at}
+use Rattle.b67_table.specs.Table.{operator_at}
+use Rattle.b67_templates.specs.Fragments.{Has}
+use Rattle.b67_templates.specs.Cells.{Found, found_from, simple_cells, IsVariable}
+use Rattle.b67_templates.specs.Programs.{Texts}
+use Rattle.b67_standing.specs.Stepping.{Slot}
+use Rattle.b67_cores.specs.Cores.{Core}
+use Rattle.b67_cores.specs.Slots.{Known}
+use Rattle.b67_cores.specs.Stretches.{CoreAt}
+use Rattle.b67_rows.proofs.Numbers.{get_below}
+use Rattle.b67_rows.proofs.Parents.{length_around}
+use Rattle.b67_frames.specs.Arrays.{Layout}
+use Rattle.b67_frames.proofs.Lying.{IsParent, parents_in, part_own}
+use Rattle.b67_scenes.proofs.Scene.{Scene}
+use Rattle.b67_scenes.proofs.Staying.{names_in}
+use Rattle.b67_scenes.proofs.VariableHomes.{VariableHome, variable_home}
+
+-- the operator that stands where a core stands
+pub operator_there : (sc : Scopes) (known : List Known) (code : Code) (ps : List Placed) (level pc : ℕ) (slots : List Slot) (core : Core) (op : Operator) (next : ℕ) → CoreAt sc known code ps level pc slots core →
+    Has ps level pc op next → operator_at code core.registers ≡ Ok (op, next)
+operator_there sc known code ps level pc slots core op next at has =
+    ap (λ (n : ℕ). fetched code (record { segment = core.registers.segment; place = n }) core.registers.ll) at.place_is
+    ∙ ap (λ (l : ℕ). fetched code (record { segment = core.registers.segment; place = pc }) l) at.level_is
+    ∙ fetched-spelled code core.registers.segment at.there at.spells has
+
+module _ (tree : PProgram) (code : Code) (texts : Texts) (w : World) (lay : Layout) (img : Image)
+    (p : ℕ) (q : Process) (part : Part) (outer : List Part) (bound : ℕ) (core : Core) (s : Scene tree code texts w lay img p q part outer bound core) where
+  abbrev sc : Scopes
+  sc = scopes_of tree
+
+  -- the instance that holds what a name means there
+  abbrev pub home_at : Named → ℕ
+  home_at n = ancestor w ((use_of sc n).up) part.instance
+
+  abbrev pub named_at : Named → Reference
+  named_at n = record { instance = home_at n; name = n.name }
+
+  -- what a name means there: its instance, whose frame lies in the stack, and the cell in it
+  pub record Home (n : Named) (kind : Kind) (couple : Couple) : Type 0 where
+    pub parent : IsParent tree code texts w lay p (part ∷ outer) part.instance ((use_of sc n).up) ((use_of sc n).block)
+    pub found : Found
+    pub at : VariableHome tree code texts w lay img p q part outer bound core s (named_at n) kind found
+    pub index : couple.index ≡ 2 + at.number
+    pub below_lies : slice_get core.below (length at.lies.frame.lower + couple.index) ≡ Some at.word
+    pub shown : display_at core.registers couple.level ≡ Some (place p (length at.lies.frame.lower))
+
+  module _ (n : Named) (kind : Kind) (couple : Couple) (seen : IsSeen sc ((instance_at w part.instance).block) n) (v : IsVariable sc (names_in tree w part) n kind couple) where
+    abbrev up : ℕ
+    up = (use_of sc n).up
+
+    low : up + OUTER_LEVEL ≤ names_in tree w part
+    low =
+        let j : ℕ = (instance_at w part.instance).block in
+        omega (arith, length_around sc.blocks ((instance_at w part.instance).block), get_below ((instance_at w part.instance).block ∷ around sc.blocks ((instance_at w part.instance).block)) up ((use_of sc n).block) seen)
+
+    level_up : couple.level ≡ names_in tree w part - up
+    level_up = omega (arith, v.level_is)
+
+    module _ (parent : IsParent tree code texts w lay p (part ∷ outer) part.instance up ((use_of sc n).block)) where
+      there : found_from 0 (simple_cells sc (block_numbered sc.blocks ((instance_at w (home_at n)).block))) n.name ≡ Some v.found
+      there = ap (λ (k : ℕ). found_from 0 (simple_cells sc (block_numbered sc.blocks k)) n.name) parent.block ∙ v.there
+
+      home_there : VariableHome tree code texts w lay img p q part outer bound core s (named_at n) kind v.found → Home n kind couple
+      home_there h =
+          let index_is : couple.index ≡ 2 + h.number = omega (arith, v.index_is, h.number_is) in
+          record {
+            parent = parent;
+            found = v.found;
+            at = h;
+            index = index_is;
+            below_lies = ap (λ (k : ℕ). slice_get core.below (length h.lies.frame.lower + k)) index_is ∙ h.below_lies;
+            shown =
+                ap (λ (k : ℕ). display_at core.registers k) level_up
+                ∙ s.stands.chained up low
+                ∙ ap (λ (k : ℕ). numbered lay.places k) (sym h.lies.instance_is)
+                ∙ h.lies.owned.framed.laid;
+          }
+
+      home_by : Home n kind couple
+      home_by = home_there (variable_home tree code texts w lay img p q part outer bound core s (named_at n) kind v.found parent.own there v.wanted_is)
+
+    pub home : Home n kind couple
+    home =
+        home_by (parents_in tree code texts w lay p part outer core s.stands s.around part.instance (part_own tree code texts w lay p part outer core.below s.stands.frame) up ((use_of sc n).block) seen)

@@ -1,0 +1,81 @@
+-- The events of the frames that GO TO leaves are closed, and those of all others stay as they were.
+use Rattle.std.proofs.Common.{◌≡◌, ◌⊎◌, inl, inr, refl, ap, ◌∙◌, ℕ, Bool, false, List, [], ◌∷◌, Some, None}
+use Rattle.std.specs.Prelude.{if◌then◌else◌}
+use Rattle.b67_list.specs.Numbered.{numbered}
+use Rattle.algol_tree.specs.Plain.{PProgram}
+use Rattle.algol_tree.specs.Scopes.{Scopes, scopes_of}
+use Rattle.algol_meaning.specs.Critical.{own_instances}
+use Rattle.algol_meaning.specs.Instances.{leave}
+use Rattle.algol_meaning.specs.Value.{EventCell}
+use Rattle.algol_meaning.specs.World.{Instance, Process, Part, World, with_process}
+use Rattle.b67_word.specs.declared.Place.{Place}
+use Rattle.b67_word.specs.Word.{Word}
+use Rattle.b67_events.specs.Events.{Event, event_at, is_from, closed_from}
+use Rattle.b67_events.proofs.EventLaws.{one_event}
+use Rattle.b67_segment.specs.declared.code.Code.{Code}
+use Rattle.b67_store.specs.Store.{Stacks}
+use Rattle.b67_table.specs.GoingTo.{Passed}
+use Rattle.b67_templates.specs.Programs.{Texts}
+use Rattle.b67_frames.specs.Arrays.{Layout, IsOwn}
+use Rattle.b67_frames.specs.Events.{HasEvent, EventsAre}
+use Rattle.b67_frames.specs.Frames.{Frame}
+use Rattle.b67_frames.proofs.Closing.{FramesClose}
+use Rattle.b67_frames.proofs.EventsKept.{events_by}
+use Rattle.b67_frames.proofs.EventsLow.{IsElsewhere, event_outside}
+use Rattle.b67_frames.proofs.JumpClosing.{events_left}
+use Rattle.b67_scenes.proofs.JumpCut.{NoFrame, Way}
+use Rattle.b67_scenes.proofs.JumpWorld.{IsAmong, stood_before}
+
+-- an event that lies above none of these frames stays
+kept : (p : ℕ) (at : Place) (fs : List Passed) (events : List Event) → NoFrame (λ (n : ℕ). is_from p n at) fs → event_at at (events_left p fs events) ≡ event_at at events
+kept p at [] events out = refl
+kept p at (f ∷ fs) events out =
+    kept p at fs (closed_from p f.frame events) out.1
+    ∙ one_event.closed_there p f.frame at events
+    ∙ ap (λ (t : Bool). if t then None else event_at at events) out.0
+
+module _ (tree : PProgram) (code : Code) (texts : Texts) (closing : FramesClose) (w : World) (lay : Layout) (p i : ℕ) (stacks : Stacks) (stack : List Word) (part : Part) (outer : List Part) (words : List Word)
+    (f : Frame tree code texts w lay p part outer words) (down : Way tree code texts closing w lay p i stacks stack part outer words f) (q : Process)
+    (held : (k : ℕ) (x : Instance) → numbered w.instances k ≡ Some x → x.left ≡ false → IsOwn (part ∷ outer) k ⊎ IsElsewhere lay p k) where
+  abbrev sc : Scopes
+  sc = scopes_of tree
+
+  abbrev w' : World
+  w' = with_process (leave w (own_instances down.above)) p q
+
+  -- it was an event of an instance that is not left
+  before : (k number : ℕ) (e : EventCell) (at : Place) → HasEvent sc w' lay k number e at → HasEvent sc w lay k number e at × (IsAmong (own_instances down.above) k → ⊥)
+  before k number e at h =
+      let b = stood_before (own_instances down.above) w k h.instance h.is h.stands in (
+        record {
+          instance = h.instance;
+          is = b.0;
+          stands = h.stands;
+          name = h.name;
+          declares = h.declares;
+          has = h.has;
+          frame = h.frame;
+          laid = h.laid;
+          at_is = h.at_is;
+        },
+        b.1,
+      )
+
+  outside : (k number : ℕ) (e : EventCell) (at : Place) → HasEvent sc w' lay k number e at → NoFrame (λ (n : ℕ). is_from p n at) down.passed
+  outside k number e at h = by (before k number e at h)
+    where
+      by : HasEvent sc w lay k number e at × (IsAmong (own_instances down.above) k → ⊥) → NoFrame (λ (n : ℕ). is_from p n at) down.passed
+      by b =
+          down.frames (λ (n : ℕ). is_from p n at)
+          (λ next more lower mark control wanted a inside.
+          event_outside tree code texts w lay p (next ∷ more) lower mark control wanted a k (placed (next ∷ more) inside (held k b.0.instance b.0.is b.0.stands)) number e at b.0)
+        where
+          placed : (parts : List Part) → ((m : ℕ) → IsOwn (down.target ∷ down.parts) m → IsOwn parts m) → IsOwn (part ∷ outer) k ⊎ IsElsewhere lay p k → IsOwn parts k ⊎ IsElsewhere lay p k
+          placed parts inside (inl own) = inl (inside k (down.others k own b.1))
+          placed parts inside (inr elsewhere) = inr elsewhere
+
+  pub events_jump : (events : List Event) → EventsAre (scopes_of tree) w lay events →
+      EventsAre (scopes_of tree) (with_process (leave w (own_instances down.above)) p q) lay (events_left p down.passed events)
+  events_jump events are =
+      events_by sc w w' lay lay (λ k number e at h. (before k number e at h).0) events (events_left p down.passed events)
+      (λ k number e at h. kept p at down.passed events (outside k number e at h)) are

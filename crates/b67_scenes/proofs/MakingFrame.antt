@@ -1,0 +1,291 @@
+-- The frame of a part that makes what its block declares: after its cells lie descriptors of arrays, and words of events.
+use Rattle.algol_meaning.specs.Critical.{is_evaluation}
+use Rattle.std.specs.Prelude.{if◌then◌else◌}
+use Rattle.std.proofs.Common.{◌≡◌, ◌≢◌, refl, sym, ap, ◌∙◌, subst, ℕ, ◌+◌, ◌*◌, ◌<◌, ◌≤◌, List, ◌∷◌, ◌++◌, length, Option, Some, Bool, false, arith, append_assoc, length-append}
+use Rattle.b67_list.specs.Numbered.{numbered}
+use Rattle.algol_tree.specs.Blocks.{Block, block_numbered, around}
+use Rattle.algol_tree.specs.Plain.{PProgram}
+use Rattle.algol_tree.specs.Scopes.{Scopes, scopes_of}
+use Rattle.algol_meaning.specs.Rest.{done}
+use Rattle.algol_meaning.specs.World.{NamedCell, Instance, Process, Part, World, instance_at, or_no_instance, with_process}
+use Rattle.algol_meaning.specs.Asks.{resume}
+use Rattle.algol_paths.specs.Arrays.{Made, all_to_make, all_left_to_make}
+use Rattle.algol_paths.specs.Laws.{KeepsToText, RestsKeepToTheirText, AllIsMadeInOrder}
+use Rattle.b67_word.specs.declared.Place.{Place}
+use Rattle.b67_word.specs.Word.{Word}
+use Rattle.b67_segment.specs.declared.code.Code.{Code}
+use Rattle.b67_table.specs.Chains.{place}
+use Rattle.b67_table.specs.Image.{Image}
+use Rattle.b67_table.specs.Limits.{most_cells, most_arrays}
+use Rattle.b67_templates.specs.Contexts.{yields_of}
+use Rattle.b67_templates.specs.Cells.{simple_cells, made_of}
+use Rattle.b67_templates.specs.Programs.{Texts}
+use Rattle.b67_cores.specs.Cores.{Core}
+use Rattle.b67_cores.specs.Stretches.{control_words}
+use Rattle.b67_faithful.specs.Weight.{tokens_around, part_weight, weight}
+use Rattle.b67_faithful.proofs.Contradictions.{some_same}
+use Rattle.b67_fitting.specs.Nested.{AreNested, IsText}
+use Rattle.b67_rows.proofs.Numbers.{numbered_set}
+use Rattle.b67_frames.specs.Arrays.{Allotted, Layout, AreMade}
+use Rattle.b67_frames.specs.Frames.{block_controls, controls_count, IsPlaced, outermost, inside, IsChained, Framed, Frame, Around, Owned, of_own}
+use Rattle.b67_frames.proofs.ArraysKept.{rows_but, rows_there, rows_other}
+use Rattle.b67_frames.proofs.ArraysInTurn.{made_both}
+use Rattle.b67_frames.proofs.Completing.{made_many}
+use Rattle.b67_frames.proofs.ControlWords.{block_few, as_many_controls, controls_many}
+use Rattle.b67_frames.proofs.FreshCells.{words_long}
+use Rattle.b67_frames.proofs.Knowing.{denotes_lasts}
+use Rattle.b67_frames.proofs.Lying.{Lies, lies_low, lies_around, StayBelow, same_instance, home_after, weight_stays, around_stays, outer_remain, owned_frame, frame_gives, runs_at}
+use Rattle.b67_scenes.proofs.Kept.{AreAlike}
+use Rattle.b67_scenes.proofs.Scene.{Scene}
+use Rattle.b67_scenes.proofs.Stage.{weight_of}
+use Rattle.b67_scenes.proofs.Staying.{names_in}
+use Rattle.b67_scenes.proofs.StoringFrames.{same_ancestors, changed, stored_world, changed_at, others_at, same_of}
+use Rattle.algol_tree.specs.Cells.{level_of}
+
+-- What is made next is what the part has first to make, before all that is left.
+module _ (tree : PProgram) (code : Code) (texts : Texts) (nested : AreNested (scopes_of tree)) (keeps : RestsKeepToTheirText) (order : AllIsMadeInOrder) (w : World) (lay : Layout) (img : Image)
+    (p : ℕ) (q : Process) (part : Part) (outer : List Part) (bound : ℕ) (core : Core) (s : Scene tree code texts w lay img p q part outer bound core)
+    (owns : is_evaluation part.purpose ≡ false) (ms : List Made) (makes : all_to_make part.rest ≡ ms ++ all_left_to_make part.rest) where
+  abbrev sc : Scopes
+  sc = scopes_of tree
+
+  abbrev i : ℕ
+  i = part.instance
+
+  abbrev f : Frame tree code texts w lay p part outer core.below
+  f = s.stands.frame
+
+  abbrev pub own_frame : Owned tree code texts w lay p part outer (length f.lower) f.mark f.control f.cells
+  own_frame = owned_frame tree code texts w lay p part outer core.below f owns
+
+  abbrev framed : Framed sc w lay p part.instance outer (length f.lower) f.mark f.control f.cells
+  framed = own_frame.framed
+
+  abbrev x : Instance
+  x = framed.instance
+
+  abbrev b : Block
+  b = block_numbered sc.blocks x.block
+
+  -- ---- how many there are
+
+  pub ordered : made_of b.decls ≡ framed.declared ++ (ms ++ all_left_to_make part.rest)
+  ordered = framed.order ∙ ap (λ (ds : List Made). framed.declared ++ ds) (own_frame.making ∙ makes)
+
+  text : IsText sc x.block
+  text = nested.each x.block framed.known
+
+  declared_many : length (made_of b.decls) ≡ length framed.declared + (length ms + length (all_left_to_make part.rest))
+  declared_many = omega (arith, ap length ordered, length-append framed.declared (ms ++ all_left_to_make part.rest), length-append ms (all_left_to_make part.rest))
+
+  -- no more than are made at once
+  pub few_made : length ms ≤ most_arrays
+  few_made = omega (arith, declared_many, text.few)
+
+  pub cells_many : length f.cells ≡ length (simple_cells sc b) + (controls_count sc x.block + length framed.declared)
+  cells_many =
+      omega (
+        arith,
+        ap length framed.cells_is,
+        length-append framed.values (control_words (block_controls sc x.block framed.ats) ++ framed.descriptors),
+        length-append (control_words (block_controls sc x.block framed.ats)) framed.descriptors,
+        words_long (simple_cells sc b) framed.simple framed.values framed.simple_are,
+        as_many_controls (block_controls sc x.block framed.ats),
+        controls_many sc x.block framed.ats framed.each_has_place,
+        (made_many framed.declared framed.arrays (lay.rows i) framed.descriptors framed.made).words_many,
+      )
+
+  -- nor more than a frame has cells
+  pub few_cells : length f.cells + length ms ≤ most_cells
+  few_cells = omega (arith, cells_many, declared_many, block_few sc nested x.block framed.known)
+
+  -- ---- the world after
+
+  -- with these cells, rows and words
+  module _ (new : List NamedCell) (allotted : List Allotted) (descriptors : List Word) (added : AreMade ms new allotted descriptors) where
+    abbrev pub cells' : List NamedCell
+    cells' = x.cells ++ new
+
+    abbrev pub grown : World
+    grown = stored_world w i x framed.is cells'
+
+    abbrev pub part' : Part
+    part' = record part { rest = resume sc part.rest done }
+
+    abbrev pub q' : Process
+    q' = record q { todo = part' ∷ outer }
+
+    abbrev pub w' : World
+    w' = with_process grown p q'
+
+    abbrev pub lay' : Layout
+    lay' = record lay { rows = rows_but lay.rows i (lay.rows i ++ allotted) }
+
+    pub block_is : (instance_at w part.instance).block ≡ (instance_at w' part.instance).block
+    block_is = same_of w i x framed.is cells' (λ (z : Instance). z.block) refl part.instance
+
+    pub rows_here : lay'.rows i ≡ lay.rows i ++ allotted
+    rows_here = rows_there lay.rows i (lay.rows i ++ allotted) i refl
+
+    pub rows_elsewhere : (j : ℕ) → j ≢ i → lay'.rows j ≡ lay.rows j
+    rows_elsewhere j other = rows_other lay.rows i (lay.rows i ++ allotted) j other
+
+    -- the frames below are of other instances
+    pub lower_apart : (j there : ℕ) → numbered lay.places j ≡ Some (place p there) → there < length f.lower → j ≢ i
+    lower_apart j there lies low same =
+        let height : there ≡ length f.lower = ap (λ (l : Place). l.at) (some_same (sym lies ∙ ap (λ (n : ℕ). numbered lay.places n) same ∙ framed.laid)) in
+        omega (arith, height, low)
+
+    abbrev stays : StayBelow w w' lay lay' p (length f.lower)
+    stays =
+        record {
+          instances = λ j there y e mine lies low. others_at w i x framed.is cells' j (lower_apart j there lies low) ∙ e;
+          places = λ j g e. e;
+          rows = λ j there y e mine lies low. rows_elsewhere j (lower_apart j there lies low);
+        }
+
+    -- those of other processes are as they were
+    pub alike : (r : ℕ) → r ≢ p → AreAlike w w' lay lay' r
+    alike r other =
+        record {
+          own = λ j y e mine. others_at w i x framed.is cells' j (apart j y e mine) ∙ e;
+          places = λ j g e. e;
+          rows = λ j y e mine. rows_elsewhere j (apart j y e mine);
+        }
+      where
+        apart : (j : ℕ) (y : Instance) → numbered w.instances j ≡ Some y → y.process ≡ r → j ≢ i
+        apart j y e mine same =
+            let here : y ≡ x = some_same (sym e ∙ ap (λ (n : ℕ). numbered w.instances n) same ∙ framed.is) in
+            other (sym mine ∙ ap (λ (z : Instance). z.process) here ∙ framed.own)
+
+    pub chained : IsChained sc w' lay' i (names_in tree w part) core.registers.display
+    chained up low =
+        s.stands.chained up low
+        ∙ ap (λ (j : ℕ). numbered lay.places j) (same_ancestors w w' (λ j. same_of w i x framed.is cells' (λ (z : Instance). z.parent) refl j) up i)
+
+    -- ---- the frame, with the words after its cells
+
+    pub made_now : AreMade (framed.declared ++ ms) (framed.arrays ++ new) (lay'.rows i) (framed.descriptors ++ descriptors)
+    made_now =
+        subst (λ (rows : List Allotted). AreMade (framed.declared ++ ms) (framed.arrays ++ new) rows (framed.descriptors ++ descriptors)) (sym rows_here)
+        (made_both framed.declared framed.arrays (lay.rows i) framed.descriptors ms new allotted descriptors framed.made added)
+
+    pub descriptors_many : length descriptors ≡ length ms
+    descriptors_many = (made_many ms new allotted descriptors added).words_many
+
+    new_many : length new ≡ length ms
+    new_many = (made_many ms new allotted descriptors added).cells_many
+
+    abbrev later : Instance
+    later = changed w i x framed.is cells'
+
+    -- the parent's frame lies below
+    pub placed_now : IsPlaced sc w' lay' outer later
+    placed_now = again framed.placed
+      where
+        again : IsPlaced sc w lay outer x → IsPlaced sc w' lay' outer later
+        again (outermost none_up alone) = outermost none_up alone
+        again (inside own next complete) =
+            let l : Lies tree code texts w lay p outer x.parent f.lower = lies_around tree code texts w lay p outer f.lower f.mark f.control f.gives s.around x.parent own in
+            let lowest : length l.frame.lower < length f.lower = omega (arith, lies_low tree code texts w lay p outer x.parent f.lower l) in
+            let same : instance_at w x.parent ≡ instance_at w' x.parent =
+            ap (λ (k : ℕ). instance_at w k) (sym l.instance_is)
+            ∙ same_instance tree code texts w w' lay lay' p (length f.lower) stays l.part l.outer l.front l.frame l.around lowest
+            ∙ ap (λ (k : ℕ). instance_at w' k) l.instance_is in
+            inside own (subst (λ (y : Instance). around sc.blocks x.block ≡ y.block ∷ around sc.blocks y.block) same next)
+            (subst (λ (y : Instance). length y.cells ≡ length (simple_cells sc (block_numbered sc.blocks y.block)) + length (made_of (block_numbered sc.blocks y.block).decls)) same complete)
+
+    abbrev framed' : Framed sc w' lay' p i outer (length f.lower) f.mark f.control (f.cells ++ descriptors)
+    framed' =
+        record {
+          instance = later;
+          is = changed_at w i x framed.is cells';
+          own = framed.own;
+          known = framed.known;
+          stands = framed.stands;
+          laid = framed.laid;
+          simple = framed.simple;
+          values = framed.values;
+          simple_are = framed.simple_are;
+          formals = λ k t there refers.
+              let g = framed.formals k t there refers in (
+                g.0,
+                g.1,
+                g.2,
+                g.3,
+                denotes_lasts sc w w' lay lay' outer outer (outer_remain tree code texts w w' lay lay' p (length f.lower) stays outer f.lower f.mark f.control f.gives s.around (omega arith)) t.wanted
+                    g.0.cell g.1 g.4,
+              );
+          ats = framed.ats;
+          each_has_place = framed.each_has_place;
+          arrays = framed.arrays ++ new;
+          declared = framed.declared ++ ms;
+          later = all_left_to_make part.rest;
+          order = ordered ∙ sym (append_assoc framed.declared (ms) (all_left_to_make part.rest));
+          descriptors = framed.descriptors ++ descriptors;
+          made = made_now;
+          has = ap (λ (cs : List NamedCell). cs ++ new) framed.has ∙ append_assoc framed.simple framed.arrays (new);
+          cells_is =
+              ap (λ (ws : List Word). ws ++ descriptors) framed.cells_is
+              ∙ append_assoc framed.values (control_words (block_controls sc x.block framed.ats) ++ framed.descriptors) descriptors
+              ∙ ap (λ (ws : List Word). framed.values ++ ws) (append_assoc (control_words (block_controls sc x.block framed.ats)) framed.descriptors descriptors);
+          placed = placed_now;
+          home = framed.home;
+          linked = home_after tree code texts w w' lay lay' p (length f.lower) stays x.parent framed.home framed.linked;
+          df = framed.df;
+          mark_is = framed.mark_is;
+          back = framed.back;
+          control_is = framed.control_is;
+          level_is = framed.level_is;
+        }
+
+    abbrev pub frame' : (words : List Word) → words ≡ core.below ++ descriptors → Frame tree code texts w' lay' p part' outer words
+    frame' words are =
+        record {
+          lower = f.lower;
+          mark = f.mark;
+          control = f.control;
+          cells = f.cells ++ descriptors;
+          words_are = are ∙ ap (λ (ws : List Word). ws ++ descriptors) f.words_are ∙ append_assoc f.lower (f.mark ∷ f.control ∷ f.cells) descriptors;
+          instance = framed'.instance;
+          is = framed'.is;
+          known = framed'.known;
+          home = framed'.home;
+          df = framed'.df;
+          mark_is = framed'.mark_is;
+          back = framed'.back;
+          control_is = framed'.control_is;
+          level_is = framed'.level_is ∙ runs_at part (level_of (block_numbered sc.blocks framed'.instance.block)) own_frame.owns;
+          gives = f.gives;
+          text = subst (λ (j : ℕ). KeepsToText sc j part'.rest) block_is (keeps.resumed sc ((instance_at w i).block) part.rest done f.text tt);
+          shape = of_own (record { owns = own_frame.owns; framed = framed'; routines = own_frame.routines; items = own_frame.items; making = sym (order.resumed sc ((instance_at w i).block) part.rest done f.text) }) (frame_gives tree code texts w lay p part outer core.below f owns ∙ ap (λ (y : Instance). yields_of (block_numbered sc.blocks y.block).result) (ap or_no_instance framed.is));
+        }
+
+    -- the parts around stand as they did
+    pub around' : Around tree code texts w' lay' p outer f.lower f.mark f.control f.gives
+    around' = around_stays tree code texts w w' lay lay' p (length f.lower) stays outer f.lower f.mark f.control f.gives (omega arith) s.around
+
+    -- ---- weights
+
+    part_heavier : part_weight tree w' part' ≡ part_weight tree w part + length ms
+    part_heavier =
+        ap (λ (t : Bool). 8 + (if t then 0 else length ((instance_at w' i).cells)) + 4 * tokens_around tree ((instance_at w' i).block)) own_frame.owns
+        ∙ ap (λ (j : ℕ). 8 + length ((instance_at w' i).cells) + 4 * tokens_around tree j) (sym block_is)
+        ∙ omega (
+          arith,
+          ap (λ (o : Option Instance). length ((or_no_instance o).cells)) (changed_at w i x framed.is cells'),
+          length-append x.cells (new),
+          new_many,
+          ap (λ (o : Option Instance). length ((or_no_instance o).cells)) framed.is,
+          ap (λ (t : Bool). 8 + (if t then 0 else length ((instance_at w i).cells)) + 4 * tokens_around tree ((instance_at w i).block)) own_frame.owns,
+        )
+
+    pub heavier : weight tree w' p ≡ weight tree w p + length ms
+    heavier =
+        weight_of tree w' p q' (part' ∷ outer) (numbered_set w.processes p q q' s.at) refl
+        ∙ omega (
+          arith,
+          part_heavier,
+          weight_stays tree code texts w w' lay lay' p (length f.lower) stays outer f.lower f.mark f.control f.gives (omega arith) s.around,
+          weight_of tree w p q (part ∷ outer) s.at s.todo,
+        )

@@ -1,0 +1,152 @@
+-- What all actions share: the choice of the world, the limit, and the picture after an action.
+use Rattle.std.proofs.Common.{◌≡◌, ◌≢◌, ◌⊎◌, inl, inr, refl, sym, ap, ◌∙◌, subst, ℕ, ◌<◌, ◌≤◌, List, ◌∷◌, length, Option, Some, None, Bool, false, arith, true}
+use Rattle.std.specs.Prelude.{if◌then◌else◌, nat_le}
+use Rattle.std.proofs.lemmas.Bool.Decides.{nat_tests}
+use Rattle.b67_list.specs.Numbered.{numbered, set_numbered}
+use Rattle.b67_num.specs.declared.FaultKind.{FaultKind}
+use Rattle.algol_tree.specs.Plain.{PProgram}
+use Rattle.algol_tree.specs.Scopes.{Scopes, scopes_of}
+use Rattle.algol_meaning.specs.World.{Part, Process, lives, World, process_at, or_no_process}
+use Rattle.algol_meaning.specs.Asks.{ask}
+use Rattle.algol_meaning.specs.Choice.{choice, choice_in, choice_of}
+use Rattle.b67_control.specs.declared.Registers.{Registers}
+use Rattle.b67_segment.specs.declared.code.Code.{Code}
+use Rattle.b67_templates.specs.Programs.{Texts}
+use Rattle.b67_store.specs.Store.{stack_at, stack_limit}
+use Rattle.b67_table.specs.declared.ProcessState.{ProcessState}
+use Rattle.b67_scenes.specs.States.{StateIs}
+use Rattle.b67_table.specs.Effect as effects
+use Rattle.b67_table.specs.Outcome.{gives, faults, limited, limit}
+use Rattle.b67_table.specs.Image.{Image, is_live}
+use Rattle.b67_table.specs.Table.{table, raw, stack_length, length_in}
+use Rattle.b67_table.specs.Ending.{failed}
+use Rattle.b67_cores.specs.Cores.{Core, HasCore}
+use Rattle.b67_faithful.proofs.Contradictions.{some_same}
+use Rattle.b67_faithful.specs.Weight.{weight, parts_weight}
+use Rattle.b67_frames.specs.Arrays.{Layout, ArraysAre}
+use Rattle.b67_frames.specs.Events.{EventsAre}
+use Rattle.b67_frames.proofs.ArraysKept.{arrays_unchanged}
+use Rattle.b67_frames.proofs.EventsKept.{events_unchanged}
+use Rattle.b67_scenes.specs.Pictures.{failure_of, Living, Pictured, living, PicturesBy}
+use Rattle.b67_faithful.proofs.Choices.{length_set_numbered}
+use Rattle.b67_rows.proofs.Numbers.{same_or_not, numbered_set, numbered_other}
+use Rattle.b67_rows.proofs.StoreRow.{most_is}
+use Rattle.b67_scenes.proofs.Kept.{AreAlike, alike_by, pictured_alike}
+
+-- ---- the table, from the row
+
+pub gives_within : (code : Code) (img after : Image) (p : ℕ) (r : Registers) → raw code img p ≡ effects.gives after → numbered after.regs p ≡ Some r → r.s ≤ stack_limit → table code img p ≡ gives after
+unfolding table
+gives_within code img after p r is has small =
+    ap (limited (stack_length p)) is
+    ∙ ap (λ (b : Bool). if b then gives after else limit) (ap (λ (o : Option Registers). nat_le (length_in o) stack_limit) has ∙ most_is r.s stack_limit small)
+
+not_most : (m n : ℕ) → n < m → nat_le m n ≡ false
+not_most m n h = grind (arith, nat_tests)
+
+-- a stack that has become too long
+pub limit_beyond : (code : Code) (img after : Image) (p : ℕ) (r : Registers) → raw code img p ≡ effects.gives after → numbered after.regs p ≡ Some r → stack_limit < r.s → table code img p ≡ limit
+unfolding table
+limit_beyond code img after p r is has long =
+    ap (limited (stack_length p)) is
+    ∙ ap (λ (b : Bool). if b then gives after else limit) (ap (λ (o : Option Registers). nat_le (length_in o) stack_limit) has ∙ not_most r.s stack_limit long)
+
+pub faults_so : (code : Code) (img : Image) (p : ℕ) (kind : FaultKind) → raw code img p ≡ effects.faults kind → table code img p ≡ faults kind
+unfolding table
+faults_so code img p kind is = ap (limited (stack_length p)) is
+
+-- who lives has a state
+pub state_there : (o : Option ProcessState) → is_live o ≡ true → (state : ProcessState) × (o ≡ Some state)
+state_there None live = cc
+state_there (Some state) live = (state, refl)
+
+-- ---- the choice
+
+pub process_is : (w : World) (p : ℕ) (q : Process) → numbered w.processes p ≡ Some q → process_at w p ≡ q
+process_is w p q at = ap or_no_process at
+
+pub choice_is : (sc : Scopes) (w : World) (p : ℕ) (q : Process) (part : Part) (outer : List Part) → numbered w.processes p ≡ Some q → q.todo ≡ part ∷ outer →
+    choice sc w p ≡ choice_of sc w p q part outer (ask part.rest)
+unfolding choice
+choice_is sc w p q part outer at todo =
+    ap (λ (o : Process). choice_in sc w p o o.todo) (process_is w p q at)
+    ∙ ap (λ (t : List Part). choice_in sc w p q t) todo
+
+-- the weight of a process, by its parts
+pub weight_of : (tree : PProgram) (w : World) (p : ℕ) (q : Process) (parts : List Part) → numbered w.processes p ≡ Some q → q.todo ≡ parts → weight tree w p ≡ parts_weight tree w parts
+weight_of tree w p q parts at todo = ap (λ (o : Process). parts_weight tree w o.todo) (process_is w p q at) ∙ ap (parts_weight tree w) todo
+
+-- ---- the picture after an action
+
+module _ (tree : PProgram) (code : Code) (texts : Texts) (w : World) (lay : Layout) (img : Image) (by : PicturesBy tree code texts w lay img) (p : ℕ) (q : Process)
+    (at : numbered w.processes p ≡ Some q) where
+  -- process p has come to this state in an image in which each other process is pictured, and is pictured there
+  pub comes_by : (w' : World) (lay' : Layout) (img' : Image) (q' : Process) → w'.processes ≡ set_numbered w.processes p q' → length lay'.places ≡ length w'.instances → ArraysAre (scopes_of tree) w' lay' img'.rows →
+      EventsAre (scopes_of tree) w' lay' img'.events →
+      img'.output ≡ w'.output → w'.fault ≡ w.fault → img'.fault ≡ img.fault → img'.started ≡ img.started → length img'.states ≡ length img.states → stack_at img'.stacks 0 ≡ stack_at img.stacks 0 →
+      ((r : ℕ) (o : Process) → r ≢ p → numbered w.processes r ≡ Some o → numbered w'.processes r ≡ Some o → Pictured tree code texts w lay img r o → Pictured tree code texts w' lay' img' r o) →
+      Pictured tree code texts w' lay' img' p q' → PicturesBy tree code texts w' lay' img'
+  comes_by w' lay' img' q' processes laid arrays events output world_fault fault started many system others own =
+      let same_number : length w'.processes ≡ length w.processes = ap length processes ∙ length_set_numbered w.processes p q' in
+      record {
+        laid = laid;
+        arrays = arrays;
+        events = events;
+        output = output;
+        fault = fault ∙ by.fault ∙ ap failure_of (sym world_fault);
+        started = started ∙ by.started ∙ sym same_number;
+        few = omega (arith, same_number, by.few);
+        states = many ∙ by.states ∙ sym same_number;
+        system = system ∙ by.system;
+        each = λ r o e. by_number r o (sym (ap (λ (qs : List Process). numbered qs r) processes) ∙ e) e (same_or_not r p);
+      }
+    where
+      by_number : (r : ℕ) (o : Process) → numbered (set_numbered w.processes p q') r ≡ Some o → numbered w'.processes r ≡ Some o → (r ≡ p) ⊎ (r ≢ p) → Pictured tree code texts w' lay' img' r o
+      by_number r o e e' (inl same) =
+          let is : q' ≡ o =
+          some_same (sym (numbered_set w.processes p q q' at) ∙ ap (λ (n : ℕ). numbered (set_numbered w.processes p q') n) (sym same) ∙ e) in
+          subst (λ (x : Process). Pictured tree code texts w' lay' img' r x) is
+          (subst (λ (n : ℕ). Pictured tree code texts w' lay' img' n q') (sym same) own)
+      by_number r o e e' (inr other) =
+          let before : numbered w.processes r ≡ Some o = sym (numbered_other w.processes p r q' (λ (same : p ≡ r). other (sym same))) ∙ e in
+          others r o other before e' (by.each r o before)
+
+  -- .. in which each other process has its core
+  pub comes_to : (w' : World) (lay' : Layout) (img' : Image) (q' : Process) → w'.processes ≡ set_numbered w.processes p q' → length lay'.places ≡ length w'.instances → ArraysAre (scopes_of tree) w' lay' img'.rows →
+      EventsAre (scopes_of tree) w' lay' img'.events →
+      ((r : ℕ) → r ≢ p → AreAlike w w' lay lay' r) → img'.output ≡ w'.output → w'.fault ≡ w.fault → img'.fault ≡ img.fault → img'.started ≡ img.started → length img'.states ≡ length img.states →
+      ((r : ℕ) → r ≢ p → numbered img'.states r ≡ numbered img.states r) → stack_at img'.stacks 0 ≡ stack_at img.stacks 0 →
+      ((r : ℕ) (core : Core) → r ≢ p → HasCore img r core → HasCore img' r core) → Pictured tree code texts w' lay' img' p q' → PicturesBy tree code texts w' lay' img'
+  comes_to w' lay' img' q' processes laid arrays events alike output world_fault fault started many states system keeps own =
+      comes_by w' lay' img' q' processes laid arrays events output world_fault fault started many system
+      (λ r o other before after pictured.
+      pictured_alike tree code texts w w' lay lay' r (alike r other) img img' o (process_is w r o before) (process_is w' r o after) (states r other) (λ core has. keeps r core other has) pictured) own
+
+  -- it goes on, and stands for what it has still to do
+  pub goes_on : (w' : World) (lay' : Layout) (img' : Image) (q' : Process) → w'.processes ≡ set_numbered w.processes p q' → lives q'.state ≡ true → length lay'.places ≡ length w'.instances → ArraysAre (scopes_of tree) w' lay' img'.rows →
+      EventsAre (scopes_of tree) w' lay' img'.events →
+      ((r : ℕ) → r ≢ p → AreAlike w w' lay lay' r) → img'.output ≡ w'.output → w'.fault ≡ w.fault → img'.fault ≡ img.fault → img'.started ≡ img.started → img'.states ≡ img.states →
+      stack_at img'.stacks 0 ≡ stack_at img.stacks 0 → StateIs q'.state (numbered img.states p) → ((r : ℕ) (core : Core) → r ≢ p → HasCore img r core → HasCore img' r core) →
+      Living tree code texts w' lay' img' p q' → PicturesBy tree code texts w' lay' img'
+  goes_on w' lay' img' q' processes able_is laid arrays events alike output world_fault fault started states system able_p keeps l =
+      comes_to w' lay' img' q' processes laid arrays events alike output world_fault fault started (ap length states) (λ r other. ap (λ (ss : List ProcessState). numbered ss r) states) system keeps
+      (living able_is (subst (λ (ss : List ProcessState). StateIs q'.state (numbered ss p)) (sym states) able_p) l)
+
+  -- a fault changes nothing else
+  pub faulted : (kind : FaultKind) → PicturesBy tree code texts (record w { fault = Some (record { kind = kind; process = p }) }) lay (failed img p kind)
+  unfolding failed
+  faulted kind =
+      record {
+        laid = by.laid;
+        arrays = arrays_unchanged (scopes_of tree) w (record w { fault = Some (record { kind = kind; process = p }) }) lay img.rows refl by.arrays;
+        events = events_unchanged (scopes_of tree) w (record w { fault = Some (record { kind = kind; process = p }) }) lay img.events refl by.events;
+        output = by.output;
+        fault = refl;
+        started = by.started;
+        few = by.few;
+        states = by.states;
+        system = by.system;
+        each = λ r o e. pictured_alike tree code texts w (record w { fault = Some (record { kind = kind; process = p }) }) lay lay r
+            (alike_by w (record w { fault = Some (record { kind = kind; process = p }) }) lay r refl) img (failed img p kind) o (process_is w r o e) (process_is w r o e) refl
+            (λ core has. record { live = has.live; registers = has.registers; own = has.own; stack = has.stack; is = has.is }) (by.each r o e);
+      }

@@ -1,0 +1,194 @@
+-- A store into a cell of a frame of a process, by whatever process: the one whose frame it is lives on after it, with the word in its stack below its
+-- floor, on its way to where it stands or there; and all others are pictured as they were.
+use Rattle.std.proofs.Common.{◌≡◌, ◌≢◌, ◌⊎◌, inl, inr, refl, sym, ap, ◌∙◌, subst, ℕ, ◌+◌, ◌<◌, ◌≤◌, List, [], ◌∷◌, ◌++◌, length, Option, Some, arith}
+use Rattle.b67_list.specs.Numbered.{numbered}
+use Rattle.algol_tree.specs.Blocks.{block_numbered}
+use Rattle.algol_tree.specs.Cells.{level_of}
+use Rattle.algol_tree.specs.Plain.{PProgram}
+use Rattle.algol_tree.specs.Scopes.{Scopes, scopes_of}
+use Rattle.algol_meaning.specs.World.{NamedCell, Instance, Part, Process, World, instance_at, process_at, with_process}
+use Rattle.algol_paths.specs.Arrays.{Made}
+use Rattle.algol_paths.specs.Segments.{segment_of}
+use Rattle.b67_word.specs.Word.{Word}
+use Rattle.b67_segment.specs.declared.code.Code.{Code}
+use Rattle.b67_store.specs.Store.{stack_at}
+use Rattle.b67_table.specs.declared.ProcessState.{ProcessState}
+use Rattle.b67_table.specs.Chains.{place}
+use Rattle.b67_table.specs.Image.{Image}
+use Rattle.b67_table.specs.Private.{frame}
+use Rattle.b67_templates.specs.Cells.{simple_cells}
+use Rattle.b67_templates.specs.Programs.{Texts, context_of}
+use Rattle.b67_standing.specs.Standing.{StandsFor}
+use Rattle.b67_cores.specs.Cores.{Core, over, HasCore, CoreSteps}
+use Rattle.b67_cores.specs.Slots.{newest, SlotsAre}
+use Rattle.b67_cores.specs.Stretches.{CoreAt, Above}
+use Rattle.b67_cores.proofs.Staying.{steps_stay_above}
+use Rattle.b67_faithful.proofs.Choices.{length_set_numbered}
+use Rattle.b67_rows.proofs.Numbers.{same_or_not}
+use Rattle.b67_frames.specs.Arrays.{Layout, AreMade, IsOwn, ArraysAre}
+use Rattle.b67_frames.specs.Events.{EventsAre}
+use Rattle.b67_frames.specs.Frames.{CellsAre, most_around, IsChained, Stands, Around, Frames, run_level}
+use Rattle.b67_frames.proofs.Knowing.{KeepsArrays}
+use Rattle.b67_scenes.specs.Pictures.{innermost_most, Living, Pictured, living, dead, PicturesBy}
+use Rattle.b67_scenes.proofs.Kept.{alike_by, alike_but, pictured_alike}
+use Rattle.b67_scenes.proofs.Stage.{process_is, comes_by}
+use Rattle.b67_scenes.proofs.Staying.{same_weight}
+use Rattle.b67_scenes.proofs.StoringFrames.{IsStored, put, length_put, put_first, changed, stored_world, same_of, same_ancestors, as_heavy, ChangedCells, Stored, known_stored, frame_stored}
+use Rattle.b67_templates.specs.Code.{in_routine}
+use Rattle.b67_templates.specs.Contexts.{Yields}
+use Rattle.algol_meaning.specs.Critical.{is_evaluation}
+use Rattle.b67_control.specs.Display.{place_at}
+use Rattle.b67_scenes.specs.States.{StateIs}
+
+-- The instance's frame lies so high in the stack of process p. A word that is stored lies so far above the frame's two words, at the place k.
+module _ (tree : PProgram) (code : Code) (texts : Texts) (w : World) (lay : Layout) (p : ℕ) (i : ℕ) (x : Instance) (at : numbered w.instances i ≡ Some x) (with_cells : List NamedCell)
+    (high : ℕ) (laid : numbered lay.places i ≡ Some (place p high)) (far k : ℕ) (place_is : k ≡ high + 2 + far) (word : Option Word) (many : length with_cells ≡ length x.cells)
+    (short : IsStored word → far < length (simple_cells (scopes_of tree) (block_numbered (scopes_of tree).blocks x.block))) (keeps : KeepsArrays (scopes_of tree) w (stored_world w i x at with_cells) lay lay i)
+    (changes : (simple : List NamedCell) (values : List Word) (arrays : List NamedCell) (declared : List Made) (descriptors : List Word) →
+    CellsAre (simple_cells (scopes_of tree) (block_numbered (scopes_of tree).blocks x.block)) simple values → AreMade declared arrays (lay.rows i) descriptors → x.cells ≡ simple ++ arrays →
+    ChangedCells (simple_cells (scopes_of tree) (block_numbered (scopes_of tree).blocks x.block)) (lay.rows i) with_cells simple values (put word values far) declared descriptors) where
+  abbrev sc : Scopes
+  sc = scopes_of tree
+
+  abbrev w' : World
+  w' = stored_world w i x at with_cells
+
+  -- the core with the word
+  abbrev pub stored_core : Core → Core
+  stored_core core = over (put word core.below k) core
+
+  module _ (part : Part) (outer : List Part) (core : Core) (s : Stands tree code texts w lay p part outer core) (a : Around tree code texts w lay p outer s.frame.lower s.frame.mark s.frame.control s.frame.gives)
+      (own : IsOwn (part ∷ outer) i) where
+    g : Stored tree code texts w lay p i x at with_cells high laid far k place_is word many short keeps changes part outer core.below s.frame
+    g = frame_stored tree code texts w lay p i x at with_cells high laid far k place_is word many short keeps changes part outer core.below s.frame a own
+
+    block_is : (instance_at w part.instance).block ≡ (instance_at w' part.instance).block
+    block_is = same_of w i x at with_cells (λ (y : Instance). y.block) refl part.instance
+
+    as_high : length core.below ≡ length (put word core.below k)
+    as_high = sym (length_put word core.below k)
+
+    abbrev level : ℕ
+    level = run_level (is_evaluation part.purpose) (level_of (block_numbered sc.blocks ((instance_at w part.instance).block)))
+
+    core_at : CoreAt sc s.held code (texts.placed (segment_of sc.blocks ((instance_at w part.instance).block))) level s.pc s.slots (stored_core core)
+    core_at =
+        record {
+          segment = s.there.segment;
+          there = s.there.there;
+          spells = s.there.spells;
+          level_is = s.there.level_is;
+          place_is = s.there.place_is;
+          is = record { bottom = sym as_high ∙ s.there.is.bottom; top = omega (arith, s.there.is.top, as_high) };
+          mark_is = s.there.mark_is ∙ ap (λ (n : ℕ). newest (frame core.registers) n s.slots) as_high;
+          words_are = subst (λ (n : ℕ). SlotsAre sc s.held level (frame core.registers) n s.slots core.words) as_high s.there.words_are;
+        }
+
+    chained : IsChained sc w' lay part.instance (level_of (block_numbered sc.blocks ((instance_at w part.instance).block))) core.registers.display
+    chained up low =
+        s.chained up low
+        ∙ ap (λ (j : ℕ). numbered lay.places j) (same_ancestors w w' (λ j. same_of w i x at with_cells (λ (z : Instance). z.parent) refl j) up part.instance)
+
+    stands_stored : Stands tree code texts w' lay p part outer (stored_core core)
+    stands_stored =
+        record {
+          frame = g.frame;
+          counted = s.counted ∙ sym g.cells;
+          chained = subst (λ (m : ℕ). IsChained sc w' lay part.instance (level_of (block_numbered sc.blocks m)) core.registers.display) block_is chained;
+          top = ap (λ (m : ℕ). place_at core.registers.display (run_level (is_evaluation part.purpose) (level_of (block_numbered sc.blocks m)))) (sym block_is) ∙ s.top ∙ ap (λ (n : ℕ). Some (place p n)) (sym g.lower);
+          segment_is = s.segment_is ∙ ap (λ (m : ℕ). segment_of sc.blocks m) block_is;
+          asks = s.asks;
+          pc = s.pc;
+          slots = s.slots;
+          held = s.held;
+          held_are = known_stored tree code texts w lay p i x at with_cells high laid far k place_is word many short keeps changes (part ∷ outer) part.instance s.held s.held_are;
+          stands = subst (λ (m : ℕ). StandsFor sc (in_routine g.frame.gives (context_of code texts sc m)) (texts.placed (segment_of sc.blocks m)) (run_level (is_evaluation part.purpose) (level_of (block_numbered sc.blocks m))) (most_around tree m) part.rest s.pc s.slots) block_is
+              (subst (λ (y : Yields). StandsFor sc (in_routine y (context_of code texts sc ((instance_at w part.instance).block))) (texts.placed (segment_of sc.blocks ((instance_at w part.instance).block))) level
+              (most_around tree ((instance_at w part.instance).block)) part.rest s.pc s.slots) (sym g.gives) s.stands);
+          there = subst (λ (m : ℕ). CoreAt sc s.held code (texts.placed (segment_of sc.blocks m)) (run_level (is_evaluation part.purpose) (level_of (block_numbered sc.blocks m))) s.pc s.slots (stored_core core)) block_is core_at;
+          few = subst (λ (m : ℕ). length s.slots ≤ most_around tree m) block_is s.few;
+        }
+
+  -- as many words may lie above its innermost frame
+  most_same : (parts : List Part) → innermost_most tree w parts ≡ innermost_most tree w' parts
+  most_same [] = refl
+  most_same (part ∷ outer) = ap (most_around tree) (same_of w i x at with_cells (λ (y : Instance). y.block) refl part.instance)
+
+  module _ (img : Image) (o : Process) (own : IsOwn o.todo i) (l : Living tree code texts w lay img p o) (low : IsStored word → k < length l.core.below) where
+    above : Above code l.bound l.count l.core l.settled
+    above = steps_stay_above code l.bound l.count l.core l.settled l.has.is l.steps
+
+    below_stored : put word l.settled.below k ≡ put word l.core.below k ++ above.cells
+    below_stored = ap (λ (ws : List Word). put word ws k) above.below ∙ put_first word l.core.below above.cells k low
+
+    -- it goes on as it did
+    steps_stored : CoreSteps code l.bound l.count (stored_core l.core) (stored_core l.settled)
+    steps_stored =
+        subst (λ (ws : List Word). CoreSteps code l.bound l.count (stored_core l.core) (over ws l.settled)) (sym below_stored)
+        (above.same (put word l.core.below k) (length_put word l.core.below k))
+
+    frames_stored : (parts : List Part) → IsOwn parts i → Frames tree code texts w lay p parts l.settled → Frames tree code texts w' lay p parts (stored_core l.settled)
+    unfolding stands_stored g
+    frames_stored [] mine f = absurd f
+    frames_stored (part ∷ outer) mine f = (stands_stored part outer l.settled f.0 f.1 mine, (g part outer l.settled f.0 f.1 mine).around)
+
+    -- in an image in which it has that core it lives
+    pub living_stored : (img' : Image) → HasCore img' p (stored_core l.core) → Living tree code texts (stored_world w i x at with_cells) lay img' p o
+    living_stored img' has =
+        record {
+          independent = l.independent;
+          without_task = l.without_task;
+          core = stored_core l.core;
+          has = has;
+          free = l.free;
+          idle = l.idle;
+          sees = l.sees;
+          small = omega (arith, l.small, length_put word l.core.below k);
+          settled = stored_core l.settled;
+          bound = l.bound;
+          count = l.count;
+          steps = steps_stored;
+          frames = frames_stored o.todo own l.frames;
+          room = omega (arith, l.room, length_put word l.settled.below k, most_same o.todo);
+          light = subst (λ (n : ℕ). l.bound + 3 ≤ n) (sym (same_weight tree w w' (process_at w p).todo (λ j own_part. as_heavy w i x at with_cells many j))) l.light;
+        }
+
+  -- ---- all but the process that stores
+
+  -- Process a stores, and has the state q' after it. The instance is one of process p, whose core has the word; all others have their cores.
+  module _ (a : ℕ) (q' : Process) (img img' : Image) (mine : x.process ≡ p) (owns : (o : Process) → numbered w.processes p ≡ Some o → IsOwn o.todo i)
+      (low : (core : Core) → HasCore img p core → IsStored word → k < length core.below) (holds : (core : Core) → HasCore img p core → HasCore img' p (stored_core core))
+      (stay : (r : ℕ) (core : Core) → r ≢ a → r ≢ p → HasCore img r core → HasCore img' r core) (states : img'.states ≡ img.states) where
+    abbrev after : World
+    after = with_process w' a q'
+
+    same_state : (r : ℕ) → numbered img'.states r ≡ numbered img.states r
+    same_state r = ap (λ (ss : List ProcessState). numbered ss r) states
+
+    -- the one whose frame it is
+    owner_stored : (o : Process) → numbered w.processes p ≡ Some o → numbered after.processes p ≡ Some o → Pictured tree code texts w lay img p o → Pictured tree code texts after lay img' p o
+    owner_stored o before now (dead e s) = dead e (same_state p ∙ s)
+    owner_stored o before now (living e s l) =
+        let stored : Living tree code texts w' lay img' p o = living_stored img o (owns o before) l (low l.core l.has) img' (holds l.core l.has) in
+        pictured_alike tree code texts w' after lay lay p (alike_by w' after lay p refl) img' img' o (process_is w p o before) (process_is after p o now) refl (λ core has. has) (living e (subst (λ (x : Option ProcessState). StateIs o.state x) (sym (same_state p)) s) stored)
+
+    pub others_stored : (r : ℕ) (o : Process) → r ≢ a → numbered w.processes r ≡ Some o → numbered (with_process (stored_world w i x at with_cells) a q').processes r ≡ Some o → Pictured tree code texts w lay img r o →
+        Pictured tree code texts (with_process (stored_world w i x at with_cells) a q') lay img' r o
+    others_stored r o other before now pictured = by_owner (same_or_not r p)
+      where
+        by_owner : (r ≡ p) ⊎ (r ≢ p) → Pictured tree code texts after lay img' r o
+        by_owner (inl e) =
+            subst (λ (n : ℕ). Pictured tree code texts after lay img' n o) (sym e)
+            (owner_stored o (ap (λ (n : ℕ). numbered w.processes n) (sym e) ∙ before) (ap (λ (n : ℕ). numbered after.processes n) (sym e) ∙ now) (subst (λ (n : ℕ). Pictured tree code texts w lay img n o) e pictured))
+        by_owner (inr apart) =
+            pictured_alike tree code texts w after lay lay r (alike_but w after lay r i x (changed w i x at with_cells) at (λ (same : r ≡ x.process). apart (same ∙ mine)) refl) img img' o
+            (process_is w r o before) (process_is after r o now) (same_state r) (λ core has. stay r core other apart has) pictured
+
+    -- so the image pictures the world after it, where it pictures the process that stores
+    pub stored_pictured : (by : PicturesBy tree code texts w lay img) (q : Process) → numbered w.processes a ≡ Some q → ArraysAre (scopes_of tree) (with_process (stored_world w i x at with_cells) a q') lay img'.rows →
+        EventsAre (scopes_of tree) (with_process (stored_world w i x at with_cells) a q') lay img'.events → img'.output ≡ w.output →
+        img'.fault ≡ img.fault → img'.started ≡ img.started → stack_at img'.stacks 0 ≡ stack_at img.stacks 0 → Pictured tree code texts (with_process (stored_world w i x at with_cells) a q') lay img' a q' →
+        PicturesBy tree code texts (with_process (stored_world w i x at with_cells) a q') lay img'
+    stored_pictured by q at_a arrays events output fault started system own =
+        comes_by tree code texts w lay img by a q at_a after lay img' q' refl (by.laid ∙ sym (length_set_numbered w.instances i (changed w i x at with_cells))) arrays events output refl fault started (ap length states) system
+        others_stored own

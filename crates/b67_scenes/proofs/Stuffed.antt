@@ -1,0 +1,119 @@
+-- The references that STFF made are known: each display register names the frame of a static parent, that of its level the part's own.
+use Rattle.std.proofs.Common.{◌≡◌, refl, sym, ap, ◌∙◌, subst, ℕ, ◌+◌, ◌-◌, ◌≤◌, List, [], ◌∷◌, ◌++◌, Option, Some, arith}
+use Rattle.std.specs.Prelude.{IsSome}
+use Rattle.b67_list.specs.Numbered.{numbered}
+use Rattle.algol_tree.specs.Plain.{PProgram}
+use Rattle.algol_tree.specs.Scopes.{Scopes, scopes_of, use_of}
+use Rattle.algol_meaning.specs.World.{Part, World, ancestor}
+use Rattle.b67_word.specs.declared.Place.{Place}
+use Rattle.b67_word.specs.Word.{Word}
+use Rattle.b67_control.specs.Display.{place_at}
+use Rattle.b67_table.specs.References.{cell_word}
+use Rattle.b67_ops.specs.declared.Couple.{Couple}
+use Rattle.b67_ops.specs.declared.TheConstants.{OUTER_LEVEL}
+use Rattle.b67_segment.specs.declared.code.Code.{Code}
+use Rattle.b67_templates.specs.Contexts.{Context}
+use Rattle.b67_templates.specs.Programs.{Texts}
+use Rattle.b67_standing.specs.Stepping.{Held, Stuffable, of_array, of_variable, of_event, of_actual}
+use Rattle.b67_cores.specs.Cores.{Core}
+use Rattle.b67_cores.specs.Slots.{Known}
+use Rattle.b67_cores.specs.Stretches.{Sees, IsStuffed, AreStuffed}
+use Rattle.b67_frames.specs.Arrays.{Layout, an_array_named, an_event_named, a_variable_named, HeldIs, AreKnown, IsOwn}
+use Rattle.b67_frames.specs.Frames.{IsChained, Frame, Around}
+use Rattle.b67_frames.proofs.Lying.{Lies, lies_frame, own_parent, part_own}
+use Rattle.b67_scenes.proofs.Staying.{names_in, context_in}
+
+-- what is known of each is so of both
+pub known_both : (sc : Scopes) (w : World) (lay : Layout) (parts : List Part) (i : ℕ) (added known : List Known) → AreKnown sc w lay (IsOwn parts) i added → AreKnown sc w lay (IsOwn parts) i known →
+    AreKnown sc w lay (IsOwn parts) i (added ++ known)
+known_both sc w lay parts i [] known more are = are
+known_both sc w lay parts i (x ∷ added) known more are = (more.0, known_both sc w lay parts i added known more.1 are)
+
+module _ (tree : PProgram) (code : Code) (texts : Texts) (w : World) (lay : Layout) (p : ℕ) (part : Part) (outer : List Part) (words : List Word) (f : Frame tree code texts w lay p part outer words)
+    (a : Around tree code texts w lay p outer f.lower f.mark f.control f.gives) (core : Core)
+    (chained : IsChained (scopes_of tree) w lay part.instance (names_in tree w part) core.registers.display) where
+  abbrev sc : Scopes
+  sc = scopes_of tree
+
+  abbrev level : ℕ
+  level = names_in tree w part
+
+  -- the display names a frame at each level
+  pub sees : Sees (names_in tree w part) core
+  sees l low high =
+      let up : ℕ = level - l in
+      let near : up + OUTER_LEVEL ≤ level = omega (arith, low, high) in
+      let lies : Lies tree code texts w lay p (part ∷ outer) (ancestor w up part.instance) words =
+      lies_frame tree code texts w lay p part outer words f a (ancestor w up part.instance) (own_parent tree code texts w lay p part outer words f a up near) in
+      let here : l ≡ level - up = omega (arith, high) in
+      subst (λ (o : Option Place). IsSome o)
+      (sym (ap (place_at core.registers.display) here
+      ∙ chained up near
+      ∙ ap (numbered lay.places) (sym lies.instance_is)
+      ∙ lies.owned.framed.laid)) refl
+
+  abbrev context : Context
+  context = context_in tree code texts w part f.gives
+
+  named_stuffed : (held : Held) (couple : Couple) (word : Word) (frame : Place) → Stuffable sc context held couple → place_at core.registers.display couple.level ≡ Some frame →
+      word ≡ cell_word (record { frame = frame; index = couple.index }) → HeldIs sc w lay (IsOwn (part ∷ outer)) part.instance held word
+  named_stuffed held couple word frame (of_array n d c is) shown word_is =
+      let up : ℕ = (use_of sc n).up in
+      let near : up + OUTER_LEVEL ≤ level = omega (arith, is.made.level_is, is.made.outer) in
+      let up_level : level - up ≡ c.level = omega (arith, is.made.level_is) in
+      record {
+        own = own_parent tree code texts w lay p part outer words f a up near;
+        level = level;
+        couple = c;
+        names = an_array_named d is;
+        frame = frame;
+        laid = sym (chained up near) ∙ ap (place_at core.registers.display) up_level ∙ shown;
+        word_is = word_is;
+      }
+  named_stuffed held couple word frame (of_event n c is) shown word_is =
+      let up : ℕ = (use_of sc n).up in
+      let near : up + OUTER_LEVEL ≤ level = omega (arith, is.made.level_is, is.made.outer) in
+      let up_level : level - up ≡ c.level = omega (arith, is.made.level_is) in
+      record {
+        own = own_parent tree code texts w lay p part outer words f a up near;
+        level = level;
+        couple = c;
+        names = an_event_named is;
+        frame = frame;
+        laid = sym (chained up near) ∙ ap (place_at core.registers.display) up_level ∙ shown;
+        word_is = word_is;
+      }
+  named_stuffed held couple word frame (of_variable n kind c is outer_level) shown word_is =
+      let up : ℕ = (use_of sc n).up in
+      let near : up + OUTER_LEVEL ≤ level = omega (arith, is.level_is, outer_level) in
+      let up_level : level - up ≡ c.level = omega (arith, is.level_is) in
+      record {
+        own = own_parent tree code texts w lay p part outer words f a up near;
+        level = level;
+        couple = c;
+        names = a_variable_named kind is;
+        frame = frame;
+        laid = sym (chained up near) ∙ ap (place_at core.registers.display) up_level ∙ shown;
+        word_is = word_is;
+      }
+  named_stuffed held couple word frame (of_actual e kind c is) shown word_is =
+      let near : 0 + OUTER_LEVEL ≤ level = omega (arith, is.level_is, is.outer) in
+      let own_level : level - 0 ≡ c.level = omega (arith, is.level_is) in
+      record {
+        own = part_own tree code texts w lay p part outer words f;
+        level = level;
+        couple = c;
+        stands = is;
+        frame = frame;
+        laid = sym (chained 0 near) ∙ ap (place_at core.registers.display) own_level ∙ shown;
+        word_is = word_is;
+      }
+
+  one_stuffed : (x : Known) → IsStuffed sc context core x → HeldIs sc w lay (IsOwn (part ∷ outer)) part.instance x.held x.word
+  one_stuffed x s =
+      subst (λ (h : Held). HeldIs sc w lay (IsOwn (part ∷ outer)) part.instance h x.word) (sym s.held_is) (named_stuffed s.held s.couple x.word s.frame s.stuffable s.shown s.word_is)
+
+  -- all of them are known
+  pub stuffed_known : (known : List Known) → AreStuffed (scopes_of tree) (context_in tree code texts w part f.gives) core known → AreKnown (scopes_of tree) w lay (IsOwn (part ∷ outer)) part.instance known
+  stuffed_known [] are = tt
+  stuffed_known (x ∷ known) are = (one_stuffed x are.0, stuffed_known known are.1)

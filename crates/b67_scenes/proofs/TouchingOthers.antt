@@ -1,0 +1,118 @@
+-- The processes of a picture: each has its own stack and depends on no other, and the marks below its floor lead to frames below floors.
+use Rattle.std.proofs.Common.{◌≡◌, refl, sym, ap, ◌∙◌, ℕ, ◌+◌, ◌<◌, ◌≤◌, List, [], ◌∷◌, length, Option, Some, None, arith}
+use Rattle.std.specs.Prelude.{slice_get, reverse}
+use Rattle.b67_list.specs.Numbered.{numbered}
+use Rattle.algol_tree.specs.Plain.{PProgram}
+use Rattle.algol_tree.specs.Scopes.{scopes_of}
+use Rattle.algol_meaning.specs.World.{Process, Part, World}
+use Rattle.b67_word.specs.declared.Place.{Place}
+use Rattle.b67_word.specs.Word.{Word}
+use Rattle.b67_control.specs.declared.Registers.{Registers}
+use Rattle.b67_control.specs.Display.{place_at}
+use Rattle.b67_segment.specs.declared.code.Code.{Code}
+use Rattle.b67_store.specs.Store.{words_of, word_at}
+use Rattle.b67_table.specs.Chains.{place}
+use Rattle.b67_table.specs.Image.{Image, is_live}
+use Rattle.b67_table.specs.Private.{display_at, at_or, frame, floor}
+use Rattle.b67_table.specs.Privacy.{Keeps}
+use Rattle.b67_table.specs.Sound.{Lives}
+use Rattle.b67_table.proofs.Lists.{numbered_within}
+use Rattle.b67_templates.specs.Programs.{Texts}
+use Rattle.b67_cores.specs.Cores.{stack_of}
+use Rattle.b67_cores.specs.Stretches.{Above}
+use Rattle.b67_cores.proofs.Performing.{steps_keep}
+use Rattle.b67_cores.proofs.Staying.{steps_stay_above}
+use Rattle.b67_faithful.proofs.Contradictions.{some_same, true_false}
+use Rattle.b67_fitting.specs.Nested.{AreNested}
+use Rattle.b67_footprints.specs.Laws.{HaveOwnStacks}
+use Rattle.b67_rows.proofs.Numbers.{numbered_beyond, get_within}
+use Rattle.b67_rows.proofs.Rows.{words_are}
+use Rattle.b67_rows.proofs.StackWords.{get-front}
+use Rattle.b67_rows.proofs.Touching.{below_floor, FrameAt, system_frame}
+use Rattle.b67_frames.specs.Arrays.{Layout}
+use Rattle.b67_frames.specs.Frames.{Stands, Around, Frames}
+use Rattle.b67_frames.proofs.TouchingWords.{LinksTo, AllLead, lead_at, below_leads}
+use Rattle.b67_scenes.specs.Pictures.{Living, Pictured, living, dead, PicturesBy}
+
+module _ (tree : PProgram) (code : Code) (texts : Texts) (w : World) (lay : Layout) (img : Image) (by : PicturesBy tree code texts w lay img) where
+  -- ---- a process that lives
+
+  pub record LivesThere (q : ℕ) (r : Registers) : Type 0 where
+    pub process : Process
+    pub is : numbered w.processes q ≡ Some process
+    pub living_is : Living tree code texts w lay img q process
+    pub has : r ≡ living_is.core.registers
+
+  pub lives_there : (q : ℕ) (r : Registers) → Lives img q r → LivesThere q r
+  lives_there q r lives = by_number (numbered w.processes q) refl
+    where
+      by_picture : (o : Process) → numbered w.processes q ≡ Some o → Pictured tree code texts w lay img q o → LivesThere q r
+      by_picture o e (living able_is able_q l) = record { process = o; is = e; living_is = l; has = some_same (sym lives.is ∙ l.has.registers) }
+      by_picture o e (dead ended_is ended_q) = true_false lives.live (ap is_live ended_q)
+
+      by_number : (o : Option Process) → numbered w.processes q ≡ o → LivesThere q r
+      by_number (Some o) e = by_picture o e (by.each q o e)
+      by_number None e = true_false lives.live (ap is_live (numbered_beyond w.processes img.states q by.states e))
+
+  pub own_stacks : HaveOwnStacks img
+  own_stacks q r lives =
+      let l : LivesThere q r = lives_there q r lives in
+      (ap (λ (o : Registers). o.stack) l.has ∙ l.living_is.has.own, omega (arith, numbered_within w.processes q l.process l.is, by.started))
+
+  -- it depends on no other
+  pub depends_not : (q : ℕ) (r : Registers) → Lives img q r → r.critical ≡ None
+  depends_not q r lives =
+      let l : LivesThere q r = lives_there q r lives in
+      ap (λ (o : Registers). o.critical) l.has ∙ l.living_is.free
+
+  -- ---- below its floor, as near to process p
+
+  module _ (nested : AreNested (scopes_of tree)) (p q : ℕ) (o : Process) (l : Living tree code texts w lay img q o) where
+    there : Lives img q l.core.registers
+    there = record { live = l.has.live; is = l.has.registers }
+
+    frames_near : (n : ℕ) → n + 2 ≤ floor l.core.registers → FrameAt p img q n
+    frames_near n low = (below_floor l.core.registers there (omega (arith, low)), below_floor l.core.registers there (omega (arith, low)))
+
+    -- its words there are those that it has where it settles
+    lower_word : (n : ℕ) (x : Word) → n < floor l.core.registers → slice_get (stack_of l.core) n ≡ Some x → slice_get l.settled.below n ≡ Some x
+    lower_word n x low e =
+        let found : (y : Word) × (slice_get l.core.below n ≡ Some y) = get_within l.core.below n (omega (arith, low, l.has.is.bottom)) in
+        let same : found.0 ≡ x = some_same (sym (get-front l.core.below (reverse l.core.words) n found.0 found.1) ∙ e) in
+        let above : Above code l.bound l.count l.core l.settled = steps_stay_above code l.bound l.count l.core l.settled l.has.is l.steps in
+        ap (λ (ws : List Word). slice_get ws n) above.below
+        ∙ get-front l.core.below above.cells n x (found.1 ∙ ap (λ (y : Word). Some y) same)
+
+    module _ (part : Part) (outer : List Part) (s : Stands tree code texts w lay q part outer l.settled)
+        (a : Around tree code texts w lay q outer s.frame.lower s.frame.mark s.frame.control s.frame.gives) where
+      -- the innermost frame is where it was
+      settled_frame : frame l.settled.registers ≡ length s.frame.lower
+      settled_frame = ap at_or (ap (λ (n : ℕ). display_at l.settled.registers n) s.there.level_is ∙ s.top)
+
+      own_frame : frame l.core.registers ≡ length s.frame.lower
+      own_frame =
+          let kept : Keeps l.core.registers l.settled.registers = steps_keep l.steps in
+          ap (λ (d : List (Option Place)). at_or (place_at d l.core.registers.ll)) (sym kept.2)
+          ∙ ap (λ (n : ℕ). at_or (place_at l.settled.registers.display n)) (sym kept.1)
+          ∙ settled_frame
+
+      ends_low : length s.frame.lower + 2 ≤ floor l.core.registers
+      ends_low = omega (arith, own_frame)
+
+      lower_lead : AllLead (FrameAt p img) (system_frame p img) l.settled.below
+      lower_lead =
+          below_leads tree code texts nested w lay q (FrameAt p img) (system_frame p img) (floor l.core.registers) frames_near part outer l.settled s a
+          (omega (arith, ends_low, l.has.is.bottom, l.small)) (omega (arith, ends_low))
+
+    -- the marks there lead to near frames
+    pub lower_links : (n : ℕ) (x : Word) → n < floor l.core.registers → word_at img.stacks (place q n) ≡ Some x → LinksTo (FrameAt p img) x
+    lower_links n x low e = by_parts o.todo l.frames
+      where
+        words_there : words_of img.stacks q ≡ stack_of l.core
+        words_there = ap (words_of img.stacks) (sym l.has.own) ∙ words_are img q l.core l.has
+
+        by_parts : (parts : List Part) → Frames tree code texts w lay q parts l.settled → LinksTo (FrameAt p img) x
+        by_parts [] f = absurd f
+        by_parts (part ∷ outer) f =
+            lead_at (FrameAt p img) (system_frame p img) l.settled.below n x (lower_lead part outer f.0 f.1)
+            (lower_word n x low (sym (ap (λ (ws : List Word). slice_get ws n) words_there) ∙ e))

@@ -1,0 +1,133 @@
+-- A process that stands at its action: near are the frames to which marks and its display lead.
+use Rattle.algol_meaning.specs.Critical.{is_evaluation}
+use Rattle.std.proofs.Common.{◌≡◌, ◌⊎◌, inl, inr, refl, sym, ap, ◌∙◌, ℕ, ◌+◌, ◌-◌, ◌<◌, ◌≤◌, List, ◌∷◌, length, Some, None, Ok, arith}
+use Rattle.std.specs.Prelude.{slice_get}
+use Rattle.b67_list.specs.Numbered.{numbered}
+use Rattle.algol_tree.specs.Blocks.{around}
+use Rattle.algol_tree.specs.Plain.{PProgram}
+use Rattle.algol_tree.specs.Scopes.{Scopes, scopes_of}
+use Rattle.algol_meaning.specs.World.{Process, Part, World, instance_at, ancestor}
+use Rattle.b67_word.specs.declared.Place.{Place}
+use Rattle.b67_word.specs.Word.{Word}
+use Rattle.b67_control.specs.declared.Mscw.{Mscw}
+use Rattle.b67_control.specs.Control.{as_mscw}
+use Rattle.b67_ops.specs.declared.Operator.{Operator}
+use Rattle.b67_ops.specs.declared.TheConstants.{OUTER_LEVEL}
+use Rattle.b67_segment.specs.Operators.{Placed}
+use Rattle.b67_segment.specs.declared.code.Code.{Code}
+use Rattle.b67_table.specs.declared.Class.TheVariants as classes
+use Rattle.b67_store.specs.Store.{words_or, words_of, word_at}
+use Rattle.b67_table.specs.Beginning.{system_stack}
+use Rattle.b67_table.specs.Chains.{place, link_of}
+use Rattle.b67_table.specs.Image.{Image, critical_in, critical_of}
+use Rattle.b67_table.specs.Private.{display_at, floor}
+use Rattle.b67_table.specs.Table.{operator_at, class_at}
+use Rattle.b67_templates.specs.Fragments.{Has}
+use Rattle.b67_templates.specs.Programs.{Texts}
+use Rattle.b67_cores.specs.Cores.{Core, stack_of}
+use Rattle.b67_faithful.proofs.Contradictions.{some_same, none_some}
+use Rattle.b67_fitting.specs.Nested.{AreNested}
+use Rattle.b67_rows.proofs.Numbers.{get_within, most_or_more}
+use Rattle.b67_rows.proofs.Parents.{length_around}
+use Rattle.b67_rows.proofs.Rows.{words_are}
+use Rattle.b67_rows.proofs.Touching.{Near, own_stack, system, below_floor, NearFrame, FrameAt, system_frame, own_frame, IsNear, NamesNear}
+use Rattle.b67_rows.proofs.TouchingOperators.{StandsNear, privately, acting}
+use Rattle.b67_frames.specs.Arrays.{Layout}
+use Rattle.b67_frames.proofs.Lying.{Lies, lies_in, parents_in, part_own, runs_near}
+use Rattle.b67_frames.proofs.TouchingWords.{AllLead, lead_at, system_leads, core_leads}
+use Rattle.b67_scenes.proofs.Homes.{operator_there}
+use Rattle.b67_scenes.proofs.Scene.{Scene, shown_frame}
+use Rattle.b67_scenes.proofs.Staying.{text_in, level_in, names_in}
+use Rattle.b67_scenes.proofs.TouchingOthers.{LivesThere, lives_there, depends_not, lower_links}
+
+module _ (tree : PProgram) (code : Code) (texts : Texts) (nested : AreNested (scopes_of tree)) (w : World) (lay : Layout) (img : Image)
+    (p : ℕ) (q : Process) (part : Part) (outer : List Part) (bound : ℕ) (core : Core) (s : Scene tree code texts w lay img p q part outer bound core) where
+  abbrev sc : Scopes
+  sc = scopes_of tree
+
+  abbrev level : ℕ
+  level = level_in tree w part
+
+  abbrev named_level : ℕ
+  named_level = names_in tree w part
+
+  abbrev text : List Placed
+  text = text_in tree texts w part
+
+  abbrev block : ℕ
+  block = (instance_at w part.instance).block
+
+  -- the frames that the display names are those of the instance and of its static parents
+  module _ (f : Place) (l : ℕ) (low : 2 ≤ l) (high : l ≤ core.registers.ll) (e : display_at core.registers l ≡ Some f) where
+    far : l ≤ named_level → named_level - l + OUTER_LEVEL ≤ named_level
+    far within = omega (arith, low, within)
+
+    back : l ≤ named_level → named_level - (named_level - l) ≡ l
+    back within = omega (arith, within)
+
+    by_parent : l ≤ named_level → Lies tree code texts w lay p (part ∷ outer) (ancestor w (named_level - l) part.instance) core.below → NearFrame p img f
+    by_parent within k =
+        let named : numbered lay.places (ancestor w (named_level - l) part.instance) ≡ Some (place p (length k.frame.lower)) = ap (numbered lay.places) (sym k.instance_is) ∙ k.owned.framed.laid in
+        let shown : display_at core.registers l ≡ Some (place p (length k.frame.lower)) = ap (λ (n : ℕ). display_at core.registers n) (sym (back within)) ∙ s.stands.chained (named_level - l) (far within) ∙ named in
+        own_frame p img f (ap (λ (y : Place). y.stack) (some_same (sym e ∙ shown)))
+
+    names_near : l ≤ named_level → NearFrame p img f
+    names_near within =
+        let there = get_within (block ∷ around sc.blocks block) (named_level - l) (omega (arith, far within, length_around sc.blocks block)) in
+        by_parent within
+        (lies_in tree code texts w lay p part outer core s.stands s.around (ancestor w (named_level - l) part.instance)
+        (parents_in tree code texts w lay p part outer core s.stands s.around part.instance (part_own tree code texts w lay p part outer core.below s.stands.frame) (named_level - l) there.0 there.1).own)
+
+    -- one level further in it is the part's own
+    shown_near : NearFrame p img f
+    shown_near = by_level (most_or_more l named_level)
+      where
+        own_near : l ≡ core.registers.ll → NearFrame p img f
+        own_near top =
+            own_frame p img f (ap (λ (y : Place). y.stack) (some_same (sym e ∙ ap (λ (n : ℕ). display_at core.registers n) top ∙ shown_frame tree code texts w lay img p q part outer bound core s)))
+
+        by_level : (l ≤ named_level) ⊎ (named_level < l) → NearFrame p img f
+        by_level (inl within) = names_near within
+        by_level (inr beyond) = own_near (omega (arith, high, beyond, s.stands.there.level_is, runs_near (is_evaluation part.purpose) named_level))
+
+  -- the marks of near stacks lead to near frames
+  own_leads : AllLead (FrameAt p img) (system_frame p img) (stack_of core)
+  own_leads =
+      core_leads tree code texts nested w lay p (FrameAt p img) (system_frame p img) (length s.stands.frame.lower) (λ n low. own_frame p img (place p n) refl) part outer core s.stands s.around s.small (omega arith)
+
+  links_near : (x : Place) (v : Word) (m : Mscw) → Near p img x → word_at img.stacks x ≡ Some v → as_mscw v ≡ Some m → NearFrame p img (link_of m)
+  links_near x v m (own_stack own) e is =
+      let words : words_of img.stacks x.stack ≡ stack_of core = ap (words_of img.stacks) (own ∙ sym s.has.own) ∙ words_are img p core s.has in
+      (lead_at (FrameAt p img) (system_frame p img) (stack_of core) x.at v own_leads (sym (ap (λ (ws : List Word). slice_get ws x.at) words) ∙ e)).link m is
+  links_near x v m (system none) e is =
+      let words : words_of img.stacks x.stack ≡ system_stack = ap (words_of img.stacks) none ∙ ap words_or s.by.system in
+      (lead_at (FrameAt p img) (system_frame p img) system_stack x.at v (system_leads (FrameAt p img) (system_frame p img)) (sym (ap (λ (ws : List Word). slice_get ws x.at) words) ∙ e)).link m is
+  links_near x v m (below_floor r lives low) e is =
+      let t : LivesThere tree code texts w lay img s.by x.stack r = lives_there tree code texts w lay img s.by x.stack r lives in
+      (lower_links tree code texts w lay img s.by nested p x.stack t.process t.living_is x.at v (omega (arith, low, ap floor t.has)) e).link m is
+
+  -- no process of a near stack depends on another
+  none_depends : (f : Place) → Near p img f → critical_of img.regs f.stack ≡ None
+  none_depends f (own_stack own) = ap (critical_of img.regs) own ∙ ap critical_in s.has.registers ∙ s.free
+  none_depends f (system none) = ap (critical_of img.regs) none
+  none_depends f (below_floor r lives low) = ap critical_in lives.is ∙ depends_not tree code texts w lay img s.by f.stack r lives
+
+  pub is_near : IsNear p img core.registers
+  is_near =
+      record {
+        own = s.has.own;
+        links = links_near;
+        shows = shown_near;
+        depends = λ f c k e. none_some (sym (none_depends f k) ∙ e);
+      }
+
+  pub stands_at : (op : Operator) (next : ℕ) → Has text level s.stands.pc op next → operator_at code core.registers ≡ Ok (op, next)
+  stands_at op next has_it = operator_there sc s.stands.held code text level s.stands.pc s.stands.slots core op next s.stands.there has_it
+
+  -- the operator names near cells
+  pub by_names : (op : Operator) (next : ℕ) → Has text level s.stands.pc op next → NamesNear p img op core.registers → StandsNear code p img core.registers
+  by_names op next has_it names = acting op next (stands_at op next has_it) is_near names
+
+  -- or is private
+  pub by_class : (op : Operator) (next : ℕ) → Has text level s.stands.pc op next → class_at op core.registers.place ≡ classes.Private → StandsNear code p img core.registers
+  by_class op next has_it private = privately op next (stands_at op next has_it) private

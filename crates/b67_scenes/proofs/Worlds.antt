@@ -1,0 +1,159 @@
+-- What holds of a world that is pictured, and is as worlds are: an evaluation in an instance that has not made all keeps to what is around it.
+use Rattle.std.proofs.Common.{◌≡◌, ◌≢◌, ◌⊎◌, inl, inr, refl, sym, ap, ◌∙◌, subst, ℕ, zero, suc, Bool, true, false, List, [], ◌∷◌, length, Some}
+use Rattle.std.specs.Prelude.{if◌then◌else◌, slice_get}
+use Rattle.b67_list.specs.Numbered.{numbered}
+use Rattle.algol_tree.specs.Plain.{PProgram}
+use Rattle.algol_tree.specs.Scopes.{Scopes, scopes_of}
+use Rattle.algol_meaning.specs.World.{Instance, Process, Part, State, lives, World, instance_at}
+use Rattle.algol_meaning.specs.Critical.{is_evaluation, own_instances}
+use Rattle.algol_paths.specs.Arrays.{all_to_make}
+use Rattle.algol_paths.specs.Blocks.{IsSeenAround}
+use Rattle.algol_paths.specs.Texts.{InRest}
+use Rattle.algol_standing.specs.Skeleton.{IsIn, Stack}
+use Rattle.algol_standing.specs.Worlds.{IsAmong, IsNoBlock, IsStanding, IsWhole, skeleton, stack_of}
+use Rattle.algol_standing.specs.Fitting.{IsOk}
+use Rattle.algol_standing.proofs.Pairs.{map_back, stack_forth}
+use Rattle.b67_word.specs.declared.Place.{Place}
+use Rattle.b67_word.specs.Word.{Word}
+use Rattle.b67_segment.specs.declared.code.Code.{Code}
+use Rattle.b67_table.specs.Chains.{place}
+use Rattle.b67_table.specs.Image.{Image}
+use Rattle.b67_templates.specs.Contexts.{Yields}
+use Rattle.b67_templates.specs.Programs.{Texts}
+use Rattle.b67_cores.specs.Cores.{Core}
+use Rattle.b67_faithful.proofs.Contradictions.{some_same, true_false}
+use Rattle.b67_rows.proofs.Numbers.{same_or_not}
+use Rattle.b67_frames.specs.Arrays.{Layout, IsOwn}
+use Rattle.b67_frames.specs.Frames.{IsComplete, IsNarrow, Frame, Around, Frames, Owned}
+use Rattle.b67_frames.proofs.Completing.{complete_of}
+use Rattle.b67_frames.proofs.EventsLow.{IsElsewhere}
+use Rattle.b67_frames.proofs.Lying.{owned_frame, Lies, lies_in}
+use Rattle.b67_scenes.specs.Pictures.{Pictured, living, dead, PicturesBy}
+
+-- where no part has an instance of its own, none of these has
+none_own : (parts : List Part) (part : Part) → own_instances parts ≡ [] → IsAmong parts part → is_evaluation part.purpose ≡ false → ⊥
+none_own [] part none among owns = absurd among
+none_own (x ∷ parts) part none among owns = by (is_evaluation x.purpose) refl none among (none_own parts part)
+  where
+    by : (t : Bool) → is_evaluation x.purpose ≡ t → (if t then own_instances parts else x.instance ∷ own_instances parts) ≡ [] → (x ≡ part) ⊎ IsAmong parts part →
+        (own_instances parts ≡ [] → IsAmong parts part → is_evaluation part.purpose ≡ false → ⊥) → ⊥
+    by false e clash among later = cc
+    by true e none (inr more) later = later none more owns
+    by true e none (inl same) later = true_false e (ap (λ (y : Part). is_evaluation y.purpose) same ∙ owns)
+
+-- an own instance is one of a part
+own_listed : (parts : List Part) (j : ℕ) → IsIn (own_instances parts) j → IsOwn parts j
+own_listed [] j inside = absurd inside
+own_listed (part ∷ parts) j inside = by (is_evaluation part.purpose) refl inside (own_listed parts j)
+  where
+    by : (t : Bool) → is_evaluation part.purpose ≡ t → IsIn (if t then own_instances parts else part.instance ∷ own_instances parts) j → (IsIn (own_instances parts) j → IsOwn parts j) → IsOwn (part ∷ parts) j
+    by true e more later = inr (later more)
+    by false e (inl same) later = inl (e, same)
+    by false e (inr more) later = inr (later more)
+
+module _ (tree : PProgram) (code : Code) (texts : Texts) (w : World) (lay : Layout) where
+  abbrev sc : Scopes
+  sc = scopes_of tree
+
+  -- ---- a part that has nothing to make has its instance complete
+
+  module _ (p : ℕ) where
+    frame_complete : (part : Part) (outer : List Part) (words : List Word) → Frame tree code texts w lay p part outer words → is_evaluation part.purpose ≡ false → all_to_make part.rest ≡ [] → IsComplete sc w lay part.instance
+    frame_complete part outer words f owns made =
+        let o : Owned tree code texts w lay p part outer (length f.lower) f.mark f.control f.cells = owned_frame tree code texts w lay p part outer words f owns in
+        complete_of sc w lay p part.instance outer (length f.lower) f.mark f.control f.cells o.framed (o.making ∙ made)
+
+    -- .. by another name
+    same_complete : (x part : Part) → x ≡ part → (is_evaluation x.purpose ≡ false → all_to_make x.rest ≡ [] → IsComplete sc w lay x.instance) → is_evaluation part.purpose ≡ false → all_to_make part.rest ≡ [] →
+        IsComplete sc w lay part.instance
+    same_complete x part same h owns made =
+        subst (λ (y : Part). IsComplete sc w lay y.instance) same
+        (h (ap (λ (y : Part). is_evaluation y.purpose) same ∙ owns) (ap (λ (y : Part). all_to_make y.rest) same ∙ made))
+
+    around_complete : (parts : List Part) (lower : List Word) (mark control : Word) (wanted : Yields) → Around tree code texts w lay p parts lower mark control wanted → (part : Part) → IsAmong parts part →
+        is_evaluation part.purpose ≡ false → all_to_make part.rest ≡ [] → IsComplete sc w lay part.instance
+    around_complete [] lower mark control wanted a part among owns made = absurd among
+    around_complete (x ∷ outer) lower mark control wanted a part (inl same) owns made =
+        same_complete x part same (frame_complete x outer a.0.below a.0.frame) owns made
+    around_complete (x ∷ outer) lower mark control wanted a part (inr later) owns made =
+        around_complete outer a.0.frame.lower a.0.frame.mark a.0.frame.control a.0.frame.gives a.1 part later owns made
+
+    frames_complete : (parts : List Part) (core : Core) → Frames tree code texts w lay p parts core → (part : Part) → IsAmong parts part → is_evaluation part.purpose ≡ false → all_to_make part.rest ≡ [] →
+        IsComplete sc w lay part.instance
+    frames_complete [] core f part among owns made = absurd among
+    frames_complete (x ∷ outer) core f part (inl same) owns made = same_complete x part same (frame_complete x outer core.below f.0.frame) owns made
+    frames_complete (x ∷ outer) core f part (inr later) owns made =
+        around_complete outer f.0.frame.lower f.0.frame.mark f.0.frame.control f.0.frame.gives f.1 part later owns made
+
+  -- what a part has still to do keeps to what is around its block
+  abbrev IsAround : Part → Type 0
+  IsAround part = InRest (IsSeenAround sc ((instance_at w part.instance).block)) IsNoBlock (IsSeenAround sc ((instance_at w part.instance).block)) part.rest
+
+  module _ (img : Image) (by : PicturesBy tree code texts w lay img) (ok : IsOk (scopes_of tree) IsWhole w) where
+    -- an instance that is whole is complete
+    pub whole_complete : (i : ℕ) → IsWhole w i → IsComplete sc w lay i
+    whole_complete i h = by_picture (by.each h.number h.process h.is)
+      where
+        by_picture : Pictured tree code texts w lay img h.number h.process → IsComplete sc w lay i
+        by_picture (living able_is s l) = subst (λ (j : ℕ). IsComplete sc w lay j) h.instance_is (frames_complete h.number h.process.todo l.settled l.frames h.part h.among h.owns h.made)
+        by_picture (dead ended_is s) =
+            absurd (none_own h.process.todo h.part
+            (ok.sound.skeleton_ok.ended h.number (stack_of h.process) (stack_forth w h.number h.process h.is) (ap (λ (x : State). lives x) ended_is)) h.among h.owns)
+
+    pub narrow_of : (p : ℕ) (q : Process) → numbered w.processes p ≡ Some q → (part : Part) (outer : List Part) → q.todo ≡ part ∷ outer → IsNarrow sc w lay part
+    narrow_of p q at part outer todo evaluates =
+        by_world (((ok.sound.processes p q at).parts part (subst (λ (parts : List Part). IsAmong parts part) (sym todo) (inl refl))).narrow evaluates)
+      where
+        by_world : IsWhole w part.instance ⊎ IsAround part → IsComplete sc w lay part.instance ⊎ IsAround part
+        by_world (inl whole) = inl (whole_complete part.instance whole)
+        by_world (inr around) = inr around
+
+    -- ---- where the instances that stand lie
+
+    -- a process has this instance in its stack
+    pub record IsInStack (j : ℕ) : Type 0 where
+      pub number : ℕ
+      pub process : Process
+      pub is : numbered w.processes number ≡ Some process
+      pub inside : IsIn (own_instances process.todo) j
+
+    in_stack : (j : ℕ) → IsStanding w j → IsInStack j
+    in_stack j st = by_number st.number st.is
+      where
+        by_number : (n : ℕ) → slice_get (skeleton w).stacks n ≡ Some st.stack → IsInStack j
+        by_number zero e = absurd (subst (λ (x : Stack). IsIn x.own j) (sym (some_same e)) st.inside)
+        by_number (suc k) e =
+            let back = map_back stack_of w.processes k st.stack e in
+            record { number = suc k; process = back.0; is = back.1; inside = subst (λ (x : Stack). IsIn x.own j) back.2 st.inside }
+
+    -- its frame lies in that
+    frame_there : (j : ℕ) (h : IsInStack j) → (at : ℕ) × (numbered lay.places j ≡ Some (place h.number at))
+    frame_there j h = by_picture (by.each h.number h.process h.is)
+      where
+        by_frames : (parts : List Part) (core : Core) → Frames tree code texts w lay h.number parts core → IsOwn parts j → (at : ℕ) × (numbered lay.places j ≡ Some (place h.number at))
+        by_frames [] core f own = absurd f
+        by_frames (part ∷ outer) core f own =
+            let l : Lies tree code texts w lay h.number (part ∷ outer) j core.below = lies_in tree code texts w lay h.number part outer core f.0 f.1 j own in
+            (length l.frame.lower, ap (λ (k : ℕ). numbered lay.places k) (sym l.instance_is) ∙ l.owned.framed.laid)
+
+        by_picture : Pictured tree code texts w lay img h.number h.process → (at : ℕ) × (numbered lay.places j ≡ Some (place h.number at))
+        by_picture (living able_is s l) = by_frames h.process.todo l.settled l.frames (own_listed h.process.todo j h.inside)
+        by_picture (dead ended_is s) =
+            absurd (subst (λ (is : List ℕ). IsIn is j)
+            (ok.sound.skeleton_ok.ended h.number (stack_of h.process) (stack_forth w h.number h.process h.is) (ap (λ (x : State). lives x) ended_is)) h.inside)
+
+    -- an instance that stands is an own one of this process's parts, or its frame lies in another stack
+    pub held_of : (p : ℕ) (q : Process) → numbered w.processes p ≡ Some q → (j : ℕ) (x : Instance) → numbered w.instances j ≡ Some x → x.left ≡ false → IsOwn q.todo j ⊎ IsElsewhere lay p j
+    held_of p q at j x is stands = by_number (in_stack j ((ok.sound.instances j x is).left.0 stands))
+      where
+        by_number : IsInStack j → IsOwn q.todo j ⊎ IsElsewhere lay p j
+        by_number h = by_same (same_or_not h.number p)
+          where
+            by_same : (h.number ≡ p) ⊎ (h.number ≢ p) → IsOwn q.todo j ⊎ IsElsewhere lay p j
+            by_same (inl same) =
+                let process_is : h.process ≡ q = some_same (sym h.is ∙ ap (λ (n : ℕ). numbered w.processes n) same ∙ at) in
+                inl (subst (λ (o : Process). IsOwn o.todo j) process_is (own_listed h.process.todo j h.inside))
+            by_same (inr other) =
+                let f = frame_there j h in
+                inr (λ (g : Place) (laid : numbered lay.places j ≡ Some g). λ (stack_is : g.stack ≡ p).
+                other (ap (λ (x : Place). x.stack) (some_same (sym f.1 ∙ laid)) ∙ stack_is))
