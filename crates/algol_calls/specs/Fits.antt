@@ -1,11 +1,12 @@
 -- What a text calls and gives: each call names a procedure and has an actual that fits for each parameter, and what is stored to, acted on
 -- and referred to is no cell that a parameter has of its own to lead elsewhere.
 use Rattle.std.specs.Prelude.{◌≡◌, ℕ, ◌<◌, if◌then◌else◌, Bool, true, false, List, [], ◌∷◌, length, Option, Some, None}
+use Rattle.algol_tree.specs.declared.tree.Kind.{Kind}
 use Rattle.algol_tree.specs.declared.tree.Named.{Named}
 use Rattle.algol_tree.specs.Plain as tree
-use Rattle.algol_tree.specs.Plain.{PExpr, PExprs, PPair, PStmt, PStmts}
-use Rattle.algol_tree.specs.Blocks.{block_numbered, around}
-use Rattle.algol_tree.specs.Sorts.{Sort, variable, is_formal, is_by_name, is_variable, procedure_in, Parameter, same_name}
+use Rattle.algol_tree.specs.Plain.{PExpr, PExprs, PPair, PStmt, PStmts, PDecls}
+use Rattle.algol_tree.specs.Blocks.{Block, block_numbered, around}
+use Rattle.algol_tree.specs.Sorts.{Sort, variable, is_formal, is_by_name, is_variable, procedure_in, Parameter, same_name, is_named_in}
 use Rattle.algol_tree.specs.Scopes.{Scopes, use_of}
 use Rattle.algol_meaning.specs.Value.{Cell, named, reference}
 use Rattle.algol_meaning.specs.Rest.{Place, own, Given, valued, passed, refers, names, Hole, index, enter, subscript, argument, left, right, negated, inverted, condition, Actuals, pass, in_value, Aim, resolve, place_index, inside_place, place_subscript, Loop, Item, run, turn, count, check, test, result, make_arrays, make_event, Rest, over, reading, giving, giving_place, store, select, turning, going, entering_block, entering, starting, acting, line, arrays, event, within, dropping, evaluating, locating, aiming, storing, choosing, looping, checking, counting, differing, stepping, selecting, calling, preparing, writing, bounding, Answer, cell, place}
@@ -31,6 +32,26 @@ abbrev pub parameter_sort : List Parameter → List ℕ → Sort
 parameter_sort [] name = variable
 parameter_sort (p ∷ ps) name = if same_name p.name name then p.sort else parameter_sort ps name
 
+-- ---- the cells that a block has from its entry on
+
+abbrev pub has_parameter : List Parameter → List ℕ → Bool
+has_parameter [] name = false
+has_parameter (p ∷ ps) name = if same_name p.name name then true else has_parameter ps name
+
+abbrev pub has_result : Option Kind → List ℕ → List ℕ → Bool
+has_result None result_name name = false
+has_result (Some kind) result_name name = same_name result_name name
+
+-- a simple variable of these declarations
+abbrev pub has_variable : PDecls → List ℕ → Bool
+has_variable tree.no_decls name = false
+has_variable (tree.decls (tree.simple kind ns) ds) name = if is_named_in ns name then true else has_variable ds name
+has_variable (tree.decls d ds) name = has_variable ds name
+
+-- a parameter, the result or a simple variable of the block has this name: no action makes it
+abbrev pub has_simple : Block → List ℕ → Bool
+has_simple b name = if has_parameter b.parameters name then true else if has_result b.result b.name name then true else has_variable b.decls name
+
 abbrev pub IsByValue : Sort → Type 0
 IsByValue s = is_formal s ≡ false
 
@@ -50,6 +71,8 @@ module _ (sc : Scopes) where
   pub record IsTold (n : Named) : Type 0 where
     pub formal : is_formal (own_sort n) ≡ is_formal (sort_at sc n)
     pub by_name : is_by_name (own_sort n) ≡ is_by_name (sort_at sc n)
+    -- a variable has its cell from the entry of its block on
+    pub variable : is_variable (sort_at sc n) ≡ true → has_simple (block_numbered sc.blocks ((use_of sc n).block)) n.name ≡ true
 
   -- .. and it stands for nothing else
   pub record IsSettled (n : Named) : Type 0 where

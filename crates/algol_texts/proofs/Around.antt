@@ -6,17 +6,18 @@ use Rattle.algol_tree.specs.declared.token.Spot.{Spot}
 use Rattle.algol_tree.specs.declared.tree.Heading.{Heading}
 use Rattle.algol_tree.specs.declared.tree.Kind.{Kind}
 use Rattle.algol_tree.specs.declared.tree.Named.{Named}
-use Rattle.algol_tree.specs.Blocks.{Block, number_at, around}
+use Rattle.algol_tree.specs.Blocks.{Block, block_numbered, number_at, around}
 use Rattle.algol_tree.specs.Classes as class
 use Rattle.algol_tree.specs.Classes.{Class}
 use Rattle.algol_tree.specs.Plain as tree
 use Rattle.algol_tree.specs.Plain.{PDecl, PDecls}
 use Rattle.algol_tree.specs.Sorts as sort
-use Rattle.algol_tree.specs.Sorts.{Sort, is_formal, Parameter, same_name, Declared, look_up, declare, is_named_in, sort_in, class_in, parameters_of}
+use Rattle.algol_tree.specs.Sorts.{Sort, is_formal, is_variable, Parameter, same_name, Declared, look_up, declare, is_named_in, sort_in, class_in, parameters_of}
 use Rattle.algol_tree.specs.Surroundings.{Surroundings, announced, declare_procedure, knowing, knowing_all, inside_procedure}
 use Rattle.algol_meaning.proofs.Naming.{same_name-is}
 use Rattle.algol_told.proofs.Lists.{contains-first, contains-later, all-append, all-weaker, false-not-true}
-use Rattle.algol_texts.proofs.Parameters.{has_name, HasParameter, more_known, IsGiven, given_value, given_name, given_array, given_event, given, each_named, parameter_known, each_parameter}
+use Rattle.algol_calls.specs.Fits.{has_parameter, has_variable, has_simple}
+use Rattle.algol_texts.proofs.Parameters.{HasParameter, more_known, IsGiven, given_value, given_name, given_array, given_event, given, each_named, parameter_known, each_parameter, parameter_simple, variable_simple}
 use Rattle.algol_texts.proofs.Callees.{AreSpecified, parameters_at, IsCallee, DeclaresCallee, AreCallees, IsChain}
 
 module _ (blocks : List Block) where
@@ -33,13 +34,15 @@ module _ (blocks : List Block) where
     a_file : Means block name sort.file class.file
     a_procedure : (h : Heading) → IsCallee blocks block h → h.name.name ≡ name → Means block name (sort.procedure (number_at blocks h.name.spot)) (class.procedure h)
 
-  -- The declaration stands in the block j or in one around it, so many up. What stands for something else is a parameter.
+  -- The declaration stands in the block j or in one around it, so many up. What stands for something else is a parameter, and a
+  -- variable has its cell from the entry of its block on.
   pub record IsKnown (j depth : ℕ) (d : Declared) : Type 0 where
     pub deep : length (around blocks d.block) ≡ d.depth
     pub shallow : d.depth ≤ depth
     pub found : slice_get (j ∷ around blocks j) (depth - d.depth) ≡ Some d.block
     pub means : Means d.block d.name d.sort d.class
-    pub formal : is_formal d.sort ≡ true → has_name (parameters_at blocks d.block) d.name ≡ true
+    pub formal : is_formal d.sort ≡ true → has_parameter (parameters_at blocks d.block) d.name ≡ true
+    pub variable : is_variable d.sort ≡ true → has_simple (block_numbered blocks d.block) d.name ≡ true
 
   -- all parameters of the block k are known; those of each of these
   abbrev pub HasAll : List Declared → ℕ → Type 0
@@ -79,9 +82,13 @@ module _ (blocks : List Block) where
           whole = wider new a.known (j ∷ around blocks j) r.whole;
         }
 
-    one_here : (a : Surroundings) → IsAround j outer a → (s : Sort) (c : Class) (n : Named) → is_formal s ≡ false → Means a.block n.name s c →
+    -- a variable of this name is one of the block
+    abbrev HasCell : Surroundings → Sort → Named → Type 0
+    HasCell a s n = is_variable s ≡ true → has_simple (block_numbered blocks a.block) n.name ≡ true
+
+    one_here : (a : Surroundings) → IsAround j outer a → (s : Sort) (c : Class) (n : Named) → is_formal s ≡ false → Means a.block n.name s c → HasCell a s n →
         IsKnown j a.depth (record { name = n.name; spot = n.spot; block = a.block; depth = a.depth; sort = s; class = c })
-    one_here a r s c n f m =
+    one_here a r s c n f m v =
         let none_up : a.depth - a.depth ≡ 0 = omega arith in
         record {
           deep = ap (λ (k : ℕ). length (around blocks k)) r.block_is ∙ r.deep;
@@ -89,32 +96,46 @@ module _ (blocks : List Block) where
           found = ap (slice_get (j ∷ around blocks j)) none_up ∙ ap Some (sym r.block_is);
           means = m;
           formal = λ e. absurd (false-not-true (sym f ∙ e));
+          variable = v;
         }
 
     all_here : (a : Surroundings) → IsAround j outer a → (s : Sort) (c : Class) (ns : List Named) → is_formal s ≡ false → ((n : Named) → Means a.block n.name s c) →
+        AllByRecursion (HasCell a s) ns →
         AllByRecursion (IsKnown j a.depth) (declare a.block a.depth s c ns)
-    all_here a r s c [] f m = tt
-    all_here a r s c (n ∷ ns) f m = (one_here a r s c n f (m n), all_here a r s c ns f m)
+    all_here a r s c [] f m v = tt
+    all_here a r s c (n ∷ ns) f m v = (one_here a r s c n f (m n) v.0, all_here a r s c ns f m v.1)
 
-    knows : (s : Sort) (c : Class) (ns : List Named) (a : Surroundings) → is_formal s ≡ false → ((n : Named) → Means a.block n.name s c) → IsAround j outer a →
-        IsAround j outer (record a { known = declare a.block a.depth s c ns ++ a.known })
-    knows s c ns a f m r = knows_more a (declare a.block a.depth s c ns) r (all_here a r s c ns f m)
+    -- what is no variable
+    none_here : (a : Surroundings) (s : Sort) (ns : List Named) → is_variable s ≡ false → AllByRecursion (HasCell a s) ns
+    none_here a s [] e = tt
+    none_here a s (n ∷ ns) e = (λ h. absurd (false-not-true (sym e ∙ h)), none_here a s ns e)
+
+    knows : (s : Sort) (c : Class) (ns : List Named) (a : Surroundings) → is_formal s ≡ false → ((n : Named) → Means a.block n.name s c) → AllByRecursion (HasCell a s) ns →
+        IsAround j outer a → IsAround j outer (record a { known = declare a.block a.depth s c ns ++ a.known })
+    knows s c ns a f m v r = knows_more a (declare a.block a.depth s c ns) r (all_here a r s c ns f m v)
+
+    -- simple variables of the block
+    variables_here : (a : Surroundings) → IsAround j outer a → (ns : List Named) → AllByRecursion (λ (n : Named). has_variable (block_numbered blocks j).decls n.name ≡ true) ns →
+        AllByRecursion (HasCell a sort.variable) ns
+    variables_here a r ns h =
+        all-weaker (λ (n : Named). has_variable (block_numbered blocks j).decls n.name ≡ true) (HasCell a sort.variable)
+        (λ n e g. subst (λ (k : ℕ). has_simple (block_numbered blocks k) n.name ≡ true) (sym r.block_is) (variable_simple (block_numbered blocks j) n.name e)) ns h
 
     -- the procedure with this heading
     knows_procedure : (h : Heading) (a : Surroundings) → IsCallee blocks j h → IsAround j outer a → IsAround j outer (record a { known = declare_procedure blocks h a ++ a.known })
     knows_procedure h a c r =
         let its = subst (λ (k : ℕ). IsCallee blocks k h) (sym r.block_is) c in
         knows_more a (declare_procedure blocks h a) r
-        (one_here a r (sort.procedure (number_at blocks h.name.spot)) (class.procedure h) h.name refl (a_procedure h its refl), tt)
+        (one_here a r (sort.procedure (number_at blocks h.name.spot)) (class.procedure h) h.name refl (a_procedure h its refl) (λ e. absurd (false-not-true e)), tt)
 
     -- the place after a declaration, the later ones being these
     pub knows_one : (d : PDecl) (ds : PDecls) (a : Surroundings) → DeclaresCallee blocks j d ds → IsAround j outer a → IsAround j outer (knowing blocks d ds a)
-    knows_one (tree.simple kind ns) ds a c r = knows sort.variable (class.simple kind) ns a refl (λ n. a_variable kind) r
-    knows_one (tree.files ns) ds a c r = knows sort.file class.file ns a refl (λ n. a_file) r
-    knows_one (tree.events ns) ds a c r = knows sort.event class.event ns a refl (λ n. an_event) r
-    knows_one (tree.tasks ns) ds a c r = knows sort.event class.task ns a refl (λ n. a_task) r
-    knows_one (tree.labels ns) ds a c r = knows sort.label class.label ns a refl (λ n. a_label) r
-    knows_one (tree.arrays kind ns pairs) ds a c r = knows sort.array (class.array kind (length pairs)) ns a refl (λ n. an_array kind (length pairs)) r
+    knows_one (tree.simple kind ns) ds a c r = knows sort.variable (class.simple kind) ns a refl (λ n. a_variable kind) (variables_here a r ns c) r
+    knows_one (tree.files ns) ds a c r = knows sort.file class.file ns a refl (λ n. a_file) (none_here a sort.file ns refl) r
+    knows_one (tree.events ns) ds a c r = knows sort.event class.event ns a refl (λ n. an_event) (none_here a sort.event ns refl) r
+    knows_one (tree.tasks ns) ds a c r = knows sort.event class.task ns a refl (λ n. a_task) (none_here a sort.event ns refl) r
+    knows_one (tree.labels ns) ds a c r = knows sort.label class.label ns a refl (λ n. a_label) (none_here a sort.label ns refl) r
+    knows_one (tree.arrays kind ns pairs) ds a c r = knows sort.array (class.array kind (length pairs)) ns a refl (λ n. an_array kind (length pairs)) (none_here a sort.array ns refl) r
     knows_one (tree.forward h) ds a c r = knows_procedure (announced h ds) a c r
     knows_one (tree.procedure h t) ds a c r = knows_procedure h a c r
 
@@ -134,6 +155,7 @@ module _ (blocks : List Block) where
           found = ap (slice_get (k ∷ around blocks k)) one_more ∙ ap (λ z. slice_get z (a.depth - d.depth)) above ∙ h.found;
           means = h.means;
           formal = h.formal;
+          variable = h.variable;
         }
 
     -- the place after a BEGIN or the name of a procedure, at `spot`, with what is new there
@@ -161,7 +183,7 @@ module _ (blocks : List Block) where
   means_given k name s c (given_array lows kind) = a_formal_array lows kind
   means_given k name s c given_event = a_formal_event
 
-  parameters_known : (k depth : ℕ) (h : Heading) (ns : List Named) → AreSpecified h ns → AllByRecursion (λ (n : Named). has_name (parameters_at blocks k) n.name ≡ true) ns →
+  parameters_known : (k depth : ℕ) (h : Heading) (ns : List Named) → AreSpecified h ns → AllByRecursion (λ (n : Named). has_parameter (parameters_at blocks k) n.name ≡ true) ns →
       length (around blocks k) ≡ depth → AllByRecursion (IsKnown k depth) (map (parameter_known h k depth) ns)
   parameters_known k depth h [] v m deep = tt
   parameters_known k depth h (n ∷ ns) v m deep =
@@ -173,6 +195,7 @@ module _ (blocks : List Block) where
           found = ap (slice_get (k ∷ around blocks k)) none_up;
           means = means_given k n.name (sort_in h.specs by_value n.name) (class_in h.specs n.name) (given h.specs by_value n.name v.0);
           formal = λ e. m.0;
+          variable = λ e. parameter_simple (block_numbered blocks k) n.name m.0;
         },
         parameters_known k depth h ns v.1 m.1 deep,
       )
@@ -183,8 +206,8 @@ module _ (blocks : List Block) where
     enters_procedure h a c r =
         let k = number_at blocks h.name.spot in
         let new : List Declared = map (parameter_known h k (a.depth + 1)) h.params in
-        let named : AllByRecursion (λ (n : Named). has_name (parameters_at blocks k) n.name ≡ true) h.params =
-        subst (λ (ps : List Parameter). AllByRecursion (λ (n : Named). has_name ps n.name ≡ true) h.params) (sym c.parameters_are) (each_named h h.params) in
+        let named : AllByRecursion (λ (n : Named). has_parameter (parameters_at blocks k) n.name ≡ true) h.params =
+        subst (λ (ps : List Parameter). AllByRecursion (λ (n : Named). has_parameter ps n.name ≡ true) h.params) (sym c.parameters_are) (each_named h h.params) in
         let deep : length (around blocks k) ≡ a.depth + 1 = omega (arith, ap length c.around_is, r.deep) in
         let all : HasAll (new ++ a.known) k =
         subst (λ (ps : List Parameter). AllByRecursion (HasParameter (new ++ a.known) k) ps) (sym c.parameters_are) (each_parameter h k (a.depth + 1) h.params a.known) in

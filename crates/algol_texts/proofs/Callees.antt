@@ -19,7 +19,8 @@ use Rattle.algol_tree.specs.Sites.{Site, inside_decl, sites_in_decls}
 use Rattle.algol_tree.specs.Sorts.{same_name, Declared, Parameter, class_in, parameters_of}
 use Rattle.algol_tree.specs.Surroundings.{Surroundings, declared_as, body_of, heading_or, announced, knowing}
 use Rattle.algol_told.proofs.Lists.{none-left, none-right, none-of, all-left, all-right, all-weaker, false-not-true}
-use Rattle.algol_texts.proofs.Parameters.{has_name, not_so, result_clear}
+use Rattle.algol_calls.specs.Fits.{has_parameter, has_variable}
+use Rattle.algol_texts.proofs.Parameters.{not_so, result_clear, own_variables, later_variable}
 use Rattle.algol_texts.proofs.Good.{IsGood, AreGood, nothing}
 
 -- the block of a BEGIN
@@ -51,12 +52,15 @@ module _ (blocks : List Block) where
     pub around_is : around blocks (number_at blocks h.name.spot) ≡ j ∷ around blocks j
     pub parameters_are : parameters_at (number_at blocks h.name.spot) ≡ parameters_of h
     pub specified : AreSpecified h h.params
-    pub clear : is_some h.kind ≡ true → has_name (parameters_of h) h.name.name ≡ false
+    pub clear : is_some h.kind ≡ true → has_parameter (parameters_of h) h.name.name ≡ false
+    pub result_is : (block_numbered blocks (number_at blocks h.name.spot)).result ≡ h.kind
+    pub name_is : (block_numbered blocks (number_at blocks h.name.spot)).name ≡ h.name.name
 
-  -- .. of the procedure that is declared or announced, where these declarations come after it
+  -- .. of the procedure that is declared or announced, where these declarations come after it; and simple variables are those of the block
   abbrev pub DeclaresCallee : ℕ → PDecl → PDecls → Type 0
   DeclaresCallee j (tree.forward h) ds = IsCallee j (announced h ds)
   DeclaresCallee j (tree.procedure h t) ds = IsCallee j h
+  DeclaresCallee j (tree.simple kind ns) ds = AllByRecursion (λ (n : Named). has_variable (block_numbered blocks j).decls n.name ≡ true) ns
   DeclaresCallee j d ds = Unit {0}
 
   abbrev pub AreCallees : ℕ → PDecls → Type 0
@@ -130,22 +134,31 @@ module _ (sc : Scopes) (j : ℕ) (outer : List Spot) (stands : map (number_at sc
         parameters_are = ap (λ (z : Block). z.parameters) f.it_is;
         specified = each_specified h h.params (none-left (flat_map (λ (n : Named). if_so (is_unspecified (class_in h.specs n.name)) n.spot) h.params) _ g.right);
         clear = result_clear h (none-right before (twice_in_heading h) g.clear);
+        result_is = ap (λ (z : Block). z.result) f.it_is;
+        name_is = ap (λ (z : Block). z.name) f.it_is;
       }
 
-  one_callee : (d : PDecl) (ds : PDecls) (a : Surroundings) → AreCallees sc.blocks j ds → AreFine sc.blocks (blocks_in_decl d outer) →
+  -- the simple variables of these declarations are those of the block
+  abbrev pub AreOwn : PDecls → Type 0
+  AreOwn ds = (name : List ℕ) → has_variable ds name ≡ true → has_variable (block_numbered sc.blocks j).decls name ≡ true
+
+  one_callee : (d : PDecl) (ds : PDecls) (a : Surroundings) → AreOwn (tree.decls d ds) → AreCallees sc.blocks j ds → AreFine sc.blocks (blocks_in_decl d outer) →
       IsGood sc (record { part = site.declaration d ds; around = a }) → DeclaresCallee sc.blocks j d ds
-  one_callee (tree.forward h) ds a later f g =
+  one_callee (tree.simple kind ns) ds a own later f g =
+      all-weaker (λ (n : Named). has_variable (tree.decls (tree.simple kind ns) ds) n.name ≡ true) (λ (n : Named). has_variable (block_numbered sc.blocks j).decls n.name ≡ true)
+      (λ n e. own n.name e) ns (own_variables kind ns ds)
+  one_callee (tree.forward h) ds a own later f g =
       announced_callee sc.blocks j h ds (body_of h.name.name ds) later refl (none-left (if_so (not (is_some (body_of h.name.name ds))) h.name.spot) (unknown_in_heading h) g.known)
-  one_callee (tree.procedure h t) ds a later f g = numbered_callee h t ds a f.0 g
-  one_callee d ds a later f g = tt
+  one_callee (tree.procedure h t) ds a own later f g = numbered_callee h t ds a f.0 g
+  one_callee d ds a own later f g = tt
 
   -- `outer`: where the block j and those around it stand
-  pub are_callees : (ds : PDecls) (a : Surroundings) (first : List Declared) → AreFine sc.blocks (blocks_in_decls ds outer) → AreGood sc (sites_in_decls sc.blocks ds a first) →
+  pub are_callees : (ds : PDecls) (a : Surroundings) (first : List Declared) → AreOwn ds → AreFine sc.blocks (blocks_in_decls ds outer) → AreGood sc (sites_in_decls sc.blocks ds a first) →
       AreCallees sc.blocks j ds
-  are_callees tree.no_decls a first f g = tt
-  are_callees (tree.decls d ds) a first f g =
+  are_callees tree.no_decls a first own f g = tt
+  are_callees (tree.decls d ds) a first own f g =
       let b : Surroundings = knowing sc.blocks d ds a in
       let later =
-      are_callees ds b first (all-right (IsFine sc.blocks) (blocks_in_decl d outer) (blocks_in_decls ds outer) f)
+      are_callees ds b first (λ name e. own name (later_variable d ds name e)) (all-right (IsFine sc.blocks) (blocks_in_decl d outer) (blocks_in_decls ds outer) f)
       (all-right (IsGood sc) (inside_decl sc.blocks d b first) (sites_in_decls sc.blocks ds b first) g.1) in
-      (one_callee d ds a later (all-left (IsFine sc.blocks) (blocks_in_decl d outer) (blocks_in_decls ds outer) f) g.0, later)
+      (one_callee d ds a own later (all-left (IsFine sc.blocks) (blocks_in_decl d outer) (blocks_in_decls ds outer) f) g.0, later)

@@ -5,7 +5,7 @@ use Rattle.algol_tree.specs.declared.token.Spot.{Spot}
 use Rattle.algol_tree.specs.declared.tree.EventName.{EventName}
 use Rattle.algol_tree.specs.declared.tree.Heading.{Heading}
 use Rattle.algol_tree.specs.declared.tree.Named.{Named}
-use Rattle.algol_tree.specs.Blocks.{number_at, around}
+use Rattle.algol_tree.specs.Blocks.{block_numbered, number_at, around}
 use Rattle.algol_tree.specs.Classes.{Class, is_simple, is_array, is_event, is_task}
 use Rattle.algol_tree.specs.Names.{if_so}
 use Rattle.algol_tree.specs.Plain as tree
@@ -17,11 +17,11 @@ use Rattle.algol_tree.specs.Sorts.{Sort, is_formal, is_by_name, procedure_in, Pa
 use Rattle.algol_tree.specs.Surroundings.{Surroundings, class_of}
 use Rattle.algol_meaning.specs.Settle.{sort_at}
 use Rattle.algol_paths.specs.Blocks.{IsSeen}
-use Rattle.algol_calls.specs.Fits.{parameter_sort, LeftFits, ControlFits, Leads, IsSettled}
+use Rattle.algol_calls.specs.Fits.{parameter_sort, has_parameter, has_simple, LeftFits, ControlFits, Leads, IsSettled}
 use Rattle.algol_front_laws.specs.Declarations.{EachOnce}
 use Rattle.algol_front_laws.specs.Uses.{use_by_name}
 use Rattle.algol_told.proofs.Lists.{none-left, false-not-true}
-use Rattle.algol_texts.proofs.Parameters.{has_name, not_so, is_same, no_parameter}
+use Rattle.algol_texts.proofs.Parameters.{not_so, is_same, no_parameter, result_simple}
 use Rattle.algol_texts.proofs.Good.{IsUse, IsUsed, IsGood, use_is, nothing}
 use Rattle.algol_texts.proofs.Callees.{parameters_at, IsCallee, is_among, chain_at}
 use Rattle.algol_texts.proofs.Around.{Means, a_variable, a_name, a_procedure, IsKnown, IsAround}
@@ -96,11 +96,13 @@ module _ (sc : Scopes) (j : ℕ) (outer : List Spot) (a : Surroundings) (r : IsA
     result_fits : LeftFits sc n tree.none
     result_fits =
         let there = its_found sc j outer a r (as_left n) n u in
-        let clear : has_name (parameters_of p.heading) n.name ≡ false = ap (has_name (parameters_of p.heading)) (sym (p.named ∙ there.named)) ∙ p.callee.clear p.typed in
+        let clear : has_parameter (parameters_of p.heading) n.name ≡ false = ap (has_parameter (parameters_of p.heading)) (sym (p.named ∙ there.named)) ∙ p.callee.clear p.typed in
         let own_sort : parameter_sort (parameters_at sc.blocks own) n.name ≡ sort.variable =
         ap (λ (ps : List Parameter). parameter_sort ps n.name) p.callee.parameters_are ∙ no_parameter (parameters_of p.heading) n.name clear in
         let now : sort_at sc n ≡ sort.variable = ap (λ (v : Use). v.sort) used_so in
-        (told_as sc n result_use used_so (is_same (parameter_sort (parameters_at sc.blocks own) n.name) sort.variable own_sort), ap is_formal now ∙ sym (ap is_by_name now))
+        let has_result : has_simple (block_numbered sc.blocks own) n.name ≡ true =
+        result_simple (block_numbered sc.blocks own) n.name (ap is_some p.callee.result_is ∙ p.typed) (p.callee.name_is ∙ (p.named ∙ there.named)) in
+        (told_as sc n result_use used_so (is_same (parameter_sort (parameters_at sc.blocks own) n.name) sort.variable own_sort) (λ e. has_result), ap is_formal now ∙ sym (ap is_by_name now))
 
   pub left_in : (n : Named) (e : PExpr) (listed : Bool) → IsGood sc (left_site n tree.none e listed) → IsSeen sc j n × LeftFits sc n tree.none
   left_in n e listed g = by (left_means n e listed g u.declared.block u.declared.name u.declared.sort u.declared.class its.means (its_class sc j outer a r (as_left n) n u))

@@ -1,5 +1,5 @@
 -- The parameters of a block by their names: the sort of each, and that of a name which is none of them.
-use Rattle.std.proofs.Common.{◌≡◌, ℕ, ℤ, Bool, true, false, List, [], ◌∷◌, ◌++◌, map, length, is_some, refl, sym, ap, ◌∙◌, subst, if◌then◌else◌}
+use Rattle.std.proofs.Common.{◌≡◌, ℕ, ℤ, Bool, true, false, List, [], ◌∷◌, ◌++◌, map, length, is_some, Option, Some, None, refl, sym, ap, ◌∙◌, subst, if◌then◌else◌}
 use Rattle.std.proofs.lemmas.List.Elements.{Contains-append_right}
 use Rattle.std.specs.List.{AllByRecursion, Contains}
 use Rattle.algol_tree.specs.declared.token.Spot.{Spot}
@@ -8,19 +8,17 @@ use Rattle.algol_tree.specs.declared.tree.Kind.{Kind}
 use Rattle.algol_tree.specs.declared.tree.Named.{Named}
 use Rattle.algol_tree.specs.declared.tree.Spec.{Spec}
 use Rattle.algol_tree.specs.declared.tree.Spec.TheVariants as spec
+use Rattle.algol_tree.specs.Blocks.{Block}
 use Rattle.algol_tree.specs.Classes as class
 use Rattle.algol_tree.specs.Classes.{Class, is_unspecified}
+use Rattle.algol_tree.specs.Plain as tree
+use Rattle.algol_tree.specs.Plain.{PDecl, PDecls}
 use Rattle.algol_tree.specs.Names.{if_so, is_one_of, repeated, result_names, specified, twice_in_heading}
 use Rattle.algol_tree.specs.Sorts as sort
 use Rattle.algol_tree.specs.Sorts.{Sort, is_formal, is_by_name, Declared, Parameter, same_name, is_named_in, sort_by, sort_in, class_by, class_in, specified_by, parameters_of}
 use Rattle.algol_meaning.proofs.Naming.{same_name-is, same_name-itself}
-use Rattle.algol_calls.specs.Fits.{parameter_sort}
+use Rattle.algol_calls.specs.Fits.{parameter_sort, has_parameter, has_result, has_variable, has_simple}
 use Rattle.algol_told.proofs.Lists.{none-left, none-right, contains-first, all-weaker, false-not-true}
-
--- one of them has this name
-abbrev pub has_name : List Parameter → List ℕ → Bool
-has_name [] name = false
-has_name (p ∷ ps) name = if same_name p.name name then true else has_name ps name
 
 pub not_so : (b : Bool) (spot : Spot) → if_so b spot ≡ [] → b ≡ false
 not_so false spot h = refl
@@ -44,11 +42,11 @@ pub no_name : (s : Sort) → is_formal s ≡ false → is_by_name s ≡ false
 no_name sort.by_name h = h
 no_name s h = refl
 
-pub no_parameter : (ps : List Parameter) (name : List ℕ) → has_name ps name ≡ false → parameter_sort ps name ≡ sort.variable
+pub no_parameter : (ps : List Parameter) (name : List ℕ) → has_parameter ps name ≡ false → parameter_sort ps name ≡ sort.variable
 no_parameter [] name e = refl
 no_parameter (p ∷ ps) name e = by (same_name p.name name) (no_parameter ps name) e
   where
-    by : (b : Bool) → (has_name ps name ≡ false → parameter_sort ps name ≡ sort.variable) → (if b then true else has_name ps name) ≡ false →
+    by : (b : Bool) → (has_parameter ps name ≡ false → parameter_sort ps name ≡ sort.variable) → (if b then true else has_parameter ps name) ≡ false →
         (if b then p.sort else parameter_sort ps name) ≡ sort.variable
     by true later f = absurd (false-not-true (sym f))
     by false later f = later f
@@ -73,7 +71,7 @@ more_known new known k p h =
 
 -- What is declared in a block whose parameters are all known, and which declares no name twice, has the sort of its name among them.
 module _ (known : List Declared) (d : Declared) (once : (e : Declared) → Contains known e → d.block ≡ e.block → d.name ≡ e.name → d ≡ e) where
-  pub same_sort : (ps : List Parameter) → AllByRecursion (HasParameter known d.block) ps → (is_formal d.sort ≡ true → has_name ps d.name ≡ true) →
+  pub same_sort : (ps : List Parameter) → AllByRecursion (HasParameter known d.block) ps → (is_formal d.sort ≡ true → has_parameter ps d.name ≡ true) →
       IsSame (parameter_sort ps d.name) d.sort
   same_sort [] h f = by (is_formal d.sort) refl f
     where
@@ -82,8 +80,8 @@ module _ (known : List Declared) (d : Declared) (once : (e : Declared) → Conta
       by false e g = record { formal = sym e; by_name = sym (no_name d.sort e) }
   same_sort (p ∷ ps) h f = by (same_name p.name d.name) refl (same_sort ps h.1) f
     where
-      by : (b : Bool) → same_name p.name d.name ≡ b → ((is_formal d.sort ≡ true → has_name ps d.name ≡ true) → IsSame (parameter_sort ps d.name) d.sort) →
-          (is_formal d.sort ≡ true → (if b then true else has_name ps d.name) ≡ true) → IsSame (if b then p.sort else parameter_sort ps d.name) d.sort
+      by : (b : Bool) → same_name p.name d.name ≡ b → ((is_formal d.sort ≡ true → has_parameter ps d.name ≡ true) → IsSame (parameter_sort ps d.name) d.sort) →
+          (is_formal d.sort ≡ true → (if b then true else has_parameter ps d.name) ≡ true) → IsSame (if b then p.sort else parameter_sort ps d.name) d.sort
       by true e later g =
           let its = h.0 in
           let one : d ≡ its.declared = once its.declared its.there (sym its.block_is) (sym (its.name_is ∙ same_name-is p.name d.name e)) in
@@ -118,29 +116,29 @@ module _ (h : Heading) where
   abbrev pub parameter : Named → Parameter
   parameter n = record { name = n.name; sort = sort_in h.specs (is_named_in h.values n.name) n.name }
 
-  pub each_named : (ns : List Named) → AllByRecursion (λ (n : Named). has_name (map parameter ns) n.name ≡ true) ns
+  pub each_named : (ns : List Named) → AllByRecursion (λ (n : Named). has_parameter (map parameter ns) n.name ≡ true) ns
   each_named [] = tt
   each_named (n ∷ ns) = (
-    ap (λ (b : Bool). if b then true else has_name (map parameter ns) n.name) (same_name-itself n.name),
-    all-weaker (λ (m : Named). has_name (map parameter ns) m.name ≡ true) (λ (m : Named). has_name (map parameter (n ∷ ns)) m.name ≡ true)
-        (λ m e. either_so (same_name n.name m.name) (has_name (map parameter ns) m.name) e) ns (each_named ns),
+    ap (λ (b : Bool). if b then true else has_parameter (map parameter ns) n.name) (same_name-itself n.name),
+    all-weaker (λ (m : Named). has_parameter (map parameter ns) m.name ≡ true) (λ (m : Named). has_parameter (map parameter (n ∷ ns)) m.name ≡ true)
+        (λ m e. either_so (same_name n.name m.name) (has_parameter (map parameter ns) m.name) e) ns (each_named ns),
   )
 
   -- a name that is seen already is none of a list that repeats no name
-  none_named : (seen : List (List ℕ)) (ns : List Named) (name : List ℕ) → is_one_of seen name ≡ true → repeated seen ns ≡ [] → has_name (map parameter ns) name ≡ false
+  none_named : (seen : List (List ℕ)) (ns : List Named) (name : List ℕ) → is_one_of seen name ≡ true → repeated seen ns ≡ [] → has_parameter (map parameter ns) name ≡ false
   none_named seen [] name s e = refl
   none_named seen (n ∷ ns) name s e =
       by (same_name n.name name) refl
       (none_named (n.name ∷ seen) ns name (either_so (same_name n.name name) (is_one_of seen name) s) (none-right (if_so (is_one_of seen n.name) n.spot) (repeated (n.name ∷ seen) ns) e))
     where
-      by : (b : Bool) → same_name n.name name ≡ b → has_name (map parameter ns) name ≡ false → (if b then true else has_name (map parameter ns) name) ≡ false
+      by : (b : Bool) → same_name n.name name ≡ b → has_parameter (map parameter ns) name ≡ false → (if b then true else has_parameter (map parameter ns) name) ≡ false
       by true f later =
           let other : is_one_of seen n.name ≡ false = not_so (is_one_of seen n.name) n.spot (none-left (if_so (is_one_of seen n.name) n.spot) (repeated (n.name ∷ seen) ns) e) in
           sym s ∙ ap (is_one_of seen) (sym (same_name-is n.name name f)) ∙ other
       by false f later = later
 
   -- no parameter of a typed procedure has its name
-  pub result_clear : twice_in_heading h ≡ [] → is_some h.kind ≡ true → has_name (parameters_of h) h.name.name ≡ false
+  pub result_clear : twice_in_heading h ≡ [] → is_some h.kind ≡ true → has_parameter (parameters_of h) h.name.name ≡ false
   result_clear e typed =
       none_named (h.name.name ∷ []) h.params h.name.name (ap (λ (b : Bool). if b then true else false) (same_name-itself h.name.name))
       (subst (λ (b : Bool). repeated (if b then h.name.name ∷ [] else []) h.params ≡ []) typed
@@ -166,3 +164,49 @@ module _ (h : Heading) where
           record { declared = parameter_known n; there = contains-first (parameter_known n) known; block_is = refl; name_is = refl; sort_is = refl },
           all-weaker (HasParameter known k) (HasParameter (parameter_known n ∷ known) k) (more_known (parameter_known n ∷ []) known k) (map parameter ns) (each_parameter ns rest),
         )
+
+-- ---- the cells that a block has from its entry on
+
+pub each_in : (ns : List Named) → AllByRecursion (λ (n : Named). is_named_in ns n.name ≡ true) ns
+each_in [] = tt
+each_in (n ∷ ns) = (
+  ap (λ (b : Bool). if b then true else is_named_in ns n.name) (same_name-itself n.name),
+  all-weaker (λ (m : Named). is_named_in ns m.name ≡ true) (λ (m : Named). is_named_in (n ∷ ns) m.name ≡ true)
+      (λ m e. either_so (same_name n.name m.name) (is_named_in ns m.name) e) ns (each_in ns),
+)
+
+first_so : (b c : Bool) → b ≡ true → (if b then true else c) ≡ true
+first_so b c e = ap (λ (x : Bool). if x then true else c) e
+
+-- those of a declaration, and those of the declarations after it
+pub own_variables : (kind : Kind) (ns : List Named) (ds : PDecls) → AllByRecursion (λ (n : Named). has_variable (tree.decls (tree.simple kind ns) ds) n.name ≡ true) ns
+own_variables kind ns ds =
+    all-weaker (λ (n : Named). is_named_in ns n.name ≡ true) (λ (n : Named). has_variable (tree.decls (tree.simple kind ns) ds) n.name ≡ true)
+    (λ n e. first_so (is_named_in ns n.name) (has_variable ds n.name) e) ns (each_in ns)
+
+pub later_variable : (d : PDecl) (ds : PDecls) (name : List ℕ) → has_variable ds name ≡ true → has_variable (tree.decls d ds) name ≡ true
+later_variable (tree.simple kind ns) ds name e = either_so (is_named_in ns name) (has_variable ds name) e
+later_variable (tree.files ns) ds name e = e
+later_variable (tree.events ns) ds name e = e
+later_variable (tree.tasks ns) ds name e = e
+later_variable (tree.labels ns) ds name e = e
+later_variable (tree.arrays kind ns pairs) ds name e = e
+later_variable (tree.forward h) ds name e = e
+later_variable (tree.procedure h t) ds name e = e
+
+pub parameter_simple : (b : Block) (name : List ℕ) → has_parameter b.parameters name ≡ true → has_simple b name ≡ true
+parameter_simple b name e = first_so (has_parameter b.parameters name) (if has_result b.result b.name name then true else has_variable b.decls name) e
+
+pub variable_simple : (b : Block) (name : List ℕ) → has_variable b.decls name ≡ true → has_simple b name ≡ true
+variable_simple b name e =
+    either_so (has_parameter b.parameters name) (if has_result b.result b.name name then true else has_variable b.decls name)
+    (either_so (has_result b.result b.name name) (has_variable b.decls name) e)
+
+pub result_simple : (b : Block) (name : List ℕ) → is_some b.result ≡ true → b.name ≡ name → has_simple b name ≡ true
+result_simple b name typed named =
+    either_so (has_parameter b.parameters name) (if has_result b.result b.name name then true else has_variable b.decls name)
+    (first_so (has_result b.result b.name name) (has_variable b.decls name) (by b.result typed))
+  where
+    by : (o : Option Kind) → is_some o ≡ true → has_result o b.name name ≡ true
+    by None e = absurd (false-not-true e)
+    by (Some kind) e = ap (λ (m : List ℕ). same_name m name) named ∙ same_name-itself name

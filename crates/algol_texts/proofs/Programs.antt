@@ -1,5 +1,5 @@
 -- The texts of an accepted program, whose places are in the order of its text.
-use Rattle.std.proofs.Common.{arith, ◌≡◌, ℕ, ◌+◌, ◌<◌, ◌≤◌, nat_lt, false, List, [], ◌∷◌, ◌++◌, map, length, refl, sym, ap, ◌∙◌, subst, zero, suc}
+use Rattle.std.proofs.Common.{arith, ◌≡◌, ℕ, ◌+◌, ◌<◌, ◌≤◌, nat_lt, true, false, List, [], ◌∷◌, ◌++◌, map, length, refl, sym, ap, ◌∙◌, subst, zero, suc}
 use Rattle.std.proofs.lemmas.Bool.Decides.{nat_tests}
 use Rattle.std.specs.List.{AllByRecursion}
 use Rattle.algol_tree.specs.declared.TheConstants.{MOST_LEVEL}
@@ -21,7 +21,7 @@ use Rattle.algol_scope.specs.Stating.{AreNumbered}
 use Rattle.algol_scope.proofs.Numbering.{in-order}
 use Rattle.algol_meaning.specs.Statements.{items_of}
 use Rattle.algol_paths.specs.Laws.{ItemsKeepToText}
-use Rattle.algol_calls.specs.Fits.{ItemsFit}
+use Rattle.algol_calls.specs.Fits.{ItemsFit, has_variable}
 use Rattle.algol_front_laws.specs.Declarations.{EachOnce}
 use Rattle.algol_front_laws.specs.Uses.{IsLookedUp, use_in}
 use Rattle.algol_told.proofs.Lists.{none-left, none-right, none-of, all-left, all-right, all-append, all-both}
@@ -167,7 +167,8 @@ each_text (tree.program (tree.body spot ds ss)) accepted order =
     let fine_decls = all-left (IsFine blocks) (blocks_in_decls ds outer) (blocks_in_stmts ss outer) fine.1 in
     let fine_stmts = all-right (IsFine blocks) (blocks_in_decls ds outer) (blocks_in_stmts ss outer) fine.1 in
     let part = all-left (IsGood sc) declared stated good in
-    let called : AreCallees blocks k ds = are_callees sc k outer begun.chain_is ds outermost [] fine_decls part in
+    let called : AreCallees blocks k ds =
+    are_callees sc k outer begun.chain_is ds outermost [] (λ name e. subst (λ (z : Block). has_variable z.decls name ≡ true) (sym fine.0.it_is) e) fine_decls part in
     let bounds = in_decls sc k outer outermost ds [] begun begun tt called part fine_decls in
     let nested = in_stmts sc k outer after ss (has_decls ds) (knows_all blocks k outer ds outermost called begun) (all-right (IsGood sc) declared stated good) fine_stmts in
     (is_text sc first fine.0 bounds.0 nested.0, all-append (IsTextOf sc) (blocks_in_decls ds outer) (blocks_in_stmts ss outer) bounds.1 nested.1)

@@ -4,7 +4,7 @@ use Rattle.std.specs.List.{AllByRecursion}
 use Rattle.algol_tree.specs.declared.TheConstants.{MOST_LEVEL}
 use Rattle.algol_tree.specs.declared.token.Spot.{Spot}
 use Rattle.algol_tree.specs.declared.tree.Named.{Named}
-use Rattle.algol_tree.specs.Blocks.{Block, Begin, of_statement, of_procedure, decls_of, stmts_of, blocks_of, blocks_in_decl, blocks_in_decls, blocks_in_stmts, procedure_block, number_at, around}
+use Rattle.algol_tree.specs.Blocks.{Block, Begin, of_statement, of_procedure, decls_of, stmts_of, blocks_of, blocks_in_decl, blocks_in_decls, blocks_in_stmts, procedure_block, block_numbered, number_at, around}
 use Rattle.algol_tree.specs.Cells.{level_of}
 use Rattle.algol_tree.specs.Classes.{Class, is_procedure}
 use Rattle.algol_tree.specs.Counted.{exprs_count}
@@ -18,7 +18,7 @@ use Rattle.algol_tree.specs.Surroundings.{Surroundings, formals_at, knowing, kno
 use Rattle.algol_tree.specs.Types.{read_type}
 use Rattle.algol_paths.specs.Blocks.{IsInner}
 use Rattle.algol_calls.specs.Fits as fits
-use Rattle.algol_calls.specs.Fits.{wanted, ActualsFit}
+use Rattle.algol_calls.specs.Fits.{wanted, ActualsFit, has_variable}
 use Rattle.algol_front_laws.specs.Uses.{use_by_name}
 use Rattle.algol_told.proofs.Lists.{none-left, none-right, all-append, all-left, all-right}
 use Rattle.algol_texts.proofs.Parameters.{not_so, HasParameter}
@@ -88,10 +88,10 @@ module _ (sc : Scopes) where
   text_in of_procedure j (tree.block b) p i = absurd p
   text_in of_procedure j t p i = (tt, ((i.0, tt), (i.1, tt)))
 
-  -- the place is at the begin of the procedure
-  abbrev IsBegun : Begin → Surroundings → Type 0
-  IsBegun of_statement a = Unit {0}
-  IsBegun of_procedure a = AreEarly a.depth a.known
+  -- the place is at the begin of the procedure, whose block has the declarations of its body
+  abbrev IsBegun : Begin → ℕ → PStmt → Surroundings → Type 0
+  IsBegun of_statement j t a = Unit {0}
+  IsBegun of_procedure j t a = AreEarly a.depth a.known × ((block_numbered sc.blocks j).decls ≡ decls_of t)
 
   -- the block of a BEGIN with declarations, at its begin
   begins : (j : ℕ) (outer : List Spot) (spot : Spot) (ds : PDecls) (ss : PStmts) (a : Surroundings) → IsFine sc.blocks (the_block spot outer ds ss) → IsAround sc.blocks j outer a →
@@ -117,7 +117,7 @@ module _ (sc : Scopes) where
       h
 
   mutual
-    in_stmt : (j : ℕ) (outer : List Spot) (a : Surroundings) (t : PStmt) (begin : Begin) (listed : Bool) → IsAround sc.blocks j outer a → IsBegun begin a → Good (stmt_sites t begin listed a) →
+    in_stmt : (j : ℕ) (outer : List Spot) (a : Surroundings) (t : PStmt) (begin : Begin) (listed : Bool) → IsAround sc.blocks j outer a → IsBegun begin j t a → Good (stmt_sites t begin listed a) →
         Fine (blocks_of t begin outer) → IsTextIn begin j t × Texts (blocks_of t begin outer)
     in_stmt j outer a tree.empty g l r y h f = (text_in g j tree.empty tt (tt, tt), tt)
     in_stmt j outer a (tree.label n t) g l r y h f =
@@ -156,7 +156,8 @@ module _ (sc : Scopes) where
         let fine_decls = fine_front (blocks_in_decls (tree.decls d ds) inner) (blocks_in_stmts ss inner) f.1 in
         let fine_stmts = fine_back (blocks_in_decls (tree.decls d ds) inner) (blocks_in_stmts ss inner) f.1 in
         let part = front declared stated h.1 in
-        let called : AreCallees sc.blocks k (tree.decls d ds) = are_callees sc k inner begun.chain_is (tree.decls d ds) c c.known fine_decls part in
+        let called : AreCallees sc.blocks k (tree.decls d ds) =
+        are_callees sc k inner begun.chain_is (tree.decls d ds) c c.known (λ name e. subst (λ (z : Block). has_variable z.decls name ≡ true) (sym f.0.it_is) e) fine_decls part in
         let bounds = in_decls k inner c (tree.decls d ds) c.known begun begun (early_inside sc j outer a r) called part fine_decls in
         let nested = in_stmts k inner after ss true (knows_all sc.blocks k inner (tree.decls d ds) c called begun) (back declared stated h.1) fine_stmts in
         ((is_inner sc spot outer (tree.decls d ds) ss f.0 j r.chain_is, tt), (is_text sc its f.0 bounds.0 nested.0, joined (blocks_in_decls (tree.decls d ds) inner) (blocks_in_stmts ss inner) bounds.1 nested.1))
@@ -167,8 +168,9 @@ module _ (sc : Scopes) where
         let fine_decls = fine_front (blocks_in_decls ds outer) (blocks_in_stmts ss outer) f in
         let fine_stmts = fine_back (blocks_in_decls ds outer) (blocks_in_stmts ss outer) f in
         let part = front declared stated h.1 in
-        let called : AreCallees sc.blocks j ds = are_callees sc j outer r.chain_is ds a a.known fine_decls part in
-        let bounds = in_decls j outer a ds a.known r r y called part fine_decls in
+        let called : AreCallees sc.blocks j ds =
+        are_callees sc j outer r.chain_is ds a a.known (λ name e. subst (λ (z : PDecls). has_variable z name ≡ true) (sym y.1) e) fine_decls part in
+        let bounds = in_decls j outer a ds a.known r r y.0 called part fine_decls in
         let nested = in_stmts j outer after ss (has_decls ds) (knows_all sc.blocks j outer ds a called r) (back declared stated h.1) fine_stmts in
         ((bounds.0, nested.0), joined (blocks_in_decls ds outer) (blocks_in_stmts ss outer) bounds.1 nested.1)
     in_stmt j outer a (tree.if_then c x) g l r y h f =
@@ -258,7 +260,7 @@ module _ (sc : Scopes) where
         let inner : List Spot = g.name.spot ∷ outer in
         let i : Surroundings = inside_procedure sc.blocks g a in
         let begun : IsAround sc.blocks k inner i = enters_procedure sc.blocks j outer g a c r in
-        let nested = in_stmt k inner i t of_procedure false begun (early_procedure sc j outer a r g c) h f.1 in
+        let nested = in_stmt k inner i t of_procedure false begun (early_procedure sc j outer a r g c, ap (λ (z : Block). z.decls) f.0.it_is) h f.1 in
         (tt, (is_text sc (procedure_block g t outer) f.0 nested.0.0 nested.0.1, nested.1))
     in_decl j outer a (tree.simple kind ns) later first r e y c h f = (tt, tt)
     in_decl j outer a (tree.files ns) later first r e y c h f = (tt, tt)

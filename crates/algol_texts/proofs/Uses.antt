@@ -3,7 +3,7 @@ use Rattle.std.proofs.Common.{◌≡◌, ◌⊎◌, inl, inr, ℕ, ◌-◌, ◌<
 use Rattle.algol_tree.specs.declared.token.Spot.{Spot}
 use Rattle.algol_tree.specs.declared.tree.Heading.{Heading}
 use Rattle.algol_tree.specs.declared.tree.Named.{Named}
-use Rattle.algol_tree.specs.Blocks.{Block, number_at, around}
+use Rattle.algol_tree.specs.Blocks.{Block, block_numbered, number_at, around}
 use Rattle.algol_tree.specs.Classes as class
 use Rattle.algol_tree.specs.Classes.{Class, is_simple, is_array, is_event, is_task, is_procedure, is_unspecified}
 use Rattle.algol_tree.specs.Names.{if_so}
@@ -15,7 +15,7 @@ use Rattle.algol_tree.specs.Types.{read_type}
 use Rattle.algol_meaning.specs.Settle.{sorts_of, block_of, sort_at}
 use Rattle.algol_paths.specs.Blocks.{IsSeen}
 use Rattle.algol_calls.specs.Fits as fits
-use Rattle.algol_calls.specs.Fits.{parameter_sort, own_sort, IsTold, Leads, wanted, AloneFits, IsNameOfIt}
+use Rattle.algol_calls.specs.Fits.{parameter_sort, has_simple, own_sort, IsTold, Leads, wanted, AloneFits, IsNameOfIt}
 use Rattle.algol_front_laws.specs.Declarations.{EachOnce}
 use Rattle.algol_front_laws.specs.Uses.{use_by_name}
 use Rattle.algol_told.proofs.Lists.{of-contained, false-not-true}
@@ -75,11 +75,16 @@ module _ (blocks : List Block) (block : ℕ) (name : List ℕ) where
 
 -- ---- names by their uses
 
-pub told_as : (sc : Scopes) (n : Named) (u : Use) → use_of sc n ≡ u → IsSame (parameter_sort (parameters_at sc.blocks u.block) n.name) u.sort → IsTold sc n
-told_as sc n u e h =
+pub told_as : (sc : Scopes) (n : Named) (u : Use) → use_of sc n ≡ u → IsSame (parameter_sort (parameters_at sc.blocks u.block) n.name) u.sort →
+    (is_variable u.sort ≡ true → has_simple (block_numbered sc.blocks u.block) n.name ≡ true) → IsTold sc n
+told_as sc n u e h v =
     let own : own_sort sc n ≡ parameter_sort (parameters_at sc.blocks u.block) n.name = ap (λ (v : Use). parameter_sort (parameters_at sc.blocks v.block) n.name) e in
     let now : u.sort ≡ sort_at sc n = ap (λ (v : Use). v.sort) (sym e) in
-    record { formal = ap is_formal own ∙ h.formal ∙ ap is_formal now; by_name = ap is_by_name own ∙ h.by_name ∙ ap is_by_name now }
+    record {
+      formal = ap is_formal own ∙ h.formal ∙ ap is_formal now;
+      by_name = ap is_by_name own ∙ h.by_name ∙ ap is_by_name now;
+      variable = λ f. subst (λ (x : Use). has_simple (block_numbered sc.blocks x.block) n.name ≡ true) (sym e) (v (ap is_variable now ∙ f));
+    }
 
 pub seen_as : (sc : Scopes) (j : ℕ) (n : Named) (u : Use) → use_of sc n ≡ u → slice_get (j ∷ around sc.blocks j) u.up ≡ Some u.block → IsSeen sc j n
 seen_as sc j n u e f = subst (λ (v : Use). slice_get (j ∷ around sc.blocks j) v.up ≡ Some v.block) (sym e) f
@@ -135,6 +140,7 @@ module _ (sc : Scopes) (j : ℕ) (outer : List Spot) (a : Surroundings) (r : IsA
         let same : IsSame (parameter_sort (parameters_at sc.blocks d.block) d.name) d.sort =
         same_sort a.known d (λ e t b m. once d e there.there t b m) (parameters_at sc.blocks d.block) whole its.formal in
         told_as sc n (use_by_name a n d) used_as (subst (λ (name : List ℕ). IsSame (parameter_sort (parameters_at sc.blocks d.block) name) d.sort) there.named same)
+        (λ e. subst (λ (name : List ℕ). has_simple (block_numbered sc.blocks d.block) name ≡ true) there.named (its.variable e))
 
     pub leads : IsOther d.sort → Leads sc n
     leads o = record { told = told; not_by_name = ap is_by_name sorted ∙ o.1 }
