@@ -78,16 +78,24 @@ module _ (w v : World) (instances : AllPairs InstanceAlike w.instances v.instanc
   pub path_on : (a b : ℕ) → IsOnPath w a b → IsOnPath v a b
   path_on a b l = path_up (skeleton w) (skeleton v) grows a b l
 
-  blocks_same : (xs ys : List Instance) (k : ℕ) → AllPairs InstanceAlike xs ys → (or_no_instance (slice_get ys k)).block ≡ (or_no_instance (slice_get xs k)).block
-  blocks_same [] [] k m = refl
-  blocks_same [] (y ∷ ys) k m = absurd m
-  blocks_same (x ∷ xs) [] k m = absurd m
-  blocks_same (x ∷ xs) (y ∷ ys) zero m = m.0.block
-  blocks_same (x ∷ xs) (y ∷ ys) (suc k) m = blocks_same xs ys k m.1
+  -- what is the same of instances that are alike
+  module _ {A : Type 0} (g : Instance → A) (same : (x y : Instance) → InstanceAlike x y → g y ≡ g x) where
+    all_same : (xs ys : List Instance) (k : ℕ) → AllPairs InstanceAlike xs ys → g (or_no_instance (slice_get ys k)) ≡ g (or_no_instance (slice_get xs k))
+    all_same [] [] k m = refl
+    all_same [] (y ∷ ys) k m = absurd m
+    all_same (x ∷ xs) [] k m = absurd m
+    all_same (x ∷ xs) (y ∷ ys) zero m = same x y m.0
+    all_same (x ∷ xs) (y ∷ ys) (suc k) m = all_same xs ys k m.1
+
+    each_same : (i : ℕ) → g (instance_at v i) ≡ g (instance_at w i)
+    each_same zero = refl
+    each_same (suc k) = all_same w.instances v.instances k instances
 
   pub block_same : (i : ℕ) → (instance_at v i).block ≡ (instance_at w i).block
-  block_same zero = refl
-  block_same (suc k) = blocks_same w.instances v.instances k instances
+  block_same = each_same (λ (x : Instance). x.block) (λ x y f. f.block)
+
+  pub process_same : (i : ℕ) → (instance_at v i).process ≡ (instance_at w i).process
+  process_same = each_same (λ (x : Instance). x.process) (λ x y f. f.process)
 
   -- ---- the skeleton
 
@@ -229,6 +237,12 @@ module _ (w v : World) (instances : AllPairs InstanceAlike w.instances v.instanc
               let m = numbered_back ProcessAlike w.processes v.processes (suc (suc k)) q processes e in
               let f = ok.later k m.0 m.1 in
               (f.0, m.2.critical ∙ f.1);
+          criticals = λ k c q e cr.
+              let m = numbered_back ProcessAlike w.processes v.processes k q processes e in
+              subst (λ l. c ≤ l) (sym (pairs_length InstanceAlike w.instances v.instances instances)) (ok.criticals k c m.0 m.1 (sym m.2.critical ∙ cr));
+          earlier = λ k c q e cr.
+              let m = numbered_back ProcessAlike w.processes v.processes k q processes e in
+              subst (λ j. j < k) (sym (process_same c)) (ok.earlier k c m.0 m.1 (sym m.2.critical ∙ cr));
           tasks = λ k c q r e live cr t.
               let m = numbered_back ProcessAlike w.processes v.processes k q processes e in
               path_on c r.instance (ok.tasks k c m.0 r m.1 (sym m.2.lives ∙ live) (sym m.2.critical ∙ cr) (sym m.2.task ∙ t));

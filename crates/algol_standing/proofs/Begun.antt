@@ -1,5 +1,5 @@
 -- A new process, whose base is a new instance, keeps what worlds are.
-use Rattle.std.proofs.Common.{◌≡◌, ◌⊎◌, ℕ, zero, suc, ◌<◌, ◌≤◌, List, [], ◌∷◌, length, Option, Some, None, true, false, refl, sym, ap, ◌∙◌, subst, arith}
+use Rattle.std.proofs.Common.{◌≡◌, ◌⊎◌, ℕ, zero, suc, ◌<◌, ◌≤◌, List, [], ◌∷◌, length, Option, Some, None, true, false, refl, sym, ap, ◌∙◌, subst, arith, length-append}
 use Rattle.b67_list.specs.Numbered.{numbered}
 use Rattle.algol_tree.specs.Blocks.{block_numbered, around}
 use Rattle.algol_tree.specs.Scopes.{Scopes}
@@ -12,7 +12,7 @@ use Rattle.algol_paths.specs.Blocks.{IsSeen, IsSeenAround, IsInner}
 use Rattle.algol_paths.specs.Laws.{KeepsToText}
 use Rattle.algol_paths.proofs.Statements.{declared_keeps}
 use Rattle.algol_standing.specs.Skeleton.{IsIn, SkeletonOk}
-use Rattle.algol_standing.specs.Worlds.{held_in_rest, newest_own, skeleton, IsStanding, IsOnPath, IsOwn, IsAmong, inside, AreListed, IsWhole, PartOk, ProcessOk, InstanceOk, IsSound}
+use Rattle.algol_standing.specs.Worlds.{held_in_rest, newest_own, stack_of, skeleton, IsStanding, IsOnPath, IsOwn, IsAmong, inside, AreListed, IsWhole, PartOk, ProcessOk, InstanceOk, IsSound}
 use Rattle.algol_texts.specs.Texts.{KeepToTexts}
 use Rattle.algol_standing.proofs.Calls.{IsNoEvent}
 use Rattle.algol_standing.proofs.Lists.{false_true}
@@ -24,6 +24,8 @@ use Rattle.algol_standing.proofs.Unmoved.{unmoved_self}
 use Rattle.algol_standing.proofs.Changed.{IsPlain}
 use Rattle.algol_standing.proofs.Fresh.{simple_plain, fresh_names, fresh_no_event, plain_names}
 use Rattle.algol_standing.proofs.Acting.{first_acts}
+use Rattle.algol_standing.proofs.Pairs.{stack_back}
+use Rattle.algol_standing.proofs.PathFirst.{home_process}
 use Rattle.algol_standing.proofs.Carried.{name_held, actual_kept, unmoved_kept, tasks_kept, instance_kept}
 use Rattle.algol_standing.proofs.Started as stacked
 
@@ -183,6 +185,35 @@ module _ (sc : Scopes) (texts : KeepToTexts sc) (w : World) (ok : IsSound sc IsW
       by (◌⊎◌.inl f) = ok.later k y f
       by (◌⊎◌.inr f) = (critical, ap (λ (z : Process). z.critical) f.1)
 
+  -- the critical instance is there, and its process is
+  critical_small : critical ≤ length w.instances
+  critical_small = let small = stands_small (skeleton w) ok.skeleton_ok critical critical_stands in let n = number_is in omega (arith, small, n)
+
+  critical_process : (instance_at w critical).process ≤ length w.processes
+  critical_process = subst (λ k. k ≤ length w.processes) (sym (home_process sc w ok critical critical_stands)) (by (stack_back w critical_stands.number critical_stands.stack critical_stands.is))
+    where
+      by : ((critical_stands.stack.own ≡ []) × (critical_stands.stack.evaluations ≡ []) × (critical_stands.stack.live ≡ false)) ⊎
+          ((y : Process) × (numbered w.processes critical_stands.number ≡ Some y) × (critical_stands.stack ≡ stack_of y)) → critical_stands.number ≤ length w.processes
+      by (◌⊎◌.inl f) = absurd (subst (λ xs. IsIn xs critical) f.0 critical_stands.inside)
+      by (◌⊎◌.inr f) = numbered_small w.processes critical_stands.number f.0 f.1
+
+  criticals_then : (k c : ℕ) (y : Process) → numbered v.processes k ≡ Some y → y.critical ≡ Some c → c ≤ length w.instances
+  criticals_then k c y e cr = by (numbered_last w.processes starter k y e)
+    where
+      by : (numbered w.processes k ≡ Some y) ⊎ ((k ≡ suc (length w.processes)) × (y ≡ starter)) → c ≤ length w.instances
+      by (◌⊎◌.inl f) = ok.criticals k c y f cr
+      by (◌⊎◌.inr f) = subst (λ i. i ≤ length w.instances) (some_inner (ap (λ (z : Process). z.critical) (sym f.1) ∙ cr)) critical_small
+
+  earlier_then : (k c : ℕ) (y : Process) → numbered v.processes k ≡ Some y → y.critical ≡ Some c → (instance_at v c).process < k
+  earlier_then k c y e cr =
+      subst (λ (x : Instance). x.process < k) (sym (old_at c (criticals_then k c y e cr))) (by (numbered_last w.processes starter k y e))
+    where
+      by : (numbered w.processes k ≡ Some y) ⊎ ((k ≡ suc (length w.processes)) × (y ≡ starter)) → (instance_at w c).process < k
+      by (◌⊎◌.inl f) = ok.earlier k c y f cr
+      by (◌⊎◌.inr f) =
+          subst (λ i. (instance_at w i).process < k) (some_inner (ap (λ (z : Process). z.critical) (sym f.1) ∙ cr))
+          (let h = critical_process in let at = f.0 in omega (arith, h, at))
+
   tasks_then : (k c : ℕ) (y : Process) (r : Reference) → numbered v.processes k ≡ Some y → lives y.state ≡ true → y.critical ≡ Some c → y.task ≡ Some r → IsOnPath v c r.instance
   tasks_then k c y r e live cr t = by (numbered_last w.processes starter k y e)
     where
@@ -279,6 +310,8 @@ module _ (sc : Scopes) (texts : KeepToTexts sc) (w : World) (ok : IsSound sc IsW
         older = older_then;
         first = first_then;
         later = later_then;
+        criticals = λ k c y e cr. let h = criticals_then k c y e cr in let more = length-append w.instances (new ∷ []) in omega (arith, h, more);
+        earlier = earlier_then;
         tasks = tasks_then;
         listed = listed_then;
       }

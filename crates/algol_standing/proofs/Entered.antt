@@ -1,5 +1,5 @@
 -- The Enter of a block or of a procedure keeps what worlds are.
-use Rattle.std.proofs.Common.{◌≡◌, ◌⊎◌, ℕ, suc, ◌<◌, ◌≤◌, List, ◌∷◌, length, Some, true, false, refl, sym, ap, ◌∙◌, subst, arith}
+use Rattle.std.proofs.Common.{◌≡◌, ◌⊎◌, ℕ, suc, ◌<◌, ◌≤◌, List, [], ◌∷◌, length, Some, true, false, refl, sym, ap, ◌∙◌, subst, arith, length-append}
 use Rattle.std.specs.Prelude.{slice_get}
 use Rattle.b67_list.specs.Numbered.{numbered}
 use Rattle.algol_tree.specs.Blocks.{block_numbered, around}
@@ -204,6 +204,9 @@ module _ (sc : Scopes) (texts : KeepToTexts sc) (w : World) (ok : IsSound sc IsW
       by (◌⊎◌.inl f) = newest is (ap (λ (z : Process). z.critical) (sym f.1) ∙ cr) (subst (λ (z : Process). IsOwn z.todo i) f.1 n)
       by (◌⊎◌.inr f) = ok.older k c y f live cr i n
 
+  was_there : (k c : ℕ) (y : Process) → numbered v.processes k ≡ Some y → y.critical ≡ Some c → c ≤ length w.instances
+  was_there k c y e cr = let m = was_as k y e in ok.criticals k c m.before m.at_k (sym m.critical ∙ cr)
+
   -- ---- instances
 
   parent_stands : IsStanding w parent
@@ -265,6 +268,10 @@ module _ (sc : Scopes) (texts : KeepToTexts sc) (w : World) (ok : IsSound sc IsW
         older = older_then;
         first = λ y e. let m = was_as 1 y e in let f = ok.first m.before m.at_k in (m.critical ∙ f.0, m.task ∙ f.1);
         later = λ k y e. let m = was_as (suc (suc k)) y e in let f = ok.later k m.before m.at_k in (f.0, m.critical ∙ f.1);
+        criticals = λ k c y e cr. let h = was_there k c y e cr in let more = length-append w.instances (new ∷ []) in omega (arith, h, more);
+        earlier = λ k c y e cr.
+            let m = was_as k y e in
+            subst (λ (x : Instance). x.process < k) (sym (old_at c (was_there k c y e cr))) (ok.earlier k c m.before m.at_k (sym m.critical ∙ cr));
         tasks = λ k c y r e l cr g.
             let m = was_as k y e in
             tasks_kept sc w v ok v_ok paths blocks whole k c m.before y r m.at_k e m.critical m.task (m.lived l) l cr g;

@@ -45,7 +45,7 @@ pub no_place_awaited : (sc : Scopes) (r : Rest) → opens_plain (ask r) ≡ true
 no_place_awaited sc r e f = false_true (sym (opened sc r e) ∙ waits_awaits (resume sc r entered) f)
 
 module _ (P : Named → Type 0) (Q : PBody → Type 0) (R : Named → Type 0) where
-  evaluated_text : (x : Half) → InHalf P x → InRest P Q R (evaluated_of x)
+  pub evaluated_text : (x : Half) → InHalf P x → InRest P Q R (evaluated_of x)
   evaluated_text (val v) i = tt
   evaluated_text (busy h) i = i
 
@@ -53,7 +53,7 @@ module _ (P : Named → Type 0) (Q : PBody → Type 0) (R : Named → Type 0) wh
   located_text (at p) i = i
   located_text (aims x) i = i
 
-  subscripted_text : (sc : Scopes) (e : PExpr) → is_subscripted e ≡ true → InExpr P e → InRest P Q R (located_of (settle_actual_place sc e))
+  pub subscripted_text : (sc : Scopes) (e : PExpr) → is_subscripted e ≡ true → InExpr P e → InRest P Q R (located_of (settle_actual_place sc e))
   subscripted_text sc (tree.variable (tree.subscripted n (tree.more e es))) s i =
       located_text (settle_place sc (tree.subscripted n (tree.more e es))) (settle_place_in P sc n (tree.more e es) i.0 i.1)
   subscripted_text sc _ s i = false_true s
@@ -63,7 +63,7 @@ module _ (C : Cell → Type 0) (plain : (v : Value) → C (simple v)) (sc : Scop
   aimed_rest n (busy h) es i = ((i, refl), tt)
   aimed_rest n (val v) es i = ((tt, refl), tt)
 
-  subscripted_holds : (e : PExpr) → is_subscripted e ≡ true → RestHolds C plain true (located_of (settle_actual_place sc e)) × GivesPlace (located_of (settle_actual_place sc e))
+  pub subscripted_holds : (e : PExpr) → is_subscripted e ≡ true → RestHolds C plain true (located_of (settle_actual_place sc e)) × GivesPlace (located_of (settle_actual_place sc e))
   subscripted_holds (tree.variable (tree.subscripted n (tree.more e es))) s = aimed_rest n (settle sc e) es (settle_holds C plain sc e)
   subscripted_holds _ s = false_true s
 

@@ -58,6 +58,14 @@ held_among (y ∷ parts) x i (◌⊎◌.inr n) m =
     let o = held_among parts x i n m in
     (o.0, evaluated_back (newest_own (y ∷ parts)) (y.instance ∷ referred_by (held_in_rest y.rest)) (held_by parts) (record { over = o.0; within = i }) o.1)
 
+-- .. above the newest instance at the part or below it
+pub held_at : (newer : List Part) (x : Part) (older : List Part) (i : ℕ) → IsIn (x.instance ∷ referred_by (held_in_rest x.rest)) i →
+    IsEvaluated (held_by (newer ++ x ∷ older)) (record { over = newest_own (x ∷ older); within = i })
+held_at [] x older i m = evaluated_front (newest_own (x ∷ older)) (x.instance ∷ referred_by (held_in_rest x.rest)) (held_by older) i m
+held_at (y ∷ newer) x older i m =
+    evaluated_back (newest_own (y ∷ (newer ++ x ∷ older))) (y.instance ∷ referred_by (held_in_rest y.rest)) (held_by (newer ++ x ∷ older))
+    (record { over = newest_own (x ∷ older); within = i }) (held_at newer x older i m)
+
 -- ---- what stands, by the skeleton
 
 module _ (w : World) (ok : SkeletonOk (skeleton w)) where

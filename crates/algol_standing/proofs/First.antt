@@ -1,5 +1,5 @@
 -- The first world is as worlds are.
-use Rattle.std.proofs.Common.{◌≡◌, ◌⊎◌, ℕ, zero, suc, ◌<◌, List, [], ◌∷◌, Some, None, true, false, refl, sym, ◌∙◌, subst, arith}
+use Rattle.std.proofs.Common.{◌≡◌, ◌⊎◌, ℕ, zero, suc, ◌<◌, ◌≤◌, List, [], ◌∷◌, Some, None, true, false, refl, sym, ap, ◌∙◌, subst, arith}
 use Rattle.std.specs.Prelude.{slice_get}
 use Rattle.b67_list.specs.Numbered.{numbered}
 use Rattle.algol_tree.specs.Blocks.{block_numbered}
@@ -16,11 +16,13 @@ use Rattle.algol_paths.specs.Blocks.{IsSeen, IsSeenAround, IsInner}
 use Rattle.algol_paths.proofs.Statements.{declared_keeps}
 use Rattle.algol_standing.specs.Skeleton.{Evaluation, IsEvaluated, Stack, Home, IsIn, Owned, here, SkeletonOk}
 use Rattle.algol_standing.specs.Worlds.{home_of, held_in_rest, held_by, stack_of, skeleton, IsStanding, IsOnPath, IsOwn, IsAmong, outermost, IsWhole, PartOk, ProcessOk, InstanceOk, IsSound}
+use Rattle.algol_standing.specs.Lows.{LeadsLow, InstanceLow, PartLow, IsLow, IsMaking}
 use Rattle.algol_texts.specs.Texts.{HasOuterBlock}
 use Rattle.algol_standing.proofs.Lists.{none_some}
 use Rattle.algol_standing.proofs.Holding.{AreAll, items_hold}
 use Rattle.algol_standing.proofs.Seen.{evaluated_either}
 use Rattle.algol_standing.proofs.Changed.{IsPlain}
+use Rattle.algol_standing.proofs.LowWorlds.{fresh_low, Low, plain_low, low_all}
 use Rattle.algol_standing.proofs.Fresh.{simple_plain, fresh_refs, fresh_names, fresh_no_event, plain_refs, plain_names}
 
 module _ (sc : Scopes) (o : HasOuterBlock sc) (acts : ask (settle_items sc (items_of (block_numbered sc.blocks 0))) ≡ nothing → ⊥) where
@@ -140,9 +142,50 @@ module _ (sc : Scopes) (o : HasOuterBlock sc) (acts : ask (settle_items sc (item
         older = λ k c q e. processes (λ k q. lives q.state ≡ true → q.critical ≡ Some c → (i : ℕ) → IsOwn q.todo i → c < i) (λ live f. none_some f) k q e;
         first = λ q e. processes (λ k q. (q.critical ≡ None) × (q.task ≡ None)) (refl, refl) 1 q e;
         later = λ k q e. none_some e;
+        criticals = λ k c q e. processes (λ k q. q.critical ≡ Some c → c ≤ 1) (λ f. none_some f) k q e;
+        earlier = λ k c q e. processes (λ k q. q.critical ≡ Some c → (instance_at first c).process < k) (λ f. none_some f) k q e;
         tasks = λ k c q r e. processes (λ k q. lives q.state ≡ true → q.critical ≡ Some c → q.task ≡ Some r → IsOnPath first c r.instance) (λ live f. none_some f) k q e;
         listed = λ r e st f. absurd (no_event r.instance r.name e f);
       }
+
+  -- its outer block has the only instance
+  first_low : (i : ℕ) → IsMaking first i → IsLow sc first i
+  first_low i m =
+      record {
+        instances = λ j x e. instances (λ k y. y.left ≡ false → InstanceLow sc b i y) (λ s. record { childless = other; cells = fresh_low sc b i (block_numbered sc.blocks 0) [] tt }) j x e;
+        parts = λ k q y e. processes (λ k z. IsAmong z.todo y → PartLow sc b i y) (λ n. in_part y n) k q e;
+        tasks = λ k q r e. processes (λ k z. z.task ≡ Some r → LeadsLow sc b i r) (λ f. none_some f) k q e;
+      }
+    where
+      b : ℕ
+      b = (instance_at first i).block
+
+      only : (y : Part) → IsAmong (part ∷ []) y → y.instance ≡ 1
+      only y (◌⊎◌.inl f) = ap (λ (z : Part). z.instance) (sym f)
+      only y (◌⊎◌.inr n) = absurd n
+
+      one : i ≡ 1
+      one = sym m.instance_is ∙ processes (λ k z. IsAmong z.todo m.part → m.part.instance ≡ 1) (λ n. only m.part n) m.number m.process m.is m.among
+
+      other : 0 ≡ i → ⊥
+      other f = let at = one in omega (arith, f, at)
+
+      part_low : PartLow sc b i part
+      part_low =
+          record {
+            holds = low_all sc b i (Unit {0}) (held_in_rest rest)
+                (items_hold (Low sc b i (Unit {0})) (plain_low sc b i (Unit {0})) false sc (items_of (block_numbered sc.blocks 0))).0 tt;
+            narrow = λ e f. true_false e;
+          }
+
+      in_part : (y : Part) → IsAmong (part ∷ []) y → PartLow sc b i y
+      in_part y (◌⊎◌.inl f) = subst (λ z. PartLow sc b i z) f part_low
+      in_part y (◌⊎◌.inr n) = absurd n
+
+pub first_world_low : (sc : Scopes) → HasOuterBlock sc → (ask (settle_items sc (items_of (block_numbered sc.blocks 0))) ≡ nothing → ⊥) → (i : ℕ) → IsMaking (start sc) i →
+    IsLow sc (start sc) i
+unfolding start
+first_world_low sc o acts = first_low sc o acts
 
 pub first_world : (sc : Scopes) → HasOuterBlock sc → (ask (settle_items sc (items_of (block_numbered sc.blocks 0))) ≡ nothing → ⊥) → IsSound sc IsWhole (start sc)
 unfolding start

@@ -86,7 +86,7 @@ among_either (y ∷ xs) ys x (◌⊎◌.inr n) = by (among_either xs ys x n)
     by (◌⊎◌.inl m) = ◌⊎◌.inl (◌⊎◌.inr m)
     by (◌⊎◌.inr m) = ◌⊎◌.inr m
 
-own_among : (xs : List Part) (x : Part) → IsAmong xs x → is_evaluation x.purpose ≡ false → IsIn (own_instances xs) x.instance
+pub own_among : (xs : List Part) (x : Part) → IsAmong xs x → is_evaluation x.purpose ≡ false → IsIn (own_instances xs) x.instance
 own_among [] x n o = absurd n
 own_among (y ∷ xs) x (◌⊎◌.inl e) o = by (is_evaluation y.purpose) (ap (λ (z : Part). is_evaluation z.purpose) e ∙ o)
   where

@@ -1,5 +1,5 @@
 -- A process leaves the newest instances of its stack, and goes on with the parts below, or ends.
-use Rattle.std.proofs.Common.{◌≡◌, ◌⊎◌, ℕ, zero, suc, ◌<◌, List, [], ◌∷◌, ◌++◌, length, Some, Bool, true, false, refl, sym, ap, ◌∙◌, subst}
+use Rattle.std.proofs.Common.{◌≡◌, ◌⊎◌, ℕ, zero, suc, ◌<◌, ◌≤◌, List, [], ◌∷◌, ◌++◌, length, Some, Bool, true, false, refl, sym, ap, ◌∙◌, subst}
 use Rattle.std.specs.Prelude.{slice_get, ◌&&◌}
 use Rattle.b67_list.specs.Numbered.{numbered, set_numbered}
 use Rattle.algol_tree.specs.Scopes.{Scopes}
@@ -20,7 +20,7 @@ use Rattle.algol_standing.proofs.Acted.{IsStillMade}
 use Rattle.algol_standing.proofs.Carried.{part_kept, unmoved_kept, tasks_kept, instance_kept}
 use Rattle.algol_standing.proofs.Dropped.{dropped, dropped_stood, dropped_stands, dropped_ok, dropped_path, ended_ok, ended_path}
 use Rattle.algol_standing.proofs.PathOrder.{or_left, or_right, and_true}
-use Rattle.algol_standing.proofs.Stacks.{numbered_cases, skeleton_with, leave_processes, leave_homes, leave_same, IsLeftAs, leave_back}
+use Rattle.algol_standing.proofs.Stacks.{numbered_cases, skeleton_with, leave_processes, leave_homes, leave_length, leave_same, IsLeftAs, leave_back}
 
 -- ---- no live process depends on them
 
@@ -240,6 +240,10 @@ module _ (sc : Scopes) (w : World) (ok : IsSound sc IsWhole w) (p : ℕ) (q : Pr
         older = λ k c y e l cr i n. let m = was_as k y e in ok.older k c m.before m.at_k (m.lived l) (sym m.critical ∙ cr) i (m.owns i n);
         first = λ y e. let m = was_as 1 y e in let f = ok.first m.before m.at_k in (m.critical ∙ f.0, m.task ∙ f.1);
         later = λ k y e. let m = was_as (suc (suc k)) y e in let f = ok.later k m.before m.at_k in (f.0, m.critical ∙ f.1);
+        criticals = λ k c y e cr. let m = was_as k y e in subst (λ l. c ≤ l) (sym (leave_length w newer)) (ok.criticals k c m.before m.at_k (sym m.critical ∙ cr));
+        earlier = λ k c y e cr.
+            let m = was_as k y e in
+            subst (λ j. j < k) (sym (leave_same (λ (x : Instance). x.process) (λ x. refl) w newer c)) (ok.earlier k c m.before m.at_k (sym m.critical ∙ cr));
         tasks = λ k c y r e l cr g.
             let m = was_as k y e in
             tasks_kept sc w left_world ok after paths blocks whole k c m.before y r m.at_k e m.critical m.task (m.lived l) l cr g;

@@ -1,17 +1,17 @@
 -- Nothing that an instance in use refers to is left.
-use Rattle.std.proofs.Common.{◌≡◌, ◌⊎◌, ℕ, zero, suc, ◌≤◌, List, ◌++◌, Some, true, false, refl, sym, ap, ◌∙◌, arith}
+use Rattle.std.proofs.Common.{◌≡◌, ◌⊎◌, ℕ, zero, suc, ◌≤◌, List, ◌∷◌, ◌++◌, Some, true, false, refl, sym, ap, ◌∙◌, subst, arith}
 use Rattle.b67_list.specs.Numbered.{numbered}
 use Rattle.algol_tree.specs.Scopes.{Scopes}
 use Rattle.algol_meaning.specs.Value.{Reference}
 use Rattle.algol_meaning.specs.World.{Instance, instance_at, Process, lives, World}
-use Rattle.algol_standing.specs.Skeleton.{IsIn}
-use Rattle.algol_standing.specs.Worlds.{parent_in, referred_in_cells, home_of, stack_of, skeleton, IsStanding, IsWhole, IsSound}
+use Rattle.algol_standing.specs.Skeleton.{Evaluation, IsEvaluated, IsIn}
+use Rattle.algol_standing.specs.Worlds.{parent_in, referred_in_cells, home_of, newest_own, held_by, stack_of, skeleton, IsStanding, IsWhole, IsSound}
 use Rattle.algol_standing.specs.Laws.{WhatIsReferredToStands, ReferencesLieOnPaths}
 use Rattle.algol_standing.proofs.Lists.{none_some}
 use Rattle.algol_standing.proofs.Standing.{stands_path}
 use Rattle.algol_standing.proofs.Pairs.{stack_forth, home_forth}
 use Rattle.algol_standing.proofs.Seen.{in_back, there, instance_is}
-use Rattle.algol_standing.proofs.Fine.{held_among, part_stands_in}
+use Rattle.algol_standing.proofs.Fine.{held_at, part_stands_in}
 
 module _ (sc : Scopes) (Whole : World → ℕ → Type 0) (w : World) (ok : IsSound sc Whole w) where
   in_use : (i : ℕ) → IsStanding w i → (instance_at w i).left ≡ false
@@ -51,9 +51,8 @@ references_lie_on_paths sc w ok =
     record {
       instances = λ i r x e f n. ok.sound.skeleton_ok.refers i (home_of x) r ((ok.sound.instances i x e).left.0 f) (home_forth w i x e) n;
       parts =
-          λ p q x i e n m.
-          let o = held_among q.todo x i n m in
-          let f = ok.sound.skeleton_ok.evaluates p (stack_of q) (record { over = o.0; within = i }) (stack_forth w p q e) o.1 in
-          (o.0, f.0, f.1);
+          λ p q newer older x i e f m.
+          let held : Evaluation = record { over = newest_own (x ∷ older); within = i } in
+          ok.sound.skeleton_ok.evaluates p (stack_of q) held (stack_forth w p q e) (subst (λ ps. IsEvaluated (held_by ps) held) (sym f) (held_at newer x older i m));
       tasks = λ p c q r e live f g. ok.sound.tasks p c q r e live f g;
     }

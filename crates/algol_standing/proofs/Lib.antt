@@ -26,6 +26,7 @@ pub mod Listed
 pub mod Events
 pub mod Left
 pub mod Leaving
+pub mod Unseen
 pub mod LeavesWith
 pub mod Leaves
 pub mod Jumping
@@ -36,12 +37,13 @@ pub mod Given
 pub mod Calling
 pub mod PathOrder
 pub mod PathFirst
+pub mod Criticals
 pub mod Started
 pub mod Begun
 pub mod Starting
 pub mod Choosing
+pub mod LowWorlds
 pub mod First
-pub mod Worlds
 pub mod FitCells
 pub mod FitWorlds
 pub mod FitNames
@@ -50,5 +52,12 @@ pub mod FitEntering
 pub mod FitLeaving
 pub mod FitChoosing
 pub mod FitLaws
+pub mod LowNames
+pub mod LowActing
+pub mod LowEntering
+pub mod LowLeaving
+pub mod LowChoosing
+pub mod LowLaws
+pub mod Worlds
 pub mod Calls
 pub mod Sources

@@ -59,7 +59,7 @@ module _ (sc : Scopes) (w : World) (ok : IsSound sc IsWhole w) where
   abbrev on_test : ℕ → ℕ → Bool
   on_test p m = (((instance_at w m).process == p) && not (instance_at w m).left) || is_this ((process_at w p).critical) m
 
-  home_process : (m : ℕ) (st : IsStanding w m) → (instance_at w m).process ≡ st.number
+  pub home_process : (m : ℕ) (st : IsStanding w m) → (instance_at w m).process ≡ st.number
   home_process m st =
       let h = home_stands (skeleton w) ok.skeleton_ok m st in
       let x = there sc IsWhole w ok m st in

@@ -28,7 +28,7 @@ use Rattle.algol_standing.proofs.Acted.{AreStillMade, acted_ok}
 
 -- ---- the answer
 
-answer_in : (P : Named → Type 0) (a : Answer) → IsForeign a → InAnswer P a
+pub answer_in : (P : Named → Type 0) (a : Answer) → IsForeign a → InAnswer P a
 answer_in P (place (own n)) f = absurd f
 answer_in P (place (there r)) f = tt
 answer_in P (place (element_of r ks)) f = tt
@@ -52,7 +52,7 @@ nothing_after [] ys e = e
 nothing_after (x ∷ xs) ys e = cc
 
 -- where nothing is left to make, nothing is after the action of the head
-nothing_left : (r : Rest) → all_to_make r ≡ [] → all_left_to_make r ≡ []
+pub nothing_left : (r : Rest) → all_to_make r ≡ [] → all_left_to_make r ≡ []
 nothing_left (rests.bounding kind ns pairs vs h ps k) e = e
 nothing_left (rests.arrays kind ns pairs vs k) e = nothing_after (made_in kind ns pairs) (to_come k) e
 nothing_left (rests.event n k) e = cc

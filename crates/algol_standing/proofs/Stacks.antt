@@ -8,7 +8,7 @@ use Rattle.algol_standing.specs.Skeleton.{Stack, Home, IsIn}
 use Rattle.algol_standing.specs.Worlds.{home_of, stack_of, skeleton}
 use Rattle.algol_standing.proofs.Lists.{none_some, get-seam, get-last, get-small}
 use Rattle.algol_standing.proofs.Standing.{set_cases}
-use Rattle.algol_standing.proofs.Pairs.{set_or}
+use Rattle.algol_standing.proofs.Pairs.{map_length, set_or}
 
 -- ---- lists
 
@@ -121,6 +121,9 @@ homes_same xs (suc k) = by xs k
 pub leave_homes : (w : World) (is : List ℕ) → map home_of (leave w is).instances ≡ map home_of w.instances
 leave_homes w [] = refl
 leave_homes w (i ∷ is) = leave_homes (with_instance w i (record (instance_at w i) { left = true })) is ∙ homes_same w.instances i
+
+pub leave_length : (w : World) (is : List ℕ) → length (leave w is).instances ≡ length w.instances
+leave_length w is = sym (map_length home_of (leave w is).instances) ∙ (ap length (leave_homes w is) ∙ map_length home_of w.instances)
 
 -- what does not tell whether an instance was left stays
 module _ {A : Type 0} (g : Instance → A) (same : (x : Instance) → g (record x { left = true }) ≡ g x) where

@@ -18,15 +18,14 @@ use Rattle.algol_standing.proofs.Calls.{IsNoEvent}
 use Rattle.algol_standing.proofs.Lists.{get-seam}
 use Rattle.algol_standing.proofs.Standing.{stands_path}
 use Rattle.algol_standing.proofs.Growth.{stands_up, path_up, start_ok, start_grows}
-use Rattle.algol_standing.proofs.Firsts.{path_first, from_first, there_is, evaluations_ok, evaluations_grow}
+use Rattle.algol_standing.proofs.Firsts.{path_first, from_first, evaluations_ok, evaluations_grow}
 use Rattle.algol_standing.proofs.Holding.{AreAll, items_hold}
 use Rattle.algol_standing.proofs.Pairs.{map_length, stack_forth, stack_back}
-use Rattle.algol_standing.proofs.Seen.{CellOk, all_refs, in_front, in_either, evaluated_either, top_inside, top_stands}
+use Rattle.algol_standing.proofs.Seen.{CellOk, all_refs, in_front, in_either, evaluated_either, top_stands}
 use Rattle.algol_standing.proofs.Stacks.{skeleton_started, numbered_front, numbered_new, numbered_last, numbered_small}
 use Rattle.algol_standing.proofs.Changed.{IsPlain}
 use Rattle.algol_standing.proofs.Fresh.{simple_plain, fresh_refs, parent_only, plain_refs}
-use Rattle.algol_standing.proofs.Entering.{own_head}
-use Rattle.algol_standing.proofs.PathFirst.{first_found}
+use Rattle.algol_standing.proofs.Criticals.{first_is}
 
 set_last : {A : Type 0} (xs : List A) (y z : A) → slice_set (xs ++ y ∷ []) (length xs) z ≡ xs ++ z ∷ []
 set_last [] y z = refl
@@ -81,29 +80,17 @@ module _ (sc : Scopes) (texts : KeepToTexts sc) (w : World) (ok : IsSound sc IsW
   pub top_here : IsStanding w top
   top_here = top_stands sc IsWhole w ok p q part outer is todo
 
-  first : (d : ℕ) × FirstOf (skeleton w) wanted top d
-  first = there_is (skeleton w) ok.skeleton_ok wanted top parent (◌⊎◌.inl refl) parent_path
-
-  critical_is : critical ≡ first.0
-  critical_is = by (own_head (part ∷ outer)) (top_inside sc IsWhole w ok p q part outer is todo)
-    where
-      same : newest_own q.todo ≡ top
-      same = ap newest_own todo
-
-      by : (own_instances (part ∷ outer) ≡ []) ⊎ ((r : List ℕ) × (own_instances (part ∷ outer) ≡ top ∷ r)) → IsIn (own_instances (part ∷ outer)) top → critical ≡ first.0
-      by (◌⊎◌.inl e) n = absurd (subst (λ xs. IsIn xs top) e n)
-      by (◌⊎◌.inr e) n =
-          first_found sc w ok wanted p q e.0 first.0 is (ap lives able_is) (subst (λ ps. own_instances ps ≡ newest_own ps ∷ e.0) (sym todo) e.1)
-          (subst (λ i. FirstOf (skeleton w) wanted i first.0) (sym same) first.1)
+  first : FirstOf (skeleton w) wanted top critical
+  first = first_is sc w ok p q part outer is todo (ap lives able_is) wanted parent (◌⊎◌.inl refl) parent_path
 
   critical_path : IsOnPath w top critical
-  critical_path = subst (λ i. IsOnPath w top i) (sym critical_is) (path_first (skeleton w) ok.skeleton_ok wanted top first.0 first.1)
+  critical_path = path_first (skeleton w) ok.skeleton_ok wanted top critical first
 
   pub critical_stands : IsStanding w critical
   critical_stands = stands_path (skeleton w) ok.skeleton_ok top critical top_here critical_path
 
   pub leads : (x : ℕ) → IsIn wanted x → IsOnPath w top x → IsOnPath w critical x
-  leads x n l = subst (λ i. IsOnPath w i x) (sym critical_is) (from_first (skeleton w) ok.skeleton_ok wanted top first.0 first.1 x n l)
+  leads x n l = from_first (skeleton w) ok.skeleton_ok wanted top critical first x n l
 
   abbrev refs : List ℕ
   refs = (home_of new).refs

@@ -1,28 +1,26 @@
 -- The Start of a process, by what the head asks for: its stack comes to be, and the starter goes on.
-use Rattle.std.proofs.Common.{◌≡◌, ◌⊎◌, ℕ, List, ◌∷◌, Option, Some, None, sym, subst}
+use Rattle.std.proofs.Common.{◌≡◌, ◌⊎◌, ℕ, List, ◌∷◌, Option, Some, sym, subst}
 use Rattle.b67_list.specs.Numbered.{numbered}
 use Rattle.algol_tree.specs.declared.tree.Named.{Named}
 use Rattle.algol_tree.specs.Scopes.{Scopes, use_of}
 use Rattle.algol_meaning.specs.Rest.{Given, done}
 use Rattle.algol_meaning.specs.Settle.{block_of}
 use Rattle.algol_meaning.specs.World.{instance_at, Part, Process, able, World}
-use Rattle.algol_meaning.specs.Critical.{referred_by_task}
 use Rattle.algol_meaning.specs.Asks as asks
 use Rattle.algol_meaning.specs.Asks.{ask}
 use Rattle.algol_meaning.specs.Choice.{home, given_cells, with_new_instance, with_started, next_process, task_of, starts}
 use Rattle.algol_paths.specs.Blocks.{IsSeen, IsSeenAround, IsInner}
-use Rattle.algol_paths.specs.Texts.{InName, InGivens}
+use Rattle.algol_paths.specs.Texts.{InGivens}
 use Rattle.algol_calls.specs.Fits.{IsCallee}
-use Rattle.algol_standing.specs.Skeleton.{IsIn}
-use Rattle.algol_standing.specs.Worlds.{newest_own, IsOnPath, IsNoBlock, IsWhole, IsSound}
+use Rattle.algol_standing.specs.Worlds.{IsNoBlock, IsWhole, IsSound}
 use Rattle.algol_texts.specs.Texts.{KeepToTexts}
 use Rattle.algol_standing.proofs.Calls.{PassNoEvents}
-use Rattle.algol_standing.proofs.Seen.{home_path}
 use Rattle.algol_standing.proofs.Asking.{Sees, Suits}
 use Rattle.algol_standing.proofs.Acting.{heads_act}
 use Rattle.algol_standing.proofs.Quiet.{same_goes}
 use Rattle.algol_standing.proofs.Given.{cells_no_events}
 use Rattle.algol_standing.proofs.Calling.{seen_head, narrow_head, held_head, call_path, call_some, call_around, call_whole, call_held}
+use Rattle.algol_standing.proofs.Criticals.{task_path}
 use Rattle.algol_standing.proofs.Begun.{started_ok, starter_before}
 
 module _ (sc : Scopes) (texts : KeepToTexts sc) (w : World) (ok : IsSound sc IsWhole w) (p : ℕ) (q : Process) (part : Part) (outer : List Part) (is : numbered w.processes p ≡ Some q)
@@ -41,11 +39,6 @@ module _ (sc : Scopes) (texts : KeepToTexts sc) (w : World) (ok : IsSound sc IsW
       by (◌⊎◌.inl f) = ◌⊎◌.inl f
       by (◌⊎◌.inr f) = ◌⊎◌.inr (f.0, f.1)
 
-  task_path : (o : Option Named) → InName (IsSeen sc j) o → (x : ℕ) → IsIn (referred_by_task (task_of sc w p q part outer o)) x → IsOnPath w (newest_own (part ∷ outer)) x
-  task_path None i x m = absurd m
-  task_path (Some t) i x (◌⊎◌.inl f) = subst (λ k. IsOnPath w (newest_own (part ∷ outer)) k) f (home_path sc IsWhole w ok p q part outer is todo t i)
-  task_path (Some t) i x (◌⊎◌.inr m) = absurd m
-
   abbrev block_is : ℕ
   block_is = block_of ((use_of sc n).sort)
 
@@ -63,7 +56,7 @@ module _ (sc : Scopes) (texts : KeepToTexts sc) (w : World) (ok : IsSound sc IsW
       (call_around sc texts w ok p q part outer is todo able_is n gs callee plain seen.0 seen.1 narrow) (call_some sc texts w ok p q part outer is todo able_is n gs callee plain seen.0 seen.1 narrow)
       (call_path sc texts w ok p q part outer is todo able_is n gs callee plain seen.0 seen.1 narrow) (call_whole sc texts w ok p q part outer is todo able_is n gs callee plain seen.0 seen.1 narrow)
       (call_held sc texts w ok p q part outer is todo able_is n gs callee plain seen.0 seen.1 narrow (held_head sc texts w ok p q part outer is todo able_is (asks.starts n gs task) e))
-      (cells_no_events sc w ok p q part outer is todo gs plain) (task_path task seen.2)
+      (cells_no_events sc w ok p q part outer is todo gs plain) (task_path sc w ok p q part outer is todo task seen.2)
 
   is_there : numbered started.processes p ≡ Some q
   is_there =
@@ -71,7 +64,7 @@ module _ (sc : Scopes) (texts : KeepToTexts sc) (w : World) (ok : IsSound sc IsW
       (call_around sc texts w ok p q part outer is todo able_is n gs callee plain seen.0 seen.1 narrow) (call_some sc texts w ok p q part outer is todo able_is n gs callee plain seen.0 seen.1 narrow)
       (call_path sc texts w ok p q part outer is todo able_is n gs callee plain seen.0 seen.1 narrow) (call_whole sc texts w ok p q part outer is todo able_is n gs callee plain seen.0 seen.1 narrow)
       (call_held sc texts w ok p q part outer is todo able_is n gs callee plain seen.0 seen.1 narrow (held_head sc texts w ok p q part outer is todo able_is (asks.starts n gs task) e))
-      (cells_no_events sc w ok p q part outer is todo gs plain) (task_path task seen.2)
+      (cells_no_events sc w ok p q part outer is todo gs plain) (task_path sc w ok p q part outer is todo task seen.2)
 
   pub process_starts : IsSound sc IsWhole (starts sc w p q part outer block_is parent (given_cells sc w p q part outer gs) (task_of sc w p q part outer task)).world
   process_starts = same_goes sc (heads_act sc) started started_here p q part outer is_there todo able_is done tt tt (subst (λ x. Suits x done) (sym e) tt)

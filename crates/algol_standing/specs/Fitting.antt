@@ -8,6 +8,7 @@ use Rattle.algol_meaning.specs.Value.{Reference, Cell, named, reference}
 use Rattle.algol_meaning.specs.World.{NamedCell, Instance, Part, Process, World, cell_in}
 use Rattle.algol_calls.specs.Fits.{CellFits, parameter_sort, ExprFits, RestFits}
 use Rattle.algol_standing.specs.Worlds.{held_in_rest, IsAmong, IsSound}
+use Rattle.algol_standing.specs.Lows.{IsLow, IsMaking}
 
 -- the first cells are those of the parameters
 abbrev pub ParametersFit : List Parameter → List NamedCell → Type 0
@@ -51,7 +52,8 @@ module _ (sc : Scopes) where
       pub instances : (i : ℕ) (x : Instance) → numbered w.instances i ≡ Some x → InstanceFits x
       pub processes : (p : ℕ) (q : Process) → numbered w.processes p ≡ Some q → ProcessFits q
 
--- A world is as worlds are: what stands and waits is in order, and calls fit.
+-- A world is as worlds are: what stands and waits is in order, calls fit, and nobody comes to what an instance has still to make.
 pub record IsOk (sc : Scopes) (Whole : World → ℕ → Type 0) (w : World) : Type 0 where
   pub sound : IsSound sc Whole w
   pub fits : WorldFits sc w
+  pub low : (i : ℕ) → IsMaking w i → IsLow sc w i

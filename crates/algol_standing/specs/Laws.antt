@@ -1,18 +1,22 @@
 -- The laws of skeletons and of worlds: each change that an action makes keeps them, and what is referred to stands.
-use Rattle.std.specs.Prelude.{◌≡◌, ℕ, ◌≤◌, Bool, true, false, List, [], ◌∷◌, ◌++◌, Some, slice_get}
+use Rattle.std.specs.Prelude.{◌≡◌, ℕ, ◌≤◌, Bool, true, false, List, [], ◌∷◌, ◌++◌, Option, Some, slice_get}
 use Rattle.b67_list.specs.Numbered.{numbered}
+use Rattle.algol_tree.specs.declared.tree.Named.{Named}
 use Rattle.algol_tree.specs.Accepted.{Accepted}
 use Rattle.algol_tree.specs.Ascending.{IsInOrder}
 use Rattle.algol_tree.specs.First.{Source}
 use Rattle.algol_tree.specs.Plain.{PProgram}
 use Rattle.algol_tree.specs.Scopes.{Scopes, scopes_of}
 use Rattle.algol_meaning.specs.Value.{Reference}
+use Rattle.algol_meaning.specs.Rest.{Given}
 use Rattle.algol_meaning.specs.World.{Instance, instance_at, Part, Process, lives, World}
-use Rattle.algol_meaning.specs.Critical.{own_instances, referred_by}
-use Rattle.algol_meaning.specs.Choice.{choice}
+use Rattle.algol_meaning.specs.Critical.{some_depends, own_instances, newest_first, first_on_path, referred_by, referred_by_task}
+use Rattle.algol_meaning.specs.Asks.{starts, ask}
+use Rattle.algol_meaning.specs.Choice.{choice, home, given_cells, task_of}
 use Rattle.algol_meaning.specs.Run.{start, may_go, run}
 use Rattle.algol_texts.specs.Texts.{AreTexts, HasOuterBlock}
-use Rattle.algol_standing.specs.Worlds.{referred_in_cells, home_of, held_in_rest, IsOnPath, IsAmong, IsWhole}
+use Rattle.algol_standing.specs.Worlds.{referred_in_cells, home_of, held_in_rest, newest_own, skeleton, IsStanding, IsOnPath, IsAmong, IsWhole}
+use Rattle.algol_standing.specs.Lows.{IsLow, IsMaking}
 use Rattle.algol_standing.specs.Fitting.{IsOk}
 use Rattle.algol_standing.specs.Skeleton.{Evaluation, IsEvaluated, Stack, Skeleton, IsIn, Stands, OnPath, FirstOf, SkeletonOk, AreFree, AreIdle, entered, started, left, evaluated}
 
@@ -64,15 +68,62 @@ WhatIsReferredToStands = (sc : Scopes) (w : World) → IsOk sc IsWhole w → Non
 pub record AllLieOnPaths (w : World) : Type 0 where
   -- by an instance: its parent, and the instances of its References and Names
   pub instances : (i r : ℕ) (x : Instance) → numbered w.instances i ≡ Some x → x.left ≡ false → IsIn (home_of x).refs r → IsOnPath w i r
-  -- by an open part: its instance, and those of the places and cells that it holds, from an instance of its process
-  pub parts : (p : ℕ) (q : Process) (x : Part) (i : ℕ) → numbered w.processes p ≡ Some q → IsAmong q.todo x →
-      IsIn (x.instance ∷ referred_by (held_in_rest x.rest)) i → (top : ℕ) × IsIn (own_instances q.todo) top × IsOnPath w top i
+  -- by an open part: its instance, and those of the places and cells that it holds, from the newest instance of its process at the part or below it
+  pub parts : (p : ℕ) (q : Process) (newer older : List Part) (x : Part) (i : ℕ) → numbered w.processes p ≡ Some q → q.todo ≡ newer ++ x ∷ older →
+      IsIn (x.instance ∷ referred_by (held_in_rest x.rest)) i → IsIn (own_instances q.todo) (newest_own (x ∷ older)) × IsOnPath w (newest_own (x ∷ older)) i
   -- by a live process: its task, from its critical instance
   pub tasks : (p c : ℕ) (q : Process) (r : Reference) → numbered w.processes p ≡ Some q → lives q.state ≡ true → q.critical ≡ Some c → q.task ≡ Some r →
       IsOnPath w c r.instance
 
 abbrev pub ReferencesLieOnPaths : Type 0
 ReferencesLieOnPaths = (sc : Scopes) (w : World) → IsOk sc IsWhole w → AllLieOnPaths w
+
+-- Only what stands on the instance refers to it: the instance itself, the parts above it and what they hold.
+pub record IsUnseen (w : World) (x : ℕ) : Type 0 where
+  pub paths : (i : ℕ) → IsOnPath w i x → i ≡ x
+  pub instances : (i : ℕ) (y : Instance) → numbered w.instances i ≡ Some y → y.left ≡ false → IsIn (home_of y).refs x → i ≡ x
+  pub parts : (p : ℕ) (q : Process) (newer older : List Part) (y : Part) → numbered w.processes p ≡ Some q → q.todo ≡ newer ++ y ∷ older →
+      IsIn (y.instance ∷ referred_by (held_in_rest y.rest)) x → newest_own (y ∷ older) ≡ x
+  pub tasks : (p : ℕ) (q : Process) (r : Reference) → numbered w.processes p ≡ Some q → lives q.state ≡ true → q.task ≡ Some r → r.instance ≡ x → ⊥
+
+-- So it is with the newest instance of a stack on which no live process depends.
+abbrev pub NewestIsUnseen : Type 0
+NewestIsUnseen =
+    (sc : Scopes) (w : World) (p : ℕ) (q : Process) (x : ℕ) (older : List ℕ) → IsOk sc IsWhole w → numbered w.processes p ≡ Some q → own_instances q.todo ≡ x ∷ older →
+    some_depends w.processes x ≡ false → IsUnseen w x
+
+-- ---- what an instance has still to make
+
+-- An action of another process brings nobody to it.
+abbrev pub OthersKeepLow : Type 0
+OthersKeepLow =
+    (sc : Scopes) (w : World) (p i : ℕ) → AreTexts sc → IsOk sc IsWhole w → may_go w p ≡ true → IsStanding w i → ((instance_at w i).process ≡ p → ⊥) → IsLow sc w i →
+    IsLow sc (choice sc w p).world i
+
+-- Where an instance has something to make, nobody comes to that before the next action, and nobody does after it, though it were the last that it makes.
+abbrev pub MakingIsLow : Type 0
+MakingIsLow = (sc : Scopes) (w : World) (p i : ℕ) → AreTexts sc → IsOk sc IsWhole w → may_go w p ≡ true → IsMaking w i → IsLow sc (choice sc w p).world i
+
+-- ---- PROCESS
+
+-- the instances to which the process refers that this part would start: that in which its procedure is declared, those of the References and
+-- Names that it is given, and that of its task
+abbrev pub referred_by_start : Scopes → World → ℕ → Process → Part → List Part → Named → List Given → Option Named → List ℕ
+referred_by_start sc w p q part outer n gs task =
+    home sc w p q part outer n ∷ referred_by (given_cells sc w p q part outer gs) ++ referred_by_task (task_of sc w p q part outer task)
+
+-- All of them lie on the starter's path, and the critical instance that the process gets is the first of them there.
+pub record StartsOnPath (sc : Scopes) (w : World) (p : ℕ) (q : Process) (part : Part) (outer : List Part) (n : Named) (gs : List Given) (task : Option Named) : Type 0 where
+  pub refers : (i : ℕ) → IsIn (referred_by_start sc w p q part outer n gs task) i → IsOnPath w (newest_own (part ∷ outer)) i
+  pub first : FirstOf (skeleton w) (referred_by_start sc w p q part outer n gs task) (newest_own (part ∷ outer))
+      (first_on_path w (newest_first 1 w.instances []) p (referred_by_start sc w p q part outer n gs task))
+
+abbrev pub StartsLieOnPaths : Type 0
+StartsLieOnPaths =
+    (sc : Scopes) (w : World) (p : ℕ) (q : Process) (part : Part) (outer : List Part) (n : Named) (gs : List Given) (task : Option Named) → IsOk sc IsWhole w →
+    numbered w.processes p ≡ Some q → q.todo ≡ part ∷ outer → lives q.state ≡ true → ask part.rest ≡ starts n gs task → StartsOnPath sc w p q part outer n gs task
+
+-- ---- actions
 
 -- An action keeps what worlds are, whichever it is and of whichever process.
 abbrev pub ChoicesKeepWorlds : Type 0

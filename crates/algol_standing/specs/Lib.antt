@@ -1,4 +1,5 @@
 pub mod Skeleton
 pub mod Worlds
+pub mod Lows
 pub mod Fitting
 pub mod Laws

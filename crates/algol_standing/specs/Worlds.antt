@@ -277,6 +277,9 @@ module _ (sc : Scopes) (Whole : World → ℕ → Type 0) (w : World) where
     pub older : (p c : ℕ) (q : Process) → numbered w.processes p ≡ Some q → lives q.state ≡ true → q.critical ≡ Some c → (i : ℕ) → IsOwn q.todo i → c < i
     pub first : (q : Process) → numbered w.processes 1 ≡ Some q → (q.critical ≡ None) × (q.task ≡ None)
     pub later : (p : ℕ) (q : Process) → numbered w.processes (suc (suc p)) ≡ Some q → (c : ℕ) × (q.critical ≡ Some c)
+    -- the critical instance of a process is there, and it is one of a process that was started earlier
+    pub criticals : (p c : ℕ) (q : Process) → numbered w.processes p ≡ Some q → q.critical ≡ Some c → c ≤ length w.instances
+    pub earlier : (p c : ℕ) (q : Process) → numbered w.processes p ≡ Some q → q.critical ≡ Some c → (instance_at w c).process < p
     -- a live process's task lies on the path from its critical instance
     pub tasks : (p c : ℕ) (q : Process) (r : Reference) → numbered w.processes p ≡ Some q → lives q.state ≡ true → q.critical ≡ Some c → q.task ≡ Some r →
         IsOnPath w c r.instance
