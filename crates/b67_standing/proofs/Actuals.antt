@@ -1,4 +1,4 @@
--- The actuals of a call: each comes to lie above those before it, which lie on the reference of the procedure's control word.
+-- The actuals of a call or of a PROCESS: each comes to lie above those before it, which lie on its start.
 use Rattle.std.proofs.Common.{◌≡◌, refl, sym, ◌∙◌, subst, ℕ, ◌+◌, ◌≤◌, arith, List, [], ◌∷◌, ◌++◌, length, length-append, append_assoc}
 use Rattle.algol_tree.specs.declared.tree.Kind.{Kind}
 use Rattle.algol_tree.specs.declared.tree.Named.{Named}
@@ -10,21 +10,17 @@ use Rattle.algol_meaning.specs.Rest as rests
 use Rattle.algol_meaning.specs.Rest.{Given, valued, refers, Actuals, Half, val, busy, HalfGiven, given}
 use Rattle.algol_meaning.specs.Settle.{valued_of, alone_of, name_alone, sort_at, other_of, settle_actuals}
 use Rattle.algol_paths.specs.Arrays.{Shape}
-use Rattle.b67_ops.specs.declared.Couple.{Couple}
-use Rattle.b67_ops.specs.declared.Operator.TheVariants as ops
-use Rattle.b67_ops.specs.declared.PlainKind.TheVariants as kinds
 use Rattle.b67_segment.specs.Operators.{Placed}
 use Rattle.b67_templates.specs.Contexts.{Context}
-use Rattle.b67_templates.specs.Fragments.{Has}
 use Rattle.b67_templates.specs.Cells as wants
-use Rattle.b67_templates.specs.Cells.{Wanted, parameter_wants, IsProcedure}
+use Rattle.b67_templates.specs.Cells.{Wanted}
 use Rattle.b67_templates.specs.Code as code
 use Rattle.b67_templates.specs.Code.{ArrayActualAt, NameActualAt, ActualsAt}
 use Rattle.b67_templates.specs.Events as events
 use Rattle.b67_templates.specs.Events.{EventActualAt}
 use Rattle.b67_templates.specs.Depths.{line_depth}
-use Rattle.b67_standing.specs.Stepping.{Slot, operand, reference, mark, HasRoom, cell_named, actual as actual_held, of_array, of_variable, of_event, of_actual, push_reference, stuff, Leads, there, first}
-use Rattle.b67_standing.specs.Standing.{operands, given_slot, given_slots, AreGiven, CallsAt, array_passed, name_passed, event_passed, Fills, Shows}
+use Rattle.b67_standing.specs.Stepping.{Slot, operand, reference, HasRoom, cell_named, actual as actual_held, of_array, of_variable, of_event, of_actual, push_reference, stuff, Leads, there, first}
+use Rattle.b67_standing.specs.Standing.{operands, given_slot, given_slots, AreGiven, array_passed, name_passed, event_passed, Fills, Shows}
 use Rattle.b67_standing.proofs.Leading.{on, valued_at}
 use Rattle.b67_standing.proofs.Values.{variable_refers, own_names}
 
@@ -44,6 +40,12 @@ pub given_slots-length : (wanted : List Wanted) (gs : List Given) (below : List 
 given_slots-length [] gs below = omega arith
 given_slots-length (w ∷ wanted) [] below = omega arith
 given_slots-length (w ∷ wanted) (g ∷ gs) below = omega (arith, given_slots-length wanted gs (given_slot w g ∷ below))
+
+-- none is taken away
+pub given_slots-above : (wanted : List Wanted) (gs : List Given) (below : List Slot) → length below ≤ length (given_slots wanted gs below)
+given_slots-above [] gs below = omega arith
+given_slots-above (w ∷ wanted) [] below = omega arith
+given_slots-above (w ∷ wanted) (g ∷ gs) below = omega (arith, given_slots-above wanted gs (given_slot w g ∷ below))
 
 -- one actual more lies on top
 given_slots-more : (wanted : List Wanted) (gs : List Given) (w : Wanted) (g : Given) (below : List Slot) → length wanted ≡ length gs →
@@ -68,210 +70,153 @@ module _ (sc : Scopes) (context : Context) where
   given-more (x ∷ wanted) [] w g h one = absurd h
 
 module _ (sc : Scopes) (context : Context) (ps : List Placed) (level most : ℕ) where
-  -- ---- calls
+  -- ---- actuals that are evaluated
 
-  -- Here the machine stands for a call whose actuals are evaluated up to their head, or whose entry is next. After the entry the
-  -- code goes on at the place `next`.
-  abbrev pub Filled : Named → ℕ → HalfGiven → ℕ → List Slot → List Slot → ℕ → Type 0
-  Filled n callee (given gs) pc slots below next = CallsAt sc context ps level most n gs callee pc next slots below
-  Filled n callee (rests.wants x) pc slots below next =
-      (filled : ℕ) × Fills sc context ps level most n callee x pc slots below filled × Has ps level filled (ops.Plain kinds.Entr) next
+  -- Here the machine stands for actuals, of which these are wanted, that are evaluated up to their head, or that all lie on the start of their call
+  -- or PROCESS. They are to do that at the place `filled`.
+  abbrev pub Filled : List Wanted → HalfGiven → ℕ → List Slot → List Slot → ℕ → Type 0
+  Filled all (given gs) pc slots begun filled = (pc ≡ filled) × AreGiven sc context all gs × (slots ≡ given_slots all gs begun)
+  Filled all (rests.wants x) pc slots begun filled = Fills sc context ps level most all x pc slots begun filled
 
   -- by private operators the machine comes there
-  pub record ComesFilled (n : Named) (callee : ℕ) (x : HalfGiven) (pc : ℕ) (slots below : List Slot) (next : ℕ) : Type 0 where
+  pub record ComesFilled (all : List Wanted) (x : HalfGiven) (pc : ℕ) (slots begun : List Slot) (filled : ℕ) : Type 0 where
     pub at : ℕ
     pub with_slots : List Slot
     pub leads : Leads sc context ps level most pc slots at with_slots
-    pub fills : Filled n callee x at with_slots below next
+    pub fills : Filled all x at with_slots begun filled
 
-  pub after_filled : (n : Named) (callee : ℕ) (x : HalfGiven) (below : List Slot) (next : ℕ) {a b : ℕ} {y z : List Slot} → Leads sc context ps level most a y b z →
-      ComesFilled n callee x b z below next → ComesFilled n callee x a y below next
-  after_filled n callee x below next l c =
+  pub after_filled : (all : List Wanted) (x : HalfGiven) (begun : List Slot) (filled : ℕ) {a b : ℕ} {y z : List Slot} → Leads sc context ps level most a y b z →
+      ComesFilled all x b z begun filled → ComesFilled all x a y begun filled
+  after_filled all x begun filled l c =
       record { at = c.at; with_slots = c.with_slots; leads = on sc context ps level most l c.leads; fills = c.fills }
 
-  -- the reference of the procedure's control word, on which the actuals lie
-  abbrev pub called_on : Couple → List Slot → List Slot
-  called_on couple below = reference couple ∷ mark ∷ below
-
   -- what becomes of the actuals once these lie there
-  abbrev pub ActualsOn : Named → ℕ → Couple → PExprs → List Sort → List Wanted → ℕ → List Slot → ℕ → Type 0
-  ActualsOn n callee couple es sorts after m below next =
-      (gs : List Given) (before : List Wanted) → parameter_wants sc callee ≡ before ++ after → AreGiven sc context before gs → HasRoom most below (2 + length gs + line_depth es) →
-      ComesFilled n callee (settle_actuals sc es sorts gs) m (given_slots before gs (called_on couple below)) below next
+  abbrev pub ActualsOn : List Wanted → PExprs → List Sort → List Wanted → ℕ → List Slot → ℕ → Type 0
+  ActualsOn all es sorts after m begun filled =
+      (gs : List Given) (before : List Wanted) → all ≡ before ++ after → AreGiven sc context before gs → HasRoom most begun (length gs + line_depth es) →
+      ComesFilled all (settle_actuals sc es sorts gs) m (given_slots before gs begun) begun filled
 
   -- what is asked of an actual, and of those before and after it
-  pub record ActualAt (n : Named) (callee : ℕ) (couple : Couple) (gs : List Given) (before : List Wanted) (wanted : Wanted) (after : List Wanted) (sorts : List Sort) (es : PExprs)
-      (m filled next : ℕ) (below : List Slot) : Type 0 where
-    pub procedure : IsProcedure sc context.level n callee couple
-    pub wants_are : parameter_wants sc callee ≡ before ++ wanted ∷ after
+  pub record ActualAt (all : List Wanted) (gs : List Given) (before : List Wanted) (wanted : Wanted) (after : List Wanted) (sorts : List Sort) (es : PExprs)
+      (m filled : ℕ) (begun : List Slot) : Type 0 where
+    pub wants_are : all ≡ before ++ wanted ∷ after
     pub fit : AreGiven sc context before gs
     pub actuals : ActualsAt sc context ps level sorts after es m filled
-    pub enter : Has ps level filled (ops.Plain kinds.Entr) next
-    pub room : HasRoom most below (2 + length gs + 1 + line_depth es)
+    pub room : HasRoom most begun (length gs + 1 + line_depth es)
 
   -- the actual is done, and those after it come
-  pub actual_done : (n : Named) (callee : ℕ) (couple : Couple) (gs : List Given) (before : List Wanted) (wanted : Wanted) (after : List Wanted) (sorts : List Sort) (es : PExprs)
-      (m filled next : ℕ) (below : List Slot) (g : Given) → ActualAt n callee couple gs before wanted after sorts es m filled next below →
-      AreGiven sc context (wanted ∷ []) (g ∷ []) → ActualsOn n callee couple es sorts after m below next →
-      ComesFilled n callee (settle_actuals sc es sorts (gs ++ g ∷ [])) m (given_slot wanted g ∷ given_slots before gs (called_on couple below)) below next
-  actual_done n callee couple gs before wanted after sorts es m filled next below g a fits c =
-      let floor = called_on couple below in
+  pub actual_done : (all : List Wanted) (gs : List Given) (before : List Wanted) (wanted : Wanted) (after : List Wanted) (sorts : List Sort) (es : PExprs)
+      (m filled : ℕ) (begun : List Slot) (g : Given) → ActualAt all gs before wanted after sorts es m filled begun →
+      AreGiven sc context (wanted ∷ []) (g ∷ []) → ActualsOn all es sorts after m begun filled →
+      ComesFilled all (settle_actuals sc es sorts (gs ++ g ∷ [])) m (given_slot wanted g ∷ given_slots before gs begun) begun filled
+  actual_done all gs before wanted after sorts es m filled begun g a fits c =
       let hs = gs ++ g ∷ [] in
       let longer : length hs ≡ length gs + 1 = length-append gs (g ∷ []) in
-      subst (λ o. ComesFilled n callee (settle_actuals sc es sorts hs) m o below next)
-      (given_slots-more before gs wanted g floor (given-length sc context before gs a.fit))
+      subst (λ o. ComesFilled all (settle_actuals sc es sorts hs) m o begun filled)
+      (given_slots-more before gs wanted g begun (given-length sc context before gs a.fit))
       (c hs (before ++ wanted ∷ []) (a.wants_are ∙ sym (append_assoc before (wanted ∷ []) after)) (given-more sc context before gs wanted g a.fit fits) (omega (arith, a.room, longer)))
 
   -- an actual by value
-  pub actual_stands : (n : Named) (callee : ℕ) (couple : Couple) (gs : List Given) (before : List Wanted) (kind : Kind) (after : List Wanted) (sorts : List Sort) (es : PExprs)
-      (m filled next : ℕ) (below : List Slot) (z : Half) (pc : ℕ) (slots : List Slot) →
-      ActualAt n callee couple gs before (wants.value kind) after sorts es m filled next below →
-      Shows sc context ps level most kind z pc slots (given_slots before gs (called_on couple below)) m → ActualsOn n callee couple es sorts after m below next →
-      ComesFilled n callee (valued_of gs z sorts es (settle_actuals sc es sorts)) pc slots below next
-  actual_stands n callee couple gs before kind after sorts es m filled next below (val v) pc slots a sh c =
-      after_filled n callee (settle_actuals sc es sorts (gs ++ valued v ∷ [])) below next
-      (valued_at sc context ps level most pc slots v (given_slots before gs (called_on couple below)) m sh.0 sh.1)
-      (actual_done n callee couple gs before (wants.value kind) after sorts es m filled next below (valued v) a (sh.2, tt) c)
-  actual_stands n callee couple gs before kind after sorts es m filled next below (busy h) pc slots a sh c = record {
+  pub actual_stands : (all : List Wanted) (gs : List Given) (before : List Wanted) (kind : Kind) (after : List Wanted) (sorts : List Sort) (es : PExprs)
+      (m filled : ℕ) (begun : List Slot) (z : Half) (pc : ℕ) (slots : List Slot) →
+      ActualAt all gs before (wants.value kind) after sorts es m filled begun →
+      Shows sc context ps level most kind z pc slots (given_slots before gs begun) m → ActualsOn all es sorts after m begun filled →
+      ComesFilled all (valued_of gs z sorts es (settle_actuals sc es sorts)) pc slots begun filled
+  actual_stands all gs before kind after sorts es m filled begun (val v) pc slots a sh c =
+      after_filled all (settle_actuals sc es sorts (gs ++ valued v ∷ [])) begun filled
+      (valued_at sc context ps level most pc slots v (given_slots before gs begun) m sh.0 sh.1)
+      (actual_done all gs before (wants.value kind) after sorts es m filled begun (valued v) a (sh.2, tt) c)
+  actual_stands all gs before kind after sorts es m filled begun (busy h) pc slots a sh c = record {
     at = pc;
     with_slots = slots;
     leads = there;
-    fills = (filled, (couple, before, kind, after, m, a.procedure, a.wants_are, a.fit, sh, a.actuals, a.room), a.enter);
+    fills = (before, kind, after, m, a.wants_are, a.fit, sh, a.actuals, a.room);
   }
 
   -- an actual that is the name of an array
-  pub array_stands : (n : Named) (callee : ℕ) (couple : Couple) (gs : List Given) (before : List Wanted) (shape : Shape) (after : List Wanted) (sorts : List Sort) (es : PExprs)
-      (f m filled next : ℕ) (below : List Slot) (x : Named) → ActualAt n callee couple gs before (wants.array shape) after sorts es m filled next below →
-      ArrayActualAt sc context ps level shape x f m → ActualsOn n callee couple es sorts after m below next →
-      ComesFilled n callee (alone_of (procedure_in (sort_at sc x)) (is_formal (sort_at sc x)) gs x sorts es (settle_actuals sc es sorts)) f
-      (given_slots before gs (called_on couple below)) below next
-  array_stands n callee couple gs before shape after sorts es f m filled next below x a (code.refers d c q i agrees name stuffs) go =
-      let floor = given_slots before gs (called_on couple below) in
+  pub array_stands : (all : List Wanted) (gs : List Given) (before : List Wanted) (shape : Shape) (after : List Wanted) (sorts : List Sort) (es : PExprs)
+      (f m filled : ℕ) (begun : List Slot) (x : Named) → ActualAt all gs before (wants.array shape) after sorts es m filled begun →
+      ArrayActualAt sc context ps level shape x f m → ActualsOn all es sorts after m begun filled →
+      ComesFilled all (alone_of (procedure_in (sort_at sc x)) (is_formal (sort_at sc x)) gs x sorts es (settle_actuals sc es sorts)) f
+      (given_slots before gs begun) begun filled
+  array_stands all gs before shape after sorts es f m filled begun x a (code.refers d c q i agrees name stuffs) go =
+      let floor = given_slots before gs begun in
       let settled : Sort → HalfGiven = λ s. alone_of (procedure_in s) (is_formal s) gs x sorts es (settle_actuals sc es sorts) in
-      let pushes = push_reference c name (omega (arith, a.room, given_slots-length before gs (called_on couple below))) in
-      subst (λ s. ComesFilled n callee (settled s) f floor below next) (sym i.sort_is)
-      (after_filled n callee (settle_actuals sc es sorts (gs ++ refers x ∷ [])) below next (first pushes (first (stuff (cell_named x) c (of_array x d c i) name stuffs) there))
-      (actual_done n callee couple gs before (wants.array shape) after sorts es m filled next below (refers x) a ((d, c, i, agrees), tt) go))
-  array_stands n callee couple gs before shape after sorts es f m filled next below x a (code.passes actual c q i agrees name loads) go =
-      let floor = given_slots before gs (called_on couple below) in
+      let pushes = push_reference c name (omega (arith, a.room, given_slots-length before gs begun)) in
+      subst (λ s. ComesFilled all (settled s) f floor begun filled) (sym i.sort_is)
+      (after_filled all (settle_actuals sc es sorts (gs ++ refers x ∷ [])) begun filled (first pushes (first (stuff (cell_named x) c (of_array x d c i) name stuffs) there))
+      (actual_done all gs before (wants.array shape) after sorts es m filled begun (refers x) a ((d, c, i, agrees), tt) go))
+  array_stands all gs before shape after sorts es f m filled begun x a (code.passes actual c q i agrees name loads) go =
+      let floor = given_slots before gs begun in
       let settled : Sort → HalfGiven = λ s. alone_of (procedure_in s) (is_formal s) gs x sorts es (settle_actuals sc es sorts) in
-      let pushes = push_reference c name (omega (arith, a.room, given_slots-length before gs (called_on couple below))) in
-      subst (λ s. ComesFilled n callee (settled s) f floor below next) (sym i.sort_is)
+      let pushes = push_reference c name (omega (arith, a.room, given_slots-length before gs begun)) in
+      subst (λ s. ComesFilled all (settled s) f floor begun filled) (sym i.sort_is)
       (record {
         at = q;
         with_slots = reference c ∷ floor;
         leads = first pushes there;
-        fills = (
-          filled,
-          (
-            couple,
-            before,
-            wants.array shape,
-            after,
-            m,
-            a.procedure,
-            a.wants_are,
-            a.fit,
-            record { couple = c; passable = array_passed shape actual i agrees; lies = refl; stands = loads },
-            a.actuals,
-            a.room,
-          ),
-          a.enter,
-        );
+        fills = (before, wants.array shape, after, m, a.wants_are, a.fit, record { couple = c; passable = array_passed shape actual i agrees; lies = refl; stands = loads }, a.actuals, a.room);
       })
 
   -- an actual that is the name of an event
-  pub event_stands : (n : Named) (callee : ℕ) (couple : Couple) (gs : List Given) (before : List Wanted) (after : List Wanted) (sorts : List Sort) (es : PExprs)
-      (f m filled next : ℕ) (below : List Slot) (x : Named) → ActualAt n callee couple gs before wants.event after sorts es m filled next below →
-      EventActualAt sc context ps level x f m → ActualsOn n callee couple es sorts after m below next →
-      ComesFilled n callee (alone_of (procedure_in (sort_at sc x)) (is_formal (sort_at sc x)) gs x sorts es (settle_actuals sc es sorts)) f
-      (given_slots before gs (called_on couple below)) below next
-  event_stands n callee couple gs before after sorts es f m filled next below x a (events.refers c q i name stuffs) go =
-      let floor = given_slots before gs (called_on couple below) in
+  pub event_stands : (all : List Wanted) (gs : List Given) (before : List Wanted) (after : List Wanted) (sorts : List Sort) (es : PExprs)
+      (f m filled : ℕ) (begun : List Slot) (x : Named) → ActualAt all gs before wants.event after sorts es m filled begun →
+      EventActualAt sc context ps level x f m → ActualsOn all es sorts after m begun filled →
+      ComesFilled all (alone_of (procedure_in (sort_at sc x)) (is_formal (sort_at sc x)) gs x sorts es (settle_actuals sc es sorts)) f
+      (given_slots before gs begun) begun filled
+  event_stands all gs before after sorts es f m filled begun x a (events.refers c q i name stuffs) go =
+      let floor = given_slots before gs begun in
       let settled : Sort → HalfGiven = λ s. alone_of (procedure_in s) (is_formal s) gs x sorts es (settle_actuals sc es sorts) in
-      let pushes = push_reference c name (omega (arith, a.room, given_slots-length before gs (called_on couple below))) in
-      subst (λ s. ComesFilled n callee (settled s) f floor below next) (sym i.sort_is)
-      (after_filled n callee (settle_actuals sc es sorts (gs ++ refers x ∷ [])) below next (first pushes (first (stuff (cell_named x) c (of_event x c i) name stuffs) there))
-      (actual_done n callee couple gs before wants.event after sorts es m filled next below (refers x) a ((c, i), tt) go))
-  event_stands n callee couple gs before after sorts es f m filled next below x a (events.passes c q i name loads) go =
-      let floor = given_slots before gs (called_on couple below) in
+      let pushes = push_reference c name (omega (arith, a.room, given_slots-length before gs begun)) in
+      subst (λ s. ComesFilled all (settled s) f floor begun filled) (sym i.sort_is)
+      (after_filled all (settle_actuals sc es sorts (gs ++ refers x ∷ [])) begun filled (first pushes (first (stuff (cell_named x) c (of_event x c i) name stuffs) there))
+      (actual_done all gs before wants.event after sorts es m filled begun (refers x) a ((c, i), tt) go))
+  event_stands all gs before after sorts es f m filled begun x a (events.passes c q i name loads) go =
+      let floor = given_slots before gs begun in
       let settled : Sort → HalfGiven = λ s. alone_of (procedure_in s) (is_formal s) gs x sorts es (settle_actuals sc es sorts) in
-      let pushes = push_reference c name (omega (arith, a.room, given_slots-length before gs (called_on couple below))) in
-      subst (λ s. ComesFilled n callee (settled s) f floor below next) (sym i.sort_is)
+      let pushes = push_reference c name (omega (arith, a.room, given_slots-length before gs begun)) in
+      subst (λ s. ComesFilled all (settled s) f floor begun filled) (sym i.sort_is)
       (record {
         at = q;
         with_slots = reference c ∷ floor;
         leads = first pushes there;
-        fills = (
-          filled,
-          (
-            couple,
-            before,
-            wants.event,
-            after,
-            m,
-            a.procedure,
-            a.wants_are,
-            a.fit,
-            record { couple = c; passable = event_passed i; lies = refl; stands = loads },
-            a.actuals,
-            a.room,
-          ),
-          a.enter,
-        );
+        fills = (before, wants.event, after, m, a.wants_are, a.fit, record { couple = c; passable = event_passed i; lies = refl; stands = loads }, a.actuals, a.room);
       })
 
   -- an actual that is given by name
-  pub name_stands : (n : Named) (callee : ℕ) (couple : Couple) (gs : List Given) (before : List Wanted) (kind : Kind) (after : List Wanted) (sorts : List Sort) (es : PExprs)
-      (f m filled next : ℕ) (below : List Slot) (e : PExpr) → ActualAt n callee couple gs before (wants.by_name kind) after sorts es m filled next below →
-      NameActualAt sc context ps level kind e f m → ActualsOn n callee couple es sorts after m below next →
-      ComesFilled n callee (other_of sc (name_alone e) e gs sorts es (settle_actuals sc es sorts)) f (given_slots before gs (called_on couple below)) below next
-  name_stands n callee couple gs before kind after sorts es f m filled next below e a (code.refers_to x c q same i outer name stuffs) go =
-      let floor = given_slots before gs (called_on couple below) in
-      let pushes = push_reference c name (omega (arith, a.room, given_slots-length before gs (called_on couple below))) in
-      subst (λ (y : PExpr). ComesFilled n callee (other_of sc (name_alone y) y gs sorts es (settle_actuals sc es sorts)) f floor below next) (sym same)
-      (subst (λ s. ComesFilled n callee s f floor below next) (sym (variable_refers (sort_at sc x) gs x sorts es (settle_actuals sc es sorts) i.variable))
-      (after_filled n callee (settle_actuals sc es sorts (gs ++ refers x ∷ [])) below next
+  pub name_stands : (all : List Wanted) (gs : List Given) (before : List Wanted) (kind : Kind) (after : List Wanted) (sorts : List Sort) (es : PExprs)
+      (f m filled : ℕ) (begun : List Slot) (e : PExpr) → ActualAt all gs before (wants.by_name kind) after sorts es m filled begun →
+      NameActualAt sc context ps level kind e f m → ActualsOn all es sorts after m begun filled →
+      ComesFilled all (other_of sc (name_alone e) e gs sorts es (settle_actuals sc es sorts)) f (given_slots before gs begun) begun filled
+  name_stands all gs before kind after sorts es f m filled begun e a (code.refers_to x c q same i outer name stuffs) go =
+      let floor = given_slots before gs begun in
+      let pushes = push_reference c name (omega (arith, a.room, given_slots-length before gs begun)) in
+      subst (λ (y : PExpr). ComesFilled all (other_of sc (name_alone y) y gs sorts es (settle_actuals sc es sorts)) f floor begun filled) (sym same)
+      (subst (λ s. ComesFilled all s f floor begun filled) (sym (variable_refers (sort_at sc x) gs x sorts es (settle_actuals sc es sorts) i.variable))
+      (after_filled all (settle_actuals sc es sorts (gs ++ refers x ∷ [])) begun filled
       (first pushes (first (stuff (cell_named x) c (of_variable x kind c i outer) name stuffs) there))
-      (actual_done n callee couple gs before (wants.by_name kind) after sorts es m filled next below (refers x) a ((c, i, outer), tt) go)))
-  name_stands n callee couple gs before kind after sorts es f m filled next below e a (code.passes_on x c q same i name loads) go =
-      let floor = given_slots before gs (called_on couple below) in
+      (actual_done all gs before (wants.by_name kind) after sorts es m filled begun (refers x) a ((c, i, outer), tt) go)))
+  name_stands all gs before kind after sorts es f m filled begun e a (code.passes_on x c q same i name loads) go =
+      let floor = given_slots before gs begun in
       let settled : Sort → HalfGiven = λ s. alone_of (procedure_in s) (is_formal s) gs x sorts es (settle_actuals sc es sorts) in
-      let pushes = push_reference c name (omega (arith, a.room, given_slots-length before gs (called_on couple below))) in
-      subst (λ (y : PExpr). ComesFilled n callee (other_of sc (name_alone y) y gs sorts es (settle_actuals sc es sorts)) f floor below next) (sym same)
-      (subst (λ s. ComesFilled n callee (settled s) f floor below next) (sym i.sort_is)
+      let pushes = push_reference c name (omega (arith, a.room, given_slots-length before gs begun)) in
+      subst (λ (y : PExpr). ComesFilled all (other_of sc (name_alone y) y gs sorts es (settle_actuals sc es sorts)) f floor begun filled) (sym same)
+      (subst (λ s. ComesFilled all (settled s) f floor begun filled) (sym i.sort_is)
       (record {
         at = q;
         with_slots = reference c ∷ floor;
         leads = first pushes there;
-        fills = (
-          filled,
-          (
-            couple,
-            before,
-            wants.by_name kind,
-            after,
-            m,
-            a.procedure,
-            a.wants_are,
-            a.fit,
-            record { couple = c; passable = name_passed kind i; lies = refl; stands = loads },
-            a.actuals,
-            a.room,
-          ),
-          a.enter,
-        );
+        fills = (before, wants.by_name kind, after, m, a.wants_are, a.fit, record { couple = c; passable = name_passed kind i; lies = refl; stands = loads }, a.actuals, a.room);
       }))
-  name_stands n callee couple gs before kind after sorts es f m filled next below e a (code.names c q i name stuffs) go =
-      let floor = given_slots before gs (called_on couple below) in
-      let pushes = push_reference c name (omega (arith, a.room, given_slots-length before gs (called_on couple below))) in
-      subst (λ s. ComesFilled n callee s f floor below next) (sym (own_names sc e kind gs sorts es (settle_actuals sc es sorts) i.own))
-      (after_filled n callee (settle_actuals sc es sorts (gs ++ rests.names e ∷ [])) below next
+  name_stands all gs before kind after sorts es f m filled begun e a (code.names c q i name stuffs) go =
+      let floor = given_slots before gs begun in
+      let pushes = push_reference c name (omega (arith, a.room, given_slots-length before gs begun)) in
+      subst (λ s. ComesFilled all s f floor begun filled) (sym (own_names sc e kind gs sorts es (settle_actuals sc es sorts) i.own))
+      (after_filled all (settle_actuals sc es sorts (gs ++ rests.names e ∷ [])) begun filled
       (first pushes (first (stuff (actual_held e kind) c (of_actual e kind c i) name stuffs) there))
-      (actual_done n callee couple gs before (wants.by_name kind) after sorts es m filled next below (rests.names e) a ((c, i), tt) go))
+      (actual_done all gs before (wants.by_name kind) after sorts es m filled begun (rests.names e) a ((c, i), tt) go))
 
-  -- there is room for the start of the call
-  pub fills_room : (n : Named) (callee : ℕ) (x : Actuals) (pc : ℕ) (slots below : List Slot) (filled : ℕ) → Fills sc context ps level most n callee x pc slots below filled →
-      HasRoom most below 2
-  fills_room n callee (rests.in_value gs h sorts es) pc slots below filled s = omega (arith, s.10)
-  fills_room n callee (rests.pass gs x sorts es) pc slots below filled s = omega (arith, s.10)
+  -- there is room for a word more
+  pub fills_room : (all : List Wanted) (x : Actuals) (pc : ℕ) (slots begun : List Slot) (filled : ℕ) → Fills sc context ps level most all x pc slots begun filled → HasRoom most begun 1
+  fills_room all (rests.in_value gs h sorts es) pc slots begun filled s = omega (arith, s.8)
+  fills_room all (rests.pass gs x sorts es) pc slots begun filled s = omega (arith, s.8)

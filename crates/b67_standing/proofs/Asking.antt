@@ -1,5 +1,5 @@
 -- What each head asks for is an action, and so it is where the machine stands for an expression.
-use Rattle.std.proofs.Common.{◌≡◌, ℕ, List, ◌∷◌}
+use Rattle.std.proofs.Common.{◌≡◌, ℕ, List, ◌∷◌, Option}
 use Rattle.algol_tree.specs.declared.tree.EventAct.{EventAct}
 use Rattle.algol_tree.specs.declared.tree.Kind.{Kind}
 use Rattle.algol_tree.specs.declared.tree.Kind.TheVariants as types
@@ -11,11 +11,12 @@ use Rattle.algol_tree.specs.Scopes.{Scopes}
 use Rattle.algol_meaning.specs.Value.{Value}
 use Rattle.algol_meaning.specs.Rest as rests
 use Rattle.algol_meaning.specs.Rest.{Hole, Actuals, Aim, Place, Given, Answer}
-use Rattle.algol_meaning.specs.Asks.{nothing, indexes, resolves, passes, makes_arrays, makes_event, acts, goes_to, reads_result, enters, leaves, stores, selects, turns, writes, enters_block, ask_hole, ask_actuals, ask_aim}
+use Rattle.algol_meaning.specs.Asks.{nothing, indexes, resolves, passes, makes_arrays, makes_event, acts, goes_to, starts, reads_result, enters, leaves, stores, selects, turns, writes, enters_block, ask_hole, ask_actuals, ask_aim}
 use Rattle.b67_segment.specs.Operators.{Placed}
 use Rattle.b67_templates.specs.Contexts.{Context}
-use Rattle.b67_standing.specs.Stepping.{Slot, operand, reference, mark, ready}
-use Rattle.b67_standing.specs.Standing.{given_slots, Holds, Fills, Aims}
+use Rattle.b67_templates.specs.Cells.{Wanted, parameter_wants}
+use Rattle.b67_standing.specs.Stepping.{Slot, operand, ready}
+use Rattle.b67_standing.specs.Standing.{given_slots, call_begun, Holds, Fills, Aims}
 use Rattle.b67_standing.proofs.Seeking.{sought_in}
 
 -- ---- statements
@@ -37,6 +38,9 @@ writes_asks phrases vs e = cc
 
 pub enters_asks : (b : PBody) → enters_block b ≡ nothing → ⊥
 enters_asks b e = cc
+
+pub starts_asks : (n : Named) (gs : List Given) (task : Option Named) → starts n gs task ≡ nothing → ⊥
+starts_asks n gs task e = cc
 
 pub calls_asks : (n : Named) (gs : List Given) → enters n gs ≡ nothing → ⊥
 calls_asks n gs e = cc
@@ -83,14 +87,13 @@ module _ (sc : Scopes) (context : Context) (ps : List Placed) (level most : ℕ)
     holds_asks k (rests.index n ks v i is) pc slots below to s e = indexes_asks n ks v e
     holds_asks k (rests.subscript n ks h es) pc slots below to s e =
         let w = sought_in sc context ps level most h pc slots n s.1 (s.0).lows ks es below s.2 s.6 in holds_asks types.Number h pc slots w.over w.at w.holds e
-    holds_asks k (rests.argument n x) pc slots below to s e = fills_asks n s.0 x pc slots below s.1 s.4 e
+    holds_asks k (rests.argument n x) pc slots below to s e = fills_asks (parameter_wants sc s.0) x pc slots (call_begun s.1 below) s.2 s.6 e
     holds_asks k _ pc slots below to s e = absurd s
 
-    pub fills_asks : (n : Named) (callee : ℕ) (x : Actuals) (pc : ℕ) (slots below : List Slot) (filled : ℕ) →
-        Fills sc context ps level most n callee x pc slots below filled → ask_actuals x ≡ nothing → ⊥
-    fills_asks n callee (rests.in_value gs h sorts es) pc slots below filled s e =
-        holds_asks s.2 h pc slots (given_slots s.1 gs (reference s.0 ∷ mark ∷ below)) s.4 s.8 e
-    fills_asks n callee (rests.pass gs x sorts es) pc slots below filled s e = passes_asks x e
+    pub fills_asks : (all : List Wanted) (x : Actuals) (pc : ℕ) (slots begun : List Slot) (filled : ℕ) → Fills sc context ps level most all x pc slots begun filled →
+        ask_actuals x ≡ nothing → ⊥
+    fills_asks all (rests.in_value gs h sorts es) pc slots begun filled s e = holds_asks s.1 h pc slots (given_slots s.0 gs begun) s.3 s.6 e
+    fills_asks all (rests.pass gs x sorts es) pc slots begun filled s e = passes_asks x e
 
   pub aims_asks : (k : Kind) (x : Aim) (pc : ℕ) (slots below : List Slot) (to : ℕ) → Aims sc context ps level most k x pc slots below to → ask_aim x ≡ nothing → ⊥
   aims_asks k (rests.place_index n ks v es) pc slots below to s e = indexes_asks n ks v e

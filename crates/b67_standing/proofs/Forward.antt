@@ -14,12 +14,13 @@ use Rattle.b67_ops.specs.declared.PlainKind.{PlainKind}
 use Rattle.b67_ops.specs.declared.PlainKind.TheVariants as kinds
 use Rattle.b67_segment.specs.Operators.{Placed}
 use Rattle.b67_templates.specs.Contexts.{Context}
+use Rattle.b67_templates.specs.Cells.{parameter_wants}
 use Rattle.b67_templates.specs.Code.{StepSign, up, down, still, SignedAt}
 use Rattle.b67_standing.specs.Stepping.{Slot, Step, push_number, push_truth, push_reference, stuff, move, exchange, calculate, negate, invert, false_stays, false_goes, true_stays, true_goes, go, call, announce, summon, drop, counts, spent, within, past, within_literal, past_literal}
-use Rattle.b67_standing.specs.Standing.{line_begun, IsLast, of_row, of_element, ActionAt, Acted}
+use Rattle.b67_standing.specs.Standing.{line_begun, start_begun, IsLast, of_row, of_element, ActionAt, Acted}
 use Rattle.b67_standing.specs.Laws.{LeadsHaveRoom, ActionsHaveRoom, StepsGoForward}
 use Rattle.b67_standing.proofs.Leading.{forward, all_forward, leads_within}
-use Rattle.b67_standing.proofs.Actuals.{operands-length}
+use Rattle.b67_standing.proofs.Actuals.{operands-length, given_slots-above}
 
 -- a step of 0 is never past its limit
 not_past : (d : ℤ) → is_past d (pos 0) ≡ true → ⊥
@@ -91,6 +92,9 @@ module _ (sc : Scopes) (context : Context) (ps : List Placed) (level most : ℕ)
   acted_within (asks.makes_event n) pc slots h rests.done at after l room = omega (arith, ap length l.1)
   acted_within (asks.asks_happened n) pc slots h (rests.value v) at after l room = omega (arith, room, ap length (h.2).lies, ap length l.1)
   acted_within (asks.acts act n) pc slots h rests.done at after l room = omega (arith, room, ap length (h.2).lies, ap length l.1)
+  acted_within (asks.starts n gs task) pc slots h rests.done at after l room =
+      let r = h.3 in
+      omega (arith, room, ap length r.lies, given_slots-above (parameter_wants sc h.0) gs (start_begun r.couple r.tasked h.2), ap length l.1)
   acted_within (asks.passes n) pc slots h (rests.cell c) at after l room = omega (arith, room, ap length (h.3).lies, ap length l.1)
   acted_within (asks.resolves n) pc slots h (rests.place (rests.there r)) at after l room = omega (arith, room, ap length (h.3).lies, ap length l.1)
   acted_within (asks.stores (rests.there r) v) pc slots h rests.done at after l room = omega (arith, room, ap length (h.2).lies, ap length l.1)

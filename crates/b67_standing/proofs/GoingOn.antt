@@ -13,10 +13,10 @@ use Rattle.algol_tree.specs.Blocks.{block_numbered}
 use Rattle.algol_tree.specs.Scopes.{Scopes}
 use Rattle.algol_meaning.specs.Value.{Value, number, whole_of}
 use Rattle.algol_meaning.specs.Rest as rests
-use Rattle.algol_meaning.specs.Rest.{own, Given, Hole, Actuals, HalfGiven, Item, Rest, Answer}
-use Rattle.algol_meaning.specs.Settle.{half_of, is_typed, settle, put_actuals}
-use Rattle.algol_meaning.specs.Statements.{run_and, turn_and, assigned_of, aimed_at, chosen_of, looped_of, checked_of, counted_of, counted_body, selected_of, statement_called_of, item_of, bound_of, tested_of, differed_of, settle_line, settle_bounds, settle_stmt, settle_items}
-use Rattle.algol_meaning.specs.Asks.{nothing, reads_result, leaves, stores, selects, turns, writes, makes_arrays, makes_event, acts, ask, evaluated_of, located_of, nth_stmt, called, resume}
+use Rattle.algol_meaning.specs.Rest.{own, Given, Hole, Actuals, Item, Rest, Answer}
+use Rattle.algol_meaning.specs.Settle.{half_of, is_typed, settle}
+use Rattle.algol_meaning.specs.Statements.{run_and, turn_and, assigned_of, aimed_at, chosen_of, looped_of, checked_of, counted_of, counted_body, selected_of, statement_called_of, prepared_of, item_of, bound_of, tested_of, differed_of, settle_line, settle_bounds, settle_stmt, settle_items}
+use Rattle.algol_meaning.specs.Asks.{nothing, reads_result, leaves, stores, selects, turns, writes, makes_arrays, makes_event, acts, starts, ask, evaluated_of, located_of, nth_stmt, called, resume}
 use Rattle.b67_ops.specs.declared.Operator.TheVariants as ops
 use Rattle.b67_ops.specs.declared.PlainKind.TheVariants as kinds
 use Rattle.b67_ops.specs.declared.BranchKind.TheVariants.{Brun}
@@ -24,22 +24,21 @@ use Rattle.b67_ops.specs.declared.intrinsic.Intrinsic.TheVariants.{Select}
 use Rattle.b67_segment.specs.Operators.{Placed}
 use Rattle.b67_templates.specs.Contexts.{Yields, yields_of, Context}
 use Rattle.b67_templates.specs.Fragments.{Has, BranchAt, Goes, stop}
+use Rattle.b67_templates.specs.Cells.{parameter_wants}
 use Rattle.b67_templates.specs.Code.{DroppedAt, StmtAt, CasesAt, any, stmts_count}
 use Rattle.b67_templates.specs.Depths.{stmt_depth, stmts_depth}
 use Rattle.b67_standing.specs.Stepping.{held_at, Slot, operand, reference, intrinsic, descriptor, mark, HasRoom, go, drop, there, first}
-use Rattle.b67_standing.specs.Standing.{pend, operands, Gives, pushed, line_begun, arrays_begun, extents, Follows, StandsFor, ComesTo, ActionAt, Acted, GoesOn}
+use Rattle.b67_standing.specs.Standing.{pend, operands, call_begun, start_begun, Gives, pushed, line_begun, arrays_begun, extents, Follows, StandsFor, ComesTo, ActionAt, Acted, GoesOn}
 use Rattle.b67_standing.specs.Laws.{RestsGoOn}
 use Rattle.b67_standing.proofs.Leading.{pend-none}
 use Rattle.b67_standing.proofs.Asking.{leaves_asks}
-use Rattle.b67_standing.proofs.Actuals.{ComesFilled}
-use Rattle.b67_standing.proofs.Putting.{inside_actuals_ask, fills_on}
-use Rattle.b67_standing.proofs.Rests.{after_rest, stays_here, assigned_stands, chosen_stands, looped_stands, checked_stands, selected_stands, called_stands, item_stands, line_at}
+use Rattle.b67_standing.proofs.Rests.{after_rest, stays_here, assigned_stands, chosen_stands, looped_stands, checked_stands, selected_stands, called_stands, prepared_stands, item_stands, line_at}
 use Rattle.b67_standing.proofs.Loops.{counted_stands, again_at, tested_stands, differed_stands}
 use Rattle.b67_standing.proofs.Performing.{while_body, stmt_at}
 use Rattle.b67_standing.proofs.Elements.{found_assigned, assigns}
 use Rattle.b67_standing.proofs.Bounds.{BoundsOf, bound_stands, bounds_at}
 use Rattle.b67_standing.proofs.Items.{items_at}
-use Rattle.b67_standing.proofs.Heads.{next_at, by_head}
+use Rattle.b67_standing.proofs.Heads.{next_at, by_head, by_actuals}
 use Rattle.b67_standing.proofs.Aiming.{by_aim}
 use Rattle.b67_standing.proofs.Routines.{evaluated_stands, located}
 
@@ -129,6 +128,18 @@ module _ (sc : Scopes) (context : Context) (ps : List Placed) (level most : ℕ)
     where
       answer : (a : Answer) (at : ℕ) (after : List Slot) → Acted sc context ps level most (acts act n) pc slots (s.0, pend k, s.1) a at after → Coming (settle_items sc k) at after
       answer rests.done at after l = next_at sc context ps level most k (settle_items sc k) s.0 at after l.0 l.1 (items_at sc context ps level most k s.0 s.2)
+      answer (rests.value v) at after l = absurd l
+      answer (rests.cell c) at after l = absurd l
+      answer (rests.place p) at after l = absurd l
+      answer rests.entered at after l = absurd l
+
+  process_started : (n : Named) (gs : List Given) (task : Option Named) (k : List Item) (pc : ℕ) (slots : List Slot) →
+      StandsFor sc context ps level most (rests.starting n gs task k) pc slots → Going (rests.starting n gs task k) pc slots
+  process_started n gs task k pc slots s =
+      record { action = (s.0, s.1, pend k, s.2); answered = answer; waits = λ at left wanted l. absurd l; returns = λ at left wanted l. absurd l }
+    where
+      answer : (a : Answer) (at : ℕ) (after : List Slot) → Acted sc context ps level most (starts n gs task) pc slots (s.0, s.1, pend k, s.2) a at after → Coming (settle_items sc k) at after
+      answer rests.done at after l = next_at sc context ps level most k (settle_items sc k) s.1 at after l.0 l.1 (items_at sc context ps level most k s.1 s.3)
       answer (rests.value v) at after l = absurd l
       answer (rests.cell c) at after l = absurd l
       answer (rests.place p) at after l = absurd l
@@ -297,20 +308,14 @@ module _ (sc : Scopes) (context : Context) (ps : List Placed) (level most : ℕ)
   calling_on : (n : Named) (x : Actuals) (k : List Item) (pc : ℕ) (slots : List Slot) → StandsFor sc context ps level most (rests.calling n x k) pc slots →
       Going (rests.calling n x k) pc slots
   calling_on n x k pc slots s =
-      let p = fills_on sc context ps level most n s.0 x pc slots (pend k) s.1 s.2 s.4 s.5 in
-      let f : HalfGiven → Rest = λ z. statement_called_of n z k in
-      let goes : (z : HalfGiven) (at : ℕ) (left : List Slot) → ComesFilled sc context ps level most n s.0 z at left (pend k) s.2 → Coming (f z) at left = λ z at left c.
-      after_rest sc context ps level most c.leads (called_stands sc context ps level most n s.0 z k c.at c.with_slots s.2 s.3 c.fills s.6 s.7 s.8) in
-      record {
-        action = p.action;
-        answered = λ a at left l. goes (put_actuals sc x a) at left (p.answered a at left l);
-        waits = λ at left wanted l. ap (λ z. ask (f z)) (p.inside at left wanted l).inner ∙ inside_actuals_ask x;
-        returns = λ at left wanted l a fits.
-            let i = p.inside at left wanted l in
-            let back : resume sc (resume sc (rests.calling n x k) rests.entered) a ≡ f (put_actuals sc x a) =
-            ap (λ z. resume sc (f z) a) i.inner ∙ ap f (i.same a) in
-            subst (λ r. Coming r at (pushed wanted a left)) (sym back) (goes (put_actuals sc x a) at (pushed wanted a left) (p.returns at left wanted l a fits));
-      }
+      by_actuals sc context ps level most (parameter_wants sc s.0) x pc slots (call_begun s.1 (pend k)) s.2 (λ z. statement_called_of n z k) s.6 (λ y. refl) (λ y a. refl)
+      (λ z at left fills. called_stands sc context ps level most n s.0 s.1 z k at left s.2 s.3 s.4 s.5 fills s.7 s.8 s.9 s.10)
+
+  preparing_on : (n : Named) (x : Actuals) (task : Option Named) (k : List Item) (pc : ℕ) (slots : List Slot) → StandsFor sc context ps level most (rests.preparing n x task k) pc slots →
+      Going (rests.preparing n x task k) pc slots
+  preparing_on n x task k pc slots s =
+      by_actuals sc context ps level most (parameter_wants sc s.0) x pc slots (start_begun s.1 s.2 (pend k)) s.3 (λ z. prepared_of n z task k) s.8 (λ y. refl) (λ y a. refl)
+      (λ z at left fills. prepared_stands sc context ps level most n task s.0 s.1 s.2 z k at left s.3 s.4 s.5 s.6 s.7 fills s.9 s.10)
 
   -- ---- all rests
 
@@ -403,6 +408,8 @@ module _ (sc : Scopes) (context : Context) (ps : List Placed) (level most : ℕ)
       bound_stands sc context ps level most kind ns pairs k s.0 s.1 later vs z at left s.2 s.3 o s.6 s.7 s.11 shows s.13 s.18
       (bounds_at sc context ps level most later kind ns pairs k s.2 s.3 o s.13))
   goes_on_at (rests.calling n x k) pc slots s asks = calling_on n x k pc slots s
+  goes_on_at (rests.starting n gs task k) pc slots s asks = process_started n gs task k pc slots s
+  goes_on_at (rests.preparing n x task k) pc slots s asks = preparing_on n x task k pc slots s
   goes_on_at _ pc slots s asks = absurd s
 
 pub rests_go_on : RestsGoOn

@@ -61,7 +61,7 @@ module _ (sc : Scopes) (context : Context) (ps : List Placed) (level most : ℕ)
   further k (rests.negated h) pc slots below n to s g = (s.0, s.1, s.2, s.3, s.4, goes_on ps level s.5 g)
   further k (rests.inverted h) pc slots below n to s g = (s.0, s.1, s.2, s.3, s.4, goes_on ps level s.5 g)
   further k (rests.condition h x y) pc slots below n to s g = (s.0, s.1, s.2, s.3, s.4, s.5, s.6, s.7, s.8, s.9, s.10, s.11, goes_on ps level s.12 g, s.13)
-  further k (rests.argument x gs) pc slots below n to s g = (s.0, s.1, s.2, s.3, s.4, s.5, goes_on ps level s.6 g)
+  further k (rests.argument x gs) pc slots below n to s g = (s.0, s.1, s.2, s.3, s.4, s.5, s.6, s.7, goes_on ps level s.8 g)
   further k _ pc slots below n to s g = absurd s
 
   widened : (k : Kind) (x : Half) (pc : ℕ) (slots below : List Slot) (n to : ℕ) → Showing k x pc slots below n → Goes ps level n to → Showing k x pc slots below to

@@ -1,5 +1,5 @@
 -- From the start of its code a statement comes to where the machine stands for it, and for what comes after it.
-use Rattle.std.proofs.Common.{◌≡◌, refl, sym, ap, subst, ℕ, ◌+◌, arith, List, [], ◌∷◌, length}
+use Rattle.std.proofs.Common.{◌≡◌, refl, sym, ap, subst, ℕ, ◌+◌, arith, List, [], ◌∷◌, length, Option, Some, None}
 use Rattle.std.specs.Prelude.{pos}
 use Rattle.algol_tree.specs.declared.tree.Kind.TheVariants as types
 use Rattle.algol_tree.specs.declared.tree.EventAct.{EventAct}
@@ -15,23 +15,23 @@ use Rattle.algol_meaning.specs.Value.{number}
 use Rattle.algol_meaning.specs.Rest as rests
 use Rattle.algol_meaning.specs.Rest.{HalfGiven, Item, Rest}
 use Rattle.algol_meaning.specs.Settle.{sorts_of, block_of, settle, settle_actuals}
-use Rattle.algol_meaning.specs.Statements.{items, checked_of, statement_called_of, settle_stmt, settle_stmts}
-use Rattle.b67_ops.specs.declared.intrinsic.Intrinsic.TheVariants.{Write, Select, GoTo}
+use Rattle.algol_meaning.specs.Statements.{items, checked_of, statement_called_of, prepared_of, settle_stmt, settle_stmts}
+use Rattle.b67_ops.specs.declared.intrinsic.Intrinsic.TheVariants.{Write, Select, Start, GoTo}
 use Rattle.b67_segment.specs.Operators.{Placed}
 use Rattle.b67_templates.specs.Contexts.{Context}
 use Rattle.b67_templates.specs.Fragments.{Goes, stop, over, code_at}
 use Rattle.b67_templates.specs.Cells.{parameter_wants}
 use Rattle.b67_templates.specs.Labels.{GoToAt}
-use Rattle.b67_templates.specs.Events.{intrinsic_for, OnEventAt}
-use Rattle.b67_templates.specs.Code.{FormatIs, CallStmtAt, StmtAt, StmtsAt, WriteAt}
+use Rattle.b67_templates.specs.Events.{intrinsic_for, OnEventAt, TaskAt}
+use Rattle.b67_templates.specs.Code.{FormatIs, CallStmtAt, StartAt, StmtAt, StmtsAt, WriteAt}
 use Rattle.b67_templates.specs.Depths.{depth, stmt_depth, stmts_depth}
-use Rattle.b67_standing.specs.Stepping.{Slot, operand, reference, intrinsic, control, mark, HasRoom, push_number, push_reference, call, announce, summon, there, first}
-use Rattle.b67_standing.specs.Standing.{pend, Follows, WhileAt, ComesTo}
+use Rattle.b67_standing.specs.Stepping.{Slot, operand, reference, intrinsic, control, mark, HasRoom, push_number, push_reference, call, announce, summon, Leads, there, first}
+use Rattle.b67_standing.specs.Standing.{pend, call_begun, start_begun, IsTask, Follows, WhileAt, ComesTo}
 use Rattle.b67_standing.proofs.Leading.{depth-positive, pend-length, leads_by, follows_before, follows_run}
 use Rattle.b67_standing.proofs.Asking.{acts_asks, going_asks, enters_asks}
-use Rattle.b67_standing.proofs.Actuals.{ComesFilled, called_on}
+use Rattle.b67_standing.proofs.Actuals.{ComesFilled}
 use Rattle.b67_standing.proofs.Settling.{settle_at, actuals_at}
-use Rattle.b67_standing.proofs.Rests.{after_rest, stays_here, follows_turn, turning_at, assign_at, chosen_stands, looped_stands, checked_stands, selected_stands, called_stands, line_at}
+use Rattle.b67_standing.proofs.Rests.{after_rest, stays_here, follows_turn, turning_at, assign_at, chosen_stands, looped_stands, checked_stands, selected_stands, called_stands, prepared_stands, line_at}
 use Rattle.b67_standing.proofs.Elements.{element_assign_at}
 use Rattle.b67_standing.proofs.Loops.{Performs, counted_stands}
 
@@ -130,14 +130,47 @@ module _ (sc : Scopes) (context : Context) (ps : List Placed) (level most : ℕ)
       let entry = h.2 in
       let b = entry.2 in
       let settled : ℕ → HalfGiven = λ z. settle_actuals sc es (sorts_of ((block_numbered sc.blocks z).parameters)) [] in
-      let filled : ComesFilled sc context ps level most n h.0 (settled h.0) entry.0 (called_on sc context ps level most b.couple (pend k)) (pend k) h.1 =
-      actuals_at sc context ps level most es (sorts_of ((block_numbered sc.blocks h.0).parameters)) (parameter_wants sc h.0) n h.0 b.couple entry.0 entry.1 h.1 (pend k) b.procedure
-      entry.3 entry.4 [] [] refl tt (omega (arith, room)) in
+      let begun = call_begun b.couple (pend k) in
+      let filled : ComesFilled sc context ps level most (parameter_wants sc h.0) (settled h.0) entry.0 begun begun entry.1 =
+      actuals_at sc context ps level most es (sorts_of ((block_numbered sc.blocks h.0).parameters)) (parameter_wants sc h.0) (parameter_wants sc h.0) entry.0 entry.1 begun entry.3 [] [] refl tt
+      (omega (arith, room)) in
       subst (λ z. Coming (statement_called_of n (settled z) k) f (pend k)) (sym (ap block_of (b.procedure).sort_is))
       (after_rest sc context ps level most (first (summon n h.0 b (omega (arith, room))) there)
       (after_rest sc context ps level most filled.leads
-      (called_stands sc context ps level most n h.0 (settled h.0) k filled.at filled.with_slots h.1 t filled.fills h.3 (follows_before sc context ps level most k g follows)
-      (omega (arith, room)))))
+      (called_stands sc context ps level most n h.0 b.couple (settled h.0) k filled.at filled.with_slots entry.1 h.1 t b.procedure filled.fills entry.4 h.3
+      (follows_before sc context ps level most k g follows) (omega (arith, room)))))
+
+  -- ---- processes
+
+  -- by private operators the task comes to lie on the others
+  record Tasked (task : Option Named) (from to : ℕ) (below : List Slot) : Type 0 where
+    tasked : Slot
+    is : IsTask sc context task tasked
+    leads : Leads sc context ps level most from below to (tasked ∷ below)
+
+  tasked_at : (task : Option Named) (from to : ℕ) (below : List Slot) → TaskAt sc context ps level task from to → HasRoom most below 1 → Tasked task from to below
+  tasked_at None from to below h room =
+      record { tasked = operand (number (pos 0)); is = refl; leads = first (push_number (pos 0) h room) there }
+  tasked_at (Some n) from to below h room =
+      record { tasked = reference h.0; is = (h.0, h.1, refl); leads = first (push_reference h.0 h.2 room) there }
+
+  -- a mark, the references of the intrinsic and of the procedure's control word, the task, the actuals, after which the process is started
+  process_at : (n : Named) (es : PExprs) (task : Option Named) (f t u : ℕ) → StartAt sc context ps level n es task f t → Goes ps level t u →
+      Doing (tree.process (tree.called n es) task) f u
+  process_at n es task f t u h g k r follows room c =
+      let b = h.3 in
+      let called = reference b.couple ∷ intrinsic Start ∷ mark ∷ pend k in
+      let d = tasked_at task b.referred h.1 called b.tasked (omega (arith, room)) in
+      let begun = start_begun b.couple d.tasked (pend k) in
+      let settled : ℕ → HalfGiven = λ z. settle_actuals sc es (sorts_of ((block_numbered sc.blocks z).parameters)) [] in
+      let filled : ComesFilled sc context ps level most (parameter_wants sc h.0) (settled h.0) h.1 begun begun h.2 =
+      actuals_at sc context ps level most es (sorts_of ((block_numbered sc.blocks h.0).parameters)) (parameter_wants sc h.0) (parameter_wants sc h.0) h.1 h.2 begun h.4 [] [] refl tt
+      (omega (arith, room)) in
+      subst (λ z. Coming (prepared_of n (settled z) task k) f (pend k)) (sym (ap block_of (b.procedure).sort_is))
+      (after_rest sc context ps level most (first (call Start b.intrinsic (omega (arith, room))) (first (push_reference b.couple b.reference (omega (arith, room))) d.leads))
+      (after_rest sc context ps level most filled.leads
+      (prepared_stands sc context ps level most n task h.0 b.couple d.tasked (settled h.0) k filled.at filled.with_slots h.2 t b.procedure b.untyped d.is filled.fills h.5
+      (follows_before sc context ps level most k g follows))))
 
   -- ---- all statements
 
@@ -209,7 +242,7 @@ module _ (sc : Scopes) (context : Context) (ps : List Placed) (level most : ℕ)
     stmt_at (tree.label n s) f t u h g k r follows room c = stmt_at s f t u h.1 g k r follows room c
     stmt_at (tree.go_to n) f t u h g k r follows room c = gone_at n f t u h k r follows room c
     stmt_at (tree.event act e) f t u h g k r follows room c = acted_at act e f t u h g k r follows room c
-    stmt_at (tree.process x task) f t u h g k r follows room c = absurd h
+    stmt_at (tree.process (tree.called n es) task) f t u h g k r follows room c = process_at n es task f t u h g k r follows room c
 
     pub stmts_at : (ss : PStmts) (f t u : ℕ) → StmtsAt sc context ps level ss f t u → Goes ps level t u → DoingAll ss f u
     stmts_at tree.no_stmts f t u h g k r follows room c = after_rest sc context ps level most (leads_by sc context ps level most (subst (λ z. Goes ps level z u) (sym h) g)) c

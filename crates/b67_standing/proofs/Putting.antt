@@ -15,17 +15,16 @@ use Rattle.algol_meaning.specs.Rest as rests
 use Rattle.algol_meaning.specs.Rest.{Given, Hole, Actuals, Half, val, busy, HalfGiven, Answer}
 use Rattle.algol_meaning.specs.Settle.{subscripted_of, right_of, left_of, negated_of, inverted_of, condition_of, called_of, valued_of, half_of, settle, settle_actuals, put, put_actuals}
 use Rattle.algol_meaning.specs.Asks.{Ask, nothing, reads, reads_element, indexes, passes, asks_happened, fails, ask_hole, ask_actuals}
-use Rattle.b67_ops.specs.declared.Operator.TheVariants as ops
-use Rattle.b67_ops.specs.declared.PlainKind.TheVariants as kinds
 use Rattle.b67_ops.specs.declared.intrinsic.Intrinsic.TheVariants.{Happened}
 use Rattle.b67_segment.specs.Operators.{Placed}
 use Rattle.b67_templates.specs.Contexts as yielding
 use Rattle.b67_templates.specs.Contexts.{Yields, yields_of, Context}
-use Rattle.b67_templates.specs.Fragments.{HasKind, Has, Goes, stop, over}
+use Rattle.b67_templates.specs.Fragments.{HasKind, Goes, stop, over}
+use Rattle.b67_templates.specs.Cells.{Wanted, parameter_wants}
 use Rattle.b67_templates.specs.Code.{ReadAt}
 use Rattle.b67_standing.specs.Stepping.{row, Slot, operand, descriptor, ready, HasRoom}
-use Rattle.b67_standing.specs.Standing.{given_slots, Gives, pushed, IsNext, ActsAt, ElementReadAt, of_row, Holds, Fills, ActionAt, Acted, Entered}
-use Rattle.b67_standing.proofs.Actuals.{ComesFilled, after_filled, called_on, actual_done, actual_stands, fills_room}
+use Rattle.b67_standing.specs.Standing.{given_slots, call_begun, Gives, pushed, IsNext, ActsAt, ElementReadAt, of_row, Holds, Fills, ActionAt, Acted, Entered}
+use Rattle.b67_standing.proofs.Actuals.{ComesFilled, after_filled, actual_done, actual_stands, fills_room}
 use Rattle.b67_standing.proofs.Seeking.{Seeking, sought_in}
 use Rattle.b67_standing.proofs.Halves.{Comes, here, after, of_kind, right_at, left_at, negated_at, inverted_at, condition_at}
 use Rattle.b67_standing.proofs.Subscripts.{subscript_at}
@@ -82,14 +81,14 @@ pub record PutsOn (sc : Scopes) (context : Context) (ps : List Placed) (level mo
       Comes sc context ps level most k at (pushed wanted a after) (put sc h a) below to
   pub inside : (at : ℕ) (after : List Slot) (wanted : Yields) → Entered sc context ps level most q pc slots action at after wanted → Inside sc h
 
--- the same of the actuals of a call
-pub record FillsOn (sc : Scopes) (context : Context) (ps : List Placed) (level most : ℕ) (q : Ask) (n : Named) (callee : ℕ) (x : Actuals) (pc : ℕ) (slots below : List Slot)
-    (next : ℕ) : Type 0 where
+-- the same of actuals
+pub record FillsOn (sc : Scopes) (context : Context) (ps : List Placed) (level most : ℕ) (q : Ask) (all : List Wanted) (x : Actuals) (pc : ℕ) (slots begun : List Slot)
+    (filled : ℕ) : Type 0 where
   pub action : ActionAt sc context ps level most q pc slots
   pub answered : (a : Answer) (at : ℕ) (after : List Slot) → Acted sc context ps level most q pc slots action a at after →
-      ComesFilled sc context ps level most n callee (put_actuals sc x a) at after below next
+      ComesFilled sc context ps level most all (put_actuals sc x a) at after begun filled
   pub returns : (at : ℕ) (after : List Slot) (wanted : Yields) → Entered sc context ps level most q pc slots action at after wanted → (a : Answer) → Gives wanted a →
-      ComesFilled sc context ps level most n callee (put_actuals sc x a) at (pushed wanted a after) below next
+      ComesFilled sc context ps level most all (put_actuals sc x a) at (pushed wanted a after) begun filled
   pub inside : (at : ℕ) (after : List Slot) (wanted : Yields) → Entered sc context ps level most q pc slots action at after wanted → InsideActuals sc x
 
 module _ (sc : Scopes) (context : Context) (ps : List Placed) (level most : ℕ) where
@@ -184,23 +183,20 @@ module _ (sc : Scopes) (context : Context) (ps : List Placed) (level most : ℕ)
       subst (λ (y : Yields). Gives y a → Coming k at (pushed y a left) (half_of a) below to) (sym is) (λ f. value_given k next below to g a at left e l f) fits
 
   -- what a parameter's cell has lies there, and the actuals after it come
-  passed_answered : (n : Named) (callee : ℕ) (gs : List Given) (x : Named) (sorts : List Sort) (es : PExprs) (pc : ℕ) (slots below : List Slot) (filled next : ℕ)
-      (s : Fills sc context ps level most n callee (rests.pass gs x sorts es) pc slots below filled) → Has ps level filled (ops.Plain kinds.Entr) next → (a : Answer) (at : ℕ)
-      (left : List Slot) →
-      Acted sc context ps level most (passes x) pc slots (s.2, s.4, given_slots s.1 gs (called_on sc context ps level most s.0 below), s.8) a at left →
-      ComesFilled sc context ps level most n callee (put_actuals sc (rests.pass gs x sorts es) a) at left below next
-  passed_answered n callee gs x sorts es pc slots below filled next s enter (rests.cell c) at left l =
-      let floor = given_slots s.1 gs (called_on sc context ps level most s.0 below) in
+  passed_answered : (all : List Wanted) (gs : List Given) (x : Named) (sorts : List Sort) (es : PExprs) (pc : ℕ) (slots begun : List Slot) (filled : ℕ)
+      (s : Fills sc context ps level most all (rests.pass gs x sorts es) pc slots begun filled) → (a : Answer) (at : ℕ) (left : List Slot) →
+      Acted sc context ps level most (passes x) pc slots (s.1, s.3, given_slots s.0 gs begun, s.6) a at left →
+      ComesFilled sc context ps level most all (put_actuals sc (rests.pass gs x sorts es) a) at left begun filled
+  passed_answered all gs x sorts es pc slots begun filled s (rests.cell c) at left l =
       let more = settle_actuals sc es sorts (gs ++ rests.passed c ∷ []) in
-      subst (λ z. ComesFilled sc context ps level most n callee more z left below next) (sym l.0)
-      (subst (λ o. ComesFilled sc context ps level most n callee more s.4 o below next) (sym l.1)
-      (actual_done sc context ps level most n callee s.0 gs s.1 s.2 s.3 sorts es s.4 filled next below (rests.passed c)
-      (record { procedure = s.5; wants_are = s.6; fit = s.7; actuals = s.9; enter = enter; room = s.10 }) (l.2, tt)
-      (actuals_at sc context ps level most es sorts s.3 n callee s.0 s.4 filled next below s.5 s.9 enter)))
-  passed_answered n callee gs x sorts es pc slots below filled next s enter (rests.value v) at left l = absurd l
-  passed_answered n callee gs x sorts es pc slots below filled next s enter rests.done at left l = absurd l
-  passed_answered n callee gs x sorts es pc slots below filled next s enter (rests.place p) at left l = absurd l
-  passed_answered n callee gs x sorts es pc slots below filled next s enter rests.entered at left l = absurd l
+      subst (λ z. ComesFilled sc context ps level most all more z left begun filled) (sym l.0)
+      (subst (λ o. ComesFilled sc context ps level most all more s.3 o begun filled) (sym l.1)
+      (actual_done sc context ps level most all gs s.0 s.1 s.2 sorts es s.3 filled begun (rests.passed c)
+      (record { wants_are = s.4; fit = s.5; actuals = s.7; room = s.8 }) (l.2, tt) (actuals_at sc context ps level most es sorts s.2 all s.3 filled begun s.7)))
+  passed_answered all gs x sorts es pc slots begun filled s (rests.value v) at left l = absurd l
+  passed_answered all gs x sorts es pc slots begun filled s rests.done at left l = absurd l
+  passed_answered all gs x sorts es pc slots begun filled s (rests.place p) at left l = absurd l
+  passed_answered all gs x sorts es pc slots begun filled s rests.entered at left l = absurd l
 
   mutual
     pub puts_on : (k : Kind) (h : Hole) (pc : ℕ) (slots below : List Slot) (to : ℕ) → Holds sc context ps level most k h pc slots below to → Putting k h pc slots below to
@@ -322,10 +318,13 @@ module _ (sc : Scopes) (context : Context) (ps : List Placed) (level most : ℕ)
               let i = p.inside at left wanted l in record { inner = ap around i.inner; same = λ a. ap around (i.same a) };
         }
     puts_on k (rests.argument n x) pc slots below to s =
-        let p = fills_on n s.0 x pc slots below s.1 s.2 s.4 s.5 in
-        let go : (z : HalfGiven) (at : ℕ) (left : List Slot) → ComesFilled sc context ps level most n s.0 z at left below s.2 → Coming k at left (called_of n z) below to = λ z at left c.
+        let all = parameter_wants sc s.0 in
+        let begun = call_begun s.1 below in
+        let p = fills_on all x pc slots begun s.2 s.6 in
+        let go : (z : HalfGiven) (at : ℕ) (left : List Slot) → ComesFilled sc context ps level most all z at left begun s.2 → Coming k at left (called_of n z) below to = λ z at left c.
         after sc context ps level most k c.leads
-        (called_stands sc context ps level most k n s.0 z c.at c.with_slots below s.2 to c.fills s.3 (fills_room sc context ps level most n s.0 x pc slots below s.1 s.4) s.6) in
+        (called_stands sc context ps level most k n s.0 s.1 z c.at c.with_slots below s.2 s.3 to s.5 c.fills s.7 s.4
+        (omega (arith, fills_room sc context ps level most all x pc slots begun s.2 s.6)) s.8) in
         record {
           action = p.action;
           answered = λ a at left l. go (put_actuals sc x a) at left (p.answered a at left l);
@@ -335,18 +334,16 @@ module _ (sc : Scopes) (context : Context) (ps : List Placed) (level most : ℕ)
         }
     puts_on k _ pc slots below to s = absurd s
 
-    pub fills_on : (n : Named) (callee : ℕ) (x : Actuals) (pc : ℕ) (slots below : List Slot) (filled next : ℕ) →
-        Fills sc context ps level most n callee x pc slots below filled → Has ps level filled (ops.Plain kinds.Entr) next →
-        FillsOn sc context ps level most (ask_actuals x) n callee x pc slots below next
-    fills_on n callee (rests.in_value gs h sorts es) pc slots below filled next s enter =
-        let floor = given_slots s.1 gs (called_on sc context ps level most s.0 below) in
-        let p = puts_on s.2 h pc slots floor s.4 s.8 in
+    pub fills_on : (all : List Wanted) (x : Actuals) (pc : ℕ) (slots begun : List Slot) (filled : ℕ) → Fills sc context ps level most all x pc slots begun filled →
+        FillsOn sc context ps level most (ask_actuals x) all x pc slots begun filled
+    fills_on all (rests.in_value gs h sorts es) pc slots begun filled s =
+        let floor = given_slots s.0 gs begun in
+        let p = puts_on s.1 h pc slots floor s.3 s.6 in
         let around : Half → HalfGiven = λ z. valued_of gs z sorts es (settle_actuals sc es sorts) in
-        let go : (z : Half) (at : ℕ) (left : List Slot) → Coming s.2 at left z floor s.4 → ComesFilled sc context ps level most n callee (around z) at left below next = λ z at left c.
-        after_filled sc context ps level most n callee (around z) below next c.leads
-        (actual_stands sc context ps level most n callee s.0 gs s.1 s.2 s.3 sorts es s.4 filled next below z c.at c.with_slots
-        (record { procedure = s.5; wants_are = s.6; fit = s.7; actuals = s.9; enter = enter; room = s.10 }) c.shows
-        (actuals_at sc context ps level most es sorts s.3 n callee s.0 s.4 filled next below s.5 s.9 enter)) in
+        let go : (z : Half) (at : ℕ) (left : List Slot) → Coming s.1 at left z floor s.3 → ComesFilled sc context ps level most all (around z) at left begun filled = λ z at left c.
+        after_filled sc context ps level most all (around z) begun filled c.leads
+        (actual_stands sc context ps level most all gs s.0 s.1 s.2 sorts es s.3 filled begun z c.at c.with_slots
+        (record { wants_are = s.4; fit = s.5; actuals = s.7; room = s.8 }) c.shows (actuals_at sc context ps level most es sorts s.2 all s.3 filled begun s.7)) in
         record {
           action = p.action;
           answered = λ a at left l. go (put sc h a) at left (p.answered a at left l);
@@ -354,9 +351,9 @@ module _ (sc : Scopes) (context : Context) (ps : List Placed) (level most : ℕ)
           inside = λ at left wanted l.
               let i = p.inside at left wanted l in record { inner = ap around i.inner; same = λ a. ap around (i.same a) };
         }
-    fills_on n callee (rests.pass gs x sorts es) pc slots below filled next s enter = record {
-      action = (s.2, s.4, given_slots s.1 gs (called_on sc context ps level most s.0 below), s.8);
-      answered = passed_answered n callee gs x sorts es pc slots below filled next s enter;
+    fills_on all (rests.pass gs x sorts es) pc slots begun filled s = record {
+      action = (s.1, s.3, given_slots s.0 gs begun, s.6);
+      answered = passed_answered all gs x sorts es pc slots begun filled s;
       returns = λ at left wanted l. absurd l;
       inside = λ at left wanted l. absurd l;
     }

@@ -1,5 +1,5 @@
 -- Where the machine stands for a rest, from where the value of its expression comes to stand: assignments, tests, lines.
-use Rattle.std.proofs.Common.{◌≡◌, refl, sym, subst, ℕ, ◌+◌, ◌≤◌, arith, Bool, true, false, List, [], ◌∷◌, ◌++◌, length, length-append}
+use Rattle.std.proofs.Common.{◌≡◌, refl, sym, subst, ℕ, ◌+◌, ◌≤◌, arith, Bool, true, false, List, [], ◌∷◌, ◌++◌, length, length-append, Option, None}
 use Rattle.std.specs.Prelude.{pos, if◌then◌else◌}
 use Rattle.algol_tree.specs.declared.tree.Kind.{Kind}
 use Rattle.algol_tree.specs.declared.tree.Kind.TheVariants as types
@@ -13,7 +13,7 @@ use Rattle.algol_meaning.specs.Value.{Value, number, truth}
 use Rattle.algol_meaning.specs.Rest as rests
 use Rattle.algol_meaning.specs.Rest.{own, Hole, Half, val, busy, HalfGiven, given, wants, Item, Rest}
 use Rattle.algol_meaning.specs.Settle.{sort_at, settle, settle_place}
-use Rattle.algol_meaning.specs.Statements.{assigned_of, aimed_at, chosen_of, looped_of, checked_of, selected_of, statement_called_of, item_of, run_and, settle_line}
+use Rattle.algol_meaning.specs.Statements.{assigned_of, aimed_at, chosen_of, looped_of, checked_of, selected_of, statement_called_of, prepared_of, item_of, run_and, settle_line}
 use Rattle.algol_meaning.specs.Asks.{nothing, ask_hole, ask}
 use Rattle.b67_ops.specs.declared.Couple.{Couple}
 use Rattle.b67_ops.specs.declared.Operator.TheVariants as ops
@@ -23,14 +23,14 @@ use Rattle.b67_ops.specs.declared.intrinsic.Intrinsic.TheVariants.{Select}
 use Rattle.b67_segment.specs.Operators.{Placed}
 use Rattle.b67_templates.specs.Contexts.{Context}
 use Rattle.b67_templates.specs.Fragments.{IsWhole, HasKind, Has, BranchAt, TurnAt, Goes, stop}
-use Rattle.b67_templates.specs.Cells.{IsVariable}
+use Rattle.b67_templates.specs.Cells.{parameter_wants, IsVariable, IsProcedure}
 use Rattle.b67_templates.specs.Code as code
 use Rattle.b67_templates.specs.Code.{FormatIs, DroppedAt, PlaceAt, ExprAt, AssignAt, LineAt, TableAt, StmtAt, CasesAt, exprs_count, stmts_count}
 use Rattle.b67_templates.specs.Depths.{depth, line_depth, stmt_depth, stmts_depth, counts_in, AreShallow}
 use Rattle.b67_standing.specs.Stepping.{Slot, operand, reference, intrinsic, mark, HasRoom, push_number, push_reference, false_stays, false_goes, true_stays, true_goes, Leads, there, first}
-use Rattle.b67_standing.specs.Standing.{pend, operands, AreNumbers, line_begun, Follows, Holds, Shows, WhileAt, StandsFor, ComesTo}
+use Rattle.b67_standing.specs.Standing.{pend, operands, AreNumbers, line_begun, call_begun, start_begun, IsTask, Follows, CallsAt, StartsAt, Holds, Shows, WhileAt, StandsFor, ComesTo}
 use Rattle.b67_standing.proofs.Leading.{depth-positive, on, valued_at, follows_run}
-use Rattle.b67_standing.proofs.Asking.{resolves_asks, stores_asks, selects_asks, turns_asks, writes_asks, calls_asks, holds_asks, fills_asks}
+use Rattle.b67_standing.proofs.Asking.{resolves_asks, stores_asks, selects_asks, turns_asks, writes_asks, calls_asks, starts_asks, holds_asks, fills_asks}
 use Rattle.b67_standing.proofs.Actuals.{operands-more, operands-length, Filled}
 use Rattle.b67_standing.proofs.Settling.{settle_at}
 use Rattle.b67_standing.proofs.Values.{variable_place, formal_resolves}
@@ -168,15 +168,39 @@ module _ (sc : Scopes) (context : Context) (ps : List Placed) (level most : ℕ)
   selected_stands (busy x) ss k pc slots m table u sh h c follows room =
       stays_here pc slots (rests.selecting x ss k) (heads_ask types.Number x pc slots (intrinsic Select ∷ mark ∷ pend k) m sh) (m, table, u, sh, h, c, follows, room)
 
-  -- ---- a call whose actuals are settled as far as that goes
+  -- ---- a call, or a PROCESS, whose actuals are settled as far as that goes
 
-  pub called_stands : (n : Named) (callee : ℕ) (x : HalfGiven) (k : List Item) (pc : ℕ) (slots : List Slot) (next u : ℕ) →
-      Filled sc context ps level most n callee x pc slots (pend k) next → DroppedAt sc context ps level (block_numbered sc.blocks callee).result next u → Following k u →
-      HasRoom most (pend k) 2 → Coming (statement_called_of n x k) pc slots
-  called_stands n callee (given gs) k pc slots next u s d follows room =
-      stays_here pc slots (rests.entering n gs k) (calls_asks n gs) (callee, next, u, s, d, follows, room)
-  called_stands n callee (wants x) k pc slots next u s d follows room =
-      stays_here pc slots (rests.calling n x k) (fills_asks sc context ps level most n callee x pc slots (pend k) s.0 s.1) (callee, s.0, next, u, s.1, s.2, d, follows, room)
+  pub called_stands : (n : Named) (callee : ℕ) (couple : Couple) (x : HalfGiven) (k : List Item) (pc : ℕ) (slots : List Slot) (filled next u : ℕ) → IsProcedure sc context.level n callee couple →
+      Filled sc context ps level most (parameter_wants sc callee) x pc slots (call_begun couple (pend k)) filled → Has ps level filled (ops.Plain kinds.Entr) next →
+      DroppedAt sc context ps level (block_numbered sc.blocks callee).result next u → Following k u → HasRoom most (pend k) 2 → Coming (statement_called_of n x k) pc slots
+  called_stands n callee couple (given gs) k pc slots filled next u p s h d follows room =
+      let calls : CallsAt sc context ps level most n gs callee pc next slots (pend k) =
+      record { couple = couple; procedure = p; fit = s.1; lies = s.2; stands = subst (λ z. Has ps level z (ops.Plain kinds.Entr) next) (sym s.0) h } in
+      stays_here pc slots (rests.entering n gs k) (calls_asks n gs) (callee, next, u, calls, d, follows, room)
+  called_stands n callee couple (wants x) k pc slots filled next u p s h d follows room =
+      stays_here pc slots (rests.calling n x k) (fills_asks sc context ps level most (parameter_wants sc callee) x pc slots (call_begun couple (pend k)) filled s)
+      (callee, couple, filled, next, u, p, s, h, d, follows, room)
+
+  pub prepared_stands : (n : Named) (task : Option Named) (callee : ℕ) (couple : Couple) (tasked : Slot) (x : HalfGiven) (k : List Item) (pc : ℕ) (slots : List Slot) (filled next : ℕ) →
+      IsProcedure sc context.level n callee couple → (block_numbered sc.blocks callee).result ≡ None → IsTask sc context task tasked →
+      Filled sc context ps level most (parameter_wants sc callee) x pc slots (start_begun couple tasked (pend k)) filled → Has ps level filled (ops.Plain kinds.Entr) next → Following k next →
+      Coming (prepared_of n x task k) pc slots
+  prepared_stands n task callee couple tasked (given gs) k pc slots filled next p untyped t s h follows =
+      let starts : StartsAt sc context ps level most n gs task callee pc next slots (pend k) =
+      record {
+        couple = couple;
+        procedure = p;
+        untyped = untyped;
+        tasked = tasked;
+        task_is = t;
+        fit = s.1;
+        lies = s.2;
+        stands = subst (λ z. Has ps level z (ops.Plain kinds.Entr) next) (sym s.0) h;
+      } in
+      stays_here pc slots (rests.starting n gs task k) (starts_asks n gs task) (callee, next, starts, follows)
+  prepared_stands n task callee couple tasked (wants x) k pc slots filled next p untyped t s h follows =
+      stays_here pc slots (rests.preparing n x task k) (fills_asks sc context ps level most (parameter_wants sc callee) x pc slots (start_begun couple tasked (pend k)) filled s)
+      (callee, couple, tasked, filled, next, p, untyped, t, s, h, follows)
 
   -- ---- lines
 

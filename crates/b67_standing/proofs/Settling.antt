@@ -27,9 +27,9 @@ use Rattle.b67_templates.specs.Code.{NameAt, reads, calls, ExprAt, ActualsAt}
 use Rattle.b67_templates.specs.Events.{OnEventAt}
 use Rattle.b67_templates.specs.Depths.{depth}
 use Rattle.b67_standing.specs.Stepping.{Slot, operand, reference, intrinsic, mark, HasRoom, push_number, push_truth, push_reference, call, summon, there, first}
-use Rattle.b67_standing.specs.Standing.{given_slots, AreGiven}
+use Rattle.b67_standing.specs.Standing.{given_slots, call_begun, AreGiven}
 use Rattle.b67_standing.proofs.Leading.{depth-positive}
-use Rattle.b67_standing.proofs.Actuals.{given_slots-length, Filled, ComesFilled, after_filled, called_on, ActualsOn, actual_stands, array_stands, event_stands, name_stands}
+use Rattle.b67_standing.proofs.Actuals.{given_slots-length, Filled, ComesFilled, after_filled, ActualsOn, actual_stands, array_stands, event_stands, name_stands}
 use Rattle.b67_standing.proofs.Values.{variable_reads, formal_reads, procedure_enters}
 use Rattle.b67_standing.proofs.Halves.{Comes, here, after, of_kind, negated_at, inverted_at, left_at, condition_at}
 use Rattle.b67_standing.proofs.Subscripts.{begun_at, subscript_at}
@@ -68,12 +68,20 @@ module _ (sc : Scopes) (context : Context) (ps : List Placed) (level most : ℕ)
       )))
 
   -- a call whose actuals are settled as far as that goes
-  pub called_stands : (k : Kind) (n : Named) (callee : ℕ) (x : HalfGiven) (pc : ℕ) (slots below : List Slot) (next to : ℕ) →
-      Filled sc context ps level most n callee x pc slots below next → (block_numbered sc.blocks callee).result ≡ Some k → HasRoom most below 2 → Goes ps level next to →
-      Coming k pc slots (called_of n x) below to
-  called_stands k n callee (given gs) pc slots below next to s e room g = here sc context ps level most k pc slots (busy (rests.enter n gs)) below to (callee, next, s, e, room, g)
-  called_stands k n callee (rests.wants x) pc slots below next to s e room g =
-      here sc context ps level most k pc slots (busy (rests.argument n x)) below to (callee, s.0, next, e, s.1, s.2, g)
+  pub called_stands : (k : Kind) (n : Named) (callee : ℕ) (couple : Couple) (x : HalfGiven) (pc : ℕ) (slots below : List Slot) (filled next to : ℕ) → IsProcedure sc context.level n callee couple →
+      Filled sc context ps level most (parameter_wants sc callee) x pc slots (call_begun couple below) filled → Has ps level filled (ops.Plain kinds.Entr) next →
+      (block_numbered sc.blocks callee).result ≡ Some k → HasRoom most below 2 → Goes ps level next to → Coming k pc slots (called_of n x) below to
+  called_stands k n callee couple (given gs) pc slots below filled next to p s h e room g =
+      here sc context ps level most k pc slots (busy (rests.enter n gs)) below to (
+        callee,
+        next,
+        record { couple = couple; procedure = p; fit = s.1; lies = s.2; stands = subst (λ z. Has ps level z (ops.Plain kinds.Entr) next) (sym s.0) h },
+        e,
+        room,
+        g,
+      )
+  called_stands k n callee couple (rests.wants x) pc slots below filled next to p s h e room g =
+      here sc context ps level most k pc slots (busy (rests.argument n x)) below to (callee, couple, filled, next, e, p, s, h, g)
 
   -- the test of an event
   event_tested : (n : Named) (f t u : ℕ) → OnEventAt sc context ps level Happened n f t → Goes ps level t u → (below : List Slot) → HasRoom most below 3 →
@@ -121,79 +129,67 @@ module _ (sc : Scopes) (context : Context) (ps : List Placed) (level most : ℕ)
         let c = h.1 in
         let b = c.2 in
         let settled : ℕ → HalfGiven = λ z. settle_actuals sc es (sorts_of ((block_numbered sc.blocks z).parameters)) [] in
-        let filled : ComesFilled sc context ps level most n h.0 (settled h.0) c.0 (called_on sc context ps level most b.couple below) below t =
-        actuals_at es (sorts_of ((block_numbered sc.blocks h.0).parameters)) (parameter_wants sc h.0) n h.0 b.couple c.0 c.1 t below b.procedure c.3 c.4 [] [] refl tt (omega (arith, room)) in
+        let filled : ComesFilled sc context ps level most (parameter_wants sc h.0) (settled h.0) c.0 (call_begun b.couple below) (call_begun b.couple below) c.1 =
+        actuals_at es (sorts_of ((block_numbered sc.blocks h.0).parameters)) (parameter_wants sc h.0) (parameter_wants sc h.0) c.0 c.1 (call_begun b.couple below) c.3 [] [] refl tt
+        (omega (arith, room)) in
         subst (λ z. Coming k f below (called_of n (settled z)) below u) (sym (ap block_of (b.procedure).sort_is))
         (after sc context ps level most k (first (summon n h.0 b (omega (arith, room))) there)
-        (after sc context ps level most k filled.leads (called_stands k n h.0 (settled h.0) filled.at filled.with_slots below t u filled.fills h.2 (omega (arith, room)) g)))
+        (after sc context ps level most k filled.leads
+        (called_stands k n h.0 b.couple (settled h.0) filled.at filled.with_slots below c.1 t u b.procedure filled.fills c.4 h.2 (omega (arith, room)) g)))
     settle_at k (tree.tested tree.happened e spot) f t u h g below room =
         of_kind sc context ps level most f below (busy (rests.happens e.name)) below u h.0 (event_tested e.name f t u h.1 g below room)
 
     -- the actuals come to lie there one after another
-    pub actuals_at : (es : PExprs) (sorts : List Sort) (after : List Wanted) (n : Named) (callee : ℕ) (couple : Couple) (f filled next : ℕ) (below : List Slot) →
-        IsProcedure sc context.level n callee couple → ActualsAt sc context ps level sorts after es f filled → Has ps level filled (ops.Plain kinds.Entr) next →
-        ActualsOn sc context ps level most n callee couple es sorts after f below next
-    actuals_at tree.none [] [] n callee couple f filled next below procedure l enter gs before wants_are fit room =
-        let floor = called_on sc context ps level most couple below in
-        let all : parameter_wants sc callee ≡ before = wants_are ∙ append-nil before in
+    pub actuals_at : (es : PExprs) (sorts : List Sort) (after all : List Wanted) (f filled : ℕ) (begun : List Slot) → ActualsAt sc context ps level sorts after es f filled →
+        ActualsOn sc context ps level most all es sorts after f begun filled
+    actuals_at tree.none [] [] all f filled begun l gs before wants_are fit room =
+        let same : all ≡ before = wants_are ∙ append-nil before in
         record {
           at = f;
-          with_slots = given_slots before gs floor;
+          with_slots = given_slots before gs begun;
           leads = there;
-          fills = record {
-            couple = couple;
-            procedure = procedure;
-            fit = subst (λ o. AreGiven sc context o gs) (sym all) fit;
-            lies = ap (λ o. given_slots o gs floor) (sym all);
-            stands = subst (λ z. Has ps level z (ops.Plain kinds.Entr) next) (sym l) enter;
-          };
+          fills = (l, subst (λ o. AreGiven sc context o gs) (sym same) fit, ap (λ o. given_slots o gs begun) (sym same));
         }
-    actuals_at (tree.more e es) (sort ∷ sorts) (wants.value kind ∷ later) n callee couple f filled next below procedure l enter gs before wants_are fit room =
-        let floor = given_slots before gs (called_on sc context ps level most couple below) in
+    actuals_at (tree.more e es) (sort ∷ sorts) (wants.value kind ∷ later) all f filled begun l gs before wants_are fit room =
+        let floor = given_slots before gs begun in
         let deep : 1 ≤ depth e = depth-positive e in
-        let c = settle_at kind e f l.0 l.0 l.2 stop floor (omega (arith, room, given_slots-length before gs (called_on sc context ps level most couple below))) in
+        let c = settle_at kind e f l.0 l.0 l.2 stop floor (omega (arith, room, given_slots-length before gs begun)) in
         let settled : Bool → HalfGiven = λ b. actual_of sc b e (settle sc e) gs sorts es (settle_actuals sc es sorts) in
-        subst (λ b. ComesFilled sc context ps level most n callee (settled b) f floor below next) (sym l.1)
-        (after_filled sc context ps level most n callee (settled true) below next c.leads
-        (actual_stands sc context ps level most n callee couple gs before kind later sorts es l.0 filled next below (settle sc e) c.at c.with_slots
-        (record { procedure = procedure; wants_are = wants_are; fit = fit; actuals = l.3; enter = enter; room = omega (arith, room, deep) })
-        c.shows (actuals_at es sorts later n callee couple l.0 filled next below procedure l.3 enter)))
-    actuals_at (tree.more (tree.variable (tree.subscripted x tree.none)) es) (sort ∷ sorts) (wants.array shape ∷ later) n callee couple f filled next below procedure l enter gs before
-        wants_are fit room =
-        let floor = given_slots before gs (called_on sc context ps level most couple below) in
+        subst (λ b. ComesFilled sc context ps level most all (settled b) f floor begun filled) (sym l.1)
+        (after_filled sc context ps level most all (settled true) begun filled c.leads
+        (actual_stands sc context ps level most all gs before kind later sorts es l.0 filled begun (settle sc e) c.at c.with_slots
+        (record { wants_are = wants_are; fit = fit; actuals = l.3; room = omega (arith, room, deep) }) c.shows (actuals_at es sorts later all l.0 filled begun l.3)))
+    actuals_at (tree.more (tree.variable (tree.subscripted x tree.none)) es) (sort ∷ sorts) (wants.array shape ∷ later) all f filled begun l gs before wants_are fit room =
+        let floor = given_slots before gs begun in
         let e = tree.variable (tree.subscripted x tree.none) in
         let settled : Bool → HalfGiven = λ b. actual_of sc b e (settle sc e) gs sorts es (settle_actuals sc es sorts) in
-        subst (λ b. ComesFilled sc context ps level most n callee (settled b) f floor below next) (sym l.1)
-        (array_stands sc context ps level most n callee couple gs before shape later sorts es f l.0 filled next below x
-        (record { procedure = procedure; wants_are = wants_are; fit = fit; actuals = l.3; enter = enter; room = omega (arith, room) })
-        l.2 (actuals_at es sorts later n callee couple l.0 filled next below procedure l.3 enter))
-    actuals_at (tree.more e es) (sort ∷ sorts) (wants.by_name kind ∷ later) n callee couple f filled next below procedure l enter gs before wants_are fit room =
-        let floor = given_slots before gs (called_on sc context ps level most couple below) in
+        subst (λ b. ComesFilled sc context ps level most all (settled b) f floor begun filled) (sym l.1)
+        (array_stands sc context ps level most all gs before shape later sorts es f l.0 filled begun x
+        (record { wants_are = wants_are; fit = fit; actuals = l.3; room = omega (arith, room) }) l.2 (actuals_at es sorts later all l.0 filled begun l.3))
+    actuals_at (tree.more e es) (sort ∷ sorts) (wants.by_name kind ∷ later) all f filled begun l gs before wants_are fit room =
+        let floor = given_slots before gs begun in
         let deep : 1 ≤ depth e = depth-positive e in
         let settled : Bool → HalfGiven = λ b. actual_of sc b e (settle sc e) gs sorts es (settle_actuals sc es sorts) in
-        subst (λ b. ComesFilled sc context ps level most n callee (settled b) f floor below next) (sym l.1)
-        (name_stands sc context ps level most n callee couple gs before kind later sorts es f l.0 filled next below e
-        (record { procedure = procedure; wants_are = wants_are; fit = fit; actuals = l.3; enter = enter; room = omega (arith, room, deep) })
-        l.2 (actuals_at es sorts later n callee couple l.0 filled next below procedure l.3 enter))
-    actuals_at (tree.more (tree.variable (tree.subscripted x tree.none)) es) (sort ∷ sorts) (wants.event ∷ later) n callee couple f filled next below procedure l enter gs before
-        wants_are fit room =
-        let floor = given_slots before gs (called_on sc context ps level most couple below) in
+        subst (λ b. ComesFilled sc context ps level most all (settled b) f floor begun filled) (sym l.1)
+        (name_stands sc context ps level most all gs before kind later sorts es f l.0 filled begun e
+        (record { wants_are = wants_are; fit = fit; actuals = l.3; room = omega (arith, room, deep) }) l.2 (actuals_at es sorts later all l.0 filled begun l.3))
+    actuals_at (tree.more (tree.variable (tree.subscripted x tree.none)) es) (sort ∷ sorts) (wants.event ∷ later) all f filled begun l gs before wants_are fit room =
+        let floor = given_slots before gs begun in
         let e = tree.variable (tree.subscripted x tree.none) in
         let settled : Bool → HalfGiven = λ b. actual_of sc b e (settle sc e) gs sorts es (settle_actuals sc es sorts) in
-        subst (λ b. ComesFilled sc context ps level most n callee (settled b) f floor below next) (sym l.1)
-        (event_stands sc context ps level most n callee couple gs before later sorts es f l.0 filled next below x
-        (record { procedure = procedure; wants_are = wants_are; fit = fit; actuals = l.3; enter = enter; room = omega (arith, room) })
-        l.2 (actuals_at es sorts later n callee couple l.0 filled next below procedure l.3 enter))
-    actuals_at tree.none [] (x ∷ later) n callee couple f filled next below procedure l enter gs before wants_are fit room = absurd l
-    actuals_at tree.none (sort ∷ sorts) [] n callee couple f filled next below procedure l enter gs before wants_are fit room = absurd l
-    actuals_at tree.none (sort ∷ sorts) (wants.value kind ∷ later) n callee couple f filled next below procedure l enter gs before wants_are fit room = absurd l
-    actuals_at tree.none (sort ∷ sorts) (wants.array shape ∷ later) n callee couple f filled next below procedure l enter gs before wants_are fit room = absurd l
-    actuals_at tree.none (sort ∷ sorts) (wants.by_name kind ∷ later) n callee couple f filled next below procedure l enter gs before wants_are fit room = absurd l
-    actuals_at tree.none (sort ∷ sorts) (wants.event ∷ later) n callee couple f filled next below procedure l enter gs before wants_are fit room = absurd l
-    actuals_at tree.none (sort ∷ sorts) (wants.other ∷ later) n callee couple f filled next below procedure l enter gs before wants_are fit room = absurd l
-    actuals_at (tree.more e es) [] [] n callee couple f filled next below procedure l enter gs before wants_are fit room = absurd l
-    actuals_at (tree.more e es) [] (x ∷ later) n callee couple f filled next below procedure l enter gs before wants_are fit room = absurd l
-    actuals_at (tree.more e es) (sort ∷ sorts) [] n callee couple f filled next below procedure l enter gs before wants_are fit room = absurd l
-    actuals_at (tree.more e es) (sort ∷ sorts) (wants.other ∷ later) n callee couple f filled next below procedure l enter gs before wants_are fit room = absurd l
-    actuals_at (tree.more _ es) (sort ∷ sorts) (wants.array shape ∷ later) n callee couple f filled next below procedure l enter gs before wants_are fit room = absurd l
-    actuals_at (tree.more _ es) (sort ∷ sorts) (wants.event ∷ later) n callee couple f filled next below procedure l enter gs before wants_are fit room = absurd l
+        subst (λ b. ComesFilled sc context ps level most all (settled b) f floor begun filled) (sym l.1)
+        (event_stands sc context ps level most all gs before later sorts es f l.0 filled begun x
+        (record { wants_are = wants_are; fit = fit; actuals = l.3; room = omega (arith, room) }) l.2 (actuals_at es sorts later all l.0 filled begun l.3))
+    actuals_at tree.none [] (x ∷ later) all f filled begun l gs before wants_are fit room = absurd l
+    actuals_at tree.none (sort ∷ sorts) [] all f filled begun l gs before wants_are fit room = absurd l
+    actuals_at tree.none (sort ∷ sorts) (wants.value kind ∷ later) all f filled begun l gs before wants_are fit room = absurd l
+    actuals_at tree.none (sort ∷ sorts) (wants.array shape ∷ later) all f filled begun l gs before wants_are fit room = absurd l
+    actuals_at tree.none (sort ∷ sorts) (wants.by_name kind ∷ later) all f filled begun l gs before wants_are fit room = absurd l
+    actuals_at tree.none (sort ∷ sorts) (wants.event ∷ later) all f filled begun l gs before wants_are fit room = absurd l
+    actuals_at tree.none (sort ∷ sorts) (wants.other ∷ later) all f filled begun l gs before wants_are fit room = absurd l
+    actuals_at (tree.more e es) [] [] all f filled begun l gs before wants_are fit room = absurd l
+    actuals_at (tree.more e es) [] (x ∷ later) all f filled begun l gs before wants_are fit room = absurd l
+    actuals_at (tree.more e es) (sort ∷ sorts) [] all f filled begun l gs before wants_are fit room = absurd l
+    actuals_at (tree.more e es) (sort ∷ sorts) (wants.other ∷ later) all f filled begun l gs before wants_are fit room = absurd l
+    actuals_at (tree.more _ es) (sort ∷ sorts) (wants.array shape ∷ later) all f filled begun l gs before wants_are fit room = absurd l
+    actuals_at (tree.more _ es) (sort ∷ sorts) (wants.event ∷ later) all f filled begun l gs before wants_are fit room = absurd l

@@ -1,5 +1,5 @@
 -- Where the machine stands for what a part has still to do: the place of the code, and what lies above the floor there.
-use Rattle.std.specs.Prelude.{◌≡◌, ℕ, ◌+◌, ◌*◌, ◌<◌, ◌≤◌, ℤ, pos, Bool, true, false, List, [], ◌∷◌, ◌++◌, length, Some, Err}
+use Rattle.std.specs.Prelude.{◌≡◌, ℕ, ◌+◌, ◌*◌, ◌<◌, ◌≤◌, ℤ, pos, Bool, true, false, List, [], ◌∷◌, ◌++◌, length, Option, Some, None, Err}
 use Rattle.algol_tree.specs.declared.tree.Op.{Op}
 use Rattle.algol_tree.specs.declared.tree.Kind.{Kind}
 use Rattle.algol_tree.specs.declared.tree.Kind.TheVariants as types
@@ -15,9 +15,9 @@ use Rattle.b67_num.specs.declared.NumFault.{NumFault}
 use Rattle.algol_meaning.specs.Value as cells
 use Rattle.algol_meaning.specs.Value.{Value, number, truth, Cell}
 use Rattle.algol_meaning.specs.Operators.{result_of}
-use Rattle.algol_meaning.specs.Rest.{Place, own, there, element_of, Hole, read, element, index, subscript, happens, broken, left, right, negated, inverted, condition, Half, val, busy, Aim, resolve, place_index, place_subscript, Loop, Item, count, Rest, over, store, select, turning, going, acting, line, arrays, event, bounding, aiming, storing, choosing, looping, checking, counting, differing, stepping, selecting, writing, calling, Given, valued, passed, refers, names, argument, Actuals, pass, in_value, enter, entering_block, entering, reading, giving, giving_place, evaluating, locating, Answer, done, value, cell, place, entered}
+use Rattle.algol_meaning.specs.Rest.{Place, own, there, element_of, Hole, read, element, index, subscript, happens, broken, left, right, negated, inverted, condition, Half, val, busy, Aim, resolve, place_index, place_subscript, Loop, Item, count, Rest, over, store, select, turning, going, starting, acting, line, arrays, event, bounding, aiming, storing, choosing, looping, checking, counting, differing, stepping, selecting, writing, calling, preparing, Given, valued, passed, refers, names, argument, Actuals, pass, in_value, enter, entering_block, entering, reading, giving, giving_place, evaluating, locating, Answer, done, value, cell, place, entered}
 use Rattle.algol_meaning.specs.Statements.{difference_in, stepped}
-use Rattle.algol_meaning.specs.Asks.{Ask, nothing, reads, reads_element, indexes, resolves, passes, asks_happened, makes_arrays, makes_event, acts, goes_to, reads_result, fails, enters, leaves, stores, selects, turns, writes, enters_block, ask, resume}
+use Rattle.algol_meaning.specs.Asks.{Ask, nothing, reads, reads_element, indexes, resolves, passes, asks_happened, makes_arrays, makes_event, acts, goes_to, starts, reads_result, fails, enters, leaves, stores, selects, turns, writes, enters_block, ask, resume}
 use Rattle.algol_paths.specs.Arrays.{DeclaredArray, Shape, shape_of}
 use Rattle.b67_control.specs.Control.{Fits_pcw}
 use Rattle.b67_ops.specs.declared.Couple.{Couple}
@@ -26,7 +26,7 @@ use Rattle.b67_ops.specs.declared.Operator.TheVariants as ops
 use Rattle.b67_ops.specs.declared.PlainKind.TheVariants as kinds
 use Rattle.b67_ops.specs.declared.BranchKind.TheVariants.{Brfl, Brtr, Brun}
 use Rattle.b67_ops.specs.declared.intrinsic.Intrinsic.{Intrinsic}
-use Rattle.b67_ops.specs.declared.intrinsic.Intrinsic.TheVariants.{Write, Select, Arrays, Event, GoTo, Happened}
+use Rattle.b67_ops.specs.declared.intrinsic.Intrinsic.TheVariants.{Write, Select, Arrays, Event, Start, GoTo, Happened}
 use Rattle.b67_segment.specs.Operators.{Placed}
 use Rattle.b67_templates.specs.Contexts as yielding
 use Rattle.b67_templates.specs.Contexts.{Yields, yields_of, Context}
@@ -73,6 +73,14 @@ given_slot _ _ = mark
 abbrev pub given_slots : List Wanted → List Given → List Slot → List Slot
 given_slots (w ∷ wanted) (g ∷ gs) below = given_slots wanted gs (given_slot w g ∷ below)
 given_slots _ _ below = below
+
+-- the start of a call: a mark, the reference of the procedure's control word
+abbrev pub call_begun : Couple → List Slot → List Slot
+call_begun couple below = reference couple ∷ mark ∷ below
+
+-- .. of a PROCESS: a mark, the references of the intrinsic and of the procedure's control word, the task
+abbrev pub start_begun : Couple → Slot → List Slot → List Slot
+start_begun couple task below = task ∷ reference couple ∷ intrinsic Start ∷ mark ∷ below
 
 -- a part that leaves gives what is wanted of it: a value of that kind, a place that it found, or nothing
 abbrev pub Gives : Yields → Answer → Type 0
@@ -129,6 +137,11 @@ IsPassed (wants.by_name kind) (cells.reference r) = Unit {0}
 IsPassed (wants.by_name kind) (cells.named a) = Unit {0}
 IsPassed wants.event (cells.reference r) = Unit {0}
 IsPassed _ _ = ⊥
+
+-- At the text of this context the slot is that of a task: the reference of its event's cell, or 0 where there is none.
+abbrev pub IsTask : Scopes → Context → Option Named → Slot → Type 0
+IsTask sc context None slot = slot ≡ operand (number (pos 0))
+IsTask sc context (Some n) slot = (c : Couple) × IsDeclaredEvent sc context.level n c × (slot ≡ reference c)
 
 -- At the text of this context the actual is what is wanted: a value of that kind; an array, and a declared one agrees with the shape; an event; a
 -- variable of that kind, or an actual that has a cell.
@@ -205,7 +218,19 @@ module _ (sc : Scopes) (context : Context) (ps : List Placed) (level most : ℕ)
     pub couple : Couple
     pub procedure : IsProcedure sc context.level n callee couple
     pub fit : AreGiven sc context (parameter_wants sc callee) gs
-    pub lies : slots ≡ given_slots (parameter_wants sc callee) gs (reference couple ∷ mark ∷ below)
+    pub lies : slots ≡ given_slots (parameter_wants sc callee) gs (call_begun couple below)
+    pub stands : Has ps level pc (ops.Plain kinds.Entr) next
+
+  -- The actuals lie on the task, that on the reference of a procedure's control word, and that on the reference of the intrinsic and a mark. The
+  -- procedure has no result.
+  pub record StartsAt (n : Named) (gs : List Given) (task : Option Named) (callee pc next : ℕ) (slots below : List Slot) : Type 0 where
+    pub couple : Couple
+    pub procedure : IsProcedure sc context.level n callee couple
+    pub untyped : (block_numbered sc.blocks callee).result ≡ None
+    pub tasked : Slot
+    pub task_is : IsTask sc context task tasked
+    pub fit : AreGiven sc context (parameter_wants sc callee) gs
+    pub lies : slots ≡ given_slots (parameter_wants sc callee) gs (start_begun couple tasked below)
     pub stands : Has ps level pc (ops.Plain kinds.Entr) next
 
   -- the couple is that of a parameter's cell, and what that has is passed where this is wanted
@@ -349,23 +374,22 @@ module _ (sc : Scopes) (context : Context) (ps : List Placed) (level most : ℕ)
         (a : Shape) × (c : Couple) × (t : ℕ) × (next : ℕ) × IsArray sc context.level n a c × (a.kind ≡ k)
         × Seeks (λ over m. Holds types.Number h pc slots over m) n c a.lows ks es below t × Has ps level t (ops.Plain kinds.Nxlv) next × Goes ps level next to
     Holds k (argument n x) pc slots below to =
-        (callee : ℕ) × (filled : ℕ) × (next : ℕ) × ((block_numbered sc.blocks callee).result ≡ Some k) × Fills n callee x pc slots below filled
+        (callee : ℕ) × (couple : Couple) × (filled : ℕ) × (next : ℕ) × ((block_numbered sc.blocks callee).result ≡ Some k)
+        × IsProcedure sc context.level n callee couple × Fills (parameter_wants sc callee) x pc slots (call_begun couple below) filled
         × Has ps level filled (ops.Plain kinds.Entr) next × Goes ps level next to
     Holds k _ pc slots below to = ⊥
 
-    -- .. for the actuals of a call: those before the head lie on the reference of the procedure's control word
-    pub Fills : Named → ℕ → Actuals → ℕ → List Slot → List Slot → ℕ → Type 0
-    Fills n callee (in_value gs h sorts es) pc slots below filled =
-        (couple : Couple) × (before : List Wanted) × (kind : Kind) × (after : List Wanted) × (m : ℕ)
-        × IsProcedure sc context.level n callee couple × (parameter_wants sc callee ≡ before ++ wants.value kind ∷ after) × AreGiven sc context before gs
-        × Holds kind h pc slots (given_slots before gs (reference couple ∷ mark ∷ below)) m × ActualsAt sc context ps level sorts after es m filled
-        × HasRoom most below (2 + length gs + 1 + line_depth es)
+    -- .. for actuals, of which these are wanted: those before the head lie on the start of the call or of the PROCESS
+    pub Fills : List Wanted → Actuals → ℕ → List Slot → List Slot → ℕ → Type 0
+    Fills all (in_value gs h sorts es) pc slots begun filled =
+        (before : List Wanted) × (kind : Kind) × (after : List Wanted) × (m : ℕ) × (all ≡ before ++ wants.value kind ∷ after) × AreGiven sc context before gs
+        × Holds kind h pc slots (given_slots before gs begun) m × ActualsAt sc context ps level sorts after es m filled
+        × HasRoom most begun (length gs + 1 + line_depth es)
     -- the head is the passing of what a parameter's cell has
-    Fills n callee (pass gs p sorts es) pc slots below filled =
-        (couple : Couple) × (before : List Wanted) × (wanted : Wanted) × (after : List Wanted) × (m : ℕ)
-        × IsProcedure sc context.level n callee couple × (parameter_wants sc callee ≡ before ++ wanted ∷ after) × AreGiven sc context before gs
-        × PassesAt p wanted pc m slots (given_slots before gs (reference couple ∷ mark ∷ below)) × ActualsAt sc context ps level sorts after es m filled
-        × HasRoom most below (2 + length gs + 1 + line_depth es)
+    Fills all (pass gs p sorts es) pc slots begun filled =
+        (before : List Wanted) × (wanted : Wanted) × (after : List Wanted) × (m : ℕ) × (all ≡ before ++ wanted ∷ after) × AreGiven sc context before gs
+        × PassesAt p wanted pc m slots (given_slots before gs begun) × ActualsAt sc context ps level sorts after es m filled
+        × HasRoom most begun (length gs + 1 + line_depth es)
 
   -- the same of an expression after the silent steps: its value lies there already, or it has a head
   abbrev pub Shows : Kind → Half → ℕ → List Slot → List Slot → ℕ → Type 0
@@ -435,8 +459,14 @@ module _ (sc : Scopes) (context : Context) (ps : List Placed) (level most : ℕ)
       (callee : ℕ) × (next : ℕ) × (u : ℕ) × CallsAt n gs callee pc next slots (pend k) × DroppedAt sc context ps level (block_numbered sc.blocks callee).result next u × Follows k u
       × HasRoom most (pend k) 2
   StandsFor (calling n x k) pc slots =
-      (callee : ℕ) × (filled : ℕ) × (next : ℕ) × (u : ℕ) × Fills n callee x pc slots (pend k) filled × Has ps level filled (ops.Plain kinds.Entr) next
+      (callee : ℕ) × (couple : Couple) × (filled : ℕ) × (next : ℕ) × (u : ℕ) × IsProcedure sc context.level n callee couple
+      × Fills (parameter_wants sc callee) x pc slots (call_begun couple (pend k)) filled × Has ps level filled (ops.Plain kinds.Entr) next
       × DroppedAt sc context ps level (block_numbered sc.blocks callee).result next u × Follows k u × HasRoom most (pend k) 2
+  StandsFor (starting n gs task k) pc slots = (callee : ℕ) × (next : ℕ) × StartsAt n gs task callee pc next slots (pend k) × Follows k next
+  StandsFor (preparing n x task k) pc slots =
+      (callee : ℕ) × (couple : Couple) × (tasked : Slot) × (filled : ℕ) × (next : ℕ) × IsProcedure sc context.level n callee couple
+      × ((block_numbered sc.blocks callee).result ≡ None) × IsTask sc context task tasked
+      × Fills (parameter_wants sc callee) x pc slots (start_begun couple tasked (pend k)) filled × Has ps level filled (ops.Plain kinds.Entr) next × Follows k next
   StandsFor (store (there r) v k) pc slots = (next : ℕ) × FoundStoreAt (there r) v pc next slots (pend k) × Follows k next
   StandsFor (store (element_of r ks) v k) pc slots = (next : ℕ) × FoundStoreAt (element_of r ks) v pc next slots (pend k) × Follows k next
   StandsFor (storing (there r) h k) pc slots =
@@ -544,6 +574,7 @@ module _ (sc : Scopes) (context : Context) (ps : List Placed) (level most : ℕ)
       × (slots ≡ descriptor (held_at p kind) ∷ [])
   ActionAt (reads_result name) pc slots = ResultAt sc context ps level name pc × (slots ≡ []) × (1 ≤ most)
   ActionAt (enters n gs) pc slots = (callee : ℕ) × (next : ℕ) × (below : List Slot) × CallsAt n gs callee pc next slots below
+  ActionAt (starts n gs task) pc slots = (callee : ℕ) × (next : ℕ) × (below : List Slot) × StartsAt n gs task callee pc next slots below
   ActionAt (stores (own n) v) pc slots = (next : ℕ) × (below : List Slot) × StoreAt n v pc next slots below
   -- for each number of a statement a branch stands in the table
   ActionAt (selects v ss) pc slots =
@@ -574,6 +605,7 @@ module _ (sc : Scopes) (context : Context) (ps : List Placed) (level most : ℕ)
   Acted (makes_event n) pc slots a done at after = (at ≡ a.0) × (after ≡ [])
   Acted (asks_happened n) pc slots a (value v) at after = (at ≡ a.0) × (after ≡ operand v ∷ a.1) × HasKind types.Truth v
   Acted (acts act n) pc slots a done at after = (at ≡ a.0) × (after ≡ a.1)
+  Acted (starts n gs task) pc slots a done at after = (at ≡ a.1) × (after ≡ a.2)
   Acted (passes n) pc slots a (cell c) at after = (at ≡ a.1) × (after ≡ descriptor (passed_held a.0 c) ∷ a.2) × IsPassed a.0 c
   Acted turns pc slots a done at after = (at ≡ a.0) × (after ≡ slots)
   Acted (writes phrases vs) pc slots a done at after = (at ≡ a.0) × (after ≡ a.1)

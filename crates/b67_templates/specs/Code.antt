@@ -23,7 +23,7 @@ use Rattle.b67_ops.specs.declared.TheConstants.{OUTER_LEVEL}
 use Rattle.b67_ops.specs.declared.Operator.TheVariants as ops
 use Rattle.b67_ops.specs.declared.PlainKind.TheVariants as kinds
 use Rattle.b67_ops.specs.declared.BranchKind.TheVariants.{Brfl, Brtr, Brun}
-use Rattle.b67_ops.specs.declared.intrinsic.Intrinsic.TheVariants.{Write, Select, Arrays, Happened}
+use Rattle.b67_ops.specs.declared.intrinsic.Intrinsic.TheVariants.{Write, Select, Arrays, Start, Happened}
 use Rattle.b67_segment.specs.Operators.{Placed}
 use Rattle.b67_segment.specs.declared.code.Phrase.{Phrase}
 use Rattle.b67_segment.specs.declared.code.Phrase.TheVariants as parts
@@ -33,7 +33,7 @@ use Rattle.algol_paths.specs.Arrays.{DeclaredArray, Shape, shape_of}
 use Rattle.b67_templates.specs.Cells as wants
 use Rattle.b67_templates.specs.Cells.{parameter_cells, Wanted, Agrees, parameter_wants, variables, control_segments, Actual, actuals_in_block, has_place, IsVariable, IsFormalName, IsRead, IsProcedure, IsDeclaredArray, IsFormalArray, IsArray, IsOwnActual}
 use Rattle.b67_templates.specs.Labels.{GoToAt}
-use Rattle.b67_templates.specs.Events.{intrinsic_for, OnEventAt, EventActualAt, EventMadeAt, EventsMadeAt}
+use Rattle.b67_templates.specs.Events.{intrinsic_for, OnEventAt, EventActualAt, EventMadeAt, EventsMadeAt, TaskAt}
 
 -- ---- context
 
@@ -210,6 +210,23 @@ module _ (sc : Scopes) (context : Context) (ps : List Placed) (level : ℕ) wher
   abbrev pub CallStmtAt : Named → PExprs → ℕ → ℕ → Type 0
   CallStmtAt n es f t =
       (callee : ℕ) × (m : ℕ) × CallAt n callee (ActualsAt (sorts_of ((block_numbered sc.blocks callee).parameters)) (parameter_wants sc callee) es) f m × DroppedAt (block_numbered sc.blocks callee).result m t
+
+  -- the start of a PROCESS: a mark, the references of the intrinsic and of the control word of a procedure that has no result, the task
+  pub record PreparedAt (n : Named) (task : Option Named) (callee f t : ℕ) : Type 0 where
+    pub couple : Couple
+    pub procedure : IsProcedure sc context.level n callee couple
+    pub untyped : (block_numbered sc.blocks callee).result ≡ None
+    pub named : ℕ
+    pub referred : ℕ
+    pub intrinsic : IntrinsicAt ps level Start f named
+    pub reference : Has ps level named (ops.Namc couple) referred
+    pub tasked : TaskAt sc context ps level task referred t
+
+  -- this start, the actuals, the entry
+  abbrev pub StartAt : Named → PExprs → Option Named → ℕ → ℕ → Type 0
+  StartAt n es task f t =
+      (callee : ℕ) × (begun : ℕ) × (filled : ℕ) × PreparedAt n task callee f begun
+      × ActualsAt (sorts_of ((block_numbered sc.blocks callee).parameters)) (parameter_wants sc callee) es begun filled × Has ps level filled (ops.Plain kinds.Entr) t
 
   -- ---- statements: what comes next stands at the place after the code, or where that leads
 
@@ -411,7 +428,7 @@ module _ (sc : Scopes) where
     StmtAt context ps level (tree.label n s) f t u = (context.labels n.spot ≡ Some f) × StmtAt context ps level s f t u
     StmtAt context ps level (tree.go_to n) f t u = GoToAt sc context ps level n f t
     StmtAt context ps level (tree.event act e) f t u = OnEventAt sc context ps level (intrinsic_for act) e.name f t
-    StmtAt context ps level (tree.process c task) f t u = ⊥
+    StmtAt context ps level (tree.process (tree.called n es) task) f t u = StartAt sc context ps level n es task f t
 
     pub StmtsAt : Context → List Placed → ℕ → PStmts → ℕ → ℕ → ℕ → Type 0
     StmtsAt context ps level tree.no_stmts f t u = f ≡ t

@@ -1,5 +1,5 @@
--- The code of events: how they are made, named, acted on and given to procedures.
-use Rattle.std.specs.Prelude.{ℕ, List, [], ◌∷◌, ◌≡◌}
+-- The code of events: how they are made, named, acted on and given to procedures, and the task of a process.
+use Rattle.std.specs.Prelude.{ℕ, pos, List, [], ◌∷◌, ◌≡◌, Option, Some, None}
 use Rattle.algol_tree.specs.declared.tree.EventAct.{EventAct}
 use Rattle.algol_tree.specs.declared.tree.EventAct.TheVariants as acts
 use Rattle.algol_tree.specs.declared.tree.Named.{Named}
@@ -11,7 +11,7 @@ use Rattle.b67_ops.specs.declared.intrinsic.Intrinsic.{Intrinsic}
 use Rattle.b67_ops.specs.declared.intrinsic.Intrinsic.TheVariants.{Event, Cause, Reset, Wait, Procure, Liberate}
 use Rattle.b67_segment.specs.Operators.{Placed}
 use Rattle.b67_templates.specs.Contexts.{Context}
-use Rattle.b67_templates.specs.Fragments.{Has, IntrinsicAt}
+use Rattle.b67_templates.specs.Fragments.{Has, NumberAt, IntrinsicAt}
 use Rattle.b67_templates.specs.Cells.{IsDeclaredEvent, IsFormalEvent, IsEvent}
 
 -- the intrinsic that does what a statement does with an event
@@ -53,3 +53,8 @@ module _ (sc : Scopes) (context : Context) (ps : List Placed) (level : ℕ) wher
   abbrev pub EventsMadeAt : List Named → ℕ → ℕ → Type 0
   EventsMadeAt [] f t = f ≡ t
   EventsMadeAt (n ∷ ns) f t = (m : ℕ) × EventMadeAt f m × EventsMadeAt ns m t
+
+  -- the task of a process: the reference of its event's cell, or 0 where it has none
+  abbrev pub TaskAt : Option Named → ℕ → ℕ → Type 0
+  TaskAt None f t = NumberAt ps level (pos 0) f t
+  TaskAt (Some n) f t = (c : Couple) × IsDeclaredEvent sc context.level n c × Has ps level f (ops.Namc c) t

@@ -139,6 +139,11 @@ module _ (sc : Scopes) (told : Told) (level : ℕ) where
   abbrev pub LabelFits : Named → Type 0
   LabelFits n = (t : Target) × (told.labels n.spot ≡ Some t) × IsLabel sc level n t.level t.segment t.entry
 
+  -- the task of a process, where it has one: the name of an event that a block declares, and the couple of its cell
+  abbrev pub TaskFits : Option Named → Type 0
+  TaskFits None = Unit {0}
+  TaskFits (Some n) = (c : Couple) × (told.couples n.spot ≡ Some c) × (told.meant n.spot ≡ an_event false) × IsDeclaredEvent sc level n c
+
   -- in the text of the block with this number
   module _ (block : ℕ) where
     -- what is given for a parameter by name: a variable, another such parameter, or an actual that has a cell
@@ -189,6 +194,12 @@ module _ (sc : Scopes) (told : Told) (level : ℕ) where
     -- the call that a statement makes
     abbrev pub CallStmtFits : Named → PExprs → Type 0
     CallStmtFits n es = (callee : ℕ) × ProcedureFits n callee × ActualsFit (sorts_of ((block_numbered sc.blocks callee).parameters)) (parameter_wants sc callee) es
+
+    -- the start of a process, whose procedure has no result
+    abbrev pub StartFits : Named → PExprs → Option Named → Type 0
+    StartFits n es task =
+        (callee : ℕ) × ProcedureFits n callee × ActualsFit (sorts_of ((block_numbered sc.blocks callee).parameters)) (parameter_wants sc callee) es
+        × ((block_numbered sc.blocks callee).result ≡ None) × TaskFits task
 
     abbrev pub AssignFits : Named → PExpr → Type 0
     AssignFits n e = (k : Kind) × PlaceFits k n × ExprFits k e
@@ -245,7 +256,7 @@ module _ (sc : Scopes) (told : Told) where
     StmtFits level block (tree.label n s) = LabelFits sc told level n × StmtFits level block s
     StmtFits level block (tree.go_to n) = LabelFits sc told level n
     StmtFits level block (tree.event act e) = EventFits sc told level e.name
-    StmtFits level block (tree.process c task) = ⊥
+    StmtFits level block (tree.process (tree.called n es) task) = StartFits sc told level block n es task
 
     pub StmtsFit : ℕ → ℕ → PStmts → Type 0
     StmtsFit level block tree.no_stmts = Unit {0}
