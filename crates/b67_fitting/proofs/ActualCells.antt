@@ -63,6 +63,7 @@ module _ (a : Surroundings) where
     cells_in_stmt (tree.for v x s l b) = cells_in x ++ cells_in s ++ cells_in l ++ cells_in_stmt b
     cells_in_stmt (tree.thru e b) = cells_in e ++ cells_in_stmt b
     cells_in_stmt (tree.case e ss) = cells_in e ++ cells_in_stmts ss
+    cells_in_stmt (tree.process (tree.called n es) task) = cells_given es (formals_at a n)
     cells_in_stmt (tree.write n spot phrases es) = cells_among es
     cells_in_stmt _ = []
 
@@ -147,6 +148,7 @@ module _ (a : Surroundings) where
         (both (cells_in a x ++ cells_in a s) (cells_in a l) (both (cells_in a x) (cells_in a s) (of_expr x) (of_expr s)) (of_expr l)) (of_stmt b)
     of_stmt (tree.thru e b) = both (cells_in a e) (cells_in_stmt a b) (of_expr e) (of_stmt b)
     of_stmt (tree.case e ss) = both (cells_in a e) (cells_in_stmts a ss) (of_expr e) (of_stmts ss)
+    of_stmt (tree.process (tree.called n es) task) = of_actuals es (formals_at a n)
     of_stmt (tree.write n spot phrases es) = of_list es
     of_stmt _ = tt
 

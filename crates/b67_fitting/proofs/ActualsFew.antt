@@ -2,7 +2,7 @@
 use Rattle.std.proofs.Common.{arith, ◌≡◌, ℕ, ◌≤◌, ◌<◌, ◌==◌, ◌&&◌, not, Bool, true, false, is_some, List, [], ◌∷◌, ◌++◌, map, filter, length, Option, Some, None, refl, sym, ap, ◌∙◌, subst, if◌then◌else◌}
 use Rattle.std.proofs.lemmas.Bool.Decides.{nat_tests}
 use Rattle.std.proofs.lemmas.List.{length-append}
-use Rattle.std.specs.List.{AllByRecursion}
+use Rattle.std.specs.List.{flat_map, AllByRecursion}
 use Rattle.algol_tree.specs.declared.token.Spot.{Spot}
 use Rattle.algol_tree.specs.declared.tree.Heading.{Heading}
 use Rattle.algol_tree.specs.declared.tree.Named.{Named}
@@ -13,7 +13,7 @@ use Rattle.algol_tree.specs.Classes.{Class, Formal, is_simple}
 use Rattle.algol_tree.specs.Names.{if_so}
 use Rattle.algol_tree.specs.Plain as tree
 use Rattle.algol_tree.specs.Plain.{PExpr, PExprs, PPair, PStmt, PStmts, PDecls}
-use Rattle.algol_tree.specs.Scopes.{Scopes, Use, use_by, use_of}
+use Rattle.algol_tree.specs.Scopes.{Scopes, Use, use_by, used, if_named, use_of}
 use Rattle.algol_tree.specs.Sites as parts
 use Rattle.algol_tree.specs.Sites.{Site, here, sites, first_formal, other_formals, actual_part, inside_expr, inside_list, inside_actuals, here_stmt, inside_stmt, sites_in_pairs, sites_in_stmts, sites_in_decls, has_decls}
 use Rattle.algol_tree.specs.Sorts as sort
@@ -22,13 +22,13 @@ use Rattle.algol_tree.specs.Surroundings.{Surroundings, class_of, class_of_decla
 use Rattle.algol_meaning.specs.Settle.{block_of}
 use Rattle.b67_templates.specs.Cells.{Simple, Wanted, value, by_name, array, event, other, parameter_cells, parameter_wants, parameters_around, Actual, own_actual, wants_of, actuals_in, actuals_among, actuals_given, actuals_in_pairs, actuals_in_stmt, actuals_in_stmts}
 use Rattle.b67_templates.specs.Fitting.{is_by_name}
-use Rattle.b67_fitting.specs.Alone.{DeclsAlone, StmtAlone, StmtsAlone}
+use Rattle.b67_fitting.proofs.Headings.{DeclsSpecified, StmtSpecified, StmtsSpecified}
 use Rattle.b67_fitting.specs.Nested as told
 use Rattle.b67_fitting.specs.Nested.{IsTold, AreTold, AreParameters}
 use Rattle.b67_fitting.proofs.ActualCells.{actual_cell}
 use Rattle.b67_fitting.proofs.Callees.{IsCallee}
 use Rattle.b67_fitting.proofs.CellsFew.{cells_both, FewBounds}
-use Rattle.b67_fitting.proofs.Lists.{each_front, each_back}
+use Rattle.b67_fitting.proofs.Lists.{each_front, each_back, each_both, nil_front}
 use Rattle.b67_fitting.proofs.Numbering.{IsThere}
 use Rattle.b67_fitting.proofs.ParametersTold.{as_parameter}
 use Rattle.b67_fitting.proofs.Specified.{IsSpecified, as_value, as_name, as_array, as_event, AreSpecified, specified}
@@ -269,8 +269,17 @@ module _ (sc : Scopes) (each : (k : ℕ) → k < length sc.blocks → AreParamet
     abbrev these : PStmt → Bool → List Site
     these s listed = inside_stmt sc.blocks s of_statement listed a
 
+    -- the procedure of a PROCESS is the first of its names
+    started_good : (n : Named) (es : PExprs) (task : Option Named) (l : Bool) → IsGood sc (here_stmt (tree.process (tree.called n es) task) l a) →
+        IsGood sc (here (tree.variable (tree.subscripted n tree.none)) a)
+    started_good n es task l g =
+        record {
+          there = each_both (IsThere sc.uses) (used a n) [] (each_front (IsThere sc.uses) (used a n) (flat_map (used a) (if_named task)) g.there) tt;
+          known = ap (λ (z : List Spot). z ++ []) (nil_front (if_so (not (is_some (declared_as a n))) n.spot) _ g.known);
+        }
+
     mutual
-      pub few_stmt : (s : PStmt) (listed : Bool) → StmtAlone s → Good (stmt_sites s listed) → length (actuals_in_stmt sc s) ≤ many (these s listed) a.block
+      pub few_stmt : (s : PStmt) (listed : Bool) → StmtSpecified s → Good (stmt_sites s listed) → length (actuals_in_stmt sc s) ≤ many (these s listed) a.block
       few_stmt tree.empty l b g = omega arith
       few_stmt (tree.label n s) l b g = few_stmt s l b g.1
       few_stmt (tree.assign (tree.subscripted n es) e) l b g =
@@ -353,11 +362,12 @@ module _ (sc : Scopes) (each : (k : ℕ) → k < length sc.blocks → AreParamet
             few_expr e (each_front (IsGood sc) (sites e a) (sites_in_stmts sc.blocks ss false a) g.1),
             few_stmts ss false b (each_back (IsGood sc) (sites e a) (sites_in_stmts sc.blocks ss false a) g.1),
           )
-      few_stmt (tree.process c task) l b g = absurd b
+      few_stmt (tree.process (tree.called n es) task) l b g =
+          few_given (wants_of sc n) (formals_at a n) (call_named n (meant n (started_good n es task l g.0))) es g.1
       few_stmt (tree.event act e) l b g = omega arith
       few_stmt (tree.write n spot phrases es) l b g = few_list es g.1
 
-      pub few_stmts : (ss : PStmts) (listed : Bool) → StmtsAlone ss → Good (sites_in_stmts sc.blocks ss listed a) → length (actuals_in_stmts sc ss) ≤ many (sites_in_stmts sc.blocks ss listed a) a.block
+      pub few_stmts : (ss : PStmts) (listed : Bool) → StmtsSpecified ss → Good (sites_in_stmts sc.blocks ss listed a) → length (actuals_in_stmts sc ss) ≤ many (sites_in_stmts sc.blocks ss listed a) a.block
       few_stmts tree.no_stmts l b g = omega arith
       few_stmts (tree.stmts s ss) l b g =
           omega (
@@ -371,7 +381,7 @@ module _ (sc : Scopes) (each : (k : ℕ) → k < length sc.blocks → AreParamet
   -- ---- declarations, and the body of a procedure
 
   -- `begun`: what is known at the begin of the block
-  pub few_bounds : (j : ℕ) (outer : List Spot) (a : Surroundings) (known : List Declared) (ds : PDecls) → IsAround sc.blocks j outer (record a { known = known }) → DeclsAlone ds →
+  pub few_bounds : (j : ℕ) (outer : List Spot) (a : Surroundings) (known : List Declared) (ds : PDecls) → IsAround sc.blocks j outer (record a { known = known }) → DeclsSpecified ds →
       AreGood sc (sites_in_decls sc.blocks ds a known) → FewBounds sc a known ds
   few_bounds j outer a known tree.no_decls r b g = tt
   few_bounds j outer a known (tree.decls (tree.simple kind ns) ds) r b g = few_bounds j outer (knowing sc.blocks (tree.simple kind ns) ds a) known ds r b.1 g.1

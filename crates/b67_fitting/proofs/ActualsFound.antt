@@ -211,7 +211,7 @@ module _ (blocks : List Block) (sc : Scopes) where
       acts_stmt (tree.case e ss) l t g =
           joined a.block (cells_in a e) (cells_in_stmts a ss) (actuals_in sc e) (actuals_in_stmts sc ss) (acts_expr types.Number e t.0 (each_front SiteTells (sites e a) (sites_in_stmts blocks ss false a) g.1))
           (acts_stmts ss false t.1 (each_back SiteTells (sites e a) (sites_in_stmts blocks ss false a) g.1))
-      acts_stmt (tree.process c task) l t g = absurd t
+      acts_stmt (tree.process (tree.called n es) task) l t g = acts_call n es t.0 t.1 (acts_given t.0 t.0.params (specified t.0 t.2) es t.3 (inside_call n es t.0 t.1 g.1)) g.0.0
       acts_stmt (tree.event act e) l t g = refl
       acts_stmt (tree.write n spot phrases es) l t g = acts_line es t.2 g.1
 

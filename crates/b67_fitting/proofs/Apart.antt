@@ -7,7 +7,7 @@ use Rattle.algol_tree.specs.declared.token.Spot.{Spot}
 use Rattle.algol_tree.specs.Accepted.{is_before}
 use Rattle.algol_tree.specs.Ascending.{IsAhead, Ascends}
 use Rattle.algol_tree.specs.Blocks.{same_spot}
-use Rattle.b67_fitting.proofs.Lists.{each_front, each_back, each_of}
+use Rattle.b67_fitting.proofs.Lists.{each_front, each_back, each_both, each_of}
 
 abbrev pub IsIn : {X : Type 0} → X → List X → Type 0
 IsIn x [] = ⊥
@@ -100,6 +100,32 @@ apart_back (x ∷ xs) ys h = apart_back xs ys h.1
 pub apart_across : (xs ys : List Spot) → Apart (xs ++ ys) → AllByRecursion (λ s. AllByRecursion (IsApart s) ys) xs
 apart_across [] ys h = tt
 apart_across (x ∷ xs) ys h = (each_back (IsApart x) xs ys h.0, apart_across xs ys h.1)
+
+pub apart_both : (xs ys : List Spot) → Apart xs → Apart ys → AllByRecursion (λ s. AllByRecursion (IsApart s) ys) xs → Apart (xs ++ ys)
+apart_both [] ys g h a = h
+apart_both (x ∷ xs) ys g h a = (each_both (IsApart x) xs ys g.0 a.0, apart_both xs ys g.1 h a.1)
+
+-- whichever of two lists comes first
+pub each_turned : (P : Spot → Type 0) (p q : List Spot) → AllByRecursion P (q ++ p) → AllByRecursion P (p ++ q)
+each_turned P p q h = each_both P p q (each_back P q p h) (each_front P q p h)
+
+pub apart_turned : (p q : List Spot) → Apart (q ++ p) → Apart (p ++ q)
+apart_turned p q h = apart_both p q (apart_back q p h) (apart_front q p h) (in_each (λ s. AllByRecursion (IsApart s) q) p one)
+  where
+    one : (s : Spot) → IsIn s p → AllByRecursion (IsApart s) q
+    one s i = in_each (IsApart s) q (λ t j. apart_sym t s (each_in (IsApart t) s p (each_in (λ t. AllByRecursion (IsApart t) p) t q (apart_across q p h) j) i))
+
+-- .. after a place
+pub apart_after : (s : Spot) (p q : List Spot) → Apart (s ∷ (q ++ p)) → Apart (s ∷ (p ++ q))
+apart_after s p q h = (each_turned (IsApart s) p q h.0, apart_turned p q h.1)
+
+pub in_after : (x s : Spot) (p q : List Spot) → IsIn x (s ∷ (p ++ q)) → IsIn x (s ∷ (q ++ p))
+in_after x s p q (inl e) = inl e
+in_after x s p q (inr i) = by (in_either x p q i)
+  where
+    by : IsIn x p ⊎ IsIn x q → IsIn x (s ∷ (q ++ p))
+    by (inl j) = inr (in_back x q p j)
+    by (inr j) = inr (in_front x q p j)
 
 -- all of these are apart from a place of those
 pub apart_from : (xs ys : List Spot) (spot : Spot) → Apart (xs ++ ys) → IsIn spot ys → AllByRecursion (λ s. IsApart s spot) xs

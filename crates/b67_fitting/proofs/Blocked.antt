@@ -14,9 +14,9 @@ use Rattle.algol_tree.specs.Cells.{Cell, cells_for, cells_at}
 use Rattle.algol_tree.specs.Scopes.{names_in}
 use Rattle.algol_tree.specs.Sites.{Site}
 use Rattle.b67_fitting.proofs.Among.{in_among}
-use Rattle.b67_fitting.proofs.Apart.{IsIn, each_in, in_map, in_front, in_back, in_either, IsApart, Apart, same_self, apart_sym, apart_front, apart_back, apart_across}
+use Rattle.b67_fitting.proofs.Apart.{IsIn, each_in, in_map, in_front, in_back, in_either, IsApart, Apart, same_self, apart_sym, apart_front, apart_back, apart_after, apart_across}
 use Rattle.b67_fitting.proofs.Frames.{IsOwn, only, only_own, only_other, front_own, control_cell, result_cell, named_of, front_cells}
-use Rattle.b67_fitting.proofs.Listed.{IsBlock, Listed, over, passed, site, given, left, declared, both, block, procedure, AllThere}
+use Rattle.b67_fitting.proofs.Listed.{IsBlock, Listed, over, passed, turned, site, given, left, declared, both, block, procedure, AllThere}
 use Rattle.b67_fitting.proofs.Lists.{each_front, each_back}
 use Rattle.b67_fitting.proofs.Looked.{all_blocks}
 
@@ -192,6 +192,7 @@ module _ (blocks : List Block) (apart : Apart (block_spots blocks)) (Q : Site �
       AreOf k own bs (cells_in xs)
   cells_are (over k) h p t o = record { mine = refl; here = λ b i. absurd i; away = λ m e l. refl }
   cells_are (passed k spot l) h p t o = cells_are l h p.1 t o
+  cells_are (turned k spot ps qs l) h p t o = cells_are l h (apart_after spot ps qs p) t o
   cells_are (site k x {spots = spots} {own = own} {bs = bs} {xs = xs} f l) h p t o =
       subst (λ (z : List Cell). AreOf k own bs (z ++ cells_in xs)) (sym f.cells) (cells_are l h.1 (apart_back (spots_of_names (names_in x.part)) spots p) t o)
   cells_are (given k x c {own = own} {xs = xs} g m l) h p t o =

@@ -1,4 +1,4 @@
--- The bounds of the arrays of a program that is built: each name in them is known at the begin of the block, so a block around declares
+-- The bounds of the arrays of an accepted program: each name in them is known at the begin of the block, so a block around declares
 -- it, or it is a parameter.
 use Rattle.std.proofs.Common.{arith, ◌≡◌, ◌⊎◌, inl, inr, ℕ, ◌+◌, ◌<◌, ◌≤◌, not, true, false, List, [], ◌∷◌, map, is_some, Option, Some, None, refl, sym, ap, subst}
 use Rattle.std.specs.List.{AllByRecursion}
@@ -15,7 +15,7 @@ use Rattle.algol_tree.specs.Sorts.{Sort, Declared, is_variable, is_formal, decla
 use Rattle.algol_tree.specs.Surroundings.{Surroundings, declared_as, knowing, knowing_all, inside_procedure}
 use Rattle.algol_paths.specs.Blocks.{IsSeenAround}
 use Rattle.algol_paths.specs.Texts.{InPairs}
-use Rattle.b67_fitting.specs.Alone.{HeadingSpecified, DeclsAlone, StmtAlone}
+use Rattle.b67_fitting.proofs.Headings.{HeadingSpecified, DeclsSpecified, StmtSpecified}
 use Rattle.b67_fitting.proofs.Lists.{each_front, each_back, each_both, each_of, nil_front}
 use Rattle.b67_fitting.proofs.Numbering.{IsThere}
 use Rattle.b67_fitting.proofs.Specified.{IsSpecified, as_value, as_name, as_array, as_event, AreSpecified, specified}
@@ -94,7 +94,7 @@ InBounds P (tree.decls d ds) = InBounds P ds
 
 module _ (sc : Scopes) (j : ℕ) (outer : List Spot) where
   -- `first`: what is known at the begin of the block
-  pub in_bounds : (a : Surroundings) (ds : PDecls) (first : List Declared) → IsAround sc.blocks j outer (record a { known = first }) → AreEarly a.depth first → DeclsAlone ds →
+  pub in_bounds : (a : Surroundings) (ds : PDecls) (first : List Declared) → IsAround sc.blocks j outer (record a { known = first }) → AreEarly a.depth first → DeclsSpecified ds →
       AreGood sc (sites_in_decls sc.blocks ds a first) → InBounds (IsSeenAround sc j) ds
   in_bounds a tree.no_decls first r e b g = tt
   in_bounds a (tree.decls (tree.simple kind ns) ds) first r e b g = in_bounds (knowing sc.blocks (tree.simple kind ns) ds a) ds first r e b.1 g.1
@@ -118,7 +118,7 @@ module _ (sc : Scopes) (j : ℕ) (outer : List Spot) where
       in_bounds after ds first r e b.1 (each_back (IsGood sc) its (sites_in_decls sc.blocks ds after first) g.1)
 
   -- those of the body of a procedure
-  pub in_body : (a : Surroundings) (t : PStmt) → IsAround sc.blocks j outer a → AreEarly a.depth a.known → StmtAlone t →
+  pub in_body : (a : Surroundings) (t : PStmt) → IsAround sc.blocks j outer a → AreEarly a.depth a.known → StmtSpecified t →
       AreGood sc (here_stmt t false a ∷ inside_stmt sc.blocks t of_procedure false a) → InBounds (IsSeenAround sc j) (decls_of t)
   in_body a (tree.block (tree.body spot ds ss)) r e b g =
       let declared = sites_in_decls sc.blocks ds a a.known in

@@ -13,7 +13,7 @@ use Rattle.algol_tree.specs.Plain.{PStmt, PDecls}
 use Rattle.algol_tree.specs.Sites.{Site, sites_in_pairs, here_stmt, inside_stmt, sites_in_decls}
 use Rattle.algol_tree.specs.Sorts.{same_name, Declared, parameters_of}
 use Rattle.algol_tree.specs.Surroundings.{Surroundings, body_of, heading_or, announced, knowing, inside_procedure}
-use Rattle.b67_fitting.specs.Alone.{HeadingSpecified, DeclAlone, DeclsAlone}
+use Rattle.b67_fitting.proofs.Headings.{HeadingSpecified, DeclSpecified, DeclsSpecified}
 use Rattle.b67_fitting.proofs.Lists.{each_back, nil_front}
 use Rattle.b67_fitting.proofs.Numbering.{IsNumbered, block_is}
 
@@ -40,7 +40,7 @@ module _ (blocks : List Block) where
   AreCallees j (tree.decls (tree.procedure h t) ds) = IsCallee j h × AreCallees j ds
   AreCallees j (tree.decls d ds) = AreCallees j ds
 
-  numbered_callee : (j : ℕ) (outer : List Spot) (h : Heading) (t : PStmt) → map (number_at blocks) outer ≡ j ∷ around blocks j → DeclAlone (tree.procedure h t) →
+  numbered_callee : (j : ℕ) (outer : List Spot) (h : Heading) (t : PStmt) → map (number_at blocks) outer ≡ j ∷ around blocks j → DeclSpecified (tree.procedure h t) →
       IsNumbered blocks (procedure_block h t outer) → IsCallee j h
   numbered_callee j outer h t e b n =
       let k = number_at blocks h.name.spot in
@@ -73,7 +73,7 @@ module _ (blocks : List Block) where
   announced_callee j h ds (Some g) c e k = body_callee j h.name.name ds g c e
 
   -- `outer`: where the block j and those around it stand
-  pub are_callees : (j : ℕ) (outer : List Spot) (ds : PDecls) (a : Surroundings) (first : List Declared) → map (number_at blocks) outer ≡ j ∷ around blocks j → DeclsAlone ds →
+  pub are_callees : (j : ℕ) (outer : List Spot) (ds : PDecls) (a : Surroundings) (first : List Declared) → map (number_at blocks) outer ≡ j ∷ around blocks j → DeclsSpecified ds →
       AllByRecursion (IsNumbered blocks) (blocks_in_decls ds outer) → AreNamed (sites_in_decls blocks ds a first) → AreCallees j ds
   are_callees j outer tree.no_decls a first e b n k = tt
   are_callees j outer (tree.decls (tree.simple kind ns) ds) a first e b n k = are_callees j outer ds (knowing blocks (tree.simple kind ns) ds a) first e b.1 n k.1

@@ -22,7 +22,7 @@ use Rattle.algol_tree.specs.Sorts.{Declared}
 use Rattle.algol_tree.specs.Surroundings.{Surroundings, knowing, knowing_all, inside_procedure}
 use Rattle.algol_paths.specs.Arrays.{DeclaredArray, Made, an_array, arrays_in, made_in, an_event}
 use Rattle.b67_templates.specs.Cells.{Simple, value, parameter_cells, simple_cells, of_kind, result_of, variables, procedures, made_of, events_in, actuals_in_pairs, actuals_in_decls, actuals_in_stmts}
-use Rattle.b67_fitting.specs.Alone.{DeclsAlone, StmtAlone}
+use Rattle.b67_fitting.proofs.Headings.{DeclsSpecified, StmtSpecified}
 use Rattle.b67_fitting.specs.Nested.{AreParameters}
 use Rattle.b67_fitting.proofs.ParametersTold.{told_many}
 
@@ -72,7 +72,7 @@ module _ (sc : Scopes) where
       × FewBounds (knowing sc.blocks (tree.arrays kind ns pairs) ds a) first ds
   FewBounds a first (tree.decls d ds) = FewBounds (knowing sc.blocks d ds a) first ds
 
-  pub as_many : (ds : PDecls) (a : Surroundings) (first : List Declared) → DeclsAlone ds → FewBounds a first ds →
+  pub as_many : (ds : PDecls) (a : Surroundings) (first : List Declared) → DeclsSpecified ds → FewBounds a first ds →
       length (variables ds) + length (procedures ds) + length (made_of ds) + length (actuals_in_decls sc ds) ≤ length (cells_of blocks (sites_in_decls blocks ds a first) a.block)
   as_many tree.no_decls a first s f = omega arith
   as_many (tree.decls (tree.simple kind ns) ds) a first s f =
@@ -163,7 +163,7 @@ module _ (sc : Scopes) where
       FewBounds a a.known ds × (length (actuals_in_stmts sc ss) ≤ length (cells_of sc.blocks (sites_in_stmts sc.blocks ss (has_decls ds) (knowing_all sc.blocks ds a)) a.block))
   FewInBody t a = length (actuals_in_stmts sc (stmts_of t)) ≤ length (cells_of sc.blocks (body_sites sc.blocks t a) a.block)
 
-  body_many : (t : PStmt) (a : Surroundings) → StmtAlone t → FewInBody t a →
+  body_many : (t : PStmt) (a : Surroundings) → StmtSpecified t → FewInBody t a →
       length (variables (decls_of t)) + length (procedures (decls_of t)) + length (made_of (decls_of t)) + length (actuals_in_decls sc (decls_of t)) + length (actuals_in_stmts sc (stmts_of t))
       ≤ length (cells_of blocks (body_sites blocks t a) a.block)
   body_many (tree.block (tree.body spot ds ss)) a b f =
@@ -177,7 +177,7 @@ module _ (sc : Scopes) where
   result_many (Some kind) k n = omega (arith, own_cells k cells.result (n ∷ []))
 
   -- its parameters and its result, whose cells stand in the block around
-  pub procedure_many : (h : Heading) (t : PStmt) (ds : PDecls) (a : Surroundings) (c : Surroundings) → c.block ≡ number_at blocks h.name.spot → StmtAlone t → FewInBody t c →
+  pub procedure_many : (h : Heading) (t : PStmt) (ds : PDecls) (a : Surroundings) (c : Surroundings) → c.block ≡ number_at blocks h.name.spot → StmtSpecified t → FewInBody t c →
       length h.params + (length (result_of h.kind h.name.name) + (length (variables (decls_of t)) + length (procedures (decls_of t)) + length (made_of (decls_of t)))) + length (actuals_in_decls sc (decls_of t)) + length (actuals_in_stmts sc (stmts_of t))
       ≤ length (cells_of blocks (declaring blocks h t ds a ∷ body_sites blocks t c) (number_at blocks h.name.spot))
   procedure_many h t ds a c e b f =

@@ -20,7 +20,7 @@ use Rattle.algol_tree.specs.Sites.{Site}
 use Rattle.algol_tree.specs.Sorts.{Declared, look_up}
 use Rattle.algol_tree.specs.Surroundings.{Surroundings, class_of, class_of_declared, declared_as}
 use Rattle.algol_tree.specs.Types.{read_type, type_of}
-use Rattle.b67_fitting.specs.Alone.{HeadingSpecified}
+use Rattle.b67_fitting.proofs.Headings.{HeadingSpecified}
 use Rattle.b67_fitting.proofs.Lists.{nil_front}
 
 pub record IsClean (blocks : List Block) (x : Site) : Type 0 where
@@ -87,7 +87,7 @@ event_alone c spot label h = absurd (let clash : spot ∷ [] ≡ [] = h in cc)
 event_alone c spot task h = absurd (let clash : spot ∷ [] ≡ [] = h in cc)
 event_alone c spot (procedure g b) h = absurd (let clash : spot ∷ [] ≡ [] = h in cc)
 
-task_alone : (c : Class) (spot : Spot) → IsPlain c → misnamed is_task c spot ≡ [] → c ≡ class.task
+pub task_alone : (c : Class) (spot : Spot) → IsPlain c → misnamed is_task c spot ≡ [] → c ≡ class.task
 task_alone c spot task h = refl
 task_alone c spot (simple kind) h = absurd (let clash : spot ∷ [] ≡ [] = h in cc)
 task_alone c spot (array kind rank) h = absurd (let clash : spot ∷ [] ≡ [] = h in cc)
@@ -173,6 +173,30 @@ call_of c spot label h = absurd (let clash : spot ∷ [] ≡ [] = h in cc)
 call_of c spot event h = absurd (let clash : spot ∷ [] ≡ [] = h in cc)
 call_of c spot task h = absurd (let clash : spot ∷ [] ≡ [] = h in cc)
 call_of c spot (procedure g e) h = (g, refl, e)
+
+-- one that is started is that of a procedure without a result
+abbrev pub is_untyped : Class → Bool
+is_untyped c = is_procedure c && not (is_some (read_type c))
+
+no_kind : (o : Option Kind) (spot : Spot) → if_so (not (true && not (is_some o)) && true) spot ≡ [] → o ≡ None
+no_kind None spot h = refl
+no_kind (Some k) spot h = absurd (let clash : spot ∷ [] ≡ [] = h in cc)
+
+-- the name of such a procedure
+pub record IsUntyped (c : Class) : Type 0 where
+  pub heading : Heading
+  pub class_is : c ≡ class.procedure heading
+  pub built : HeadingSpecified heading
+  pub kind_is : heading.kind ≡ None
+
+pub untyped_of : (c : Class) (spot : Spot) → IsPlain c → misnamed is_untyped c spot ≡ [] → IsUntyped c
+untyped_of c spot (simple kind) h = absurd (let clash : spot ∷ [] ≡ [] = h in cc)
+untyped_of c spot (array kind rank) h = absurd (let clash : spot ∷ [] ≡ [] = h in cc)
+untyped_of c spot file h = absurd (let clash : spot ∷ [] ≡ [] = h in cc)
+untyped_of c spot label h = absurd (let clash : spot ∷ [] ≡ [] = h in cc)
+untyped_of c spot event h = absurd (let clash : spot ∷ [] ≡ [] = h in cc)
+untyped_of c spot task h = absurd (let clash : spot ∷ [] ≡ [] = h in cc)
+untyped_of c spot (procedure g b) h = record { heading = g; class_is = refl; built = b; kind_is = no_kind g.kind spot h }
 
 -- a name with subscripts is that of an array, which has as many of them as it has bounds
 pub array_of : (c : Class) (spot : Spot) → IsPlain c → misnamed is_array c spot ≡ [] → (k : Kind) × (rank : ℕ) × (c ≡ class.array k rank)

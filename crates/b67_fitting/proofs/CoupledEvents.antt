@@ -18,7 +18,7 @@ use Rattle.algol_paths.specs.Segments.{segment_of}
 use Rattle.b67_templates.specs.Cells.{Simple, event, simple_cells, found_from}
 use Rattle.b67_templates.specs.Labels.{labels_in, labels_before, label_from, label_number, table_place}
 use Rattle.b67_templates.specs.Fitting as fitting
-use Rattle.b67_templates.specs.Fitting.{Target, Told, EventFits, its_own, its_actual, LabelFits}
+use Rattle.b67_templates.specs.Fitting.{Target, Told, EventFits, its_own, its_actual, LabelFits, TaskFits}
 use Rattle.b67_fitting.specs.Fitted.{meant_as, target_numbered}
 use Rattle.b67_fitting.proofs.Aligned.{IsAt}
 use Rattle.b67_fitting.proofs.Apart.{IsIn}
@@ -50,10 +50,14 @@ own_event c s (inl e) f = ap (λ (z : Class). meant_as z s) e ∙ ap (meant_as c
 own_event c s (inr e) f = ap (λ (z : Class). meant_as z s) e
 
 module _ (blocks : List Block) (all : List Site) (is : IsProgram blocks all) (told : Told) (are : AreTold blocks all told) (a : Surroundings) (level : ℕ) (at : a.depth + 2 ≡ level) (n : Named) (d : Declared) (is_known : known_there (flat_map (known_at blocks) all) n.spot ≡ Some d) where
-  pub event_fits : HaveActs blocks all is → use_of (scopes blocks all is) n ≡ the_use a n d → IsEvented blocks a.depth n.name d → EventFits (scopes blocks all is) told level n
-  event_fits many u h =
+  -- an event or a task that a block declares
+  pub task_fits : HaveActs blocks all is → use_of (scopes blocks all is) n ≡ the_use a n d → IsEvented blocks a.depth n.name d → TaskFits (scopes blocks all is) told level (Some n)
+  task_fits many u h =
       let r = made_fits blocks all is many told are a level at n d is_known h.in_block h.there h.block_is h.depth_is h.within h.among (an_event n.name) h.made h.other h.past h.simple u in
-      its_own r.couple r.known_is (are.meant n.spot d is_known ∙ own_event d.class d.sort h.class_is h.sort_is) (record { sort_is = ap (λ (z : Use). z.sort) u ∙ h.sort_is; made = r.there })
+      (r.couple, r.known_is, are.meant n.spot d is_known ∙ own_event d.class d.sort h.class_is h.sort_is, record { sort_is = ap (λ (z : Use). z.sort) u ∙ h.sort_is; made = r.there })
+
+  pub event_fits : HaveActs blocks all is → use_of (scopes blocks all is) n ≡ the_use a n d → IsEvented blocks a.depth n.name d → EventFits (scopes blocks all is) told level n
+  event_fits many u h = let f = task_fits many u h in its_own f.0 f.1 f.2 f.3
 
   -- a parameter that stands for an event
   pub formal_event_fits : use_of (scopes blocks all is) n ≡ the_use a n d → known.IsFormalEvent blocks a.depth n.name d → EventFits (scopes blocks all is) told level n

@@ -1,4 +1,4 @@
--- An accepted program that is built fits.
+-- An accepted program fits.
 use Rattle.std.proofs.Common.{arith, ◌≡◌, inl, inr, ℕ, ◌+◌, ◌<◌, ◌≤◌, ◌==◌, Bool, true, false, List, [], ◌∷◌, ◌++◌, length, slice_get, Some, None, zero, suc, refl, sym, ap, ◌∙◌, subst, if◌then◌else◌}
 use Rattle.std.proofs.lemmas.Bool.Decides.{nat_tests}
 use Rattle.std.specs.List.{flat_map, AllByRecursion}
@@ -40,6 +40,8 @@ use Rattle.b67_fitting.proofs.Declares.{begun, callees, behind_decls}
 use Rattle.b67_fitting.proofs.Declaring.{same_is}
 use Rattle.b67_fitting.proofs.Frames.{decl_cells}
 use Rattle.b67_fitting.proofs.Given.{AreWhole}
+use Rattle.b67_fitting.proofs.Headings.{DeclsSpecified, StmtsSpecified}
+use Rattle.b67_fitting.proofs.HeadingsTyped.{IsTyped, in_decls as specified_decls, in_stmts as specified_stmts}
 use Rattle.b67_fitting.proofs.Nesting.{whole, blocks_apart as numbers_apart}
 use Rattle.b67_fitting.proofs.Numbering.{IsNumbered, all_numbered, number_is}
 use Rattle.b67_fitting.proofs.Homed.{IsHome, all_homes, all_far}
@@ -217,25 +219,28 @@ got_numbered (b ∷ bs) (suc j) h = got_numbered bs j (omega (arith, h))
 
 pub accepted_fit : AcceptedProgramsFit
 unfolding scopes_of blocks_of_program scope_faults check_faults declaration_at result_at actual_at declared_at
-accepted_fit (tree.program (tree.body spot ds ss)) told accepted order built numbers texts are j h =
+accepted_fit (tree.program (tree.body spot ds ss)) told accepted order numbers texts are j h =
     let p = tree.program (tree.body spot ds ss) in
     let blocks = blocks_of_program p in
     let decl_sites = sites_in_decls blocks ds outermost [] in
     let stmt_sites = sites_in_stmts blocks ss (has_decls ds) (knowing_all blocks ds outermost) in
     let apart = ascending_apart (spots spot ds ss blocks) order in
     let clean = cleaned p blocks (sites_by p blocks) accepted.scoped accepted.checked in
+    let typed_sites = each_of (IsClean blocks) (IsTyped blocks) (decl_sites ++ stmt_sites) (λ x c. c.typed) clean in
+    let decls_right : DeclsSpecified ds = specified_decls blocks ds outermost [] (each_front (IsTyped blocks) decl_sites stmt_sites typed_sites) in
+    let stmts_right : StmtsSpecified ss = specified_stmts blocks ss (has_decls ds) (knowing_all blocks ds outermost) (each_back (IsTyped blocks) decl_sites stmt_sites typed_sites) in
     let plain = knows_plain blocks outermost (around_outermost blocks) in
     let once = each_of (IsClean blocks) (λ (x : Site). declared_twice blocks x ≡ []) (decl_sites ++ stmt_sites) (λ x c. c.once) clean in
-    let whole_blocks : AreWhole blocks = whole spot ds ss order built.0 built.1 once in
-    let decls_typed : TypedDecls blocks outermost [] ds = all_declared blocks outermost [] plain plain ds built.0 numbers.0 texts.0 (each_front (IsClean blocks) decl_sites stmt_sites clean) in
+    let whole_blocks : AreWhole blocks = whole spot ds ss order decls_right stmts_right once in
+    let decls_typed : TypedDecls blocks outermost [] ds = all_declared blocks outermost [] plain plain ds decls_right numbers.0 texts.0 (each_front (IsClean blocks) decl_sites stmt_sites clean) in
     let stands_behind : Stands blocks (begun spot [] ds ss) (knowing_all blocks ds outermost) = behind spot ds ss blocks refl apart whole_blocks decls_typed in
     let typed : TypedStmts blocks (knowing_all blocks ds outermost) ss =
-    all_stated blocks (knowing_all blocks ds outermost) (knows_plain blocks (knowing_all blocks ds outermost) stands_behind.around) ss (has_decls ds) built.1 numbers.1 texts.1 (each_back (IsClean blocks) decl_sites stmt_sites clean) in
+    all_stated blocks (knowing_all blocks ds outermost) (knows_plain blocks (knowing_all blocks ds outermost) stands_behind.around) ss (has_decls ds) stmts_right numbers.1 texts.1 (each_back (IsClean blocks) decl_sites stmt_sites clean) in
     let these : AreTold blocks (decl_sites ++ stmt_sites) told =
     record { couples = are.couples; results = are.results; lows = are.lows; meant = are.meant; labels = are.labels; actuals = are.actuals } in
     let fits = fit_by spot ds ss blocks refl apart whole_blocks decls_typed typed told these accepted.scoped j h in
     let block = block_numbered blocks j in
-    let number : number_at blocks block.spot ≡ j = number_is blocks j block (numbers_apart spot ds ss order built.0 built.1) (got_numbered blocks j h) in
+    let number : number_at blocks block.spot ≡ j = number_is blocks j block (numbers_apart spot ds ss order) (got_numbered blocks j h) in
     record {
       decls = subst (λ (k : ℕ). DeclsFit (scopes_by p blocks) told (level_of block) k block.decls) number fits.0;
       stmts = subst (λ (k : ℕ). StmtsFit (scopes_by p blocks) told (level_of block) k block.stmts) number fits.1;
@@ -253,7 +258,7 @@ numbered_label k (n ∷ ns) name number h = by (same_name n.name name) refl (num
 
 pub labels_stand : LabelsStand
 unfolding scopes_of blocks_of_program scope_faults check_faults
-labels_stand (tree.program (tree.body spot ds ss)) accepted order built numbers texts j number name h e =
+labels_stand (tree.program (tree.body spot ds ss)) accepted order numbers texts j number name h e =
     let p = tree.program (tree.body spot ds ss) in
     let blocks = blocks_of_program p in
     let around_all = knowing_all blocks ds outermost in
@@ -261,14 +266,17 @@ labels_stand (tree.program (tree.body spot ds ss)) accepted order built numbers 
     let stmt_sites = sites_in_stmts blocks ss (has_decls ds) around_all in
     let apart = ascending_apart (spots spot ds ss blocks) order in
     let clean = cleaned p blocks (sites_by p blocks) accepted.scoped accepted.checked in
+    let typed_sites = each_of (IsClean blocks) (IsTyped blocks) (decl_sites ++ stmt_sites) (λ x c. c.typed) clean in
+    let decls_right : DeclsSpecified ds = specified_decls blocks ds outermost [] (each_front (IsTyped blocks) decl_sites stmt_sites typed_sites) in
+    let stmts_right : StmtsSpecified ss = specified_stmts blocks ss (has_decls ds) around_all (each_back (IsTyped blocks) decl_sites stmt_sites typed_sites) in
     let plain = knows_plain blocks outermost (around_outermost blocks) in
     let once = each_of (IsClean blocks) (λ (x : Site). declared_twice blocks x ≡ []) (decl_sites ++ stmt_sites) (λ x c. c.once) clean in
-    let whole_blocks : AreWhole blocks = whole spot ds ss order built.0 built.1 once in
-    let decls_typed : TypedDecls blocks outermost [] ds = all_declared blocks outermost [] plain plain ds built.0 numbers.0 texts.0 (each_front (IsClean blocks) decl_sites stmt_sites clean) in
+    let whole_blocks : AreWhole blocks = whole spot ds ss order decls_right stmts_right once in
+    let decls_typed : TypedDecls blocks outermost [] ds = all_declared blocks outermost [] plain plain ds decls_right numbers.0 texts.0 (each_front (IsClean blocks) decl_sites stmt_sites clean) in
     let stands_behind : Stands blocks (begun spot [] ds ss) around_all = behind spot ds ss blocks refl apart whole_blocks decls_typed in
     let typed : TypedStmts blocks around_all ss =
-    all_stated blocks around_all (knows_plain blocks around_all stands_behind.around) ss (has_decls ds) built.1 numbers.1 texts.1 (each_back (IsClean blocks) decl_sites stmt_sites clean) in
-    let right : AllByRecursion (IsNumbered blocks) blocks = all_numbered blocks (numbers_apart spot ds ss order built.0 built.1) in
+    all_stated blocks around_all (knows_plain blocks around_all stands_behind.around) ss (has_decls ds) stmts_right numbers.1 texts.1 (each_back (IsClean blocks) decl_sites stmt_sites clean) in
+    let right : AllByRecursion (IsNumbered blocks) blocks = all_numbered blocks (numbers_apart spot ds ss order) in
     let decl_blocks = blocks_in_decls ds (spot ∷ []) in
     let stmt_blocks = blocks_in_stmts ss (spot ∷ []) in
     let stand =

@@ -1,4 +1,4 @@
--- The blocks of a program that is built have simple parameters and arrays only, with a cell for each: the heading of a procedure is
+-- The blocks of an accepted program have simple parameters and arrays only, with a cell for each: the heading of a procedure is
 -- found in the declarations of the block around, and no heading stands at a BEGIN.
 use Rattle.std.proofs.Common.{◌≡◌, List, [], ◌∷◌, ◌++◌, refl, sym, ap, ◌∙◌, subst}
 use Rattle.std.specs.Prelude.{None}
@@ -12,7 +12,7 @@ use Rattle.algol_tree.specs.Plain.{PStmt, PStmts, PDecls}
 use Rattle.algol_tree.specs.Scopes.{Scopes}
 use Rattle.algol_tree.specs.Sorts.{Parameter, parameters_of}
 use Rattle.b67_templates.specs.Cells.{Simple, found_from, parameters_in, parameters_declared, parameter_cells}
-use Rattle.b67_fitting.specs.Alone.{HeadingSpecified, DeclsAlone, StmtAlone, StmtsAlone}
+use Rattle.b67_fitting.proofs.Headings.{HeadingSpecified, DeclsSpecified, StmtSpecified, StmtsSpecified}
 use Rattle.b67_fitting.specs.Nested.{AreTold, AreParameters}
 use Rattle.b67_fitting.proofs.Apart.{Apart, in_each, apart_front, apart_back}
 use Rattle.b67_fitting.proofs.Lists.{each_front, each_back, each_both}
@@ -83,7 +83,7 @@ module _ (sc : Scopes) where
       in_each (IsOutside c.decls) (spots_of_stmt t) (λ s j. subst (λ (ds : PDecls). IsOutside ds s) (sym (o ∙ no_decls t i)) refl)
 
   mutual
-    in_stmt : (c : Block) → IsIt c → (t : PStmt) (begin : Begin) → StmtAlone t → Apart (spots_of_stmt t) → IsOf begin c t → Its (blocks_of t begin (c.spot ∷ c.outer)) →
+    in_stmt : (c : Block) → IsIt c → (t : PStmt) (begin : Begin) → StmtSpecified t → Apart (spots_of_stmt t) → IsOf begin c t → Its (blocks_of t begin (c.spot ∷ c.outer)) →
         Headed (blocks_of t begin (c.spot ∷ c.outer))
     in_stmt c i tree.empty g b p o f = tt
     in_stmt c i (tree.label n t) g b p o f = in_stmt c i t of_statement b p.1 ((out_of g c (tree.label n t) tt o).1) f
@@ -130,11 +130,11 @@ module _ (sc : Scopes) where
         in_stmt c i x of_statement b (apart_back (spots_of_expr e) (spots_of_stmt x) p) (out_back c (spots_of_expr e) (spots_of_stmt x) (out_of g c (tree.thru e x) tt o)) f
     in_stmt c i (tree.case e ss) g b p o f =
         in_stmts c i ss b (apart_back (spots_of_expr e) (spots_of_stmts ss) p) (out_back c (spots_of_expr e) (spots_of_stmts ss) (out_of g c (tree.case e ss) tt o)) f
-    in_stmt c i (tree.process d task) g b p o f = absurd b
+    in_stmt c i (tree.process d task) g b p o f = tt
     in_stmt c i (tree.event act e) g b p o f = tt
     in_stmt c i (tree.write n spot phrases es) g b p o f = tt
 
-    pub in_stmts : (c : Block) → IsIt c → (ss : PStmts) → StmtsAlone ss → Apart (spots_of_stmts ss) → Out c (spots_of_stmts ss) → Its (blocks_in_stmts ss (c.spot ∷ c.outer)) →
+    pub in_stmts : (c : Block) → IsIt c → (ss : PStmts) → StmtsSpecified ss → Apart (spots_of_stmts ss) → Out c (spots_of_stmts ss) → Its (blocks_in_stmts ss (c.spot ∷ c.outer)) →
         Headed (blocks_in_stmts ss (c.spot ∷ c.outer))
     in_stmts c i tree.no_stmts b p o f = tt
     in_stmts c i (tree.stmts t ss) b p o f =
@@ -144,7 +144,7 @@ module _ (sc : Scopes) where
         (in_stmt c i t of_statement b.0 (apart_front (spots_of_stmt t) (spots_of_stmts ss) p) (out_front c (spots_of_stmt t) (spots_of_stmts ss) o) (each_front IsIt these those f))
         (in_stmts c i ss b.1 (apart_back (spots_of_stmt t) (spots_of_stmts ss) p) (out_back c (spots_of_stmt t) (spots_of_stmts ss) o) (each_back IsIt these those f))
 
-    pub in_decls : (c : Block) → IsIt c → (ds : PDecls) → DeclsAlone ds → Apart (spots_of_decls ds) → AreLast c.decls ds → Its (blocks_in_decls ds (c.spot ∷ c.outer)) →
+    pub in_decls : (c : Block) → IsIt c → (ds : PDecls) → DeclsSpecified ds → Apart (spots_of_decls ds) → AreLast c.decls ds → Its (blocks_in_decls ds (c.spot ∷ c.outer)) →
         Headed (blocks_in_decls ds (c.spot ∷ c.outer))
     in_decls c i tree.no_decls b p l f = tt
     in_decls c i (tree.decls (tree.simple kind ns) ds) b p l f =

@@ -13,10 +13,10 @@ use Rattle.algol_tree.specs.Cells.{Cell, cells_for, cells_at}
 use Rattle.algol_tree.specs.Scopes.{names_in}
 use Rattle.algol_tree.specs.Sites.{Site}
 use Rattle.b67_fitting.proofs.Among.{each_among}
-use Rattle.b67_fitting.proofs.Apart.{IsIn, each_in, in_front, in_back, in_either, IsApart, Apart, apart_sym, apart_front, apart_back, apart_from, apart_across}
+use Rattle.b67_fitting.proofs.Apart.{IsIn, each_in, in_front, in_back, in_either, IsApart, Apart, apart_sym, apart_front, apart_back, apart_after, in_after, apart_from, apart_across}
 use Rattle.b67_fitting.proofs.Blocked.{block_spots}
 use Rattle.b67_fitting.proofs.Frames.{control_cell, result_cell, named_of}
-use Rattle.b67_fitting.proofs.Listed.{Listed, over, passed, site, given, left, declared, both, block, procedure}
+use Rattle.b67_fitting.proofs.Listed.{Listed, over, passed, turned, site, given, left, declared, both, block, procedure}
 use Rattle.b67_fitting.proofs.Lists.{each_back, each_both, each_of}
 use Rattle.b67_fitting.proofs.Looked.{all_blocks}
 use Rattle.b67_fitting.proofs.Started.{HasCallees}
@@ -29,6 +29,7 @@ pub record IsHome (blocks : List Block) (b : Block) : Type 0 where
 pub all_homes : (blocks : List Block) {k : ℕ} {spots : List Spot} {own : List Cell} {bs : List Block} {xs : List Site} → Listed blocks k spots own bs xs → AllByRecursion (IsHome blocks) bs
 all_homes blocks (over k) = tt
 all_homes blocks (passed k spot l) = all_homes blocks l
+all_homes blocks (turned k spot p q l) = all_homes blocks l
 all_homes blocks (site k x f l) = all_homes blocks l
 all_homes blocks (given k x c g m l) = all_homes blocks l
 all_homes blocks (left k a n e listed b g l) = all_homes blocks l
@@ -91,6 +92,9 @@ module _ (blocks : List Block) where
   all_far (passed k spot l) p c i e =
       let r = all_far l p.1 c i e in
       record { among = inr r.among; apart = r.apart }
+  all_far (turned k spot ps qs l) p c i e =
+      let r = all_far l (apart_after spot ps qs p) c i e in
+      record { among = in_after c.spot spot ps qs r.among; apart = r.apart }
   all_far (site k x {spots = spots} {xs = xs} f l) p c i e =
       let names = spots_of_names (names_in x.part) in
       let r = all_far l (apart_back names spots p) c (subst (λ (z : List Cell). IsIn c (z ++ cells_in xs)) f.cells i) e in

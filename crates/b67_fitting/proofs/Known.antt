@@ -22,7 +22,7 @@ use Rattle.algol_paths.specs.Arrays.{DeclaredArray, Shape, an_array, an_event, l
 use Rattle.b67_templates.specs.Cells.{Simple, Wanted, value, by_name, array as array_of, event as event_of, variables, made_of, parameters_in, parameters_around}
 use Rattle.b67_templates.specs.Labels.{labels_in}
 use Rattle.b67_templates.specs.Code.{AreDimensions}
-use Rattle.b67_fitting.specs.Alone.{HeadingSpecified}
+use Rattle.b67_fitting.proofs.Headings.{HeadingSpecified}
 use Rattle.b67_fitting.specs.Wholes.{HaveDimensions}
 use Rattle.b67_fitting.proofs.Aligned.{Aligned, AreOthers}
 use Rattle.b67_fitting.proofs.Apart.{IsIn, Apart}

@@ -29,7 +29,7 @@ use Rattle.b67_fitting.proofs.Declaring.{same_is, same_name_self}
 use Rattle.b67_fitting.proofs.Framing.{in_filter}
 use Rattle.b67_fitting.proofs.Known.{Around, knows_plain, IsLabelled}
 use Rattle.b67_fitting.proofs.Listed as listing
-use Rattle.b67_fitting.proofs.Listed.{reads_in, IsBlock, Listed, over, passed, site, given, declared, both, block, procedure}
+use Rattle.b67_fitting.proofs.Listed.{reads_in, IsBlock, Listed, over, passed, turned, site, given, declared, both, block, procedure}
 use Rattle.b67_fitting.proofs.Lists.{each_both, nil_each, nil_front, nil_map}
 use Rattle.b67_fitting.proofs.Looked.{known_found}
 use Rattle.b67_fitting.proofs.Meant.{declared_label, labelled_of}
@@ -223,6 +223,7 @@ module _ (blocks : List Block) (all : List Site) where
   pub all_within : {k : ℕ} {spots : List Spot} {own : List Cell} {bs : List Block} {xs : List Site} → Listed blocks k spots own bs xs → ((x : Site) → IsIn x xs → IsIn x all) → AllByRecursion IsWithin bs
   all_within (over k) g = tt
   all_within (passed k spot l) g = all_within l g
+  all_within (turned k spot p q l) g = all_within l g
   all_within (site k x f l) g = all_within l (λ y i. g y (inr i))
   all_within (given k x c f m l) g = tt
   all_within (listing.left k a n e listed b s l) g = all_within l (λ y i. g y (inr i))
@@ -251,6 +252,7 @@ module _ (blocks : List Block) (all : List Site) where
   pub all_read : {k : ℕ} {spots : List Spot} {own : List Cell} {bs : List Block} {xs : List Site} → Listed blocks k spots own bs xs → AllByRecursion IsRead xs
   all_read (over k) = tt
   all_read (passed k spot l) = all_read l
+  all_read (turned k spot p q l) = all_read l
   all_read (site k x f l) = (record { around = λ m i. f.stands.around }, all_read l)
   all_read (given k x c f m l) = (none_read x f.reads, all_read l)
   all_read (listing.left k a n e listed b s l) = (record { around = λ m i. absurd i }, all_read l)

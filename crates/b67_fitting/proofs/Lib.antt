@@ -1,9 +1,10 @@
 pub mod Lists
+pub mod Headings
+pub mod HeadingsTyped
 pub mod Apart
 pub mod Among
 pub mod Clean
 pub mod Cleaned
-pub mod Alone
 pub mod Parameters
 pub mod Specified
 pub mod Wanting

@@ -107,11 +107,13 @@ module _ (blocks : List Block) where
     pub listed : Bool
     pub sites_are : xs ≡ front ++ sites_in_decls blocks b.decls begin begin.known ++ sites_in_stmts blocks b.stmts listed around
 
-  -- Parts in the block with this number. The places of their names and of the blocks in them are among these, in this order. These are
-  -- the cells of the block that they have, and the blocks in them.
+  -- Parts in the block with this number. The places of their names and of the blocks in them are among these, in this order, but that the task
+  -- of a process, whose name is used with the procedure's, stands after the actuals. These are the cells of the block that they have, and the
+  -- blocks in them.
   pub data Listed : ℕ → List Spot → List Cell → List Block → List Site → Type 0 where
     over : (k : ℕ) → Listed k [] [] [] []
     passed : (k : ℕ) (spot : Spot) {spots : List Spot} {own : List Cell} {bs : List Block} {xs : List Site} → Listed k spots own bs xs → Listed k (spot ∷ spots) own bs xs
+    turned : (k : ℕ) (spot : Spot) (p q : List Spot) {own : List Cell} {bs : List Block} {xs : List Site} → Listed k (spot ∷ (p ++ q)) own bs xs → Listed k (spot ∷ (q ++ p)) own bs xs
     site : (k : ℕ) (x : Site) {spots : List Spot} {own : List Cell} {bs : List Block} {xs : List Site} → IsFair x → Listed k spots own bs xs →
         Listed k (spots_of_names (names_in x.part) ++ spots) own bs (x ∷ xs)
     given : (k : ℕ) (x : Site) (c : Cell) {spots : List Spot} {own : List Cell} {xs : List Site} → IsGiving k x c → Among (own_places (flat_map (cells_at blocks) xs)) spots →

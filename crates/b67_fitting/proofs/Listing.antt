@@ -1,10 +1,10 @@
--- The parts of a program that is built are listed.
+-- The parts of a program are listed.
 use Rattle.std.proofs.Common.{◌≡◌, inl, inr, ℕ, ◌+◌, Bool, false, true, List, [], ◌∷◌, ◌++◌, refl, sym, ap, ◌∙◌, subst, append-nil}
 use Rattle.algol_tree.specs.declared.token.Spot.{Spot}
 use Rattle.algol_tree.specs.declared.tree.Heading.{Heading}
 use Rattle.algol_tree.specs.declared.tree.Kind.TheVariants as types
 use Rattle.algol_tree.specs.declared.tree.Named.{Named}
-use Rattle.algol_tree.specs.Ascending.{spots_of_names, spots_of_expr, spots_of_heading, spots_of_stmt, spots_of_stmts, spots_of_decl, spots_of_decls}
+use Rattle.algol_tree.specs.Ascending.{spots_of_names, spots_of_expr, spots_of_exprs, spots_of_task, spots_of_heading, spots_of_stmt, spots_of_stmts, spots_of_decl, spots_of_decls}
 use Rattle.algol_tree.specs.Blocks.{Block, of_statement, of_procedure, stmts_of, procedure_block, number_at, blocks_of, blocks_in_decl, blocks_in_stmts, blocks_in_decls}
 use Rattle.algol_tree.specs.Cells as cells
 use Rattle.algol_tree.specs.Cells.{Cell, cells_for, holding}
@@ -25,11 +25,12 @@ use Rattle.b67_fitting.proofs.Given.{AreWhole}
 use Rattle.b67_fitting.proofs.Declaring.{names_of}
 use Rattle.b67_fitting.proofs.Passing.{leading, front_among, given_passed}
 use Rattle.b67_fitting.proofs.Known.{given_cells, given_places, Stands, stands_inner, stands_procedure}
-use Rattle.b67_fitting.proofs.Listed.{AllThere, IsProcedure, IsBlock, Listed, over, passed, site, left, declared, both, block, procedure}
+use Rattle.b67_fitting.proofs.Listed.{AllThere, IsProcedure, IsBlock, Listed, over, passed, turned, site, left, declared, both, block, procedure}
 use Rattle.b67_templates.specs.Cells.{Simple, parameters_in}
 use Rattle.b67_fitting.proofs.Lists.{each_front}
 use Rattle.b67_fitting.proofs.Started.{HasCallees, Passed, none_passed, IsStarted, start, step}
 use Rattle.b67_fitting.proofs.Stated.{TypedStmt, TypedStmts, TypedDecls}
+use Rattle.b67_fitting.proofs.UsesOnce.{task_places}
 
 there_front : (blocks bs cs : List Block) → AllThere blocks (bs ++ cs) → AllThere blocks bs
 there_front blocks bs cs f b i = f b (in_front b bs cs i)
@@ -231,7 +232,12 @@ module _ (blocks : List Block) (whole : AreWhole blocks) where
     listed_stmt k b a g i (tree.case e ss) l t p f =
         site k (here_stmt (tree.case e ss) l a) (fair_stmt blocks k b a g i (tree.case e ss) l refl refl refl)
         (both k (listed_expr blocks k b a g i types.Number e t.0) (listed_stmts k b a g i ss false t.1 (apart_back (spots_of_expr e) (spots_of_stmts ss) p) f))
-    listed_stmt k b a g i (tree.process c task) l t p f = absurd t
+    listed_stmt k b a g i (tree.process (tree.called n es) task) l t p f =
+        let s = tree.process (tree.called n es) task in
+        turned k n.spot (spots_of_task task) (spots_of_exprs es)
+        (subst (λ (z : List Spot). Listed blocks k (n.spot ∷ (z ++ spots_of_exprs es)) (cells_in_stmt a s) [] (here_stmt s l a ∷ inside_stmt blocks s of_statement l a)) (task_places task)
+        (site k (here_stmt s l a) (fair_stmt blocks k b a g i s l refl refl refl)
+        (listed_call blocks k b a g i n es t.0 t.1 (listed_actuals blocks k b a g i (formals_of t.0) es t.3))))
     listed_stmt k b a g i (tree.event act e) l t p f = site k (here_stmt (tree.event act e) l a) (fair_stmt blocks k b a g i (tree.event act e) l refl refl refl) (over k)
     listed_stmt k b a g i (tree.write n spot phrases es) l t p f =
         site k (here_stmt (tree.write n spot phrases es) l a) (fair_stmt blocks k b a g i (tree.write n spot phrases es) l refl refl refl) (listed_line blocks k b a g i es t.2)

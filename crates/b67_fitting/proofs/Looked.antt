@@ -15,10 +15,10 @@ use Rattle.algol_tree.specs.Sites.{Site, here_stmt}
 use Rattle.algol_tree.specs.Sorts as sort
 use Rattle.algol_tree.specs.Sorts.{Sort, Declared}
 use Rattle.algol_tree.specs.Surroundings.{Surroundings, declared_as}
-use Rattle.b67_fitting.proofs.Among.{Among, nothing, skip, keep, none_among, join}
+use Rattle.b67_fitting.proofs.Among.{Among, nothing, skip, keep, none_among, turn_after, join}
 use Rattle.b67_fitting.proofs.Apart.{IsIn, each_in, in_map, Apart, same_self}
 use Rattle.b67_fitting.proofs.Declares.{names_among}
-use Rattle.b67_fitting.proofs.Listed.{Listed, over, passed, site, given, left, declared, both, block, procedure}
+use Rattle.b67_fitting.proofs.Listed.{Listed, over, passed, turned, site, given, left, declared, both, block, procedure}
 
 -- ---- what is found
 
@@ -91,6 +91,7 @@ module _ (blocks : List Block) where
   pub all_uses : {k : ℕ} {spots : List Spot} {own : List Cell} {bs : List Block} {xs : List Site} → Listed blocks k spots own bs xs → Among (use_places xs) spots
   all_uses (over k) = nothing
   all_uses (passed k spot l) = skip spot (all_uses l)
+  all_uses (turned k spot p q l) = turn_after spot p q (all_uses l)
   all_uses (site k x {xs = xs} f l) =
       behind_use x xs (subst (λ (us : List Use). Among (map (λ (u : Use). u.spot) us) (spots_of_names (names_in x.part))) (sym f.uses) (uses_among x.around (names_in x.part))) (all_uses l)
   all_uses (given k x c {spots = spots} {xs = xs} g m l) =
@@ -104,6 +105,7 @@ module _ (blocks : List Block) where
   pub all_known : {k : ℕ} {spots : List Spot} {own : List Cell} {bs : List Block} {xs : List Site} → Listed blocks k spots own bs xs → Among (known_places xs) spots
   all_known (over k) = nothing
   all_known (passed k spot l) = skip spot (all_known l)
+  all_known (turned k spot p q l) = turn_after spot p q (all_known l)
   all_known (site k x {xs = xs} f l) =
       behind_known x xs (subst (λ (ks : List Known). Among (map (λ (k : Known). k.spot) ks) (spots_of_names (names_in x.part))) (sym f.knows) (names_among x.around (names_in x.part))) (all_known l)
   all_known (given k x c {spots = spots} {xs = xs} g m l) =
@@ -117,6 +119,7 @@ module _ (blocks : List Block) where
   pub all_blocks : {k : ℕ} {spots : List Spot} {own : List Cell} {bs : List Block} {xs : List Site} → Listed blocks k spots own bs xs → Among (map (λ (b : Block). b.spot) bs) spots
   all_blocks (over k) = nothing
   all_blocks (passed k spot l) = skip spot (all_blocks l)
+  all_blocks (turned k spot p q l) = turn_after spot p q (all_blocks l)
   all_blocks (site k x f l) = join (none_among (spots_of_names (names_in x.part))) (all_blocks l)
   all_blocks (given k x c g m l) = all_blocks l
   all_blocks (left k a n e listed b g l) = skip n.spot (all_blocks l)

@@ -14,10 +14,10 @@ use Rattle.algol_tree.specs.Cells as cells
 use Rattle.algol_tree.specs.Cells.{Cell, cells_for, cells_at}
 use Rattle.algol_tree.specs.Scopes.{names_in}
 use Rattle.algol_tree.specs.Sites.{Site}
-use Rattle.b67_fitting.proofs.Among.{Among, nothing, skip, keep, none_among, join}
+use Rattle.b67_fitting.proofs.Among.{Among, nothing, skip, keep, none_among, turn_after, join}
 use Rattle.b67_fitting.proofs.Apart.{IsIn, each_in, in_map, IsApart, Apart, same_self}
 use Rattle.b67_fitting.proofs.Frames.{control_cell, result_cell, named_of, front_cells}
-use Rattle.b67_fitting.proofs.Listed.{has_own_place, own_places, Listed, over, passed, site, given, left, declared, both, block, procedure}
+use Rattle.b67_fitting.proofs.Listed.{has_own_place, own_places, Listed, over, passed, turned, site, given, left, declared, both, block, procedure}
 
 -- of the cells of a heading those of the parameters have places of their own
 result_places : (o : Option Kind) (k : ℕ) (spot : Spot) (cs : List Cell) → own_places (result_cell o k spot ++ cs) ≡ own_places cs
@@ -52,6 +52,7 @@ module _ (blocks : List Block) where
   pub all_places : {k : ℕ} {spots : List Spot} {own : List Cell} {bs : List Block} {xs : List Site} → Listed blocks k spots own bs xs → Among (places_in xs) spots
   all_places (over k) = nothing
   all_places (passed k spot l) = skip spot (all_places l)
+  all_places (turned k spot p q l) = turn_after spot p q (all_places l)
   all_places (site k x {xs = xs} f l) = behind x xs (none x (spots_of_names (names_in x.part)) f.cells) (all_places l)
   all_places (given k x c {spots = spots} {xs = xs} g m l) =
       subst (λ (cs : List Cell). Among (own_places (cs ++ flat_map (cells_at blocks) xs)) (c.spot ∷ spots)) (sym g.cells)

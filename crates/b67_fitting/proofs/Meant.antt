@@ -129,6 +129,18 @@ module _ (blocks : List Block) where
   event_of depth name d c v e (known_procedure g h) =
       absurd (not_eventful c (class.procedure g) (sym e ∙ h.class_is) v (λ e. let clash : class.event ≡ class.procedure g = e in cc) (λ e. let clash : class.task ≡ class.procedure g = e in cc))
 
+  -- a task is one that a block declares
+  pub task_of : (depth : ℕ) (name : List ℕ) (d : Declared) → d.class ≡ class.task → IsKnown blocks depth name d → IsEvented blocks depth name d
+  task_of depth name d c (known_event h) = h
+  task_of depth name d c (known_file f s) = absurd (let clash : class.task ≡ class.file = sym c ∙ f in cc)
+  task_of depth name d c (known_label h) = absurd (let clash : class.task ≡ class.label = sym c ∙ h.class_is in cc)
+  task_of depth name d c (known_variable k h) = absurd (let clash : class.task ≡ class.simple k = sym c ∙ h.class_is in cc)
+  task_of depth name d c (known_name k h) = absurd (let clash : class.task ≡ class.simple k = sym c ∙ h.class_is in cc)
+  task_of depth name d c (known_array k rank h) = absurd (let clash : class.task ≡ class.array k rank = sym c ∙ h.class_is in cc)
+  task_of depth name d c (known_formal s h) = absurd (let clash : class.task ≡ class.array s.kind (length s.lows) = sym c ∙ h.class_is in cc)
+  task_of depth name d c (known_formal_event h) = absurd (let clash : class.task ≡ class.event = sym c ∙ h.class_is in cc)
+  task_of depth name d c (known_procedure g h) = absurd (let clash : class.task ≡ class.procedure g = sym c ∙ h.class_is in cc)
+
   pub labelled_of : (depth : ℕ) (name : List ℕ) (d : Declared) → d.class ≡ class.label → IsKnown blocks depth name d → IsLabelled blocks depth name d
   labelled_of depth name d c (known_label h) = h
   labelled_of depth name d c (known_file f s) = absurd (let clash : class.label ≡ class.file = sym c ∙ f in cc)

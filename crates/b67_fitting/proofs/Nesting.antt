@@ -1,4 +1,4 @@
--- The blocks of an accepted program that is built lie in one another.
+-- The blocks of an accepted program lie in one another.
 use Rattle.std.proofs.Common.{arith, ◌≡◌, inl, inr, ℕ, ◌<◌, ◌≤◌, nat_lt, Bool, true, false, List, [], ◌∷◌, ◌++◌, filter, length, map, take, Option, Some, None, refl, sym, ap, subst, zero, suc, slice_get, get_or, if◌then◌else◌}
 use Rattle.std.proofs.lemmas.Bool.Decides.{nat_tests}
 use Rattle.std.proofs.lemmas.List.{length-map}
@@ -19,7 +19,8 @@ use Rattle.algol_tree.specs.Sites.{Site, sites_in_decls, sites_in_stmts, has_dec
 use Rattle.algol_tree.specs.Surroundings.{Surroundings, outermost, knowing_all}
 use Rattle.algol_paths.specs.Segments.{is_procedure, procedures_before, tokens_or_none, segment_tokens}
 use Rattle.b67_templates.specs.Cells.{parameters_around, actuals_in_stmts}
-use Rattle.b67_fitting.specs.Alone.{DeclsAlone, StmtsAlone}
+use Rattle.b67_fitting.proofs.Headings.{DeclsSpecified, StmtsSpecified}
+use Rattle.b67_fitting.proofs.HeadingsTyped.{IsTyped, in_decls as specified_decls, in_stmts as specified_stmts}
 use Rattle.b67_fitting.specs.Names.{DeclsNamed, StmtsNamed}
 use Rattle.b67_fitting.specs.Nested.{AreParameters, IsText, AreNested, ProgramsLieNested}
 use Rattle.b67_fitting.proofs.Lists.{each_front, each_back, each_both, nil_front, nil_back, nil_map, nil_each, not_so}
@@ -134,7 +135,7 @@ module _ (sc : Scopes) (all : List Site) where
 
 -- ---- the program
 
-module _ (spot : Spot) (ds : PDecls) (ss : PStmts) (order : IsInOrder (tree.program (tree.body spot ds ss))) (built_decls : DeclsAlone ds) (built : StmtsAlone ss) where
+module _ (spot : Spot) (ds : PDecls) (ss : PStmts) (order : IsInOrder (tree.program (tree.body spot ds ss))) where
   abbrev pub program : PProgram
   program = tree.program (tree.body spot ds ss)
 
@@ -172,8 +173,8 @@ module _ (spot : Spot) (ds : PDecls) (ss : PStmts) (order : IsInOrder (tree.prog
         arith,
         uses.uses_all s all,
         uses.uses_both s declared stated,
-        uses.in_decls s blocks ds outermost [] built_decls,
-        uses.in_stmts s blocks ss (has_decls ds) behind built,
+        uses.in_decls s blocks ds outermost [],
+        uses.in_stmts s blocks ss (has_decls ds) behind,
         each_once s,
         places_both s (spots_of_decls ds) (spots_of_stmts ss),
       ))
@@ -184,8 +185,8 @@ module _ (spot : Spot) (ds : PDecls) (ss : PStmts) (order : IsInOrder (tree.prog
       (λ s. omega (
         arith,
         times_both block_place s (blocks_in_decls ds outer) (blocks_in_stmts ss outer),
-        inner.in_decls s ds outer built_decls,
-        inner.in_stmts s ss outer built,
+        inner.in_decls s ds outer,
+        inner.in_stmts s ss outer,
         each_once s,
         places_both s (spots_of_decls ds) (spots_of_stmts ss),
       ))
@@ -202,28 +203,6 @@ module _ (spot : Spot) (ds : PDecls) (ss : PStmts) (order : IsInOrder (tree.prog
   its_own : (bs : List Block) → AllByRecursion (IsNumbered blocks) bs → AreClear bs → AllByRecursion (IsIt sc) bs
   its_own [] n c = tt
   its_own (b ∷ bs) n c = ((block_is blocks (number_at blocks b.spot) b n.0, c.0), its_own bs n.1 c.1)
-
-  -- all blocks have the cells of their parameters
-  pub headed : AreOnce blocks all → AllByRecursion (AreParameters sc) blocks
-  headed once =
-      let first : Block = the_block spot [] ds ss in
-      let declared = blocks_in_decls ds outer in
-      let stated = blocks_in_stmts ss outer in
-      let its = its_own blocks (all_numbered blocks blocks_apart) (clear once) in
-      let apart : IsApartList (spots_of_decls ds ++ spots_of_stmts ss) = (ascending_apart (spots_of program) order).1 in (
-        of_begin sc first refl refl,
-        each_both (AreParameters sc) declared stated
-            (headed_decls sc first its.0 ds built_decls (apart_front (spots_of_decls ds) (spots_of_stmts ss) apart) (λ s i. refl) (each_front (IsIt sc) declared stated its.1))
-            (headed_stmts sc first its.0 ss built (apart_back (spots_of_decls ds) (spots_of_stmts ss) apart) (outside ds (spots_of_stmts ss) apart) (each_back (IsIt sc) declared stated its.1)),
-      )
-
-  pub whole : AreOnce blocks all → AreWhole blocks
-  whole once =
-      record {
-        numbered = λ b i. block_is blocks (number_at blocks b.spot) b (each_in (IsNumbered blocks) b blocks (all_numbered blocks blocks_apart) i);
-        no_cells = λ b i e. none_long (parameters_around blocks b.outer b.spot) (omega (arith, parameters_many sc b (each_in (AreParameters sc) b blocks (headed once) i), ap length e));
-        no_names = λ b i e. none_long (named_of blocks b) (omega (arith, named_long blocks b, parameters_many sc b (each_in (AreParameters sc) b blocks (headed once) i), ap length e));
-      }
 
   -- the number of the outermost block
   abbrev pub first : ℕ
@@ -246,46 +225,6 @@ module _ (spot : Spot) (ds : PDecls) (ss : PStmts) (order : IsInOrder (tree.prog
         known = tt;
       }
 
-  -- `its_own`: each block has the cells of its parameters
-  module _ (its_own : (k : ℕ) → k < length blocks → AreParameters sc (block_numbered blocks k)) (good : AreGood sc all) (kept : AreKept blocks all) (fine : AreFine sc all blocks) where
-    parts : ArePart sc all all
-    parts = record { good = good; kept = kept; less = λ k. omega arith }
-
-    texts : AllByRecursion (λ (b : Block). IsText sc (number_at blocks b.spot)) blocks
-    texts =
-        let fine_decls = each_front (IsFine sc all) (blocks_in_decls ds outer) (blocks_in_stmts ss outer) fine.1 in
-        let fine_stmts = each_back (IsFine sc all) (blocks_in_decls ds outer) (blocks_in_stmts ss outer) fine.1 in
-        let part = front sc all declared stated parts in
-        let called : AreCallees blocks first ds = callees sc all its_own refl first outer ds outermost [] starts.chain_is built_decls fine_decls part in
-        let begun = knows_all blocks first outer ds outermost built_decls called starts in
-        let in_procedures = in_decls sc all its_own refl first outer outermost ds [] starts built_decls called part fine_decls in
-        let nested = in_stmts sc all its_own refl first outer behind ss (has_decls ds) begun built (back sc all declared stated parts) fine_stmts in
-        let few_declared : FewBounds sc outermost [] ds = few_bounds sc its_own refl first outer outermost [] ds starts built_decls part.good in
-        let few_stated : length (actuals_in_stmts sc ss) ≤ length (cells_of blocks stated first) =
-        subst (λ (m : ℕ). length (actuals_in_stmts sc ss) ≤ length (cells_of blocks stated m)) begun.block_is
-        (few_stmts sc its_own refl first outer behind begun ss (has_decls ds) built ((back sc all declared stated parts).good)) in
-        let same_cells : length (cells_of blocks declared first) ≡ length (cells_of blocks declared 0) = ap (λ (i : ℕ). length (cells_of blocks declared i)) number_outer in
-        let bounds = in_bounds sc first outer outermost ds [] starts tt built_decls part.good in
-        let its_text =
-        is_text sc all (the_block spot [] ds ss) fine.0 called
-        (omega (arith, as_many sc ds outermost [] built_decls few_declared, few_stated, same_cells, cells_both blocks declared stated first, parts.less first)) bounds nested.0 in
-        (its_text, each_both (IsTextOf sc all) (blocks_in_decls ds outer) (blocks_in_stmts ss outer) in_procedures nested.1)
-
-    nested_by : procedures_beyond blocks ≡ [] → AreNested sc
-    nested_by few =
-        record {
-          some = omega arith;
-          outer = refl;
-          nameless = refl;
-          untyped = refl;
-          each =
-              λ j h.
-              let b = get_or blocks j (the_block spot [] ds ss) in
-              let it : slice_get blocks j ≡ Some b = slice_get-get_or blocks j (the_block spot [] ds ss) h in
-              subst (IsText sc) (number_is blocks j b blocks_apart it) (each_at (λ (c : Block). IsText sc (number_at blocks c.spot)) blocks j b texts it);
-          procedures_few = few_procedures blocks few;
-        }
-
   pub good_by : flat_map unknown_names all ≡ [] → AreGood sc all
   good_by unknown =
       all_good sc all (of_each (IsThere sc.uses) uses_at all (all_there sc.uses uses_apart)) (nil_each unknown_names all unknown)
@@ -295,16 +234,80 @@ module _ (spot : Spot) (ds : PDecls) (ss : PStmts) (order : IsInOrder (tree.prog
   named_blocks named_decls named =
       (named_decls, each_both HasNamed (blocks_in_decls ds outer) (blocks_in_stmts ss outer) (names_in_decls ds outer named_decls) (names_in_stmts ss outer named))
 
-  lies_by : HaveNamed blocks → flat_map unknown_names all ≡ [] → flat_map (declared_twice blocks) all ≡ [] → deep_blocks blocks ≡ [] → cells_beyond blocks all ≡ [] → procedures_beyond blocks ≡ [] → flat_map (wrong_types blocks) all ≡ [] →
-      flat_map (not_assignable blocks) all ≡ [] → AreNested sc
-  lies_by named unknown twice deep cells many wrong assigned =
-      let kept = all_kept blocks all (nil_each (wrong_types blocks) all wrong) (nil_each (not_assignable blocks) all assigned) in
-      let its = headed (nil_each (declared_twice blocks) all twice) in
-      nested_by (λ k h. each_in (AreParameters sc) (block_numbered blocks k) blocks its (there_numbered blocks k h)) (good_by unknown) kept (all_fine sc all blocks (all_numbered blocks blocks_apart) its named (nil_each _ blocks deep) (nil_each _ blocks cells)) many
+  -- where each parameter is specified
+  module _ (decls_right : DeclsSpecified ds) (stmts_right : StmtsSpecified ss) where
+    -- all blocks have the cells of their parameters
+    pub headed : AreOnce blocks all → AllByRecursion (AreParameters sc) blocks
+    headed once =
+        let first : Block = the_block spot [] ds ss in
+        let declared = blocks_in_decls ds outer in
+        let stated = blocks_in_stmts ss outer in
+        let its = its_own blocks (all_numbered blocks blocks_apart) (clear once) in
+        let apart : IsApartList (spots_of_decls ds ++ spots_of_stmts ss) = (ascending_apart (spots_of program) order).1 in (
+          of_begin sc first refl refl,
+          each_both (AreParameters sc) declared stated
+              (headed_decls sc first its.0 ds decls_right (apart_front (spots_of_decls ds) (spots_of_stmts ss) apart) (λ s i. refl) (each_front (IsIt sc) declared stated its.1))
+              (headed_stmts sc first its.0 ss stmts_right (apart_back (spots_of_decls ds) (spots_of_stmts ss) apart) (outside ds (spots_of_stmts ss) apart) (each_back (IsIt sc) declared stated its.1)),
+        )
+
+    pub whole : AreOnce blocks all → AreWhole blocks
+    whole once =
+        record {
+          numbered = λ b i. block_is blocks (number_at blocks b.spot) b (each_in (IsNumbered blocks) b blocks (all_numbered blocks blocks_apart) i);
+          no_cells = λ b i e. none_long (parameters_around blocks b.outer b.spot) (omega (arith, parameters_many sc b (each_in (AreParameters sc) b blocks (headed once) i), ap length e));
+          no_names = λ b i e. none_long (named_of blocks b) (omega (arith, named_long blocks b, parameters_many sc b (each_in (AreParameters sc) b blocks (headed once) i), ap length e));
+        }
+
+    -- `its_own`: each block has the cells of its parameters
+    module _ (its_own : (k : ℕ) → k < length blocks → AreParameters sc (block_numbered blocks k)) (good : AreGood sc all) (kept : AreKept blocks all) (fine : AreFine sc all blocks) where
+      parts : ArePart sc all all
+      parts = record { good = good; kept = kept; less = λ k. omega arith }
+
+      texts : AllByRecursion (λ (b : Block). IsText sc (number_at blocks b.spot)) blocks
+      texts =
+          let fine_decls = each_front (IsFine sc all) (blocks_in_decls ds outer) (blocks_in_stmts ss outer) fine.1 in
+          let fine_stmts = each_back (IsFine sc all) (blocks_in_decls ds outer) (blocks_in_stmts ss outer) fine.1 in
+          let part = front sc all declared stated parts in
+          let called : AreCallees blocks first ds = callees sc all its_own refl first outer ds outermost [] starts.chain_is decls_right fine_decls part in
+          let begun = knows_all blocks first outer ds outermost decls_right called starts in
+          let in_procedures = in_decls sc all its_own refl first outer outermost ds [] starts decls_right called part fine_decls in
+          let nested = in_stmts sc all its_own refl first outer behind ss (has_decls ds) begun stmts_right (back sc all declared stated parts) fine_stmts in
+          let few_declared : FewBounds sc outermost [] ds = few_bounds sc its_own refl first outer outermost [] ds starts decls_right part.good in
+          let few_stated : length (actuals_in_stmts sc ss) ≤ length (cells_of blocks stated first) =
+          subst (λ (m : ℕ). length (actuals_in_stmts sc ss) ≤ length (cells_of blocks stated m)) begun.block_is
+          (few_stmts sc its_own refl first outer behind begun ss (has_decls ds) stmts_right ((back sc all declared stated parts).good)) in
+          let same_cells : length (cells_of blocks declared first) ≡ length (cells_of blocks declared 0) = ap (λ (i : ℕ). length (cells_of blocks declared i)) number_outer in
+          let bounds = in_bounds sc first outer outermost ds [] starts tt decls_right part.good in
+          let its_text =
+          is_text sc all (the_block spot [] ds ss) fine.0 called
+          (omega (arith, as_many sc ds outermost [] decls_right few_declared, few_stated, same_cells, cells_both blocks declared stated first, parts.less first)) bounds nested.0 in
+          (its_text, each_both (IsTextOf sc all) (blocks_in_decls ds outer) (blocks_in_stmts ss outer) in_procedures nested.1)
+
+      nested_by : procedures_beyond blocks ≡ [] → AreNested sc
+      nested_by few =
+          record {
+            some = omega arith;
+            outer = refl;
+            nameless = refl;
+            untyped = refl;
+            each =
+                λ j h.
+                let b = get_or blocks j (the_block spot [] ds ss) in
+                let it : slice_get blocks j ≡ Some b = slice_get-get_or blocks j (the_block spot [] ds ss) h in
+                subst (IsText sc) (number_is blocks j b blocks_apart it) (each_at (λ (c : Block). IsText sc (number_at blocks c.spot)) blocks j b texts it);
+            procedures_few = few_procedures blocks few;
+          }
+
+    lies_by : HaveNamed blocks → flat_map unknown_names all ≡ [] → flat_map (declared_twice blocks) all ≡ [] → deep_blocks blocks ≡ [] → cells_beyond blocks all ≡ [] → procedures_beyond blocks ≡ [] → flat_map (wrong_types blocks) all ≡ [] →
+        flat_map (not_assignable blocks) all ≡ [] → AreNested sc
+    lies_by named unknown twice deep cells many wrong assigned =
+        let kept = all_kept blocks all (nil_each (wrong_types blocks) all wrong) (nil_each (not_assignable blocks) all assigned) in
+        let its = headed (nil_each (declared_twice blocks) all twice) in
+        nested_by (λ k h. each_in (AreParameters sc) (block_numbered blocks k) blocks its (there_numbered blocks k h)) (good_by unknown) kept (all_fine sc all blocks (all_numbered blocks blocks_apart) its named (nil_each _ blocks deep) (nil_each _ blocks cells)) many
 
 pub programs_lie_nested : ProgramsLieNested
 unfolding scopes_of blocks_of_program scope_faults check_faults
-programs_lie_nested (tree.program (tree.body spot ds ss)) accepted order built named =
+programs_lie_nested (tree.program (tree.body spot ds ss)) accepted order named =
     let up_to_procedures = nil_front _ _ accepted.scoped in
     let up_to_cells = nil_front _ _ up_to_procedures in
     let up_to_levels = nil_front _ _ up_to_cells in
@@ -318,8 +321,14 @@ programs_lie_nested (tree.program (tree.body spot ds ss)) accepted order built n
     let up_to_assigned = nil_front _ _ (nil_front _ _ (nil_front _ _ accepted.checked)) in
     let wrong = nil_front _ _ (nil_front _ _ up_to_assigned) in
     let assigned = nil_back _ _ up_to_assigned in
+    let all_blocks = blocks_of_program (tree.program (tree.body spot ds ss)) in
+    let declared_sites = sites_in_decls all_blocks ds outermost [] in
+    let stated_sites = sites_in_stmts all_blocks ss (has_decls ds) (knowing_all all_blocks ds outermost) in
+    let right = nil_each (wrong_types all_blocks) (declared_sites ++ stated_sites) (nil_map _ _ wrong) in
+    let decls_right = specified_decls all_blocks ds outermost [] (each_front (IsTyped all_blocks) declared_sites stated_sites right) in
+    let stmts_right = specified_stmts all_blocks ss (has_decls ds) (knowing_all all_blocks ds outermost) (each_back (IsTyped all_blocks) declared_sites stated_sites right) in
     record {
       nested =
-          lies_by spot ds ss order built.0 built.1 (named_blocks spot ds ss order built.0 built.1 named.0 named.1) (nil_map _ _ unknown) (nil_map _ _ twice) (nil_front _ _ (nil_map _ _ levels)) (nil_map _ _ cells) (nil_map _ _ many) (nil_map _ _ wrong) (nil_map _ _ assigned);
+          lies_by spot ds ss order decls_right stmts_right (named_blocks spot ds ss order named.0 named.1) (nil_map _ _ unknown) (nil_map _ _ twice) (nil_front _ _ (nil_map _ _ levels)) (nil_map _ _ cells) (nil_map _ _ many) (nil_map _ _ wrong) (nil_map _ _ assigned);
       short = short_segments (tree.program (tree.body spot ds ss)) (nil_map _ _ long);
     }

@@ -1,5 +1,5 @@
 -- Typed trees fit, where each name that they use has its couple, and each inner block keeps to the limits.
-use Rattle.std.proofs.Common.{arith, ◌≡◌, ◌⊎◌, inl, inr, ℕ, ◌+◌, ◌≤◌, ℤ, Bool, false, true, is_some, List, [], ◌∷◌, ◌++◌, map, length, slice_get, Some, None, refl, sym, ap, ◌∙◌, subst, if◌then◌else◌}
+use Rattle.std.proofs.Common.{arith, ◌≡◌, ◌⊎◌, inl, inr, ℕ, ◌+◌, ◌≤◌, ℤ, Bool, false, true, is_some, List, [], ◌∷◌, ◌++◌, map, length, slice_get, Option, Some, None, refl, sym, ap, ◌∙◌, subst, if◌then◌else◌}
 use Rattle.std.specs.List.{AllByRecursion}
 use Rattle.algol_tree.specs.declared.TheConstants as limits
 use Rattle.algol_tree.specs.declared.token.Spot.{Spot}
@@ -14,7 +14,7 @@ use Rattle.algol_tree.specs.Classes.{Class, Formal}
 use Rattle.algol_tree.specs.Counted.{exprs_count}
 use Rattle.algol_tree.specs.Plain as tree
 use Rattle.algol_tree.specs.Plain.{PExpr, PExprs, PPair, PStmt, PStmts, PDecls}
-use Rattle.algol_tree.specs.Scopes.{Scopes, use_of}
+use Rattle.algol_tree.specs.Scopes.{Scopes, if_named, use_of}
 use Rattle.algol_tree.specs.Sites.{Part, name, Site, here, sites, is_of_value, actual_part, inside_expr, inside_actuals, here_stmt, inside_list, inside_stmt, inside_decl, sites_in_pairs, sites_in_stmts, sites_in_decls}
 use Rattle.algol_tree.specs.Sorts as sort
 use Rattle.algol_tree.specs.Sorts.{Sort, Declared, Parameter, is_variable, is_named_in, sort_in, class_in, parameters_of, formals_of, procedure_in}
@@ -26,8 +26,8 @@ use Rattle.b67_ops.specs.declared.Couple.{Couple}
 use Rattle.b67_ops.specs.declared.TheConstants.{MOST_LEVEL, OUTER_LEVEL}
 use Rattle.algol_paths.specs.Arrays.{Shape, shape_in}
 use Rattle.b67_templates.specs.Cells.{Simple, Wanted, by_name, parameters_in, parameter_cells, parameter_wants, variables, procedures, made_of, Actual, own_actual, wants_of, actuals_in, actuals_among, actuals_given, actuals_in_pairs, actuals_in_decls, actuals_in_stmt, actuals_in_stmts, actuals_in_block, actuals_of, actual_base}
-use Rattle.b67_templates.specs.Fitting.{Told, is_event, EventFits, LabelFits, ReadFits, PlaceFits, NameActualFits, names, ProcedureFits, CallFits, ArrayFits, ExprFits, SubscriptsFit, ActualsFit, LineFits, ElementAssignFits, BoundsFit, DeclsFit, StmtFits, StmtsFit}
-use Rattle.b67_fitting.specs.Alone.{HeadingSpecified}
+use Rattle.b67_templates.specs.Fitting.{Told, is_event, EventFits, LabelFits, TaskFits, ReadFits, PlaceFits, NameActualFits, names, ProcedureFits, CallFits, ArrayFits, ExprFits, SubscriptsFit, ActualsFit, LineFits, ElementAssignFits, BoundsFit, DeclsFit, StmtFits, StmtsFit}
+use Rattle.b67_fitting.proofs.Headings.{HeadingSpecified}
 use Rattle.b67_fitting.specs.Wholes.{HaveDimensions}
 use Rattle.b67_fitting.proofs.Actuals.{IsArrayActual, name_alone, IsEventActual, event_name}
 use Rattle.b67_fitting.proofs.Apart.{IsIn, in_front, in_back}
@@ -35,10 +35,10 @@ use Rattle.b67_fitting.proofs.Clean.{IsEventful}
 use Rattle.b67_fitting.proofs.TypedBounds.{TypedPairs}
 use Rattle.b67_fitting.proofs.Declares.{begun}
 use Rattle.b67_fitting.proofs.Listed as listing
-use Rattle.b67_fitting.proofs.Listed.{AllThere, reads_in, lefts_in, IsBlock, Listed, over, passed, site, declared, both, block, procedure}
+use Rattle.b67_fitting.proofs.Listed.{AllThere, reads_in, lefts_in, IsBlock, Listed, over, passed, turned, site, declared, both, block, procedure}
 use Rattle.b67_fitting.proofs.Lists.{each_front, each_back, each_both, map_none}
 use Rattle.b67_fitting.proofs.Stated.{IsResult, IsLeft, TypedStmt, TypedStmts, TypedDecls}
-use Rattle.b67_fitting.proofs.Typed.{IsOf, IsFunction, TypedExpr, TypedActual, TypedActuals, TypedLine, as_formal, actual_part_is}
+use Rattle.b67_fitting.proofs.Typed.{IsOf, IsFunction, IsTasked, TypedExpr, TypedActual, TypedActuals, TypedLine, as_formal, actual_part_is}
 use Rattle.b67_fitting.proofs.Wanting.{wanted_of, wanted_value, wanted_name, wanted_array, wanted_event}
 use Rattle.b67_fitting.proofs.Given.{wants_in}
 use Rattle.b67_fitting.proofs.Specified.{IsSpecified, as_value, as_name, as_array, as_event, AreSpecified, specified}
@@ -105,6 +105,7 @@ module _ (blocks : List Block) (sc : Scopes) (told : Told) where
     pub array : (k : Kind) (rank level : ℕ) → a.depth + 2 ≡ level → class_of a n ≡ class.array k rank → RowFits sc told level n k rank
     pub called : (h : Heading) (level : ℕ) → a.depth + 2 ≡ level → class_of a n ≡ class.procedure h → CalleeFits sc told level n h
     pub evented : (level : ℕ) → a.depth + 2 ≡ level → IsEventful (class_of a n) → EventFits sc told level n
+    pub tasked : (level : ℕ) → a.depth + 2 ≡ level → class_of a n ≡ class.task → TaskFits sc told level (Some n)
     pub labelled : (level : ℕ) → a.depth + 2 ≡ level → class_of a n ≡ class.label → LabelFits sc told level n
     pub simple_alone : (k : Kind) → IsOf a k n → told.lows n.spot ≡ None
     pub called_alone : (h : Heading) → class_of a n ≡ class.procedure h → told.lows n.spot ≡ None
@@ -319,6 +320,11 @@ module _ (blocks : List Block) (sc : Scopes) (told : Told) where
         ActualsFit sc told level a.block (sorts_of ((block_numbered sc.blocks c.callee).parameters)) (parameter_wants sc c.callee) es
     fits_call n es h e b t c g x = fits_actuals_of n es h c (fits_actuals h h.params (specified h b) es t (inside_call n es h e g) (called_wants n es h c x))
 
+    -- the task of a process
+    fits_task : (task : Option Named) → IsTasked a task → AllByRecursion (IsPlaced a) (if_named task) → TaskFits sc told level task
+    fits_task None t g = tt
+    fits_task (Some m) t g = g.0.tasked level at t
+
     -- the value of an element has the kind of the array
     fits_element : (k : Kind) (n : Named) (es : PExprs) (v : PExpr) → RowFits sc told level n k (exprs_count es) → LineFits sc told level a.block es →
         ExprFits sc told level a.block k v → ElementAssignFits sc told level a.block n es v
@@ -478,7 +484,9 @@ module _ (blocks : List Block) (sc : Scopes) (told : Told) where
             fits_expr a level at types.Number e t.0 (each_front SitePlaced (sites e a) (sites_in_stmts blocks ss false a) g.1) (front_of level a.block ones others x),
             fits_stmts b a level d at ss false t.1 f (each_back SitePlaced (sites e a) (sites_in_stmts blocks ss false a) g.1) (back_of level a.block ones others x),
           )
-      fits_stmt b a level d at (tree.process c task) l t f g x = absurd t
+      fits_stmt b a level d at (tree.process (tree.called n es) task) l t f g x =
+          let c = g.0.0.0.called t.0 level at t.1 in
+          (c.callee, c.fits, fits_call a level at n es t.0 t.1 t.2 t.3 c g.1 x, c.result_is ∙ t.4, fits_task a level at task t.5 g.0.0.1)
       fits_stmt b a level d at (tree.event act e) l t f g x = g.0.0.0.evented level at t
       fits_stmt b a level d at (tree.write n spot phrases es) l t f g x = (t.0, t.1, fits_line a level at es t.2 g.1 x)
 
@@ -522,6 +530,7 @@ module _ (blocks : List Block) (sc : Scopes) (told : Told) where
     pub all_fit : {k : ℕ} {spots : List Spot} {own : List Cell} {bs : List Block} {xs : List Site} → Listed blocks k spots own bs xs → AllByRecursion SitePlaced xs → AllByRecursion BlockFits bs
     all_fit (over k) g = tt
     all_fit (passed k spot l) g = all_fit l g
+    all_fit (turned k spot p q l) g = all_fit l g
     all_fit (site k x f l) g = all_fit l g.1
     all_fit (listing.given k x c f m l) g = tt
     all_fit (listing.left k a n e listed b s l) g = all_fit l g.1

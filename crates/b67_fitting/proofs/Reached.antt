@@ -7,6 +7,7 @@ use Rattle.algol_tree.specs.declared.tree.Named.{Named}
 use Rattle.algol_tree.specs.declared.tree.Heading.{Heading}
 use Rattle.algol_tree.specs.Blocks.{Block, block_numbered, number_at, procedure_block}
 use Rattle.algol_tree.specs.Cells.{Cell}
+use Rattle.algol_tree.specs.Classes as class
 use Rattle.algol_tree.specs.Couples.{Known, known_by, known_at, known_there, located}
 use Rattle.algol_tree.specs.Plain as tree
 use Rattle.algol_tree.specs.Plain.{PExpr}
@@ -22,16 +23,16 @@ use Rattle.b67_fitting.proofs.ActualsFound.{IsTelling, SiteTells}
 use Rattle.b67_fitting.proofs.Apart.{IsIn, in_each, in_front, in_back, in_flat}
 use Rattle.b67_fitting.proofs.Coupled.{the_use, result_use, use_is, AreTold, IsProgram, scopes, used_at, known_at_place, inside_deep, variable_fits, name_fits, procedure_fits, result_fits}
 use Rattle.b67_fitting.proofs.CoupledArrays.{HaveActs, row_fits}
-use Rattle.b67_fitting.proofs.CoupledEvents.{event_fits, formal_event_fits, label_fits}
+use Rattle.b67_fitting.proofs.CoupledEvents.{task_fits, event_fits, formal_event_fits, label_fits}
 use Rattle.b67_fitting.proofs.CoupledFormals.{formal_fits}
 use Rattle.b67_fitting.proofs.Blocked.{numbered}
 use Rattle.b67_fitting.proofs.Known.{IsOwned, Stands}
 use Rattle.b67_fitting.proofs.Listed as listing
-use Rattle.b67_fitting.proofs.Listed.{reads_in, lefts_in, IsFair, Listed, over, passed, site, declared, both, block, procedure}
+use Rattle.b67_fitting.proofs.Listed.{reads_in, lefts_in, IsFair, Listed, over, passed, turned, site, declared, both, block, procedure}
 use Rattle.b67_fitting.proofs.Lists.{each_both}
 use Rattle.b67_fitting.proofs.LowsFound.{held_none, named_none, owned_none}
 use Rattle.b67_fitting.proofs.Meant as meant
-use Rattle.b67_fitting.proofs.Meant.{IsSimpleAs, held, declared_simple, declared_array, declared_procedure, declared_event, declared_label, IsEventAs, event_of, labelled_of, held_of, IsArrayAs, of_block, of_parameter, arrayed_of, owned_of}
+use Rattle.b67_fitting.proofs.Meant.{IsSimpleAs, held, declared_simple, declared_array, declared_procedure, declared_event, declared_label, IsEventAs, event_of, task_of, labelled_of, held_of, IsArrayAs, of_block, of_parameter, arrayed_of, owned_of}
 use Rattle.b67_fitting.proofs.Placed.{RowFits, IsSimpleFor, IsPlaced, IsLeftPlaced, SitePlaced}
 
 module _ (blocks : List Block) (all : List Site) (is : IsProgram blocks all) where
@@ -101,6 +102,7 @@ module _ (blocks : List Block) (all : List Site) (is : IsProgram blocks all) whe
       AllByRecursion (SiteTells blocks sc) xs
   all_tell (over k) g = tt
   all_tell (passed k spot l) g = all_tell l g
+  all_tell (turned k spot p q l) g = all_tell l g
   all_tell (site k x f l) g = (tells x (g x (inl refl)) f, all_tell l (λ y i. g y (inr i)))
   all_tell (listing.given k x c f m l) g = (subst (AllByRecursion (IsTelling blocks sc x.around)) (sym f.reads) tt, all_tell l (λ y i. g y (inr i)))
   all_tell (listing.left k a n e listed b s l) g = (tt, all_tell l (λ y i. g y (inr i)))
@@ -168,6 +170,11 @@ module _ (blocks : List Block) (all : List Site) (is : IsProgram blocks all) whe
                   let o = declared_event x.around (class_of x.around n) n h refl in
                   named_event_fits x.around level at n o.as_one (known_as x i f n o.as_one j o.is) (used_as x i f n o.as_one j o.is)
                   (event_of blocks x.around.depth n.name o.as_one (class_of x.around n) h o.class_is (f.stands.around.each n.name o.as_one o.is));
+              tasked =
+                  λ level at h.
+                  let o = declared_event x.around class.task n (inr refl) h in
+                  task_fits blocks all is told are x.around level at n o.as_one (known_as x i f n o.as_one j o.is) many (used_as x i f n o.as_one j o.is)
+                  (task_of blocks x.around.depth n.name o.as_one o.class_is (f.stands.around.each n.name o.as_one o.is));
               labelled =
                   λ level at h.
                   let o = declared_label x.around n h in
@@ -236,6 +243,7 @@ module _ (blocks : List Block) (all : List Site) (is : IsProgram blocks all) whe
         AllByRecursion (SitePlaced blocks sc told) xs
     all_placed (over k) g = tt
     all_placed (passed k spot l) g = all_placed l g
+    all_placed (turned k spot p q l) g = all_placed l g
     all_placed (site k x f l) g = (placed x (g x (inl refl)) f, all_placed l (λ y i. g y (inr i)))
     all_placed (listing.given k x c f m l) g =
         ((subst (AllByRecursion (IsPlaced blocks sc told x.around)) (sym f.reads) tt, subst (AllByRecursion (IsLeftPlaced blocks sc told x.around)) (sym f.lefts) tt), all_placed l (λ y i. g y (inr i)))

@@ -12,7 +12,7 @@ use Rattle.algol_tree.specs.Classes.{is_simple, is_array, is_event}
 use Rattle.algol_tree.specs.Sorts as sort
 use Rattle.algol_tree.specs.Sorts.{is_named_in, specified_by, sort_by, sort_in, class_by, class_in}
 use Rattle.algol_paths.specs.Arrays.{Shape, shape_by, shape_in}
-use Rattle.b67_fitting.specs.Alone.{HeadingSpecified}
+use Rattle.b67_fitting.proofs.Headings.{HeadingSpecified}
 use Rattle.b67_fitting.specs.Wholes.{HaveDimensions, SpecWhole}
 
 -- ---- specifications

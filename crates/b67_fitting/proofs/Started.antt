@@ -23,7 +23,7 @@ use Rattle.algol_paths.specs.Arrays.{an_array, an_event}
 use Rattle.b67_templates.specs.Cells.{Simple, value, of_kind, variables, made_of, parameters_in, parameters_around}
 use Rattle.b67_templates.specs.Labels.{labels_in}
 use Rattle.b67_templates.specs.Code.{AreDimensions}
-use Rattle.b67_fitting.specs.Alone.{HeadingSpecified}
+use Rattle.b67_fitting.proofs.Headings.{HeadingSpecified}
 use Rattle.b67_fitting.proofs.Aligned.{AreOthers, Aligned, aligned_over, hit}
 use Rattle.b67_fitting.proofs.Apart.{IsIn, each_in, in_front, in_back, IsApart, Apart, apart_front, apart_across}
 use Rattle.b67_fitting.proofs.Arrayed.{IsMade, event_of, made_names, AreMadePassed, made_begin, made_step, IsThere, array_there, event_there, task_there}

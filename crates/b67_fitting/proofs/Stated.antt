@@ -1,4 +1,4 @@
--- Statements and declarations at which no rule is broken, where each parameter is specified and no process is started.
+-- Statements and declarations at which no rule is broken, where each parameter is specified.
 use Rattle.std.proofs.Common.{◌≡◌, ◌⊎◌, inl, inr, ℕ, ◌+◌, ◌≤◌, ◌==◌, ◌&&◌, not, Bool, true, false, List, [], ◌∷◌, ◌++◌, map, length, is_some, Option, Some, None, refl, sym, ap, subst, if◌then◌else◌}
 use Rattle.std.specs.List.{list_any}
 use Rattle.algol_tree.specs.declared.token.Spot.{Spot}
@@ -18,21 +18,21 @@ use Rattle.algol_tree.specs.Sites as parts
 use Rattle.algol_tree.specs.Sites.{sites, has_decls, here_stmt, inside_list, inside_actuals, inside_stmt, inside_decl, sites_in_stmts, sites_in_decls}
 use Rattle.algol_tree.specs.Sorts as sort
 use Rattle.algol_tree.specs.Sorts.{same_name, Sort, Declared, look_up, declare, is_named_in, sort_in, class_in, declared_parameters}
-use Rattle.algol_tree.specs.Surroundings.{Surroundings, class_of, formals_of_class, body_of, heading_or, announced, knowing, knowing_all, inside, inside_procedure}
+use Rattle.algol_tree.specs.Surroundings.{Surroundings, class_of, declared_as, formals_of_class, body_of, heading_or, announced, knowing, knowing_all, inside, inside_procedure}
 use Rattle.algol_tree.specs.Types.{element_type}
 use Rattle.b67_segment.specs.declared.code.Phrase.{Phrase}
 use Rattle.b67_templates.specs.Code as code
 use Rattle.b67_templates.specs.Code.{AreParts, AreDimensions, numbers_in}
 use Rattle.b67_templates.specs.Fitting.{PhrasesFit}
-use Rattle.b67_fitting.specs.Alone.{HeadingSpecified, DeclAlone, DeclsAlone, StmtAlone, StmtsAlone}
+use Rattle.b67_fitting.proofs.Headings.{HeadingSpecified, DeclSpecified, DeclsSpecified, StmtSpecified, StmtsSpecified}
 use Rattle.b67_fitting.specs.Texts.{StmtPlain, StmtsPlain, DeclPlain, DeclsPlain}
 use Rattle.b67_fitting.specs.Wholes.{AllWhole, StmtWhole, StmtsWhole, DeclWhole, DeclsWhole}
 use Rattle.b67_fitting.proofs.TypedBounds.{TypedPairs, typed_pairs}
 use Rattle.b67_fitting.proofs.Lists.{each_front, each_back, nil_front, nil_back}
-use Rattle.b67_fitting.proofs.Clean.{IsClean, AreClean, IsPlain, simple, array, file, label, event, task, procedure, KnowsPlain, plain_first, misnamed, label_of, IsEventful, eventful_of, as_many, call_of, wrong, wrong_for, wrong_if, wrong_list}
+use Rattle.b67_fitting.proofs.Clean.{IsClean, AreClean, IsPlain, simple, array, file, label, event, task, procedure, KnowsPlain, plain_first, misnamed, label_of, IsEventful, eventful_of, as_many, call_of, task_alone, is_untyped, untyped_of, wrong, wrong_for, wrong_if, wrong_list}
 use Rattle.b67_fitting.proofs.Declaring.{found_either, declared_is}
 use Rattle.b67_fitting.proofs.Formats.{fitting_line, fitting_phrases}
-use Rattle.b67_fitting.proofs.Typed.{IsOf, IsCalled, HasElements, TypedExpr, TypedLine, HasKind, of_kind, elements, typed, typed_actuals, typed_line}
+use Rattle.b67_fitting.proofs.Typed.{IsOf, IsCalled, IsTasked, IsStartOf, HasElements, TypedExpr, TypedLine, HasKind, of_kind, elements, typed, typed_actuals, typed_line}
 use Rattle.b67_fitting.proofs.Specified.{IsSpecified, as_value, as_name, as_array, as_event, AreSpecified, specified, SpecsWhole}
 
 module _ (blocks : List Block) where
@@ -69,7 +69,7 @@ module _ (blocks : List Block) where
     TypedStmt begin a (tree.label n s) = (class_of a n ≡ class.label) × TypedStmt of_statement a s
     TypedStmt begin a (tree.go_to n) = class_of a n ≡ class.label
     TypedStmt begin a (tree.event act e) = IsEventful (class_of a e.name)
-    TypedStmt begin a (tree.process c named) = ⊥
+    TypedStmt begin a (tree.process (tree.called n es) named) = IsStartOf a n es named
 
     pub TypedStmts : Surroundings → PStmts → Type 0
     TypedStmts a tree.no_stmts = Unit {0}
@@ -150,6 +150,12 @@ module _ (blocks : List Block) (a : Surroundings) (plain : KnowsPlain a) where
         hb,
       )
 
+  -- the task of a process is one, where it has one
+  tasked : (n : Named) (es : PExprs) (named : Option Named) (listed : Bool) → IsClean blocks (here_stmt (tree.process (tree.called n es) named) listed a) → IsTasked a named
+  tasked n es None listed c = tt
+  tasked n es (Some m) listed c =
+      task_alone (class_of a m) m.spot (plain_first a plain m _ (nil_back (if_so (not (is_some (declared_as a n))) n.spot) _ c.known)) (nil_back (misnamed is_untyped (class_of a n) n.spot) _ c.typed)
+
   -- of an element the value has the kind of the array
   stored : (begin : Begin) (n : Named) (i : PExpr) (is : PExprs) (e : PExpr) (listed : Bool) → AllWhole (tree.more i is) → AreClean blocks (inside_list (tree.more i is) a) →
       IsClean blocks (here_stmt (tree.assign (tree.subscripted n (tree.more i is)) e) listed a) → HasKind a e → TypedStmt blocks begin a (tree.assign (tree.subscripted n (tree.more i is)) e)
@@ -171,7 +177,7 @@ plain_found k c block depth ns known p f name d h = by (found_either (declare bl
     by (inl g) = subst IsPlain (sym (declared_is block depth k c ns name d g).0) p
     by (inr g) = f name d g
 
-pub built_body : (name : List ℕ) (h : Heading) (ds : PDecls) → HeadingSpecified h → DeclsAlone ds → HeadingSpecified (heading_or h (body_of name ds))
+pub built_body : (name : List ℕ) (h : Heading) (ds : PDecls) → HeadingSpecified h → DeclsSpecified ds → HeadingSpecified (heading_or h (body_of name ds))
 built_body name h tree.no_decls p b = p
 built_body name h (tree.decls (tree.procedure g s) ds) p b = by (same_name g.name.name name) (built_body name h ds p b.1)
   where
@@ -205,7 +211,7 @@ plain_parameters h block depth (n ∷ ns) v name d g = by (same_name n.name name
     by false later f = later f
 
 module _ (blocks : List Block) where
-  plain_knowing : (d : PDecl) (ds : PDecls) (a : Surroundings) → DeclAlone d → DeclsAlone ds → KnowsPlain a → KnowsPlain (knowing blocks d ds a)
+  plain_knowing : (d : PDecl) (ds : PDecls) (a : Surroundings) → DeclSpecified d → DeclsSpecified ds → KnowsPlain a → KnowsPlain (knowing blocks d ds a)
   plain_knowing (tree.simple kind ns) ds a b c plain =
       record { each = plain_found sort.variable (class.simple kind) a.block a.depth ns a.known (simple kind) plain.each }
   plain_knowing (tree.files ns) ds a b c plain = record { each = plain_found sort.file class.file a.block a.depth ns a.known file plain.each }
@@ -224,7 +230,7 @@ module _ (blocks : List Block) where
   plain_knowing (tree.tasks ns) ds a b c plain = record { each = plain_found sort.event class.task a.block a.depth ns a.known task plain.each }
   plain_knowing (tree.labels ns) ds a b c plain = record { each = plain_found sort.label class.label a.block a.depth ns a.known label plain.each }
 
-  plain_all : (ds : PDecls) (a : Surroundings) → DeclsAlone ds → KnowsPlain a → KnowsPlain (knowing_all blocks ds a)
+  plain_all : (ds : PDecls) (a : Surroundings) → DeclsSpecified ds → KnowsPlain a → KnowsPlain (knowing_all blocks ds a)
   plain_all tree.no_decls a b plain = plain
   plain_all (tree.decls d ds) a b plain = plain_all ds (knowing blocks d ds a) b.1 (plain_knowing d ds a b.0 b.1 plain)
 
@@ -241,7 +247,7 @@ module _ (blocks : List Block) where
       by name d (inr g) = plain.each name d g
 
   mutual
-    stated : (begin : Begin) (a : Surroundings) → KnowsPlain a → (s : PStmt) (listed : Bool) → StmtAlone s → StmtWhole s → StmtPlain s → IsClean blocks (here_stmt s listed a) →
+    stated : (begin : Begin) (a : Surroundings) → KnowsPlain a → (s : PStmt) (listed : Bool) → StmtSpecified s → StmtWhole s → StmtPlain s → IsClean blocks (here_stmt s listed a) →
         AreClean blocks (inside_stmt blocks s begin listed a) → TypedStmt blocks begin a s
     stated begin a plain tree.empty listed b w t c i = tt
     stated begin a plain (tree.label n s) listed b w t c i =
@@ -301,20 +307,30 @@ module _ (blocks : List Block) where
         (of_kind a types.Number e (typed blocks a plain e w.0 front) c.typed, stated of_statement a plain x false b w.1 t back.0 back.1)
     stated begin a plain (tree.case e ss) listed b w t c i =
         (of_kind a types.Number e (typed blocks a plain e w.0 (each_front (IsClean blocks) (sites e a) (sites_in_stmts blocks ss false a) i)) c.typed, all_stated a plain ss false b w.1 t (each_back (IsClean blocks) (sites e a) (sites_in_stmts blocks ss false a) i))
-    stated begin a plain (tree.process call named) listed b w t c i = absurd b
+    stated begin a plain (tree.process (tree.called n es) named) listed b w t c i =
+        let f = untyped_of (class_of a n) n.spot (plain_first a plain n _ c.known) (nil_front (misnamed is_untyped (class_of a n) n.spot) _ c.typed) in
+        let many = as_many (class_of a n) f.heading (exprs_count es) n.spot f.class_is c.counted in
+        let inside = subst (λ (d : Class). AreClean blocks (inside_actuals es (formals_of_class d) a)) f.class_is i in (
+          f.heading,
+          f.class_is,
+          f.built,
+          typed_actuals blocks a plain f.heading f.heading.params (specified f.heading f.built) es w many inside,
+          f.kind_is,
+          tasked blocks a plain n es named listed c,
+        )
     stated begin a plain (tree.event act e) listed b w t c i =
         eventful_of e.task (class_of a e.name) e.name.spot (plain_first a plain e.name [] c.known) c.typed
     stated begin a plain (tree.write n spot phrases es) listed b w t c i =
         (fitting_phrases phrases es spot t c.lined c.narrow, fitting_line phrases es spot c.lined, typed_line blocks a plain es w i (nil_back (misnamed is_file (class_of a n) n.spot) (wrong_list types.Number es a) c.typed))
 
-    pub all_stated : (a : Surroundings) → KnowsPlain a → (ss : PStmts) (listed : Bool) → StmtsAlone ss → StmtsWhole ss → StmtsPlain ss → AreClean blocks (sites_in_stmts blocks ss listed a) → TypedStmts blocks a ss
+    pub all_stated : (a : Surroundings) → KnowsPlain a → (ss : PStmts) (listed : Bool) → StmtsSpecified ss → StmtsWhole ss → StmtsPlain ss → AreClean blocks (sites_in_stmts blocks ss listed a) → TypedStmts blocks a ss
     all_stated a plain tree.no_stmts listed b w t i = tt
     all_stated a plain (tree.stmts s ss) listed b w t i =
         let inside = inside_stmt blocks s of_statement listed a in
         let others = sites_in_stmts blocks ss listed a in
         (stated of_statement a plain s listed b.0 w.0 t.0 i.0 (each_front (IsClean blocks) inside others i.1), all_stated a plain ss listed b.1 w.1 t.1 (each_back (IsClean blocks) inside others i.1))
 
-    pub all_declared : (a : Surroundings) (first : List Declared) → KnowsPlain a → KnowsPlain (record a { known = first }) → (ds : PDecls) → DeclsAlone ds → DeclsWhole ds → DeclsPlain ds →
+    pub all_declared : (a : Surroundings) (first : List Declared) → KnowsPlain a → KnowsPlain (record a { known = first }) → (ds : PDecls) → DeclsSpecified ds → DeclsWhole ds → DeclsPlain ds →
         AreClean blocks (sites_in_decls blocks ds a first) → TypedDecls blocks a first ds
     all_declared a first plain at_begin tree.no_decls b w t i = tt
     all_declared a first plain at_begin (tree.decls d ds) b w t i =
@@ -327,7 +343,7 @@ module _ (blocks : List Block) where
           all_declared behind first plain_behind at_begin ds b.1 w.1 t.1 (each_back (IsClean blocks) within others i.1),
         )
 
-    declared : (a : Surroundings) (first : List Declared) → KnowsPlain a → KnowsPlain (record a { known = first }) → (d : PDecl) → DeclAlone d → DeclWhole d → DeclPlain d →
+    declared : (a : Surroundings) (first : List Declared) → KnowsPlain a → KnowsPlain (record a { known = first }) → (d : PDecl) → DeclSpecified d → DeclWhole d → DeclPlain d →
         AreClean blocks (inside_decl blocks d a first) → TypedDecl blocks a first d
     declared a first plain at_begin (tree.simple kind ns) b w t i = tt
     declared a first plain at_begin (tree.files ns) b w t i = tt

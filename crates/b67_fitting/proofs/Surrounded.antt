@@ -1,4 +1,4 @@
--- What is around each place of a program that is built, and what its names mean there: the names that are known there are those of the
+-- What is around each place of an accepted program, and what its names mean there: the names that are known there are those of the
 -- block of the place and of the blocks around it, each so many up as its depth says. On the left of an assignment the name of a procedure
 -- is its result, of the procedure's own block, which is one further in.
 use Rattle.std.proofs.Common.{arith, ◌≡◌, ℕ, ℤ, ◌+◌, ◌-◌, ◌<◌, ◌≤◌, ◌&&◌, not, Bool, true, false, List, [], ◌∷◌, ◌++◌, map, length, is_some, Option, Some, None, refl, sym, ap, ◌∙◌, subst, if◌then◌else◌, suc, slice_get}
@@ -21,7 +21,7 @@ use Rattle.algol_tree.specs.Sorts.{Sort, same_name, Declared, look_up, declare, 
 use Rattle.algol_tree.specs.Surroundings.{Surroundings, declared_as, class_of_declared, class_of, formals_at, announced, declare_procedure, knowing, knowing_all, inside_procedure}
 use Rattle.algol_paths.specs.Blocks.{IsSeen}
 use Rattle.algol_paths.specs.Texts.{InExpr, InExprs}
-use Rattle.b67_fitting.specs.Alone.{DeclAlone, DeclsAlone}
+use Rattle.b67_fitting.proofs.Headings.{DeclSpecified, DeclsSpecified}
 use Rattle.b67_fitting.proofs.Lists.{each_front, each_back, each_both, each_of, nil_front, nil_back, not_so, second_so}
 use Rattle.b67_fitting.proofs.Numbering.{IsThere}
 use Rattle.b67_fitting.proofs.Specified.{IsSpecified, as_value, as_name, as_array, as_event, AreSpecified, specified}
@@ -125,7 +125,7 @@ module _ (blocks : List Block) where
         knows (sort.procedure (number_at blocks h.name.spot)) (class.procedure h) (h.name ∷ []) a (a_procedure h its) r
 
     -- the place after a declaration, the later ones being these
-    pub knows_one : (d : PDecl) (ds : PDecls) (a : Surroundings) → DeclAlone d → AreCallees blocks j (tree.decls d ds) → IsAround j outer a → IsAround j outer (knowing blocks d ds a)
+    pub knows_one : (d : PDecl) (ds : PDecls) (a : Surroundings) → DeclSpecified d → AreCallees blocks j (tree.decls d ds) → IsAround j outer a → IsAround j outer (knowing blocks d ds a)
     knows_one (tree.simple kind ns) ds a b c r = knows sort.variable (class.simple kind) ns a (a_variable kind) r
     knows_one (tree.files ns) ds a b c r = knows sort.file class.file ns a a_file r
     knows_one (tree.arrays kind ns pairs) ds a b c r = knows sort.array (class.array kind (length pairs)) ns a (an_array kind (length pairs)) r
@@ -136,7 +136,7 @@ module _ (blocks : List Block) where
     knows_one (tree.labels ns) ds a b c r = knows sort.label class.label ns a a_label r
 
     -- the place after all of them
-    pub knows_all : (ds : PDecls) (a : Surroundings) → DeclsAlone ds → AreCallees blocks j ds → IsAround j outer a → IsAround j outer (knowing_all blocks ds a)
+    pub knows_all : (ds : PDecls) (a : Surroundings) → DeclsSpecified ds → AreCallees blocks j ds → IsAround j outer a → IsAround j outer (knowing_all blocks ds a)
     knows_all tree.no_decls a b c r = r
     knows_all (tree.decls (tree.simple kind ns) ds) a b c r =
         knows_all ds (knowing blocks (tree.simple kind ns) ds a) b.1 c (knows_one (tree.simple kind ns) ds a b.0 c r)

@@ -1,4 +1,4 @@
--- What is around each part of a program that is built.
+-- What is around each part of an accepted program.
 use Rattle.std.proofs.Common.{◌≡◌, ℕ, ◌<◌, Bool, true, false, List, [], ◌∷◌, ◌++◌, map, length, Some, sym, ap, subst, slice_get}
 use Rattle.std.proofs.lemmas.Option.{slice_get_within}
 use Rattle.std.specs.List.{AllByRecursion}
@@ -6,6 +6,7 @@ use Rattle.algol_tree.specs.declared.token.Spot.{Spot}
 use Rattle.algol_tree.specs.Ascending.{IsInOrder}
 use Rattle.algol_tree.specs.Blocks.{Block, Begin, of_statement, of_procedure, blocks_of, blocks_in_decls, blocks_in_stmts, blocks_of_program, number_at, around}
 use Rattle.algol_tree.specs.Accepted.{Accepted, scope_faults, check_faults, sites_of}
+use Rattle.algol_tree.specs.Checks.{wrong_types}
 use Rattle.algol_tree.specs.Classes.{Formal}
 use Rattle.algol_tree.specs.Names.{unknown_names}
 use Rattle.algol_tree.specs.Plain as tree
@@ -14,7 +15,8 @@ use Rattle.algol_tree.specs.Scopes.{scopes_of}
 use Rattle.algol_tree.specs.Sites.{Site, sites, other_formals, inside_expr, inside_list, inside_actuals, sites_in_pairs, here_stmt, inside_stmt, sites_in_stmts, sites_in_decls, has_decls}
 use Rattle.algol_tree.specs.Sorts.{Declared}
 use Rattle.algol_tree.specs.Surroundings.{Surroundings, outermost, formals_at, knowing, knowing_all, inside_begin, inside_procedure}
-use Rattle.b67_fitting.specs.Alone.{DeclsAlone, StmtAlone, StmtsAlone, IsAlone}
+use Rattle.b67_fitting.proofs.Headings.{DeclsSpecified, StmtSpecified, StmtsSpecified}
+use Rattle.b67_fitting.proofs.HeadingsTyped.{IsTyped, in_decls as specified_decls, in_stmts as specified_stmts}
 use Rattle.b67_fitting.proofs.Lists.{each_front, each_back, each_both, nil_front, nil_back, nil_map, nil_each}
 use Rattle.b67_fitting.proofs.Numbering.{IsNumbered, block_is, all_numbered, number_is}
 use Rattle.b67_fitting.proofs.Callees.{IsNamed, AreNamed, AreCallees, are_callees}
@@ -101,7 +103,7 @@ module _ (blocks : List Block) where
 
   -- `k`: the names of these parts are known where they stand
   mutual
-    in_stmt : (j : ℕ) (outer : List Spot) (a : Surroundings) (t : PStmt) (begin : Begin) (listed : Bool) → IsAround blocks j outer a → StmtAlone t → AreNamed (inside_stmt blocks t begin listed a) →
+    in_stmt : (j : ℕ) (outer : List Spot) (a : Surroundings) (t : PStmt) (begin : Begin) (listed : Bool) → IsAround blocks j outer a → StmtSpecified t → AreNamed (inside_stmt blocks t begin listed a) →
         Numbered (blocks_of t begin outer) → ArePlaced (inside_stmt blocks t begin listed a)
     in_stmt j outer a tree.empty g l r b k f = tt
     in_stmt j outer a (tree.label n t) g l r b k f = (surrounded j outer a r, in_stmt j outer a t of_statement l r b k.1 f)
@@ -166,11 +168,11 @@ module _ (blocks : List Block) where
     in_stmt j outer a (tree.case e ss) g l r b k f =
         joined (sites e a) (sites_in_stmts blocks ss false a) (in_sites a (surrounded j outer a r) e)
         (in_stmts j outer a ss false r b (named_back (sites e a) (sites_in_stmts blocks ss false a) k) f)
-    in_stmt j outer a (tree.process c task) g l r b k f = absurd b
+    in_stmt j outer a (tree.process (tree.called n es) task) g l r b k f = in_actuals (IsSurrounded blocks) a (surrounded j outer a r) es (formals_at a n)
     in_stmt j outer a (tree.event act e) g l r b k f = tt
     in_stmt j outer a (tree.write n spot phrases es) g l r b k f = in_list (IsSurrounded blocks) a (surrounded j outer a r) es
 
-    pub in_stmts : (j : ℕ) (outer : List Spot) (a : Surroundings) (ss : PStmts) (listed : Bool) → IsAround blocks j outer a → StmtsAlone ss → AreNamed (sites_in_stmts blocks ss listed a) →
+    pub in_stmts : (j : ℕ) (outer : List Spot) (a : Surroundings) (ss : PStmts) (listed : Bool) → IsAround blocks j outer a → StmtsSpecified ss → AreNamed (sites_in_stmts blocks ss listed a) →
         Numbered (blocks_in_stmts ss outer) → ArePlaced (sites_in_stmts blocks ss listed a)
     in_stmts j outer a tree.no_stmts l r b k f = tt
     in_stmts j outer a (tree.stmts t ss) l r b k f =
@@ -181,7 +183,7 @@ module _ (blocks : List Block) where
         (each_back (IsNumbered blocks) (blocks_of t of_statement outer) (blocks_in_stmts ss outer) f))
 
     -- `first`: what is known at the begin of the block, and so in its bounds
-    pub in_decls : (j : ℕ) (outer : List Spot) (a : Surroundings) (ds : PDecls) (first : List Declared) → IsAround blocks j outer (record a { known = first }) → IsAround blocks j outer a → DeclsAlone ds → AreCallees blocks j ds →
+    pub in_decls : (j : ℕ) (outer : List Spot) (a : Surroundings) (ds : PDecls) (first : List Declared) → IsAround blocks j outer (record a { known = first }) → IsAround blocks j outer a → DeclsSpecified ds → AreCallees blocks j ds →
         AreNamed (sites_in_decls blocks ds a first) → Numbered (blocks_in_decls ds outer) → ArePlaced (sites_in_decls blocks ds a first)
     in_decls j outer a tree.no_decls first e r b c k f = tt
     in_decls j outer a (tree.decls (tree.simple kind ns) ds) first e r b c k f =
@@ -227,38 +229,46 @@ each_named : (p : PProgram) → Accepted p → AreNamed (sites_of p)
 unfolding scope_faults
 each_named p accepted = nil_each unknown_names (sites_of p) (nil_map _ _ (nil_front _ _ (nil_front _ _ (nil_front _ _ (nil_front _ _ (nil_front _ _ accepted.scoped))))))
 
-pub each_surrounded : (p : PProgram) → Accepted p → IsInOrder p → IsAlone p → AllByRecursion (λ (x : Site). IsSurrounded (blocks_of_program p) x.around) (sites_of p)
+-- no rule of types is broken at a part
+each_typed : (p : PProgram) → Accepted p → AllByRecursion (IsTyped (blocks_of_program p)) (sites_of p)
+unfolding check_faults
+each_typed p accepted = nil_each (wrong_types (blocks_of_program p)) (sites_of p) (nil_map _ _ (nil_front _ _ (nil_front _ _ (nil_front _ _ (nil_front _ _ (nil_front _ _ accepted.checked))))))
+
+pub each_surrounded : (p : PProgram) → Accepted p → IsInOrder p → AllByRecursion (λ (x : Site). IsSurrounded (blocks_of_program p) x.around) (sites_of p)
 unfolding blocks_of_program
-each_surrounded (tree.program (tree.body spot ds ss)) accepted order built =
+each_surrounded (tree.program (tree.body spot ds ss)) accepted order =
     let outer = spot ∷ [] in
     let blocks = the_block spot [] ds ss ∷ (blocks_in_decls ds outer ++ blocks_in_stmts ss outer) in
     let first = number_at blocks spot in
-    let begun : IsAround blocks first outer outermost = starts spot ds ss order built.0 built.1 in
+    let begun : IsAround blocks first outer outermost = starts spot ds ss order in
     let after : Surroundings = knowing_all blocks ds outermost in
     let declared = sites_in_decls blocks ds outermost [] in
     let stated = sites_in_stmts blocks ss (has_decls ds) after in
     let named : AreNamed (declared ++ stated) = each_named (tree.program (tree.body spot ds ss)) accepted in
-    let numbered = all_numbered blocks (blocks_apart spot ds ss order built.0 built.1) in
+    let typed : AllByRecursion (IsTyped blocks) (declared ++ stated) = each_typed (tree.program (tree.body spot ds ss)) accepted in
+    let decls_right : DeclsSpecified ds = specified_decls blocks ds outermost [] (each_front (IsTyped blocks) declared stated typed) in
+    let stmts_right : StmtsSpecified ss = specified_stmts blocks ss (has_decls ds) after (each_back (IsTyped blocks) declared stated typed) in
+    let numbered = all_numbered blocks (blocks_apart spot ds ss order) in
     let numbered_decls = each_front (IsNumbered blocks) (blocks_in_decls ds outer) (blocks_in_stmts ss outer) numbered.1 in
     let numbered_stmts = each_back (IsNumbered blocks) (blocks_in_decls ds outer) (blocks_in_stmts ss outer) numbered.1 in
     let known = each_front IsNamed declared stated named in
-    let called = are_callees blocks first outer ds outermost [] begun.chain_is built.0 numbered_decls known in
-    joined blocks declared stated (in_decls blocks first outer outermost ds [] begun begun built.0 called known numbered_decls)
-    (in_stmts blocks first outer after ss (has_decls ds) (knows_all blocks first outer ds outermost built.0 called begun) built.1 (each_back IsNamed declared stated named) numbered_stmts)
+    let called = are_callees blocks first outer ds outermost [] begun.chain_is decls_right numbered_decls known in
+    joined blocks declared stated (in_decls blocks first outer outermost ds [] begun begun decls_right called known numbered_decls)
+    (in_stmts blocks first outer after ss (has_decls ds) (knows_all blocks first outer ds outermost decls_right called begun) stmts_right (each_back IsNamed declared stated named) numbered_stmts)
 
 -- the names of each part are known, and their uses are found at their places
-pub each_good : (p : PProgram) → Accepted p → IsInOrder p → IsAlone p → AreGood (scopes_of p) (sites_of p)
+pub each_good : (p : PProgram) → Accepted p → IsInOrder p → AreGood (scopes_of p) (sites_of p)
 unfolding scopes_of blocks_of_program scope_faults
-each_good (tree.program (tree.body spot ds ss)) accepted order built =
+each_good (tree.program (tree.body spot ds ss)) accepted order =
     let up_to_levels = nil_front _ _ (nil_front _ _ (nil_front _ _ accepted.scoped)) in
-    good_by spot ds ss order built.0 built.1 (nil_map _ _ (nil_front _ _ (nil_front _ _ up_to_levels)))
+    good_by spot ds ss order (nil_map _ _ (nil_front _ _ (nil_front _ _ up_to_levels)))
 
 -- a block has its number by its place
-pub each_number : (p : PProgram) → IsInOrder p → IsAlone p → (j : ℕ) (b : Block) → slice_get (blocks_of_program p) j ≡ Some b →
+pub each_number : (p : PProgram) → IsInOrder p → (j : ℕ) (b : Block) → slice_get (blocks_of_program p) j ≡ Some b →
     number_at (blocks_of_program p) b.spot ≡ j
 unfolding blocks_of_program
-each_number (tree.program (tree.body spot ds ss)) order built j b h =
-    number_is (the_block spot [] ds ss ∷ (blocks_in_decls ds (spot ∷ []) ++ blocks_in_stmts ss (spot ∷ []))) j b (blocks_apart spot ds ss order built.0 built.1) h
+each_number (tree.program (tree.body spot ds ss)) order j b h =
+    number_is (the_block spot [] ds ss ∷ (blocks_in_decls ds (spot ∷ []) ++ blocks_in_stmts ss (spot ∷ []))) j b (blocks_apart spot ds ss order) h
 
 -- no rule of types and of assignments is broken at a part
 pub each_kept : (p : PProgram) → Accepted p → AreKept (blocks_of_program p) (sites_of p)

@@ -1,6 +1,7 @@
--- The text of each block of a program that is built keeps to it: its names are seen from there, those in bounds from the block around it,
+-- The text of each block of a program keeps to it: its names are seen from there, those in bounds from the block around it,
 -- but for parameters, and the blocks in it stand in it.
-use Rattle.std.proofs.Common.{◌≡◌, arith, ℕ, ◌<◌, ◌≤◌, Bool, true, false, List, ◌∷◌, ◌++◌, map, length, refl, subst, []}
+use Rattle.std.proofs.Common.{◌≡◌, arith, ℕ, ◌<◌, ◌≤◌, Bool, true, false, List, ◌∷◌, ◌++◌, map, length, Option, Some, None, refl, subst, []}
+use Rattle.std.specs.List.{AllByRecursion}
 use Rattle.std.proofs.lemmas.List.{length-map, length-append}
 use Rattle.algol_tree.specs.declared.token.Spot.{Spot}
 use Rattle.algol_tree.specs.declared.tree.Heading.{Heading}
@@ -9,14 +10,14 @@ use Rattle.algol_tree.specs.Blocks.{Block, Begin, of_statement, of_procedure, de
 use Rattle.algol_tree.specs.Cells.{cells_of}
 use Rattle.algol_tree.specs.Plain as tree
 use Rattle.algol_tree.specs.Plain.{PStmt, PStmts, PDecls}
-use Rattle.algol_tree.specs.Scopes.{Scopes}
+use Rattle.algol_tree.specs.Scopes.{Scopes, if_named}
 use Rattle.algol_tree.specs.Sites.{Site, sites, sites_in_pairs, here_stmt, inside_list, inside_stmt, sites_in_stmts, sites_in_decls, has_decls}
 use Rattle.algol_tree.specs.Sorts.{Declared, Parameter, is_named_in, sort_in, parameters_of}
 use Rattle.algol_tree.specs.Surroundings.{Surroundings, formals_at, knowing, knowing_all, inside_begin, inside_procedure}
 use Rattle.algol_paths.specs.Blocks.{IsSeen, IsInner}
-use Rattle.algol_paths.specs.Texts.{InStmt, InStmts}
+use Rattle.algol_paths.specs.Texts.{InName, InStmt, InStmts}
 use Rattle.b67_templates.specs.Cells.{actuals_in_stmt, actuals_in_stmts}
-use Rattle.b67_fitting.specs.Alone.{DeclsAlone, StmtAlone, StmtsAlone}
+use Rattle.b67_fitting.proofs.Headings.{DeclsSpecified, StmtSpecified, StmtsSpecified}
 use Rattle.b67_fitting.specs.Nested.{AreParameters}
 use Rattle.b67_fitting.proofs.ActualsFew.{few_bounds, few_stmt, few_stmts}
 use Rattle.b67_fitting.proofs.Lists.{each_front, each_back, each_both}
@@ -61,12 +62,17 @@ module _ (sc : Scopes) (all : List Site) (each : (k : ℕ) → k < length sc.blo
   text_in of_procedure j (tree.block b) p i = absurd p
   text_in of_procedure j t p i = (i, tt)
 
+  -- the name of a task
+  task_in : (j : ℕ) (task : Option Named) → AllByRecursion (IsSeen sc j) (if_named task) → InName (IsSeen sc j) task
+  task_in j None h = tt
+  task_in j (Some m) h = h.0
+
   -- the body of a procedure has few actuals
-  few_alone : (j : ℕ) (outer : List Spot) (a : Surroundings) (t : PStmt) → IsAround sc.blocks j outer a → StmtAlone t → AreGood sc (here_stmt t false a ∷ inside_stmt sc.blocks t of_statement false a) →
+  few_alone : (j : ℕ) (outer : List Spot) (a : Surroundings) (t : PStmt) → IsAround sc.blocks j outer a → StmtSpecified t → AreGood sc (here_stmt t false a ∷ inside_stmt sc.blocks t of_statement false a) →
       length (actuals_in_stmts sc (tree.stmts t tree.no_stmts)) ≤ length (cells_of sc.blocks (here_stmt t false a ∷ inside_stmt sc.blocks t of_statement false a) a.block)
   few_alone j outer a t r b g = omega (arith, few_stmt sc each outermost j outer a r t false b g, length-append (actuals_in_stmt sc t) [])
 
-  few_body : (j : ℕ) (outer : List Spot) (a : Surroundings) (t : PStmt) → IsAround sc.blocks j outer a → StmtAlone t → AreGood sc (stmt_sites t of_procedure false a) →
+  few_body : (j : ℕ) (outer : List Spot) (a : Surroundings) (t : PStmt) → IsAround sc.blocks j outer a → StmtSpecified t → AreGood sc (stmt_sites t of_procedure false a) →
       AreCallees sc.blocks j (decls_of t) → FewInBody sc t a
   few_body j outer a (tree.block (tree.body spot ds ss)) r b g called =
       let declared = sites_in_decls sc.blocks ds a a.known in
@@ -88,7 +94,7 @@ module _ (sc : Scopes) (all : List Site) (each : (k : ℕ) → k < length sc.blo
   few_body j outer a (tree.for v x s l t) r b g called = few_alone j outer a (tree.for v x s l t) r b g
   few_body j outer a (tree.thru e x) r b g called = few_alone j outer a (tree.thru e x) r b g
   few_body j outer a (tree.case e ss) r b g called = few_alone j outer a (tree.case e ss) r b g
-  few_body j outer a (tree.process c task) r b g called = absurd b
+  few_body j outer a (tree.process (tree.called n es) task) r b g called = few_alone j outer a (tree.process (tree.called n es) task) r b g
   few_body j outer a (tree.event act e) r b g called = few_alone j outer a (tree.event act e) r b g
   few_body j outer a (tree.write n spot phrases es) r b g called = few_alone j outer a (tree.write n spot phrases es) r b g
 
@@ -99,13 +105,13 @@ module _ (sc : Scopes) (all : List Site) (each : (k : ℕ) → k < length sc.blo
   AreNestedIn j outer ss = InStmts (IsSeen sc j) (IsInner sc j) ss × Texts (blocks_in_stmts ss outer)
 
   -- the procedures of these declarations have blocks in the block j
-  pub callees : (j : ℕ) (outer : List Spot) (ds : PDecls) (a : Surroundings) (first : List Declared) → map (number_at sc.blocks) outer ≡ j ∷ around sc.blocks j → DeclsAlone ds →
+  pub callees : (j : ℕ) (outer : List Spot) (ds : PDecls) (a : Surroundings) (first : List Declared) → map (number_at sc.blocks) outer ≡ j ∷ around sc.blocks j → DeclsSpecified ds →
       Fine (blocks_in_decls ds outer) → Part (sites_in_decls sc.blocks ds a first) → AreCallees sc.blocks j ds
   callees j outer ds a first e b f h =
       are_callees sc.blocks j outer ds a first e b (fine_numbered sc all (blocks_in_decls ds outer) f) (part_named sc all (sites_in_decls sc.blocks ds a first) h)
 
   -- so have those that the body of a procedure declares
-  body_callees : (j : ℕ) (outer : List Spot) (t : PStmt) (a : Surroundings) → map (number_at sc.blocks) outer ≡ j ∷ around sc.blocks j → StmtAlone t →
+  body_callees : (j : ℕ) (outer : List Spot) (t : PStmt) (a : Surroundings) → map (number_at sc.blocks) outer ≡ j ∷ around sc.blocks j → StmtSpecified t →
       Fine (blocks_of t of_procedure outer) → Part (stmt_sites t of_procedure false a) → AreCallees sc.blocks j (decls_of t)
   body_callees j outer (tree.block (tree.body spot ds ss)) a e b f h =
       let declared = sites_in_decls sc.blocks ds a a.known in
@@ -115,7 +121,7 @@ module _ (sc : Scopes) (all : List Site) (each : (k : ℕ) → k < length sc.blo
   body_callees j outer t a e b f h = tt
 
   mutual
-    in_stmt : (j : ℕ) (outer : List Spot) (a : Surroundings) (t : PStmt) (begin : Begin) (listed : Bool) → IsAround sc.blocks j outer a → StmtAlone t →
+    in_stmt : (j : ℕ) (outer : List Spot) (a : Surroundings) (t : PStmt) (begin : Begin) (listed : Bool) → IsAround sc.blocks j outer a → StmtSpecified t →
         Part (stmt_sites t begin listed a) → Fine (blocks_of t begin outer) → IsNested begin j outer t
     in_stmt j outer a tree.empty g l r b h f = (text_in g j tree.empty tt tt, tt)
     in_stmt j outer a (tree.label n t) g l r b h f =
@@ -216,7 +222,10 @@ module _ (sc : Scopes) (all : List Site) (each : (k : ℕ) → k < length sc.blo
         let its = rest sc all (here_stmt (tree.case e ss) l a) (sites e a ++ sites_in_stmts sc.blocks ss false a) h in
         let nested = in_stmts j outer a ss false r b (back sc all (sites e a) (sites_in_stmts sc.blocks ss false a) its) f in
         (text_in g j (tree.case e ss) tt (in_expr sc j outer a r e ((front sc all (sites e a) (sites_in_stmts sc.blocks ss false a) its).good), nested.0), nested.1)
-    in_stmt j outer a (tree.process c task) g l r b h f = absurd b
+    in_stmt j outer a (tree.process (tree.called n es) task) g l r b h f =
+        let good = h.good in
+        let seen = all_seen sc j outer a r (n ∷ if_named task) good.0.known good.0.there in
+        (text_in g j (tree.process (tree.called n es) task) tt (seen.0, in_actuals sc j outer a r es (formals_at a n) good.1, task_in j task seen.1), tt)
     in_stmt j outer a (tree.event act e) g l r b h f =
         let good = h.good in
         (text_in g j (tree.event act e) tt ((all_seen sc j outer a r (e.name ∷ []) good.0.known good.0.there).0), tt)
@@ -224,7 +233,7 @@ module _ (sc : Scopes) (all : List Site) (each : (k : ℕ) → k < length sc.blo
         let good = h.good in
         (text_in g j (tree.write n spot phrases es) tt (in_list sc j outer a r es good.1), tt)
 
-    pub in_stmts : (j : ℕ) (outer : List Spot) (a : Surroundings) (ss : PStmts) (listed : Bool) → IsAround sc.blocks j outer a → StmtsAlone ss →
+    pub in_stmts : (j : ℕ) (outer : List Spot) (a : Surroundings) (ss : PStmts) (listed : Bool) → IsAround sc.blocks j outer a → StmtsSpecified ss →
         Part (sites_in_stmts sc.blocks ss listed a) → Fine (blocks_in_stmts ss outer) → AreNestedIn j outer ss
     in_stmts j outer a tree.no_stmts l r b h f = (tt, tt)
     in_stmts j outer a (tree.stmts t ss) l r b h f =
@@ -235,7 +244,7 @@ module _ (sc : Scopes) (all : List Site) (each : (k : ℕ) → k < length sc.blo
         ((first.0, others.0), each_both (IsTextOf sc all) (blocks_of t of_statement outer) (blocks_in_stmts ss outer) first.1 others.1)
 
     -- the procedures that are declared, and what stands in them
-    pub in_decls : (j : ℕ) (outer : List Spot) (a : Surroundings) (ds : PDecls) (first : List Declared) → IsAround sc.blocks j outer a → DeclsAlone ds → AreCallees sc.blocks j ds →
+    pub in_decls : (j : ℕ) (outer : List Spot) (a : Surroundings) (ds : PDecls) (first : List Declared) → IsAround sc.blocks j outer a → DeclsSpecified ds → AreCallees sc.blocks j ds →
         Part (sites_in_decls sc.blocks ds a first) → Fine (blocks_in_decls ds outer) → Texts (blocks_in_decls ds outer)
     in_decls j outer a tree.no_decls first r b c h f = tt
     in_decls j outer a (tree.decls (tree.simple kind ns) ds) first r b c h f =

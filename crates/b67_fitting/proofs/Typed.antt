@@ -1,5 +1,5 @@
 -- Expressions at which no rule is broken are of a kind, and so are the parts of them.
-use Rattle.std.proofs.Common.{arith, ◌≡◌, ◌⊎◌, inl, inr, not, Bool, true, is_some, List, [], ◌∷◌, ◌++◌, map, length, Option, Some, refl, ap, ◌∙◌, subst}
+use Rattle.std.proofs.Common.{arith, ◌≡◌, ◌⊎◌, inl, inr, not, Bool, true, is_some, List, [], ◌∷◌, ◌++◌, map, length, Option, Some, None, refl, ap, ◌∙◌, subst}
 use Rattle.algol_tree.specs.declared.tree.Kind.{Kind}
 use Rattle.algol_tree.specs.declared.tree.Kind.TheVariants as types
 use Rattle.algol_tree.specs.declared.tree.Named.{Named}
@@ -17,7 +17,7 @@ use Rattle.algol_tree.specs.Sorts.{is_named_in, class_in, formals_of}
 use Rattle.algol_tree.specs.Surroundings.{Surroundings, class_of, formals_of_class, declared_as}
 use Rattle.algol_tree.specs.Types.{given_by, taken_by, element_type, result_type, type_of}
 use Rattle.b67_templates.specs.Fragments.{IsWhole}
-use Rattle.b67_fitting.specs.Alone.{HeadingSpecified}
+use Rattle.b67_fitting.proofs.Headings.{HeadingSpecified}
 use Rattle.b67_fitting.specs.Wholes.{NumbersWhole, AllWhole}
 use Rattle.b67_fitting.proofs.Lists.{each_front, each_back, nil_front, nil_back}
 use Rattle.b67_fitting.proofs.Actuals.{IsArrayActual, array_actual, IsEventActual, event_actual}
@@ -92,6 +92,16 @@ module _ (a : Surroundings) where
   -- a call that a statement makes
   abbrev pub IsCalled : Named → PExprs → Type 0
   IsCalled n es = (h : Heading) × (class_of a n ≡ class.procedure h) × HeadingSpecified h × TypedActuals (formals_of h) es
+
+  -- a task, where there is one
+  abbrev pub IsTasked : Option Named → Type 0
+  IsTasked None = Unit {0}
+  IsTasked (Some n) = class_of a n ≡ class.task
+
+  -- the start of a process, of a procedure without a result
+  abbrev pub IsStartOf : Named → PExprs → Option Named → Type 0
+  IsStartOf n es task =
+      (h : Heading) × (class_of a n ≡ class.procedure h) × HeadingSpecified h × TypedActuals (formals_of h) es × (h.kind ≡ None) × IsTasked task
 
   pub record HasKind (e : PExpr) : Type 0 where
     pub kind : Kind

@@ -1,20 +1,19 @@
--- The uses of names in a program that is built stand at places of its text, no two at one.
+-- The uses of names in a program stand at places of its text, no two at one.
 use Rattle.std.proofs.Common.{arith, ◌≡◌, ℕ, ◌+◌, ◌-◌, ◌≤◌, Bool, true, false, List, [], ◌∷◌, ◌++◌, Option, Some, None, refl, ap}
 use Rattle.std.specs.List.{flat_map}
 use Rattle.algol_tree.specs.declared.token.Spot.{Spot}
 use Rattle.algol_tree.specs.declared.tree.Named.{Named}
-use Rattle.algol_tree.specs.Ascending.{spots_of_names, spots_of_expr, spots_of_exprs, spots_of_heading, spots_of_pairs, spots_of_stmt, spots_of_stmts, spots_of_decls}
+use Rattle.algol_tree.specs.Ascending.{spots_of_names, spots_of_expr, spots_of_exprs, spots_of_task, spots_of_heading, spots_of_pairs, spots_of_stmt, spots_of_stmts, spots_of_decls}
 use Rattle.algol_tree.specs.Blocks.{Block, Begin, of_statement, of_procedure}
 use Rattle.algol_tree.specs.Classes.{Formal}
 use Rattle.algol_tree.specs.Plain as tree
 use Rattle.algol_tree.specs.Plain.{PExpr, PExprs, PPair, PStmt, PStmts, PDecls}
-use Rattle.algol_tree.specs.Scopes.{Use, used, use_by, left_use, left_uses, part_uses, uses_at}
+use Rattle.algol_tree.specs.Scopes.{Use, used, use_by, left_use, left_uses, if_named, part_uses, uses_at}
 use Rattle.algol_tree.specs.Sites as site
 use Rattle.algol_tree.specs.Sites.{Site, sites, first_formal, other_formals, wants_value, name_part, actual_part, inside_expr, inside_list, inside_actuals, sites_in_pairs, here_stmt, inside_stmt, sites_in_stmts, sites_in_decls, has_decls}
 use Rattle.algol_tree.specs.Sorts as sort
 use Rattle.algol_tree.specs.Sorts.{Sort, Declared}
 use Rattle.algol_tree.specs.Surroundings.{Surroundings, declared_as, formals_at, knowing, knowing_all, inside, inside_procedure}
-use Rattle.b67_fitting.specs.Alone.{DeclsAlone, StmtAlone, StmtsAlone}
 use Rattle.b67_fitting.proofs.Numbering.{here, times, times_both, places, places_both, use_place}
 
 -- what a name is used as stands at the name
@@ -47,6 +46,11 @@ actual_uses (tree.neg e spot) f a = refl
 actual_uses (tree.not e spot) f a = refl
 actual_uses (tree.two op x y) f a = refl
 actual_uses (tree.if c x y spot) f a = refl
+
+-- the place of a task's name is that of its use
+pub task_places : (task : Option Named) → spots_of_names (if_named task) ≡ spots_of_task task
+task_places None = refl
+task_places (Some n) = refl
 
 module _ (s : Spot) where
   -- how many uses stand at the place
@@ -133,26 +137,26 @@ module _ (s : Spot) where
     stmt_sites t begin listed a = here_stmt t listed a ∷ inside_stmt blocks t begin listed a
 
     mutual
-      in_stmt : (t : PStmt) (begin : Begin) (listed : Bool) (a : Surroundings) → StmtAlone t → uses_in (stmt_sites t begin listed a) ≤ places s (spots_of_stmt t)
-      in_stmt tree.empty g l a b = omega arith
-      in_stmt (tree.label n t) g l a b = omega (arith, of_names a (n ∷ []), in_stmt t of_statement l a b)
-      in_stmt (tree.assign (tree.subscripted n es) e) g l a b =
+      in_stmt : (t : PStmt) (begin : Begin) (listed : Bool) (a : Surroundings) → uses_in (stmt_sites t begin listed a) ≤ places s (spots_of_stmt t)
+      in_stmt tree.empty g l a = omega arith
+      in_stmt (tree.label n t) g l a = omega (arith, of_names a (n ∷ []), in_stmt t of_statement l a)
+      in_stmt (tree.assign (tree.subscripted n es) e) g l a =
           omega (arith, of_left a n (declared_as a n), uses_both (inside_list es a) (sites e a), places_both s (spots_of_exprs es) (spots_of_expr e), in_list a es, in_expr a e)
-      in_stmt (tree.call_of (tree.called n es)) g l a b = omega (arith, of_names a (n ∷ []), in_actuals a es (formals_at a n))
-      in_stmt (tree.go_to n) g l a b = omega (arith, of_names a (n ∷ []))
-      in_stmt (tree.block (tree.body spot ds ss)) g l a b =
+      in_stmt (tree.call_of (tree.called n es)) g l a = omega (arith, of_names a (n ∷ []), in_actuals a es (formals_at a n))
+      in_stmt (tree.go_to n) g l a = omega (arith, of_names a (n ∷ []))
+      in_stmt (tree.block (tree.body spot ds ss)) g l a =
           let c : Surroundings = inside blocks g (tree.body spot ds ss) a in
           let k : Surroundings = knowing_all blocks ds c in
           omega (
             arith,
             uses_both (sites_in_decls blocks ds c c.known) (sites_in_stmts blocks ss (has_decls ds) k),
             places_both s (spots_of_decls ds) (spots_of_stmts ss),
-            in_decls ds c c.known b.0,
-            in_stmts ss (has_decls ds) k b.1,
+            in_decls ds c c.known,
+            in_stmts ss (has_decls ds) k,
           )
-      in_stmt (tree.if_then c x) g l a b =
-          omega (arith, uses_both (sites c a) (stmt_sites x of_statement false a), places_both s (spots_of_expr c) (spots_of_stmt x), in_expr a c, in_stmt x of_statement false a b)
-      in_stmt (tree.if_else c x y) g l a b =
+      in_stmt (tree.if_then c x) g l a =
+          omega (arith, uses_both (sites c a) (stmt_sites x of_statement false a), places_both s (spots_of_expr c) (spots_of_stmt x), in_expr a c, in_stmt x of_statement false a)
+      in_stmt (tree.if_else c x y) g l a =
           omega (
             arith,
             uses_both (sites c a ++ stmt_sites x of_statement false a) (stmt_sites y of_statement false a),
@@ -160,14 +164,14 @@ module _ (s : Spot) where
             places_both s (spots_of_expr c ++ spots_of_stmt x) (spots_of_stmt y),
             places_both s (spots_of_expr c) (spots_of_stmt x),
             in_expr a c,
-            in_stmt x of_statement false a b.0,
-            in_stmt y of_statement false a b.1,
+            in_stmt x of_statement false a,
+            in_stmt y of_statement false a,
           )
-      in_stmt (tree.while c x) g l a b =
-          omega (arith, uses_both (sites c a) (stmt_sites x of_statement false a), places_both s (spots_of_expr c) (spots_of_stmt x), in_expr a c, in_stmt x of_statement false a b)
-      in_stmt (tree.until x c) g l a b =
-          omega (arith, uses_both (stmt_sites x of_statement false a) (sites c a), places_both s (spots_of_stmt x) (spots_of_expr c), in_expr a c, in_stmt x of_statement false a b)
-      in_stmt (tree.for v x y z t) g l a b =
+      in_stmt (tree.while c x) g l a =
+          omega (arith, uses_both (sites c a) (stmt_sites x of_statement false a), places_both s (spots_of_expr c) (spots_of_stmt x), in_expr a c, in_stmt x of_statement false a)
+      in_stmt (tree.until x c) g l a =
+          omega (arith, uses_both (stmt_sites x of_statement false a) (sites c a), places_both s (spots_of_stmt x) (spots_of_expr c), in_expr a c, in_stmt x of_statement false a)
+      in_stmt (tree.for v x y z t) g l a =
           omega (
             arith,
             of_names a (v ∷ []),
@@ -180,35 +184,42 @@ module _ (s : Spot) where
             in_expr a x,
             in_expr a y,
             in_expr a z,
-            in_stmt t of_statement false a b,
+            in_stmt t of_statement false a,
           )
-      in_stmt (tree.thru e x) g l a b =
-          omega (arith, uses_both (sites e a) (stmt_sites x of_statement false a), places_both s (spots_of_expr e) (spots_of_stmt x), in_expr a e, in_stmt x of_statement false a b)
-      in_stmt (tree.case e ss) g l a b =
-          omega (arith, uses_both (sites e a) (sites_in_stmts blocks ss false a), places_both s (spots_of_expr e) (spots_of_stmts ss), in_expr a e, in_stmts ss false a b)
-      in_stmt (tree.process c task) g l a b = absurd b
-      in_stmt (tree.event act e) g l a b = omega (arith, of_names a (e.name ∷ []))
-      in_stmt (tree.write n spot phrases es) g l a b = omega (arith, of_names a (n ∷ []), in_list a es)
+      in_stmt (tree.thru e x) g l a =
+          omega (arith, uses_both (sites e a) (stmt_sites x of_statement false a), places_both s (spots_of_expr e) (spots_of_stmt x), in_expr a e, in_stmt x of_statement false a)
+      in_stmt (tree.case e ss) g l a =
+          omega (arith, uses_both (sites e a) (sites_in_stmts blocks ss false a), places_both s (spots_of_expr e) (spots_of_stmts ss), in_expr a e, in_stmts ss false a)
+      in_stmt (tree.process (tree.called n es) task) g l a =
+          omega (
+            arith,
+            of_names a (n ∷ if_named task),
+            ap (places s) (task_places task),
+            in_actuals a es (formals_at a n),
+            places_both s (spots_of_exprs es) (spots_of_task task),
+          )
+      in_stmt (tree.event act e) g l a = omega (arith, of_names a (e.name ∷ []))
+      in_stmt (tree.write n spot phrases es) g l a = omega (arith, of_names a (n ∷ []), in_list a es)
 
-      pub in_stmts : (ss : PStmts) (listed : Bool) (a : Surroundings) → StmtsAlone ss → uses_in (sites_in_stmts blocks ss listed a) ≤ places s (spots_of_stmts ss)
-      in_stmts tree.no_stmts l a b = omega arith
-      in_stmts (tree.stmts t ss) l a b =
-          omega (arith, uses_both (stmt_sites t of_statement l a) (sites_in_stmts blocks ss l a), places_both s (spots_of_stmt t) (spots_of_stmts ss), in_stmt t of_statement l a b.0, in_stmts ss l a b.1)
+      pub in_stmts : (ss : PStmts) (listed : Bool) (a : Surroundings) → uses_in (sites_in_stmts blocks ss listed a) ≤ places s (spots_of_stmts ss)
+      in_stmts tree.no_stmts l a = omega arith
+      in_stmts (tree.stmts t ss) l a =
+          omega (arith, uses_both (stmt_sites t of_statement l a) (sites_in_stmts blocks ss l a), places_both s (spots_of_stmt t) (spots_of_stmts ss), in_stmt t of_statement l a, in_stmts ss l a)
 
       -- declarations use names only in bounds and in the bodies of procedures
-      pub in_decls : (ds : PDecls) (a : Surroundings) (first : List Declared) → DeclsAlone ds → uses_in (sites_in_decls blocks ds a first) ≤ places s (spots_of_decls ds)
-      in_decls tree.no_decls a first b = omega arith
-      in_decls (tree.decls (tree.simple kind ns) ds) a first b =
-          omega (arith, places_both s (spots_of_names ns) (spots_of_decls ds), in_decls ds (knowing blocks (tree.simple kind ns) ds a) first b.1)
-      in_decls (tree.decls (tree.files ns) ds) a first b =
-          omega (arith, places_both s (spots_of_names ns) (spots_of_decls ds), in_decls ds (knowing blocks (tree.files ns) ds a) first b.1)
-      in_decls (tree.decls (tree.events ns) ds) a first b =
-          omega (arith, places_both s (spots_of_names ns) (spots_of_decls ds), in_decls ds (knowing blocks (tree.events ns) ds a) first b.1)
-      in_decls (tree.decls (tree.tasks ns) ds) a first b =
-          omega (arith, places_both s (spots_of_names ns) (spots_of_decls ds), in_decls ds (knowing blocks (tree.tasks ns) ds a) first b.1)
-      in_decls (tree.decls (tree.labels ns) ds) a first b =
-          omega (arith, places_both s (spots_of_names ns) (spots_of_decls ds), in_decls ds (knowing blocks (tree.labels ns) ds a) first b.1)
-      in_decls (tree.decls (tree.arrays kind ns pairs) ds) a first b =
+      pub in_decls : (ds : PDecls) (a : Surroundings) (first : List Declared) → uses_in (sites_in_decls blocks ds a first) ≤ places s (spots_of_decls ds)
+      in_decls tree.no_decls a first = omega arith
+      in_decls (tree.decls (tree.simple kind ns) ds) a first =
+          omega (arith, places_both s (spots_of_names ns) (spots_of_decls ds), in_decls ds (knowing blocks (tree.simple kind ns) ds a) first)
+      in_decls (tree.decls (tree.files ns) ds) a first =
+          omega (arith, places_both s (spots_of_names ns) (spots_of_decls ds), in_decls ds (knowing blocks (tree.files ns) ds a) first)
+      in_decls (tree.decls (tree.events ns) ds) a first =
+          omega (arith, places_both s (spots_of_names ns) (spots_of_decls ds), in_decls ds (knowing blocks (tree.events ns) ds a) first)
+      in_decls (tree.decls (tree.tasks ns) ds) a first =
+          omega (arith, places_both s (spots_of_names ns) (spots_of_decls ds), in_decls ds (knowing blocks (tree.tasks ns) ds a) first)
+      in_decls (tree.decls (tree.labels ns) ds) a first =
+          omega (arith, places_both s (spots_of_names ns) (spots_of_decls ds), in_decls ds (knowing blocks (tree.labels ns) ds a) first)
+      in_decls (tree.decls (tree.arrays kind ns pairs) ds) a first =
           let after : Surroundings = knowing blocks (tree.arrays kind ns pairs) ds a in
           let bounds : Surroundings = record after { known = first } in
           omega (
@@ -217,11 +228,11 @@ module _ (s : Spot) where
             places_both s (spots_of_names ns ++ spots_of_pairs pairs) (spots_of_decls ds),
             places_both s (spots_of_names ns) (spots_of_pairs pairs),
             in_pairs bounds pairs,
-            in_decls ds after first b.1,
+            in_decls ds after first,
           )
-      in_decls (tree.decls (tree.forward h) ds) a first b =
-          omega (arith, places_both s (spots_of_heading h) (spots_of_decls ds), in_decls ds (knowing blocks (tree.forward h) ds a) first b.1)
-      in_decls (tree.decls (tree.procedure h t) ds) a first b =
+      in_decls (tree.decls (tree.forward h) ds) a first =
+          omega (arith, places_both s (spots_of_heading h) (spots_of_decls ds), in_decls ds (knowing blocks (tree.forward h) ds a) first)
+      in_decls (tree.decls (tree.procedure h t) ds) a first =
           let after : Surroundings = knowing blocks (tree.procedure h t) ds a in
           let c : Surroundings = inside_procedure blocks h after in
           omega (
@@ -229,6 +240,6 @@ module _ (s : Spot) where
             uses_both (stmt_sites t of_procedure false c) (sites_in_decls blocks ds after first),
             places_both s (spots_of_heading h ++ spots_of_stmt t) (spots_of_decls ds),
             places_both s (spots_of_heading h) (spots_of_stmt t),
-            in_stmt t of_procedure false c b.0.1,
-            in_decls ds after first b.1,
+            in_stmt t of_procedure false c,
+            in_decls ds after first,
           )

@@ -1,4 +1,4 @@
--- An accepted program of one process has code: its trees fit.
+-- An accepted program has code: its trees fit.
 use Rattle.std.specs.Prelude.{◌≡◌, ℕ, ◌<◌, if◌then◌else◌, false, map, length, Option, Some, None}
 use Rattle.std.specs.List.{flat_map}
 use Rattle.algol_tree.specs.declared.token.Spot.{Spot}
@@ -20,7 +20,6 @@ use Rattle.algol_paths.specs.Segments.{segment_of}
 use Rattle.b67_ops.specs.declared.Couple.{Couple}
 use Rattle.b67_templates.specs.Labels.{label_number, table_place}
 use Rattle.b67_templates.specs.Fitting.{Meant, a_variable, a_name, a_procedure, an_event, another, Target, Told, DeclsFit, StmtsFit}
-use Rattle.b67_fitting.specs.Alone.{IsAlone}
 use Rattle.b67_fitting.specs.Texts.{HasPlainTexts}
 use Rattle.b67_fitting.specs.Wholes.{HasWholeNumbers}
 
@@ -90,5 +89,5 @@ pub record BlockFits (p : PProgram) (told : Told) (j : ℕ) : Type 0 where
 -- each block fits its level
 abbrev pub AcceptedProgramsFit : Type 0
 AcceptedProgramsFit =
-    (p : PProgram) (told : Told) → Accepted p → IsInOrder p → IsAlone p → HasWholeNumbers p → HasPlainTexts p → IsToldOf p told → (j : ℕ) → j < length (scopes_of p).blocks →
+    (p : PProgram) (told : Told) → Accepted p → IsInOrder p → HasWholeNumbers p → HasPlainTexts p → IsToldOf p told → (j : ℕ) → j < length (scopes_of p).blocks →
     BlockFits p told j

@@ -1,5 +1,3 @@
-pub mod Built
-pub mod Alone
 pub mod Wholes
 pub mod Texts
 pub mod Names

@@ -1,4 +1,4 @@
--- How the blocks of an accepted program of one process lie in one another.
+-- How the blocks of an accepted program lie in one another.
 use Rattle.std.specs.Prelude.{◌≡◌, ℕ, ◌+◌, ◌<◌, ◌≤◌, true, List, [], ◌∷◌, length, None, Some, slice_get}
 use Rattle.algol_tree.specs.declared.TheConstants.{MOST_BLOCK_CELLS, MOST_LEVEL, MOST_PROCEDURES, MOST_SEGMENT_TOKENS}
 use Rattle.algol_tree.specs.declared.tree.Kind.{Kind}
@@ -17,7 +17,6 @@ use Rattle.algol_paths.specs.Laws.{ItemsKeepToText}
 use Rattle.algol_paths.specs.Segments.{is_procedure, procedures_before, segment_tokens}
 use Rattle.b67_templates.specs.Cells as wants
 use Rattle.b67_templates.specs.Cells.{Simple, parameter_cells, simple_cells, found_from, procedures, actuals_of, made_of}
-use Rattle.b67_fitting.specs.Alone.{IsAlone}
 use Rattle.b67_fitting.specs.Names.{HasNames}
 
 -- the block of a procedure that the block with this number declares stands in it
@@ -73,4 +72,4 @@ pub record LiesNested (p : PProgram) : Type 0 where
   pub short : (k : ℕ) → segment_tokens p k ≤ MOST_SEGMENT_TOKENS
 
 abbrev pub ProgramsLieNested : Type 0
-ProgramsLieNested = (p : PProgram) → Accepted p → IsInOrder p → IsAlone p → HasNames p → LiesNested p
+ProgramsLieNested = (p : PProgram) → Accepted p → IsInOrder p → HasNames p → LiesNested p
