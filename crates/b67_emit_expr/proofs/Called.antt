@@ -21,18 +21,20 @@ use Rattle.b67_segment.specs.Operators.{size}
 use Rattle.b67_segment.specs.Building.{Built, level_set}
 use Rattle.b67_templates.specs.Contexts.{Context}
 use Rattle.b67_templates.specs.Cells.{Wanted, parameter_wants, IsProcedure}
-use Rattle.b67_templates.specs.Code.{BegunAt, CallAt, ActualsAt}
+use Rattle.b67_templates.specs.Code.{BegunAt, ActualsAt}
 use Rattle.b67_templates.specs.Fragments.{Has}
 use Rattle.b67_templates.specs.Emitting.{Emitted}
 use Rattle.b67_templates.specs.Fitting.{Told, is_by_name, ProcedureFits, ActualsFit}
 use Rattle.b67_templates.specs.Paying.{modes_of, if_known, mode_at, given_syllables, inline, inline_given}
 use Rattle.b67_emitter.specs.declared.names.Names.{Names}
-use Rattle.b67_emitter.specs.Values.{couples, meant, meanings, AreNear, HasCall, CallEmitted}
+use Rattle.b67_emitter.specs.Values.{couples, meant, meanings, AreNear, HasCall, CallEmitted, FilledEmitted, filled_syllables}
+use Rattle.b67_emitter.proofs.Appends.{same_level}
+use Rattle.b67_emitter.proofs.Composing.{then, weaker}
 use Rattle.b67_emitter.proofs.Seen.{seen_further}
 use Rattle.b67_emit_expr.specs.Passing.{HasActual, ActualEmitted}
 use Rattle.b67_emit_expr.proofs.Shapes.{call_is}
 use Rattle.b67_emit_expr.proofs.Couples.{known_procedure, seen_procedure}
-use Rattle.b67_emit_expr.proofs.Calls.{call_part}
+use Rattle.b67_emit_expr.proofs.Calls.{call_filled}
 use Rattle.b67_emit_expr.proofs.Actuals.{Left, all_left, none_left, next_has, next_left}
 use Rattle.b67_emit_expr.proofs.Listed.{nowhere}
 use Rattle.b67_emit_expr.proofs.Modes.{own_modes, next_given}
@@ -68,9 +70,17 @@ module _ (s : Names) (level : ℕ) (c : Call) (h : HasCall s level (call c)) whe
   pub own_wanted : own_modes s c.name ≡ map is_by_name (parameter_wants h.scopes h.callee)
   own_wanted = ap modes_of own_procedure.modes
 
+-- .. also where another builder has that level
+pub call_on : (s : Names) (l m : ℕ) (c : PCall) → m ≡ l → HasCall s l c → HasCall s m c
+call_on s l m c same h = let H : ℕ → Type 0 = λ x. HasCall s x c in subst H (sym same) h
+
 -- how many syllables a call has
 pub call_syllables : (s : Names) (c : Call) → inline (meanings s) (tree.call (call c)) ≡ 12 + inline_given (meanings s) (own_modes s c.name) (exprs c.actuals)
 call_syllables s c = ap (λ (p : PCall). inline (meanings s) (tree.call p)) (call_is c)
+
+-- .. those of the beginning, and those of the actuals and the entry
+pub rest_syllables : (s : Names) (c : Call) → filled_syllables s (call c) ≡ inline_given (meanings s) (own_modes s c.name) (exprs c.actuals) + 1
+rest_syllables s c = ap (λ (p : PCall). filled_syllables s p) (call_is c)
 
 -- ---- the actuals
 
@@ -117,42 +127,52 @@ module _ (s : Names) (level : ℕ) (a b : Built) (xs : List Expr) where
 
 -- ---- the whole
 
-module _ (s : Names) (a b d e : Built) (c : Call) (i : ℕ) (xs left : List Expr) (whole : xs ≡ c.actuals) (done : left ≡ []) (couple : Couple)
-    (known : couples s c.name.spot ≡ Some couple) (level : d.level ≡ a.level)
-    (begun : (scopes : Scopes) (context : Context) (n : Named) (callee : ℕ) → IsProcedure scopes context.level n callee couple →
-    Emitted a b (λ qs. BegunAt scopes context qs (level_set a) n callee (size a.operators) (size b.operators)))
-    (filled : LeftOf s (level_set a) b d (own_modes s c.name) i xs left)
+module _ (s : Names) (level : ℕ) (b d e : Built) (c : Call) (i : ℕ) (xs left : List Expr) (whole : xs ≡ c.actuals) (done : left ≡ [])
+    (same : d.level ≡ b.level) (is_level : level ≡ level_set b) (filled : LeftOf s level b d (own_modes s c.name) i xs left)
     (enter : Emitted d e (λ qs. Has qs (level_set d) (size d.operators) (ops.Plain kinds.Entr) (size e.operators))) where
-  own_filled : LeftOf s (level_set a) b d (own_modes s c.name) i c.actuals []
-  own_filled =
-      let X : List Expr → Type 0 = λ ys. LeftOf s (level_set a) b d (own_modes s c.name) i ys left in
-      let L : List Expr → Type 0 = λ ys. LeftOf s (level_set a) b d (own_modes s c.name) i c.actuals ys in
+  own_left : LeftOf s level b d (own_modes s c.name) i c.actuals []
+  own_left =
+      let X : List Expr → Type 0 = λ ys. LeftOf s level b d (own_modes s c.name) i ys left in
+      let L : List Expr → Type 0 = λ ys. LeftOf s level b d (own_modes s c.name) i c.actuals ys in
       subst L done (subst X whole filled)
 
-  own_call : (scopes : Scopes) (context : Context) (callee : ℕ) → ProcedureFits scopes (meanings s) context.level c.name callee →
-      (sorts : List Sort) (wanted : List Wanted) → own_modes s c.name ≡ map is_by_name wanted →
+  own_filled : (scopes : Scopes) (context : Context) (sorts : List Sort) (wanted : List Wanted) → own_modes s c.name ≡ map is_by_name wanted →
       ActualsFit scopes (meanings s) context.level context.block sorts wanted (exprs c.actuals) →
-      Emitted a e (λ qs. CallAt scopes context qs (level_set a) c.name callee (ActualsAt scopes context qs (level_set a) sorts wanted (exprs c.actuals)) (size a.operators) (size e.operators))
-  own_call scopes context callee p sorts wanted are fit =
-      let same : p.couple ≡ couple = cc (p.known_is, known) in
-      let P : Couple → Type 0 = λ x. IsProcedure scopes context.level c.name callee x in
-      call_part scopes context c.name callee a b d e (λ qs. ActualsAt scopes context qs (level_set a) sorts wanted (exprs c.actuals)) level
-      (begun scopes context c.name callee (subst P same p.procedure))
-      (none_left s scopes context (level_set a) b sorts wanted (exprs c.actuals) d (drop i (own_modes s c.name)) (own_filled scopes context sorts wanted are fit)) enter
+      Emitted b e (λ qs. (m : ℕ) × ActualsAt scopes context qs level sorts wanted (exprs c.actuals) (size b.operators) m × Has qs level m (ops.Plain kinds.Entr) (size e.operators))
+  own_filled scopes context sorts wanted are fit =
+      let E : ℕ → Type 0 = λ l. Emitted d e (λ qs. Has qs l (size d.operators) (ops.Plain kinds.Entr) (size e.operators)) in
+      weaker (λ qs. (m : ℕ) × ActualsAt scopes context qs level sorts wanted (exprs c.actuals) (size b.operators) m × Has qs level m (ops.Plain kinds.Entr) (size e.operators))
+      (then (none_left s scopes context level b sorts wanted (exprs c.actuals) d (drop i (own_modes s c.name)) (own_left scopes context sorts wanted are fit))
+      (subst E (same_level b d same ∙ sym is_level) enter))
+      (λ qs p. (size d.operators, p.0, p.1))
 
-  pub called_form : CallEmitted s (level_set a) a e (call c)
-  called_form = record {
+  pub filled_form : FilledEmitted s level b e (call c)
+  filled_form = record {
     code = λ scopes context n es callee is p fit.
         let sorts = sorts_of ((block_numbered scopes.blocks callee).parameters) in
         let wanted = parameter_wants scopes callee in
         let P : Named → Type 0 = λ m. ProcedureFits scopes (meanings s) context.level m callee in
         let F : PExprs → Type 0 = λ xs. ActualsFit scopes (meanings s) context.level context.block sorts wanted xs in
-        let N : Named → Type 0 = λ m. Emitted a e (λ qs. CallAt scopes context qs (level_set a) m callee
-        (ActualsAt scopes context qs (level_set a) sorts wanted es) (size a.operators) (size e.operators)) in
-        let E : PExprs → Type 0 = λ xs. Emitted a e (λ qs. CallAt scopes context qs (level_set a) c.name callee
-        (ActualsAt scopes context qs (level_set a) sorts wanted xs) (size a.operators) (size e.operators)) in
-        let named = own_name c n es is in
+        let E : PExprs → Type 0 = λ xs. Emitted b e (λ qs. (m : ℕ) × ActualsAt scopes context qs level sorts wanted xs (size b.operators) m
+        × Has qs level m (ops.Plain kinds.Entr) (size e.operators)) in
         let given = own_actuals c n es is in
-        let fits : ProcedureFits scopes (meanings s) context.level c.name callee = subst P named p in
-        subst N (sym named) (subst E (sym given) (own_call scopes context callee fits sorts wanted (ap modes_of fits.modes) (subst F given fit)));
+        let fits : ProcedureFits scopes (meanings s) context.level c.name callee = subst P (own_name c n es is) p in
+        subst E (sym given) (own_filled scopes context sorts wanted (ap modes_of fits.modes) (subst F given fit));
   }
+
+-- a call: its beginning, and after it the actuals and the entry
+pub called_form : (s : Names) (a b e : Built) (c : Call) (couple : Couple) → couples s c.name.spot ≡ Some couple → b.level ≡ a.level →
+    ((scopes : Scopes) (context : Context) (n : Named) (callee : ℕ) → IsProcedure scopes context.level n callee couple →
+    Emitted a b (λ qs. BegunAt scopes context qs (level_set a) n callee (size a.operators) (size b.operators))) →
+    FilledEmitted s (level_set b) b e (call c) → CallEmitted s (level_set a) a e (call c)
+called_form s a b e c couple known level begun filled = record {
+  code = λ scopes context n es callee is p fit.
+      let sorts = sorts_of ((block_numbered scopes.blocks callee).parameters) in
+      let wanted = parameter_wants scopes callee in
+      let same : p.couple ≡ couple = cc (own_name c n es is, p.known_is, known) in
+      let P : Couple → Type 0 = λ x. IsProcedure scopes context.level n callee x in
+      let L : ℕ → Type 0 = λ l. Emitted b e (λ qs. (m : ℕ) × ActualsAt scopes context qs l sorts wanted es (size b.operators) m
+      × Has qs l m (ops.Plain kinds.Entr) (size e.operators)) in
+      call_filled scopes context n callee a b e (λ qs. ActualsAt scopes context qs (level_set a) sorts wanted es)
+      (begun scopes context n callee (subst P same p.procedure)) (subst L (same_level a b level) (filled.code scopes context n es callee is p fit));
+}

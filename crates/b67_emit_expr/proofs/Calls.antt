@@ -27,3 +27,12 @@ call_part scopes context n callee a b c d On same begun on enter =
     weaker (λ qs. CallAt scopes context qs (level_set a) n callee (On qs) (size a.operators) (size d.operators))
     (then begun (then on (subst E (same_level a c same) enter)))
     (λ qs p. (size b.operators, size c.operators, p.0, p.1.0, p.1.1))
+
+-- the same where the entry was appended with what lies on it
+pub call_filled : (scopes : Scopes) (context : Context) (n : Named) (callee : ℕ) (a b d : Built) (On : List Placed → ℕ → ℕ → Type 0) →
+    Emitted a b (λ qs. BegunAt scopes context qs (level_set a) n callee (size a.operators) (size b.operators)) →
+    Emitted b d (λ qs. (m : ℕ) × On qs (size b.operators) m × Has qs (level_set a) m (ops.Plain kinds.Entr) (size d.operators)) →
+    Emitted a d (λ qs. CallAt scopes context qs (level_set a) n callee (On qs) (size a.operators) (size d.operators))
+call_filled scopes context n callee a b d On begun on =
+    weaker (λ qs. CallAt scopes context qs (level_set a) n callee (On qs) (size a.operators) (size d.operators)) (then begun on)
+    (λ qs p. (size b.operators, p.1.0, p.0, p.1.1, p.1.2))

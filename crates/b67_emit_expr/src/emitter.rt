@@ -2,7 +2,7 @@
 
 use crate::naming::append_place;
 use crate::placing::place_of;
-use crate::values::{applied, called, operand, subscripts};
+use crate::values::{applied, called, filled, operand, subscripts};
 use algol_tree::{Call, Expr, Variable};
 use b67_emitter::{ExprEmitter, Names, aim, append_branch, append_plain};
 use b67_ops::{BranchKind, PlainKind};
@@ -23,6 +23,10 @@ impl ExprEmitter for Exprs {
 
     fn call(&self, c: &Call, names: &Names, out: &mut Builder) -> Result<(), AllocError> {
         called(c, names, out, &mut Vec::new(self.alloc))
+    }
+
+    fn filled(&self, c: &Call, names: &Names, out: &mut Builder) -> Result<(), AllocError> {
+        filled(c, names, out, &mut Vec::new(self.alloc))
     }
 
     fn name(&self, v: &Variable, names: &Names, out: &mut Builder) -> Result<(), AllocError> {

@@ -8,7 +8,7 @@ ghost use Rattle.b67_segment.specs.declared.TheConstants.{MOST_SEGMENT_SYLLABLES
 ghost use Rattle.b67_segment.specs.Operators.{size};
 ghost use Rattle.b67_segment.specs.Building.{level_set};
 ghost use Rattle.b67_templates.specs.Paying.{given_syllables, inline};
-ghost use Rattle.b67_emitter.specs.Values.{AreNear, meanings, HasCode, ValueEmitted, ValueWithExits, HasCall, CallEmitted};
+ghost use Rattle.b67_emitter.specs.Values.{AreNear, meanings, HasCode, ValueEmitted, ValueWithExits, HasCall, CallEmitted, FilledEmitted, filled_syllables};
 ghost use Rattle.b67_templates.specs.Fragments.{IsWhole};
 ghost use Rattle.b67_emit_expr.specs.Applying.{AppliedEmitted};
 ghost use Rattle.b67_emit_expr.specs.Passing.{HasActual, ActualEmitted};
@@ -147,6 +147,36 @@ fn given(
     }
 }
 
+/// The actuals of a call or of a PROCESS in their order, and the entry.
+#[cycle(values)]
+pub fn filled(
+    c: &Call,
+    names: &Names,
+    out: &mut Builder,
+    exits: &mut Vec<u16>,
+) -> Result<(), AllocError>
+    requires set { IsSome out.old.level }
+    requires near { AreNear names.now }
+    requires code { HasCall names.now (level_set out.old) (call c.now) }
+    requires room { size out.old.operators + filled_syllables names.now (call c.now) ≤ MOST_SEGMENT_SYLLABLES }
+    ensures code { OnOk result (FilledEmitted names.now (level_set out.old) out.old out.new (call c.now)) }
+    ensures level { OnOk result (out.new.level ≡ out.old.level) }
+    ensures size { OnOk result (size out.new.operators ≤ size out.old.operators + filled_syllables names.now (call c.now)) }
+    ensures exits { OnOk result (exits.new.items ≡ exits.old.items) }
+{
+    let actuals = c.actuals.items().as_slice();
+    'actuals: for number in 0..actuals.len() {
+        given(
+            &actuals[number],
+            takes_name(names, &c.name, number),
+            names,
+            out,
+            exits,
+        )?;
+    }
+    append_plain(out, PlainKind::Entr)
+}
+
 /// A call: its beginning, the actuals in their order, the entry.
 #[cycle(values)]
 pub fn called(
@@ -165,17 +195,7 @@ pub fn called(
     ensures exits { OnOk result (exits.new.items ≡ exits.old.items) }
 {
     append_begun(out, couple_of(names, &c.name))?;
-    let actuals = c.actuals.items().as_slice();
-    'actuals: for number in 0..actuals.len() {
-        given(
-            &actuals[number],
-            takes_name(names, &c.name, number),
-            names,
-            out,
-            exits,
-        )?;
-    }
-    append_plain(out, PlainKind::Entr)
+    filled(c, names, out, exits)
 }
 
 /// A subscript, moved by this lower bound.

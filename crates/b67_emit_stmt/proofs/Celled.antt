@@ -168,7 +168,7 @@ module _ (sc : Place) (s : Known) where
     celled_stmt level (tree.label n x) f = celled_stmt level x f.1
     celled_stmt level (tree.go_to n) f = refl
     celled_stmt level (tree.event act e) f = refl
-    celled_stmt level (tree.process c task) f = absurd f
+    celled_stmt level (tree.process (tree.called n es) task) f = celled_called sc.scopes told level sc.block n es f.0 f.1 f.2
 
     celled_stmts : (level : ℕ) (ss : PStmts) → StmtsFit sc s level ss → exprs_of (actuals_in_stmts sc.scopes ss) ≡ cells_in_stmts told ss
     celled_stmts level tree.no_stmts f = refl

@@ -3,6 +3,7 @@ pub mod Drafts
 pub mod Names
 pub mod Parts
 pub mod Calls
+pub mod Starts
 pub mod Steps
 pub mod Lines
 pub mod Arms

@@ -1,6 +1,6 @@
 -- A statement whose plain tree is known: what it needs, and what its code is.
-use Rattle.std.proofs.Common.{◌≡◌, ℕ, ◌+◌, ◌≤◌, List, refl, sym, ◌∙◌, subst, arith}
-use Rattle.std.specs.Prelude.{IsSome}
+use Rattle.std.proofs.Common.{◌≡◌, ℕ, ◌+◌, ◌≤◌, List, length, refl, sym, ap, ◌∙◌, subst, arith}
+use Rattle.std.specs.Prelude.{IsSome, Option}
 use Rattle.algol_tree.specs.declared.token.Spot.{Spot}
 use Rattle.algol_tree.specs.declared.tree.EventAct.{EventAct}
 use Rattle.algol_tree.specs.declared.tree.EventName.{EventName}
@@ -10,7 +10,7 @@ use Rattle.algol_tree.specs.declared.tree.Op.TheVariants as operators
 use Rattle.algol_tree.specs.declared.tree.PhraseText.{PhraseText}
 use Rattle.algol_tree.specs.Plain as tree
 use Rattle.algol_tree.specs.Plain.{PCall, PExpr, PExprs, PStmt}
-use Rattle.b67_emit_stmt.specs.Places.{Later, Place, AssignAt, CallStmtAt, ExprAt, GoToAt, OnEventAt, StepAt, WriteAt}
+use Rattle.b67_emit_stmt.specs.Places.{Later, Place, AssignAt, CallStmtAt, ExprAt, GoToAt, OnEventAt, StartAt, StepAt, WriteAt}
 use Rattle.b67_emit_stmt.specs.declared.draft.Known.{Known}
 use Rattle.algol_meaning.specs.Statements as meaning
 use Rattle.b67_segment.specs.declared.TheConstants.{MOST_SEGMENT_SYLLABLES}
@@ -19,7 +19,7 @@ use Rattle.b67_segment.specs.Building.{Built, level_set}
 use Rattle.b67_emit_stmt.specs.Lengths.{expr_syllables, stmt_syllables, write_syllables}
 use Rattle.b67_templates.specs.Emitting.{Emitted}
 use Rattle.b67_templates.specs.Events.{intrinsic_for}
-use Rattle.b67_emit_stmt.specs.Fits.{AssignFits, CallStmtFits, EventFits, ExprFits, LabelFits, ReadFits, VariableFits, StmtFits, WriteFits}
+use Rattle.b67_emit_stmt.specs.Fits.{AssignFits, CallStmtFits, EventFits, ExprFits, LabelFits, ReadFits, StartFits, VariableFits, StmtFits, WriteFits}
 use Rattle.b67_emit_stmt.specs.declared.draft.Draft.{Draft}
 use Rattle.b67_emit_stmt.specs.Drafts.{Emits, IsReady, HasFew, noted}
 use Rattle.b67_emit_stmt.specs.Emits.{HasFit, EmitsStmt, EmitsThen}
@@ -46,6 +46,13 @@ pub call_fits : (s : Known) (a : Draft) (p : PStmt) (c : PCall) (n : Named) (es 
 call_fits s a p c n es is same ready =
     let Z : PCall → Type 0 = λ x. size a.out.operators + (expr_syllables s (tree.call x) + 1) ≤ MOST_SEGMENT_SYLLABLES in
     let there : Z (tree.called n es) = omega (arith, (ready_as s a p (tree.call_of (tree.called n es)) is ready).room) in
+    subst Z (sym same) there
+
+pub start_room : (s : Known) (a : Draft) (p : PStmt) (c : PCall) (n : Named) (es : PExprs) (task : Option Named) → p ≡ tree.process (tree.called n es) task → c ≡ tree.called n es →
+    IsReady s a (stmt_syllables s p) → size a.out.operators + (expr_syllables s (tree.call c) + 6) ≤ MOST_SEGMENT_SYLLABLES
+start_room s a p c n es task is same ready =
+    let Z : PCall → Type 0 = λ x. size a.out.operators + (expr_syllables s (tree.call x) + 6) ≤ MOST_SEGMENT_SYLLABLES in
+    let there : Z (tree.called n es) = omega (arith, (ready_as s a p (tree.process (tree.called n es) task) is ready).room) in
     subst Z (sym same) there
 
 -- .. and so have GO TO and a statement on an event
@@ -175,6 +182,21 @@ module _ (s : Known) (a b : Draft) (p : PStmt) where
       let code : Emits most a b (λ later qs target. CallStmtAt sc later qs level n es (size a.out.operators) (size b.out.operators)) =
       piece {n = most} {d = a} {e = b} xs fs few (λ later. h sc later (subst F is fit)) (subst Z same short) in
       subst E (sym is) (emits_weaker (Stands sc level (tree.call_of (tree.called n es)) a b) code (omega arith) (λ later qs target hi x. x))
+
+  pub start_emitted : (c : PCall) (n : Named) (es : PExprs) (task : Option Named) → p ≡ tree.process (tree.called n es) task → c ≡ tree.called n es → b.exits.items ≡ a.exits.items →
+      noted b ≡ noted a → HasFew a →
+      ((sc : Place) (later : Later) → StartFits sc s (level_set a.out) n es task →
+      Emitted a.out b.out (λ qs. StartAt sc later qs (level_set a.out) n es task (size a.out.operators) (size b.out.operators))) →
+      size b.out.operators ≤ size a.out.operators + (expr_syllables s (tree.call c) + 6) → EmitsStmt s a b p
+  start_emitted c n es task is same xs fs few h short = λ sc fit.
+      let level = level_set a.out in
+      let Z : PCall → Type 0 = λ x. size b.out.operators ≤ size a.out.operators + (expr_syllables s (tree.call x) + 6) in
+      let most = expr_syllables s (tree.call (tree.called n es)) + 6 in
+      let F : PStmt → Type 0 = λ x. StmtFits sc s level x in
+      let E : PStmt → Type 0 = λ x. Emits (stmt_syllables s x) a b (Stands sc level x a b) in
+      let code : Emits most a b (λ later qs target. StartAt sc later qs level n es task (size a.out.operators) (size b.out.operators)) =
+      piece {n = most} {d = a} {e = b} xs fs few (λ later. h sc later (subst F is fit)) (subst Z same short) in
+      subst E (sym is) (emits_weaker (Stands sc level (tree.process (tree.called n es) task) a b) code (omega arith) (λ later qs target hi x. x))
 
   pub go_to_emitted : (n : Named) → p ≡ tree.go_to n → b.exits.items ≡ a.exits.items → noted b ≡ noted a → HasFew a →
       ((sc : Place) (later : Later) → LabelFits sc s (level_set a.out) n →

@@ -57,6 +57,9 @@ go_to_is n = search (rules, stmts'.the_lemmas)
 event_is : (act : EventAct) (e : EventName) → stmt (shapes.Event act e) ≡ tree.event act e
 event_is act e = search (rules, stmts'.the_lemmas)
 
+process_is : (c : Call) (task : Option Named) → stmt (shapes.Process c task) ≡ tree.process (call c) task
+process_is c task = search (rules, stmts'.the_lemmas)
+
 -- ---- the same where a part is named otherwise
 
 pub label_as : (s p : Stmt) (n : Named) (b : Box Stmt Global) → s ≡ shapes.Label n b → p ≡ b.value → stmt s ≡ tree.label n (stmt p)
@@ -70,6 +73,9 @@ event_as s act e is = ap stmt is ∙ event_is act e
 
 pub call_as : (s : Stmt) (c : Call) → s ≡ shapes.Call c → stmt s ≡ tree.call_of (tree.called c.name (exprs c.actuals))
 call_as s c is = ap stmt is ∙ call_of_is c ∙ ap tree.call_of (call_is c)
+
+pub process_as : (s : Stmt) (c : Call) (task : Option Named) → s ≡ shapes.Process c task → stmt s ≡ tree.process (tree.called c.name (exprs c.actuals)) task
+process_as s c task is = ap stmt is ∙ process_is c task ∙ ap (λ x. tree.process x task) (call_is c)
 
 pub empty_as : (s : Stmt) → s ≡ shapes.Empty → stmt s ≡ tree.empty
 empty_as s is = ap stmt is ∙ empty_is

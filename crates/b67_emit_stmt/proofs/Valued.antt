@@ -164,7 +164,7 @@ module _ (sc : Place) (s : Known) (inner : AreInner (meanings s.names.now)) wher
     have_stmt level (tree.label n x) f = have_stmt level x f.1
     have_stmt level (tree.go_to n) f = tt
     have_stmt level (tree.event act e) f = tt
-    have_stmt level (tree.process c task) f = absurd f
+    have_stmt level (tree.process (tree.called n es) task) f = have_called sc.scopes told inner level sc.block n es f.0 f.1 f.2
 
     have_stmts : (level : ℕ) (ss : PStmts) → StmtsFit sc s level ss → In level (actuals_in_stmts sc.scopes ss)
     have_stmts level tree.no_stmts f = tt

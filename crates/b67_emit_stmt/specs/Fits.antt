@@ -92,6 +92,10 @@ module _ (sc : Place) (s : Known) (level : ℕ) where
   abbrev pub CallStmtFits : Named → PExprs → Type 0
   CallStmtFits n es = fitting.CallStmtFits sc.scopes (meanings s.names.now) level sc.block n es
 
+  -- the process that a statement starts
+  abbrev pub StartFits : Named → PExprs → Option Named → Type 0
+  StartFits n es task = fitting.StartFits sc.scopes (meanings s.names.now) level sc.block n es task
+
 -- in the segment that is known, in the text of the block with this number
 module _ (scopes : Scopes) (segment : ℕ) (s : Known) where
   abbrev place : ℕ → Place
@@ -119,7 +123,7 @@ module _ (scopes : Scopes) (segment : ℕ) (s : Known) where
     Fits level block (tree.label n x) = LabelFits (place block) s level n × Fits level block x
     Fits level block (tree.go_to n) = LabelFits (place block) s level n
     Fits level block (tree.event act e) = EventFits (place block) s level e.name
-    Fits level block (tree.process c task) = ⊥
+    Fits level block (tree.process (tree.called n es) task) = StartFits (place block) s level n es task
 
     AllFit : ℕ → ℕ → PStmts → Type 0
     AllFit level block tree.no_stmts = Unit {0}

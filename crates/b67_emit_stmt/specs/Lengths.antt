@@ -88,7 +88,9 @@ module _ (s : Known) where
     stmt_syllables (tree.go_to n) = 40
     -- a mark, two references and the entry
     stmt_syllables (tree.event act e) = 6
-    stmt_syllables _ = 0
+    -- a mark, two references, the task, the actuals and the entry
+    stmt_syllables (tree.process c task) = expr_syllables (tree.call c) + 6
+    stmt_syllables tree.empty = 0
 
     -- where they are those of a CASE, with an entry of its table and a branch for each
     pub stmts_syllables : PStmts → ℕ

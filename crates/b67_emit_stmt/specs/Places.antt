@@ -54,6 +54,9 @@ module _ (sc : Place) (later : Later) (ps : List Placed) (level : ℕ) where
   abbrev pub CallStmtAt : Named → PExprs → ℕ → ℕ → Type 0
   CallStmtAt n es f t = code.CallStmtAt sc.scopes (context_in sc later level) ps level n es f t
 
+  abbrev pub StartAt : Named → PExprs → Option Named → ℕ → ℕ → Type 0
+  StartAt n es task f t = code.StartAt sc.scopes (context_in sc later level) ps level n es task f t
+
   abbrev pub GoToAt : Named → ℕ → ℕ → Type 0
   GoToAt n f t = label.GoToAt sc.scopes (context_in sc later level) ps level n f t
 

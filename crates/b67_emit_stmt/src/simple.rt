@@ -1,15 +1,15 @@
-//! The statements that have no statement in them, and their parts: variables, assignments, GO TO and calls.
+//! The statements that have no statement in them, and their parts: variables, assignments, GO TO, calls and PROCESS.
 
 ghost use Rattle.std.specs.Prelude.{◌≡◌, ◌+◌, ◌≤◌, IsSome, OnOk};
 ghost use Rattle.algol_tree.specs.declared.tree.Kind.{Kind};
 ghost use Rattle.algol_tree.specs.Image.{call, expr, exprs, variable};
 ghost use Rattle.algol_tree.specs.Plain as tree;
-ghost use Rattle.b67_emit_stmt.specs.Places.{AssignAt, CallStmtAt, GoToAt, Later, Place, PlaceAt, ReadAt, StoredAt};
+ghost use Rattle.b67_emit_stmt.specs.Places.{AssignAt, CallStmtAt, GoToAt, Later, Place, PlaceAt, ReadAt, StartAt, StoredAt};
 ghost use Rattle.b67_segment.specs.declared.TheConstants.{MOST_SEGMENT_SYLLABLES};
 ghost use Rattle.b67_segment.specs.Operators.{size};
 ghost use Rattle.b67_segment.specs.Building.{level_set};
 ghost use Rattle.b67_emit_stmt.specs.Lengths.{expr_syllables};
-ghost use Rattle.b67_emit_stmt.specs.Fits.{AssignFits, CallStmtFits, LabelFits, PlaceFits, ReadFits, StoreFits};
+ghost use Rattle.b67_emit_stmt.specs.Fits.{AssignFits, CallStmtFits, LabelFits, PlaceFits, ReadFits, StartFits, StoreFits};
 ghost use Rattle.b67_templates.specs.Emitting.{Emitted};
 ghost use Rattle.b67_emitter.specs.Values.{AreNear, place_syllables};
 
@@ -17,7 +17,7 @@ use crate::draft::StmtEmitter;
 use algol_tree::{Call, Expr, Named, Variable, Whole};
 use b67_emitter::{
     ExprEmitter, append_dropped, append_intrinsic, append_number, append_plain, append_reading,
-    append_reference, couple_of, is_name, left_of, result_of, target_of,
+    append_reference, append_task, couple_of, is_name, left_of, result_of, target_of,
 };
 use b67_ops::{Intrinsic, PlainKind};
 use b67_segment::Builder;
@@ -114,5 +114,26 @@ impl<'a, E: ExprEmitter> StmtEmitter<'a, E> {
     {
         self.exprs.call(c, self.known.names, out)?;
         append_dropped(out, result_of(self.known.names, &c.name).is_some())
+    }
+
+    /// PROCESS: a mark, the references of the intrinsic and of the procedure's control word, the task, the actuals, the entry.
+    pub(crate) fn start(
+        &self,
+        c: &Call,
+        task: &Option<Named>,
+        out: &mut Builder,
+    ) -> Result<(), AllocError>
+        requires set { IsSome out.old.level }
+        requires near { AreNear self.now.known.now.names.now }
+        requires fits { (sc : Place) × StartFits sc self.now.known.now (level_set out.old) c.now.name (exprs c.now.actuals) task.now }
+        requires room { size out.old.operators + (expr_syllables self.now.known.now (tree.call (call c.now)) + 6) ≤ MOST_SEGMENT_SYLLABLES }
+        ensures code { OnOk result ((sc : Place) (later : Later) → StartFits sc self.now.known.now (level_set out.old) c.now.name (exprs c.now.actuals) task.now → Emitted out.old out.new (λ qs. StartAt sc later qs (level_set out.old) c.now.name (exprs c.now.actuals) task.now (size out.old.operators) (size out.new.operators))) }
+        ensures level { OnOk result (out.new.level ≡ out.old.level) }
+        ensures size { OnOk result (size out.new.operators ≤ size out.old.operators + (expr_syllables self.now.known.now (tree.call (call c.now)) + 6)) }
+    {
+        append_intrinsic(out, Intrinsic::Start)?;
+        append_reference(out, couple_of(self.known.names, &c.name))?;
+        append_task(task, self.known.names, out)?;
+        self.exprs.filled(c, self.known.names, out)
     }
 }

@@ -98,8 +98,7 @@ impl<'a, E: ExprEmitter> StmtEmitter<'a, E> {
             Stmt::Label(n, s) => self.labelled(s, n, to),
             Stmt::GoTo(n) => self.go_to(n, &mut to.out),
             Stmt::Event(act, e) => self.act(*act, &e.name, &mut to.out),
-            // None fits.
-            Stmt::Process(_, _) => unreachable!(),
+            Stmt::Process(c, task) => self.start(c, task, &mut to.out),
         }
     }
 

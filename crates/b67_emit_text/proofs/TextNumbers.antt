@@ -74,7 +74,7 @@ module _ (place : Place) (s : Known) where
       known_fits (tree.for v a t l b) level block fit h = ((fit.0, fit.1), fit.2, fit.3, fit.4, known_fits b level block fit.5 h)
       known_fits (tree.thru e b) level block fit h = (fit.0, known_fits b level block fit.1 h)
       known_fits (tree.case e ss) level block fit h = (fit.0, known_all ss level block fit.1 h)
-      known_fits (tree.process c task) level block fit h = absurd fit
+      known_fits (tree.process (tree.called n es) task) level block fit h = fit
       known_fits (tree.event act e) level block fit h = fit
       known_fits (tree.write n spot phrases es) level block fit h = fit
 

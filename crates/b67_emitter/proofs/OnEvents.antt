@@ -1,6 +1,6 @@
--- An intrinsic on an event: its beginning, the reference of the event's cell, the entry.
-use Rattle.std.proofs.Common.{◌≡◌, ℕ, ◌+◌, Some, ◌∙◌, subst}
-use Rattle.std.specs.Prelude.{IsSome}
+-- An intrinsic on an event: its beginning, the reference of the event's cell, the entry. And the task of a process.
+use Rattle.std.proofs.Common.{◌≡◌, ℕ, ◌+◌, pos, None, Some, ◌∙◌, sym, subst}
+use Rattle.std.specs.Prelude.{IsSome, Option}
 use Rattle.algol_tree.specs.declared.tree.Named.{Named}
 use Rattle.algol_tree.specs.Scopes.{Scopes, use_of}
 use Rattle.b67_ops.specs.declared.Couple.{Couple}
@@ -10,14 +10,13 @@ use Rattle.b67_ops.specs.declared.intrinsic.Intrinsic.{Intrinsic}
 use Rattle.b67_ops.specs.Spelling.{IsSeen}
 use Rattle.b67_segment.specs.Operators.{size}
 use Rattle.b67_segment.specs.Building.{Built, level_set}
-use Rattle.b67_templates.specs.Contexts.{Context}
-use Rattle.b67_templates.specs.Cells.{IsEvent, declared_event, formal_event}
-use Rattle.b67_templates.specs.Events.{OnEventAt}
-use Rattle.b67_templates.specs.Fragments.{Has, IntrinsicAt}
+use Rattle.b67_templates.specs.Cells.{IsEvent, IsDeclaredEvent, declared_event, formal_event}
+use Rattle.b67_templates.specs.Events.{OnEventAt, TaskAt}
+use Rattle.b67_templates.specs.Fragments.{Has, NumberAt, IntrinsicAt}
 use Rattle.b67_templates.specs.Emitting.{Emitted}
-use Rattle.b67_templates.specs.Fitting.{EventFits, its_own, its_actual}
+use Rattle.b67_templates.specs.Fitting.{EventFits, its_own, its_actual, TaskFits}
 use Rattle.b67_emitter.specs.declared.names.Names.{Names}
-use Rattle.b67_emitter.specs.Values.{couples, meanings, AreNear, HasEvent, EventEmitted}
+use Rattle.b67_emitter.specs.Values.{couples, meanings, AreNear, HasEvent, EventEmitted, HasTask, TaskEmitted}
 use Rattle.b67_emitter.proofs.Appends.{same_level}
 use Rattle.b67_emitter.proofs.Composing.{then, weaker}
 use Rattle.b67_emitter.proofs.Seen.{some, seen_up, seen_further}
@@ -72,4 +71,34 @@ event_form s name n c known a b d e l m begun named enter = record {
         reference = p.1.0;
         enter = p.1.1;
       });
+}
+
+-- ---- tasks
+
+-- the task's name is that of an event
+pub task_event : (s : Names) (level : ℕ) (task : Option Named) (n : Named) → task ≡ Some n → HasTask s level task → HasEvent s level n
+task_event s level task n is h =
+    let F : Option Named → Type 0 = λ o. TaskFits h.scopes (meanings s) h.own o in
+    let own : F (Some n) = subst F is h.fits in
+    record { scopes = h.scopes; own = h.own; outer = h.outer; fits = its_own own.0 own.1 own.2 own.3 }
+
+pub task_named : (s : Names) (level : ℕ) (task : Option Named) (n : Named) (c : Couple) (a b : Built) → task ≡ Some n → couples s n.spot ≡ Some c →
+    Emitted a b (λ qs. Has qs level (size a.operators) (ops.Namc c) (size b.operators)) → TaskEmitted s level a b task
+task_named s level task n c a b is known named = record {
+  code = λ scopes context fits.
+      let F : Option Named → Type 0 = λ o. TaskFits scopes (meanings s) context.level o in
+      let T : Option Named → Type 0 = λ o. Emitted a b (λ qs. TaskAt scopes context qs level o (size a.operators) (size b.operators)) in
+      let own : F (Some n) = subst F is fits in
+      let same : own.0 ≡ c = cc (own.1, known) in
+      let E : Couple → Type 0 = λ x. IsDeclaredEvent scopes context.level n x in
+      let there : E c = subst E same own.3 in
+      subst T (sym is) (weaker (λ qs. TaskAt scopes context qs level (Some n) (size a.operators) (size b.operators)) named (λ qs p. (c, there, p)));
+}
+
+pub task_none : (s : Names) (level : ℕ) (task : Option Named) (a b : Built) → task ≡ None →
+    Emitted a b (λ qs. NumberAt qs level (pos 0) (size a.operators) (size b.operators)) → TaskEmitted s level a b task
+task_none s level task a b is zero = record {
+  code = λ scopes context fits.
+      let T : Option Named → Type 0 = λ o. Emitted a b (λ qs. TaskAt scopes context qs level o (size a.operators) (size b.operators)) in
+      subst T (sym is) zero;
 }

@@ -32,10 +32,10 @@ use Rattle.b67_templates.specs.Contexts.{Context}
 use Rattle.b67_templates.specs.Fragments.{Has}
 use Rattle.b67_templates.specs.Cells.{parameter_wants, IsArray}
 use Rattle.b67_templates.specs.Code.{ExprAt, SubscriptsAt, PlaceAt, CallAt, ActualsAt, RoutineAt}
-use Rattle.b67_templates.specs.Events.{OnEventAt}
+use Rattle.b67_templates.specs.Events.{OnEventAt, TaskAt}
 use Rattle.b67_templates.specs.Emitting.{Emitted, EmittedWithExits}
-use Rattle.b67_templates.specs.Fitting.{Meant, a_variable, a_name, a_procedure, an_event, another, is_event, Target, Told, on_left, PlaceFits, ExprFits, ProcedureFits, ActualsFit, ArrayFits, EventFits, SubscriptsFit}
-use Rattle.b67_templates.specs.Paying.{inline}
+use Rattle.b67_templates.specs.Fitting.{Meant, a_variable, a_name, a_procedure, an_event, another, is_event, Target, Told, on_left, PlaceFits, ExprFits, ProcedureFits, ActualsFit, ArrayFits, EventFits, TaskFits, SubscriptsFit}
+use Rattle.b67_templates.specs.Paying.{modes_of, inline, inline_given}
 use Rattle.b67_emitter.specs.declared.meanings.Given.{Given}
 use Rattle.b67_emitter.specs.declared.names.Names.{Names}
 use Rattle.b67_emitter.specs.declared.names.Target as kept
@@ -196,6 +196,20 @@ pub record CallEmitted (s : Names) (level : ℕ) (before after : Built) (c : PCa
       (ActualsAt scopes context qs level (sorts_of ((block_numbered scopes.blocks callee).parameters)) (parameter_wants scopes callee) es)
       (size before.operators) (size after.operators))
 
+-- From the first builder to the second the actuals were appended, and the entry.
+pub record FilledEmitted (s : Names) (level : ℕ) (before after : Built) (c : PCall) : Type 0 where
+  pub code :
+      (scopes : Scopes) (context : Context) (n : Named) (es : PExprs) (callee : ℕ) → c ≡ tree.called n es →
+      ProcedureFits scopes (meanings s) context.level n callee →
+      ActualsFit scopes (meanings s) context.level context.block (sorts_of ((block_numbered scopes.blocks callee).parameters)) (parameter_wants scopes callee) es →
+      Emitted before after (λ qs. (filled : ℕ)
+      × ActualsAt scopes context qs level (sorts_of ((block_numbered scopes.blocks callee).parameters)) (parameter_wants scopes callee) es (size before.operators) filled
+      × Has qs level filled (ops.Plain kinds.Entr) (size after.operators))
+
+-- how many syllables that is at most
+abbrev pub filled_syllables : Names → PCall → ℕ
+filled_syllables s (tree.called n es) = inline_given (meanings s) (modes_of (meant s n.spot)) es + 1
+
 -- ---- events
 
 -- an intrinsic on the event has code at that level: the name fits there or further out, in whatever program names have this meaning
@@ -210,6 +224,19 @@ pub record EventEmitted (s : Names) (level : ℕ) (before after : Built) (name :
   pub code :
       (scopes : Scopes) (context : Context) → EventFits scopes (meanings s) context.level n →
       Emitted before after (λ qs. OnEventAt scopes context qs level name n (size before.operators) (size after.operators))
+
+-- the task of a process has code at that level, where it has one: the name fits there or further out
+pub record HasTask (s : Names) (level : ℕ) (task : Option Named) : Type 0 where
+  pub scopes : Scopes
+  pub own : ℕ
+  pub outer : own ≤ level
+  pub fits : TaskFits scopes (meanings s) own task
+
+-- From the first builder to the second the task's reference was appended, or 0.
+pub record TaskEmitted (s : Names) (level : ℕ) (before after : Built) (task : Option Named) : Type 0 where
+  pub code :
+      (scopes : Scopes) (context : Context) → TaskFits scopes (meanings s) context.level task →
+      Emitted before after (λ qs. TaskAt scopes context qs level task (size before.operators) (size after.operators))
 
 -- ---- the code of actuals
 

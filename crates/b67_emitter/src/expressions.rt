@@ -8,7 +8,7 @@ ghost use Rattle.b67_segment.specs.Operators.{size};
 ghost use Rattle.b67_segment.specs.Building.{level_set};
 ghost use Rattle.b67_templates.specs.Cells.{has_place};
 ghost use Rattle.b67_templates.specs.Paying.{inline, routine_code};
-ghost use Rattle.b67_emitter.specs.Values.{couples, results, lefts, lows, told, lows_told, meanings, AreNear, HasCode, ValueEmitted, HasCall, CallEmitted, RoutineEmitted, HasReference, ReferenceEmitted, place_syllables};
+ghost use Rattle.b67_emitter.specs.Values.{couples, results, lefts, lows, told, lows_told, meanings, AreNear, HasCode, ValueEmitted, HasCall, CallEmitted, FilledEmitted, filled_syllables, RoutineEmitted, HasReference, ReferenceEmitted, place_syllables};
 
 use crate::names::Names;
 use algol_lows::Lows;
@@ -109,6 +109,16 @@ pub trait ExprEmitter {
         ensures code { OnOk result (CallEmitted names.now (level_set out.old) out.old out.new (call c.now)) }
         ensures level { OnOk result (out.new.level ≡ out.old.level) }
         ensures size { OnOk result (size out.new.operators ≤ size out.old.operators + inline (meanings names.now) (tree.call (call c.now))) };
+
+    /// The code of the actuals of a call or of a PROCESS, and the entry.
+    fn filled(&self, c: &Call, names: &Names, out: &mut Builder) -> Result<(), AllocError>
+        requires set { IsSome out.old.level }
+        requires near { AreNear names.now }
+        requires code { HasCall names.now (level_set out.old) (call c.now) }
+        requires room { size out.old.operators + filled_syllables names.now (call c.now) ≤ MOST_SEGMENT_SYLLABLES }
+        ensures code { OnOk result (FilledEmitted names.now (level_set out.old) out.old out.new (call c.now)) }
+        ensures level { OnOk result (out.new.level ≡ out.old.level) }
+        ensures size { OnOk result (size out.new.operators ≤ size out.old.operators + filled_syllables names.now (call c.now)) };
 
     /// What an assignment stores through: the reference to the cell of a variable or a result, what EVAL makes of that of a parameter by
     /// name, or the descriptor of an element.

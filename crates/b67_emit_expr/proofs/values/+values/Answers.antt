@@ -11,13 +11,13 @@ use Rattle.b67_segment.specs.Building.{level_set}
 use Rattle.b67_templates.specs.Fragments.{MovedAt, operator_for, truth_literal}
 use Rattle.b67_templates.specs.Emitting.{Emitted}
 use Rattle.b67_templates.specs.Paying.{mode_at, given_syllables, inline, inline_given}
-use Rattle.b67_emitter.specs.Values.{meant, meanings}
+use Rattle.b67_emitter.specs.Values.{meant, meanings, filled_syllables}
 use Rattle.b67_emitter.proofs.Appends.{same_level}
 use Rattle.b67_emit_expr.proofs.Shapes.{call_long, number_is, truth_is, paren_as, plus_as, neg_as, not_as, two_as, if_as}
 use Rattle.b67_emit_expr.proofs.Couples.{code_on, first_code, second_code, set_after}
 use Rattle.b67_emit_expr.proofs.Forms.{listed_as, plain_as, number_form, truth_form, moved_form, paren_form, plus_form, neg_form, not_form, applied_form, exits_aimed, operands_form, calculated_form, chosen_form}
 use Rattle.b67_emit_expr.proofs.Listed.{nowhere, list_grown, exits_lie, exits_back, hole_lies}
-use Rattle.b67_emit_expr.proofs.Called.{known_call, seen_call, call_syllables, begin_left, next_is, next_tokens, next_syllables, next_wanted, next_one, called_form}
+use Rattle.b67_emit_expr.proofs.Called.{known_call, seen_call, call_syllables, rest_syllables, call_on, begin_left, next_is, next_tokens, next_syllables, next_wanted, next_one, filled_form, called_form}
 use Rattle.b67_emit_expr.proofs.Passed.{wanted_on, actual_on, wanted_as, actual_as, known_passed, known_actual, seen_actual, actual_syllables, passed_form, actual_code, value_form}
 use Rattle.b67_emit_expr.proofs.Modes.{own_modes, given_named, given_valued}
 use Rattle.b67_emit_expr.proofs.Arms.{on_ok_both, emitted_as, variable_as, variable_syllables, variable_has, variable_arm, calling_tokens, calling_syllables, call_has, call_arm, event_syllables, event_has, event_arm}
@@ -183,17 +183,17 @@ called-append_begun-requires-clause-seen t c =
 pub called-append_begun-requires-clause-room : goal.called-append_begun-requires-clause-room
 called-append_begun-requires-clause-room t c = omega (arith, call_syllables c.args.names.now c.args.c.now, c.requires.room)
 
-pub called-actuals-init : goal.called-actuals-init
-called-actuals-init t c = record {
-  level = c.in_ok-append_begun.ensures.level;
+pub filled-actuals-init : goal.filled-actuals-init
+filled-actuals-init t c = record {
+  level = refl;
   exits = refl;
   few = omega arith;
-  short = omega (arith, c.in_ok-append_begun.ensures.size);
-  code = begin_left c.args.names.now (level_set c.args.out.now) c.append_begun.new.out c.append_begun.new.out c.as_slice-actuals.result.now (own_modes c.args.names.now c.args.c.now.name);
+  short = omega arith;
+  code = begin_left c.args.names.now (level_set c.args.out.now) c.args.out.now c.args.out.now c.as_slice-actuals.result.now (own_modes c.args.names.now c.args.c.now.name);
 }
 
-pub called-given-requires : goal.called-given-requires
-called-given-requires t c =
+pub filled-given-requires : goal.filled-given-requires
+filled-given-requires t c =
     let s = c.args.names.now in
     let a = c.args.out.now in
     let b = c.actuals.out in
@@ -211,20 +211,20 @@ called-given-requires t c =
     let taken = ap (λ (m : Bool). given_syllables m (inline (meanings s) (expr x))) c.takes_name.ensures in
     let smaller : 3 * expr_tokens (expr x) + 3 < t = omega (arith, tokens, c.actuals.invariant.few, same, c.decreases) in
     let room : size b.operators + given_syllables mode (inline (meanings s) (expr x)) ≤ MOST_SEGMENT_SYLLABLES =
-    omega (arith, long, taken, all, c.actuals.invariant.short, call_syllables s c.args.c.now, c.requires.room) in
+    omega (arith, long, taken, all, c.actuals.invariant.short, rest_syllables s c.args.c.now, c.requires.room) in
     let code = wanted_on s (level_set a) (level_set b) mode (expr x) (same_level a b c.actuals.invariant.level)
     (wanted_as s (level_set a) (mode_at (meant s c.args.c.now.name.spot) i) mode (expr x) (sym c.takes_name.ensures)
-    (next_wanted s (level_set a) c.append_begun.new.out b xs c.args.c.now i x (drop i xs) (drop (i + 1) xs) whole next c.requires.code c.actuals.invariant.code)) in
+    (next_wanted s (level_set a) a b xs c.args.c.now i x (drop i xs) (drop (i + 1) xs) whole next c.requires.code c.actuals.invariant.code)) in
     (smaller, (set_after a b c.actuals.invariant.level c.requires.set, (c.requires.near, (code, room))))
 
-pub called-append_plain-requires-clause-room : goal.called-append_plain-requires-clause-room
-called-append_plain-requires-clause-room t c =
+pub filled-append_plain-requires-clause-room : goal.filled-append_plain-requires-clause-room
+filled-append_plain-requires-clause-room t c =
     let s = c.args.names.now in
     let whole : c.as_slice-actuals.result.now ≡ c.args.c.now.actuals = c.as_slice-actuals.ensures.value ∙ c.items.ensures in
-    omega (arith, ap (λ (l : List Expr). inline_given (meanings s) (own_modes s c.args.c.now.name) (exprs l)) whole, c.actuals.invariant.short, call_syllables s c.args.c.now, c.requires.room)
+    omega (arith, ap (λ (l : List Expr). inline_given (meanings s) (own_modes s c.args.c.now.name) (exprs l)) whole, c.actuals.invariant.short, rest_syllables s c.args.c.now, c.requires.room)
 
-pub called-actuals-preserved : goal.called-actuals-preserved
-called-actuals-preserved t c =
+pub filled-actuals-preserved : goal.filled-actuals-preserved
+filled-actuals-preserved t c =
     let s = c.args.names.now in
     let a = c.args.out.now in
     let b = c.actuals.out in
@@ -243,27 +243,62 @@ called-actuals-preserved t c =
       exits = ◌∙◌ {A = List ℕ} c.in_ok-given.ensures.exits c.actuals.invariant.exits;
       few = omega (arith, tokens, c.actuals.invariant.few);
       short = omega (arith, long, taken, c.in_ok-given.ensures.size, c.actuals.invariant.short);
-      code = next_one s (level_set a) c.append_begun.new.out b xs d modes i x (drop i xs) (drop (i + 1) xs) next
+      code = next_one s (level_set a) a b xs d modes i x (drop i xs) (drop (i + 1) xs) next
           (actual_as s (level_set a) b d (mode_at (meant s c.args.c.now.name.spot) i) c.takes_name.result (expr x) (sym c.takes_name.ensures)
           (actual_on s (level_set b) (level_set a) b d c.takes_name.result (expr x) (same_level a b c.actuals.invariant.level) c.in_ok-given.ensures.code)) c.actuals.invariant.code;
     }
 
-pub called-returns-clause-size : goal.called-returns-clause-size
-called-returns-clause-size t c =
+pub filled-returns-clause-size : goal.filled-returns-clause-size
+filled-returns-clause-size t c =
     let s = c.args.names.now in
     let whole : c.as_slice-actuals.result.now ≡ c.args.c.now.actuals = c.as_slice-actuals.ensures.value ∙ c.items.ensures in
     on_ok_weaker c.append_plain.result
-    (λ wide. omega (arith, ap (λ (l : List Expr). inline_given (meanings s) (own_modes s c.args.c.now.name) (exprs l)) whole, c.actuals.invariant.short, call_syllables s c.args.c.now, wide))
+    (λ wide. omega (arith, ap (λ (l : List Expr). inline_given (meanings s) (own_modes s c.args.c.now.name) (exprs l)) whole, c.actuals.invariant.short, rest_syllables s c.args.c.now, wide))
     c.append_plain.ensures.size
+
+pub filled-returns-clause-code : goal.filled-returns-clause-code
+filled-returns-clause-code t c =
+    let xs = c.as_slice-actuals.result.now in
+    on_ok_weaker c.append_plain.result
+    (filled_form c.args.names.now (level_set c.args.out.now) c.args.out.now c.actuals.out c.append_plain.new.out c.args.c.now c.actuals.number xs (drop c.actuals.number xs)
+    (c.as_slice-actuals.ensures.value ∙ c.items.ensures) (drop_all c.actuals.number xs (omega (arith, c.actuals-test.false))) c.actuals.invariant.level refl c.actuals.invariant.code)
+    c.append_plain.ensures.code
+
+pub called-filled-requires : goal.called-filled-requires
+called-filled-requires t c =
+    let s = c.args.names.now in
+    let a = c.args.out.now in
+    let b = c.append_begun.new.out in
+    let k = call c.args.c.now in
+    let smaller : 3 * exprs_tokens (exprs c.args.c.now.actuals) + 1 < t = omega (arith, c.decreases) in
+    let room : size b.operators + filled_syllables s k ≤ MOST_SEGMENT_SYLLABLES =
+    omega (arith, call_syllables s c.args.c.now, rest_syllables s c.args.c.now, c.in_ok-append_begun.ensures.size, c.requires.room) in (
+      smaller,
+      (
+        set_after a b c.in_ok-append_begun.ensures.level c.requires.set,
+        (
+          c.requires.near,
+          (
+            call_on s (level_set a) (level_set b) k
+                (same_level a b c.in_ok-append_begun.ensures.level) c.requires.code,
+            room,
+          ),
+        ),
+      ),
+    )
+
+pub called-returns-clause-size : goal.called-returns-clause-size
+called-returns-clause-size t c =
+    let s = c.args.names.now in
+    on_ok_weaker c.filled.result
+    (λ wide. omega (arith, call_syllables s c.args.c.now, rest_syllables s c.args.c.now, c.in_ok-append_begun.ensures.size, wide)) c.filled.ensures.size
 
 pub called-returns-clause-code : goal.called-returns-clause-code
 called-returns-clause-code t c =
-    let xs = c.as_slice-actuals.result.now in
-    on_ok_weaker c.append_plain.result
-    (called_form c.args.names.now c.args.out.now c.append_begun.new.out c.actuals.out c.append_plain.new.out c.args.c.now c.actuals.number xs (drop c.actuals.number xs)
-    (c.as_slice-actuals.ensures.value ∙ c.items.ensures) (drop_all c.actuals.number xs (omega (arith, c.actuals-test.false))) c.couple_of.result c.couple_of.ensures c.actuals.invariant.level
-    c.in_ok-append_begun.ensures.code c.actuals.invariant.code)
-    c.append_plain.ensures.code
+    on_ok_weaker c.filled.result
+    (called_form c.args.names.now c.args.out.now c.append_begun.new.out c.filled.new.out c.args.c.now c.couple_of.result c.couple_of.ensures c.in_ok-append_begun.ensures.level
+    c.in_ok-append_begun.ensures.code)
+    c.filled.ensures.code
 
 pub chosen-aim-requires : goal.chosen-aim-requires
 chosen-aim-requires t c =

@@ -30,16 +30,19 @@ decreases-valued l = 3 * expr_tokens (expr l.e.now) + 2
 abbrev pub decreases-given : goal.decreases-given
 decreases-given l = 3 * expr_tokens (expr l.e.now) + 3
 
+abbrev pub decreases-filled : goal.decreases-filled
+decreases-filled l = 3 * exprs_tokens (exprs l.c.now.actuals) + 1
+
 abbrev pub decreases-called : goal.decreases-called
 decreases-called l = 3 * exprs_tokens (exprs l.c.now.actuals) + 2
 
-abbrev pub invariant-called-actuals : goal.invariant-called-actuals
-invariant-called-actuals l = record {
+abbrev pub invariant-filled-actuals : goal.invariant-filled-actuals
+invariant-filled-actuals l = record {
   level : l.out.level ≡ l.fn.out.level;
   exits : l.exits.items ≡ l.fn.exits.items;
   few : exprs_tokens (exprs (drop l.number l.actuals)) ≤ exprs_tokens (exprs l.actuals);
   short : size l.out.operators + inline_given (meanings l.names) (drop l.number (own_modes l.names l.c.name)) (exprs (drop l.number l.actuals))
-      ≤ size l.fn.out.operators + 3 + inline_given (meanings l.names) (own_modes l.names l.c.name) (exprs l.actuals);
+      ≤ size l.fn.out.operators + inline_given (meanings l.names) (own_modes l.names l.c.name) (exprs l.actuals);
   code : LeftOf l.names (level_set l.fn.out) l.initial.out l.out (own_modes l.names l.c.name) l.number l.actuals (drop l.number l.actuals);
 }
 

@@ -1,4 +1,3 @@
-use Rattle.std.proofs.Common.{◌∙◌}
 use Rattle.std.proofs.lemmas.Result.{on_ok_weaker}
 use Rattle.b67_segment.specs.Building.{level_set}
 use Rattle.b67_emitter.proofs.Appends.{same_level}

@@ -1041,6 +1041,40 @@ stmt-returns-in-Call-clause-lines g t c =
     (λ h. added.none_as a a (stmt c.args.s.now) (tree.call_of (tree.called k.name (exprs k.actuals))) (shaped.call_as c.args.s.now k c.in-Call.is) refl refl refl)
     c.call.ensures.size
 
+-- ---- PROCESS
+
+pub stmt-start-requires-clause-fits : goal.stmt-start-requires-clause-fits
+stmt-start-requires-clause-fits g t c =
+    let k = c.in-Process.c in
+    let task = c.in-Process.task in
+    matched.fit_as c.args.self.now.known.now c.args.to.now (stmt c.args.s.now) (tree.process (tree.called k.name (exprs k.actuals)) task) (shaped.process_as c.args.s.now k task c.in-Process.is) c.requires.fits
+
+pub stmt-start-requires-clause-room : goal.stmt-start-requires-clause-room
+stmt-start-requires-clause-room g t c =
+    let k = c.in-Process.c in
+    let task = c.in-Process.task in
+    matched.start_room c.args.self.now.known.now c.args.to.now (stmt c.args.s.now) (call k) k.name (exprs k.actuals) task (shaped.process_as c.args.s.now k task c.in-Process.is) (shaped.call_is k) c.requires.ready
+
+pub stmt-returns-in-Process-clause-code : goal.stmt-returns-in-Process-clause-code
+stmt-returns-in-Process-clause-code g t c =
+    let a = c.args.to.now in
+    let k = c.in-Process.c in
+    let task = c.in-Process.task in
+    let b : Draft = record a { out = c.start.new.out } in
+    on_ok_two c.start.result
+    (matched.start_emitted c.args.self.now.known.now a b (stmt c.args.s.now) (call k) k.name (exprs k.actuals) task (shaped.process_as c.args.s.now k task c.in-Process.is) (shaped.call_is k) refl refl
+    c.requires.ready.few)
+    c.start.ensures.code c.start.ensures.size
+
+pub stmt-returns-in-Process-clause-lines : goal.stmt-returns-in-Process-clause-lines
+stmt-returns-in-Process-clause-lines g t c =
+    let a = c.args.to.now in
+    let k = c.in-Process.c in
+    let task = c.in-Process.task in
+    on_ok_weaker c.start.result
+    (λ h. added.none_as a a (stmt c.args.s.now) (tree.process (tree.called k.name (exprs k.actuals)) task) (shaped.process_as c.args.s.now k task c.in-Process.is) refl refl refl)
+    c.start.ensures.size
+
 -- ---- GO TO, and statements on events
 
 pub stmt-go_to-requires-clause-fits : goal.stmt-go_to-requires-clause-fits
