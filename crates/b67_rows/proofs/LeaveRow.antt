@@ -1,5 +1,5 @@
 -- EXIT and RETN of a frame that is not the base frame.
-use Rattle.std.proofs.Common.{◌≡◌, refl, sym, ap, ◌∙◌, ℕ, ◌+◌, ◌≤◌, List, [], ◌∷◌, ◌++◌, length, take, drop, Option, Some, None, Bool, false, Ok, arith, append_assoc, length-append}
+use Rattle.std.proofs.Common.{◌≡◌, refl, sym, ap, ◌∙◌, ℕ, ◌+◌, ◌≤◌, List, [], ◌∷◌, ◌++◌, length, take, drop, Option, Some, None, Bool, true, false, Ok, arith, append_assoc, length-append}
 use Rattle.std.specs.Prelude.{if◌then◌else◌, nat_eq, reverse}
 use Rattle.algol_meaning.specs.Actions as act
 use Rattle.b67_num.specs.declared.FaultKind.TheVariants.{CriticalBlockExit}
@@ -15,7 +15,7 @@ use Rattle.b67_events.specs.Events.{closed_from}
 use Rattle.b67_table.specs.declared.Below.{Below}
 use Rattle.b67_table.specs.declared.Class.TheVariants as classes
 use Rattle.b67_table.specs.declared.Leaving.{Leaving}
-use Rattle.b67_table.specs.Effect.{Effect, gives}
+use Rattle.b67_table.specs.Effect.{Effect, gives, faults}
 use Rattle.b67_table.specs.Outcome as outcomes
 use Rattle.b67_table.specs.Image.{Image, with_stacks, with_rows, with_registers, with_events}
 use Rattle.b67_table.specs.Chains.{place, left_to, rebuilt}
@@ -60,8 +60,6 @@ pub record Leaves (img : Image) (core : Core) (below words : List Word) (mark co
   pub closed : (q : ℕ) (next : Change) → changed q (arrays_closed cells next) img ≡ changed q next (with_rows img rows)
   pub left_to : seen img.stacks (left_to (place core.registers.stack (length (below ++ reverse words)))) ≡ Ok b
   pub rebuilt : seen img.stacks (rebuilt (place core.registers.stack b.frame) b.control.caller_level) ≡ Ok display
-  -- no process depends on a frame
-  pub free : live_criticals img.states img.regs ≡ []
 
 module _ (code : Code) (img : Image) (p : ℕ) (core : Core) (has : HasCore img p core) (next : ℕ)
     (below words : List Word) (mark control : Word) (cells : List Word) (b : Below) (display : List (Option Place)) (e : Leaves img core below words mark control cells b display) where
@@ -137,15 +135,24 @@ module _ (code : Code) (img : Image) (p : ℕ) (core : Core) (has : HasCore img 
         by_given None = ap (λ (ss : Stacks). with_registers (with_stacks (with_events (with_rows img e.rows) (closed_from r.stack f img.events)) ss) p (left r (f + 0) f leaving_of)) cut_there
         by_given (Some x) = ap (λ (ss : Stacks). with_registers (with_stacks (with_events (with_rows img e.rows) (closed_from r.stack f img.events)) ss) p (left r (f + 1) f leaving_of)) (pushed_there x)
 
-    pub leave_does : tested (leave r next (given_words given)) ≡ gives after
-    leave_does =
+    leave_tests : tested (leave r next (given_words given)) ≡ tested (after_leaving cells leaving_of)
+    leave_tests =
         ap (λ (n : ℕ). tested (left_with n (take r.cells (drop (n + 2) (words_of img.stacks r.stack))))) e.frame_is
         ∙ ap (λ (ws : List Word). tested (left_with f ws)) cells_there
         ∙ ap (λ (t : Bool). tested (if t then leave_base r cells next else leave_other r cells f (given_words given))) (not_zero f e.some)
         ∙ ap (λ (x : Effect Change). effect_of p img x) (see_found img (leaving (place r.stack f)) leaving_of (after_leaving cells) leaving_seen)
-        ∙ ap (λ (places : List Place). tested (if is_critical r.stack (f ∷ []) places then fault CriticalBlockExit else answer (arrays_closed cells gone))) e.free
+
+    -- no process depends on the frame
+    pub leave_does : is_critical core.registers.stack (length (below ++ reverse words) ∷ []) (live_criticals img.states img.regs) ≡ false → tested (leave r next (given_words given)) ≡ gives after
+    leave_does free =
+        leave_tests
+        ∙ ap (λ (b : Bool). tested (if b then fault CriticalBlockExit else answer (arrays_closed cells gone))) free
         ∙ ap gives (e.closed p gone)
         ∙ ap gives changed_to
+
+    -- or one does
+    pub leave_blocked : is_critical core.registers.stack (length (below ++ reverse words) ∷ []) (live_criticals img.states img.regs) ≡ true → tested (leave r next (given_words given)) ≡ faults CriticalBlockExit
+    leave_blocked critical = leave_tests ∙ ap (λ (b : Bool). tested (if b then fault CriticalBlockExit else answer (arrays_closed cells gone))) critical
 
     -- the new core is one, where the display names the frame below, and its cells end at the floor
     pub outer_is : place_at display b.control.caller_level ≡ Some (place r.stack b.frame) → length below ≡ b.frame + 2 + b.control.caller_cells → IsCore outer_core
@@ -156,9 +163,13 @@ module _ (code : Code) (img : Image) (p : ℕ) (core : Core) (has : HasCore img 
   -- ---- EXIT
 
   module _ (at : operator_at code core.registers ≡ Ok (ops.Plain kinds.Exit, next)) where
-    pub leave_raw : raw code img p ≡ gives (after None)
+    pub leave_raw : is_critical core.registers.stack (length (below ++ reverse words) ∷ []) (live_criticals img.states img.regs) ≡ false → raw code img p ≡ gives (after None)
     unfolding row
-    leave_raw = raw_is code img p core has (ops.Plain kinds.Exit) next at ∙ leave_does None
+    leave_raw free = raw_is code img p core has (ops.Plain kinds.Exit) next at ∙ leave_does None free
+
+    pub exit_blocked : is_critical core.registers.stack (length (below ++ reverse words) ∷ []) (live_criticals img.states img.regs) ≡ true → raw code img p ≡ faults CriticalBlockExit
+    unfolding row
+    exit_blocked critical = raw_is code img p core has (ops.Plain kinds.Exit) next at ∙ leave_blocked None critical
 
     pub leave_class : class_at (ops.Plain kinds.Exit) r.place ≡ classes.Action
     unfolding class_at row

@@ -46,3 +46,7 @@ pub mod Described
 pub mod IndexRows
 pub mod PassRow
 pub mod ActualsSeen
+pub mod CriticalRow
+pub mod Begun
+pub mod StartRow
+pub mod Counted

@@ -2,6 +2,7 @@
 use Rattle.std.proofs.Common.{◌≡◌, refl, sym, ap, ◌∙◌, ℕ, zero, suc, ◌+◌, ◌-◌, ◌≤◌, ◌<◌, ◌^◌, List, [], ◌∷◌, ◌++◌, length, Option, Some, Bool, true, Ok, arith, append_assoc}
 use Rattle.std.specs.Prelude.{if◌then◌else◌, nat_le, ◌&&◌, slice_get, reverse}
 use Rattle.algol_tree.specs.Scopes.{Scopes}
+use Rattle.b67_word.specs.declared.Place.{Place}
 use Rattle.b67_word.specs.Word.{Word}
 use Rattle.b67_control.specs.declared.Mscw.{Mscw}
 use Rattle.b67_control.specs.declared.Rcw.{Rcw}
@@ -9,7 +10,7 @@ use Rattle.b67_control.specs.Control.{as_mscw, as_rcw}
 use Rattle.b67_store.specs.Store.{Stacks, word_at}
 use Rattle.b67_table.specs.declared.Below.{Below}
 use Rattle.b67_table.specs.Look.{Look, found, ◌>->◌, chained, read_as, seen}
-use Rattle.b67_table.specs.Chains.{place, broken, control_at, below, entered_from, entered_below, left_to, if_apart}
+use Rattle.b67_table.specs.Chains.{place, broken, control_at, below, entered_from, entered_below, frame_below, left_to, if_apart}
 use Rattle.b67_standing.specs.Stepping.{Slot, operand, reference, intrinsic, control, descriptor, mark}
 use Rattle.b67_cores.specs.Slots.{Known, newest, SlotsAre}
 use Rattle.b67_cores.proofs.Moving.{slots_length}
@@ -109,6 +110,23 @@ module _ (sc : Scopes) (known : List Known) (level : ℕ) (stacks : Stacks) (sta
         (walk slots [] all refl are small (newest home base slots + 1) (omega arith))
         ∙ ap (λ (o : Option Rcw). seen stacks (chained o >-> (λ (unused : Rcw). if_apart f below_is))) above.controlled
         ∙ ap (λ (b : Bool). seen stacks (if b then found below_is else broken)) (most_is (home + 2 + back.caller_cells) f apart)
+      where
+        newest_is : f - own.df ≡ newest home base slots
+        newest_is = omega (arith, far)
+
+  -- so they do where only that frame is looked for
+  module _ (f : ℕ) (own : Mscw) (marked : read_as as_mscw (word_at stacks (place stack f)) ≡ Some own) (slots : List Slot) (are : SlotsAre sc known level home base slots all) (small : base + length slots ≤ 2 ^ 16)
+      (far : own.df + newest home base slots ≡ f) (some : 1 ≤ own.df) where
+    abbrev to_place : ℕ → Look Place
+    to_place lowest = found (place stack lowest)
+
+    pub under_seen : seen stacks (frame_below (place stack f)) ≡ Ok (place stack home)
+    under_seen =
+        ap (λ (o : Option Mscw). seen stacks (chained o >-> (λ (m : Mscw). below f m.df (entered_below stack) >-> to_place))) marked
+        ∙ ap (λ (b : Bool). seen stacks ((if b && nat_le own.df f then entered_below stack (f - own.df) else broken) >-> to_place)) (most_is 1 own.df some)
+        ∙ ap (λ (b : Bool). seen stacks ((if b then entered_below stack (f - own.df) else broken) >-> to_place)) (most_is own.df f (omega (arith, far)))
+        ∙ ap (λ (n : ℕ). seen stacks (entered_below stack n >-> to_place)) newest_is
+        ∙ then_seen stacks (entered_below stack (newest home base slots)) home to_place (walk slots [] all refl are small (newest home base slots + 1) (omega arith))
       where
         newest_is : f - own.df ≡ newest home base slots
         newest_is = omega (arith, far)

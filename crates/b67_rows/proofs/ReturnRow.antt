@@ -1,5 +1,5 @@
 -- RETN of a frame that is not the base frame, with an operand on top, which it gives back.
-use Rattle.std.proofs.Common.{◌≡◌, refl, ap, ◌∙◌, ℕ, ◌+◌, ◌-◌, List, [], ◌∷◌, ◌++◌, length, Option, Some, Bool, true, Ok, arith}
+use Rattle.std.proofs.Common.{◌≡◌, refl, ap, ◌∙◌, ℕ, ◌+◌, ◌-◌, List, [], ◌∷◌, ◌++◌, length, Option, Some, Bool, true, false, Ok, arith}
 use Rattle.std.specs.Prelude.{if◌then◌else◌, nat_eq, not, ◌&&◌, ◌==◌, slice_get, reverse}
 use Rattle.algol_meaning.specs.Actions as act
 use Rattle.b67_word.specs.declared.Place.{Place}
@@ -12,10 +12,12 @@ use Rattle.b67_store.specs.Store.{word_at}
 use Rattle.b67_table.specs.declared.Below.{Below}
 use Rattle.b67_table.specs.declared.Class.TheVariants as classes
 use Rattle.b67_table.specs.Chains.{place}
-use Rattle.b67_table.specs.Effect.{Effect, gives}
+use Rattle.b67_table.specs.Effect.{Effect, gives, faults}
 use Rattle.b67_table.specs.Outcome as outcomes
 use Rattle.b67_table.specs.Image.{Image}
-use Rattle.b67_table.specs.Linkage.{leave}
+use Rattle.b67_table.specs.Linkage.{is_critical, leave}
+use Rattle.b67_table.specs.Questions.{live_criticals}
+use Rattle.b67_num.specs.declared.FaultKind.TheVariants.{CriticalBlockExit}
 use Rattle.b67_table.specs.Look.{stops, valid}
 use Rattle.b67_table.specs.Private.{floor, frame}
 use Rattle.b67_table.specs.Program.{Program, does, effect_of, asked, see, ◌>>=◌}
@@ -25,7 +27,7 @@ use Rattle.b67_table.specs.Rows.{row, is_result, return_value}
 use Rattle.b67_table.specs.Table.{raw, table, operator_at, class_at}
 use Rattle.b67_cores.specs.Cores.{Core, HasCore}
 use Rattle.b67_faithful.specs.Correspondence.{operator_action}
-use Rattle.b67_rows.proofs.LeaveRow.{not_zero, Leaves, after, leave_does}
+use Rattle.b67_rows.proofs.LeaveRow.{not_zero, Leaves, after, leave_does, leave_blocked}
 use Rattle.b67_rows.proofs.Rows.{raw_is, words_are, action_is}
 use Rattle.b67_rows.proofs.StackWords.{word-over}
 use Rattle.b67_rows.proofs.StoreRow.{most_is}
@@ -61,17 +63,20 @@ module _ (code : Code) (img : Image) (p : ℕ) (core : Core) (has : HasCore img 
   abbrev pub returned : Image
   returned = after code img p core has next below words mark control cells b display e (Some x)
 
-  return_does : does p (return_value r next) img ≡ gives returned
-  return_does =
+  return_tests : does p (return_value r next) img ≡ tested (leave r next (x ∷ []))
+  return_tests =
       ap (λ (t : Bool). tested (see (if t then from_top r 0 else stops StackUnderflow) >>= on_word)) (most_is (floor r + 1) r.s (omega (arith, has.is.bottom, has.is.top, ap length on_top)))
       ∙ ap (λ (o : Option Word). tested (see (valid o) >>= on_word)) top_word
       ∙ ap (λ (t : Bool). tested (if is_result x && not t then leave r next (x ∷ []) else see invalid)) (ap (λ (n : ℕ). nat_eq n 0) e.frame_is ∙ not_zero f e.some)
       ∙ ap (λ (t : Bool). tested (if t && true then leave r next (x ∷ []) else see invalid)) result
-      ∙ leave_does code img p core has next below words mark control cells b display e (Some x)
 
-  pub return_raw : raw code img p ≡ gives returned
+  pub return_raw : is_critical core.registers.stack (length (below ++ reverse words) ∷ []) (live_criticals img.states img.regs) ≡ false → raw code img p ≡ gives returned
   unfolding row
-  return_raw = raw_is code img p core has (ops.Plain kinds.Retn) next there ∙ return_does
+  return_raw free = raw_is code img p core has (ops.Plain kinds.Retn) next there ∙ return_tests ∙ leave_does code img p core has next below words mark control cells b display e (Some x) free
+
+  pub return_blocked : is_critical core.registers.stack (length (below ++ reverse words) ∷ []) (live_criticals img.states img.regs) ≡ true → raw code img p ≡ faults CriticalBlockExit
+  unfolding row
+  return_blocked critical = raw_is code img p core has (ops.Plain kinds.Retn) next there ∙ return_tests ∙ leave_blocked code img p core has next below words mark control cells b display e (Some x) critical
 
   pub return_class : class_at (ops.Plain kinds.Retn) r.place ≡ classes.Action
   unfolding class_at row
