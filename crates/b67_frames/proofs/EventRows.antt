@@ -78,12 +78,12 @@ module _ (code : Code) (img : Image) (p : ℕ) (core : Core) (has : HasCore img 
 
 -- ---- what a reference to an event reaches
 
--- The reference names this cell, which has the word of an event, or one of the process's own stack that has a reference to this cell.
+-- The reference names this cell, which has the word of an event, or one that has a reference to this cell.
 pub data FindsEvent (img : Image) (p : ℕ) (r : Registers) (word : Word) (c : Cell) : Type 0 where
   directly : (level : ℕ) → as_irw word ≡ Some (record { level = level; index = c.index }) → display_at r level ≡ Some c.frame → word_at img.stacks (cell_place c) ≡ Some (event_word (record {})) →
       FindsEvent img p r word c
-  by_reference : (level index at : ℕ) (first : Word) → as_irw word ≡ Some (record { level = level; index = index }) → display_at r level ≡ Some (place p at) →
-      word_at img.stacks (place p (at + index)) ≡ Some first → as_sirw first ≡ Some (record { stack = c.frame.stack; displacement = c.frame.at; index = c.index }) →
+  by_reference : (level index : ℕ) (home : Place) (first : Word) → as_irw word ≡ Some (record { level = level; index = index }) → display_at r level ≡ Some home →
+      word_at img.stacks (place home.stack (home.at + index)) ≡ Some first → as_sirw first ≡ Some (record { stack = c.frame.stack; displacement = c.frame.at; index = c.index }) →
       word_at img.stacks (cell_place c) ≡ Some (event_word (record {})) → FindsEvent img p r word c
 
 module _ (code : Code) (img : Image) (p : ℕ) (r : Registers) (word : Word) where
@@ -106,11 +106,11 @@ module _ (code : Code) (img : Image) (p : ℕ) (r : Registers) (word : Word) whe
       ∙ ap (λ (o : Option Word). tested (on_reached goes (reached_in c o >-> (λ (w : Reached). one_sirw (as_sirw w.word) w)))) lies
       ∙ ap (λ (o : Option Sirw). tested (on_reached goes (one_sirw o (record { word = event_word (record {}); cell = c })))) event_refers_nothing
       ∙ open_there c goes there_open
-  event_reached c (by_reference level index at first names shown lies refers there) goes there_open =
+  event_reached c (by_reference level index home first names shown lies refers there) goes there_open =
       ap (λ (o : Option Irw). tested (on_reached goes (reached (irw_or_sirw r o (as_sirw word))))) names
       ∙ ap (λ (o : Option Place). tested (on_reached goes (reached (cell_in o index)))) shown
-      ∙ ap (λ (o : Option Word). tested (on_reached goes (reached_in (record { frame = place p at; index = index }) o >-> (λ (w : Reached). one_sirw (as_sirw w.word) w)))) lies
-      ∙ ap (λ (o : Option Sirw). tested (on_reached goes (one_sirw o (record { word = first; cell = record { frame = place p at; index = index } })))) refers
+      ∙ ap (λ (o : Option Word). tested (on_reached goes (reached_in (record { frame = home; index = index }) o >-> (λ (w : Reached). one_sirw (as_sirw w.word) w)))) lies
+      ∙ ap (λ (o : Option Sirw). tested (on_reached goes (one_sirw o (record { word = first; cell = record { frame = home; index = index } })))) refers
       ∙ ap (λ (o : Option Word). tested (on_reached goes (reached_in c o >-> (λ (v : Reached). no_second (as_sirw v.word) v)))) there
       ∙ ap (λ (o : Option Sirw). tested (on_reached goes (no_second o (record { word = event_word (record {}); cell = c })))) event_refers_nothing
       ∙ open_there c goes there_open

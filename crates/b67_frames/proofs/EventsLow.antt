@@ -8,6 +8,7 @@ use Rattle.algol_tree.specs.Plain.{PProgram}
 use Rattle.algol_tree.specs.Scopes.{Scopes, scopes_of}
 use Rattle.algol_meaning.specs.Value.{EventCell, event}
 use Rattle.algol_meaning.specs.World.{Instance, Part, World}
+use Rattle.algol_standing.specs.Worlds.{IsOwn}
 use Rattle.b67_word.specs.declared.Place.{Place}
 use Rattle.b67_word.specs.Word.{Word}
 use Rattle.b67_events.specs.Events.{is_from}
@@ -19,7 +20,7 @@ use Rattle.b67_templates.specs.Programs.{Texts}
 use Rattle.b67_cores.specs.Stretches.{control_words}
 use Rattle.b67_faithful.proofs.Contradictions.{some_same}
 use Rattle.b67_rows.proofs.Numbers.{get_below}
-use Rattle.b67_frames.specs.Arrays.{Layout, IsOwn}
+use Rattle.b67_frames.specs.Arrays.{Layout}
 use Rattle.b67_frames.specs.Events.{HasEvent}
 use Rattle.b67_frames.specs.Frames.{block_controls, Around}
 use Rattle.b67_frames.proofs.Completing.{made_many}

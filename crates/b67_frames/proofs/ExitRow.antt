@@ -1,6 +1,6 @@
 -- EXIT of a base frame.
-use Rattle.std.proofs.Common.{◌≡◌, ◌⊎◌, inl, inr, refl, ap, ◌∙◌, ℕ, zero, suc, ◌+◌, List, [], ◌∷◌, ◌++◌, length, take, drop, Option, Some, None, Bool, true, false, Ok}
-use Rattle.std.specs.Prelude.{if◌then◌else◌, nat_eq, slice_get, reverse}
+use Rattle.std.proofs.Common.{◌≡◌, refl, ap, ◌∙◌, ℕ, ◌+◌, List, [], ◌∷◌, ◌++◌, length, take, drop, Option, Some, None, Bool, false, Ok}
+use Rattle.std.specs.Prelude.{if◌then◌else◌, nat_eq, reverse}
 use Rattle.b67_list.specs.Numbered.{set_numbered}
 use Rattle.algol_meaning.specs.Value.{Cell, simple, event, array, named, reference}
 use Rattle.algol_meaning.specs.World.{NamedCell}
@@ -18,15 +18,14 @@ use Rattle.b67_segment.specs.declared.code.Code.{Code}
 use Rattle.b67_store.specs.Store.{Rows, words_of, closed_at}
 use Rattle.b67_events.specs.Events.{closed_from}
 use Rattle.b67_table.specs.declared.Class.TheVariants as classes
-use Rattle.b67_table.specs.declared.ProcessState.{ProcessState}
 use Rattle.b67_table.specs.declared.ProcessState.TheVariants.{Ended}
 use Rattle.b67_table.specs.Effect.{Effect, gives}
 use Rattle.b67_table.specs.Outcome as outcomes
-use Rattle.b67_table.specs.Image.{Image, with_rows, is_ended}
+use Rattle.b67_table.specs.Image.{Image, with_rows}
 use Rattle.b67_table.specs.Linkage.{closed_by, array_closed, arrays_closed, caused_by, frame_left, is_critical, leave_base, leave_other}
 use Rattle.b67_table.specs.Private.{frame}
-use Rattle.b67_table.specs.Program.{Program, Change, done, changed, does, effect_of, asked, answer, fault, registers, end_process, close_events}
-use Rattle.b67_table.specs.Questions.{with_critical, unless, live_criticals}
+use Rattle.b67_table.specs.Program.{Program, Change, done, cause, changed, does, effect_of, asked, answer, fault, registers, end_process, close_events}
+use Rattle.b67_table.specs.Questions.{live_criticals}
 use Rattle.b67_num.specs.declared.FaultKind.TheVariants.{CriticalBlockExit}
 use Rattle.b67_table.specs.Rows.{row, exit}
 use Rattle.b67_table.specs.Table.{raw, table, operator_at, class_at}
@@ -90,30 +89,6 @@ none_closed (w ∷ words) next none =
     ap (λ (d : Option Descriptor). closed_by d array_closed (arrays_closed words next)) none.0
     ∙ none_closed words next none.1
 
--- ---- no critical places
-
--- a process that has ended, or has no critical place
-abbrev pub IsFree : ProcessState → Registers → Type 0
-IsFree state r = (is_ended state ≡ true) ⊎ (r.critical ≡ None)
-
-free_passed : (state : ProcessState) (r : Registers) (places : List Place) → IsFree state r → places ≡ [] → unless (is_ended state) (with_critical r.critical places) places ≡ []
-free_passed state r places (inl e) none = ap (λ (b : Bool). unless b (with_critical r.critical places) places) e ∙ none
-free_passed state r places (inr e) none =
-    ap (λ (c : Option Place). unless (is_ended state) (with_critical c places) places) e
-    ∙ ap (λ (ps : List Place). unless (is_ended state) ps ps) none
-    ∙ either (is_ended state)
-  where
-    either : (b : Bool) → unless b [] [] ≡ []
-    either true = refl
-    either false = refl
-
-pub no_criticals : (states : List ProcessState) (regs : List Registers) →
-    ((k : ℕ) (state : ProcessState) (r : Registers) → slice_get states k ≡ Some state → slice_get regs k ≡ Some r → IsFree state r) → live_criticals states regs ≡ []
-no_criticals [] regs free = refl
-no_criticals (state ∷ states) [] free = refl
-no_criticals (state ∷ states) (r ∷ regs) free =
-    free_passed state r (live_criticals states regs) (free zero state r refl refl) (no_criticals states regs (λ k. free (suc k)))
-
 -- ---- the row
 
 -- the image in which a process has ended: its stack and its events are closed, and with these rows
@@ -129,7 +104,7 @@ ended_at img rows p r =
 
 module _ (code : Code) (img : Image) (p : ℕ) (core : Core) (has : HasCore img p core) (next : ℕ) (at : operator_at code core.registers ≡ Ok (ops.Plain kinds.Exit, next))
     (mark control : Word) (cells : List Word) (below : core.below ≡ mark ∷ control ∷ cells) (counted : core.registers.cells ≡ length cells) (base : frame core.registers ≡ 0)
-    (idle : core.registers.task ≡ None) (rows : Rows) (closed : (q : ℕ) (more : Change) → changed q (arrays_closed cells more) img ≡ changed q more (with_rows img rows)) (free : live_criticals img.states img.regs ≡ []) where
+    (rows : Rows) (closed : (q : ℕ) (more : Change) → changed q (arrays_closed cells more) img ≡ changed q more (with_rows img rows)) (free : is_critical core.registers.stack (0 ∷ []) (live_criticals img.states img.regs) ≡ false) where
   abbrev r : Registers
   r = core.registers
 
@@ -154,23 +129,31 @@ module _ (code : Code) (img : Image) (p : ℕ) (core : Core) (has : HasCore img 
       ap (λ (ws : List Word). take r.cells (drop (0 + 2) ws)) whole
       ∙ take-seam cells (reverse core.words) r.cells counted
 
-  exit_does : does p (exit r next) img ≡ gives (ended_at img rows p left)
+  -- what it comes to: with a task, its event is caused
+  exit_does : does p (exit r next) img ≡ gives (changed p (close_events r.stack 0 (registers left (caused_by core.registers.task (end_process r.stack done)))) (with_rows img rows))
   exit_does =
       ap (λ (f : ℕ). tested (left_with f (take r.cells (drop (f + 2) (words_of img.stacks r.stack))))) base
       ∙ ap (λ (ws : List Word). tested (leave_base r ws next)) cells_there
-      ∙ ap (λ (places : List Place). tested (if is_critical r.stack (0 ∷ []) places then fault CriticalBlockExit else answer (ends cells))) free
+      ∙ ap (λ (b : Bool). tested (if b then fault CriticalBlockExit else answer (ends cells))) free
       ∙ ap gives (closed p (close_events r.stack 0 (registers left (caused_by r.task (end_process r.stack done)))))
-      ∙ ap (λ (t : Option Place). gives (changed p (close_events r.stack 0 (registers left (caused_by t (end_process r.stack done)))) (with_rows img rows))) idle
 
-  pub exit_raw : raw code img p ≡ gives (ended_at img rows p left)
+  exit_ends : raw code img p ≡ gives (changed p (close_events r.stack 0 (registers left (caused_by core.registers.task (end_process r.stack done)))) (with_rows img rows))
   unfolding row
-  exit_raw = raw_is code img p core has (ops.Plain kinds.Exit) next at ∙ exit_does
+  exit_ends = raw_is code img p core has (ops.Plain kinds.Exit) next at ∙ exit_does
+
+  -- without a task
+  pub exit_raw : core.registers.task ≡ None → raw code img p ≡ gives (ended_at img rows p left)
+  exit_raw idle = exit_ends ∙ ap (λ (t : Option Place). gives (changed p (close_events r.stack 0 (registers left (caused_by t (end_process r.stack done)))) (with_rows img rows))) idle
+
+  -- with one
+  pub exit_causes : (task : Place) → core.registers.task ≡ Some task → raw code img p ≡ gives (changed p (close_events r.stack 0 (registers left (cause task (end_process r.stack done)))) (with_rows img rows))
+  exit_causes task tasked = exit_ends ∙ ap (λ (t : Option Place). gives (changed p (close_events r.stack 0 (registers left (caused_by t (end_process r.stack done)))) (with_rows img rows))) tasked
 
   pub exit_class : class_at (ops.Plain kinds.Exit) r.place ≡ classes.Action
   unfolding class_at row
   exit_class = refl
 
-  pub exit_action : table code img p ≡ outcomes.gives (ended_at img rows p left) → operator_action code img p ≡ Some act.End
-  exit_action t =
-      action_is code img p core has (ops.Plain kinds.Exit) next at (outcomes.gives (ended_at img rows p left)) t
+  pub exit_action : (after : Image) → table code img p ≡ outcomes.gives after → operator_action code img p ≡ Some act.End
+  exit_action after t =
+      action_is code img p core has (ops.Plain kinds.Exit) next at (outcomes.gives after) t
       ∙ ap (λ (f : ℕ). Some (action_of (left_letter f))) base

@@ -1,11 +1,11 @@
 -- The words of the cells of a block that is entered.
-use Rattle.std.proofs.Common.{◌≡◌, refl, sym, ap, ◌∙◌, subst, suc, ◌+◌, List, [], ◌∷◌, ◌++◌, length, append_assoc, length-append}
+use Rattle.std.proofs.Common.{◌≡◌, refl, sym, ap, ◌∙◌, subst, ℕ, suc, ◌+◌, List, [], ◌∷◌, ◌++◌, length, append_assoc, length-append}
 use Rattle.std.specs.Prelude.{replicate}
 use Rattle.algol_tree.specs.Blocks.{Block}
 use Rattle.algol_tree.specs.Scopes.{Scopes}
 use Rattle.algol_tree.specs.Sorts.{Parameter}
 use Rattle.algol_meaning.specs.Value.{Cell}
-use Rattle.algol_meaning.specs.World.{NamedCell, Part, World}
+use Rattle.algol_meaning.specs.World.{NamedCell, World}
 use Rattle.algol_meaning.specs.Instances as instances
 use Rattle.algol_meaning.specs.Instances.{fresh_cells}
 use Rattle.b67_word.specs.Word.{Word}
@@ -42,16 +42,16 @@ fresh_are sc b given ws are =
     (cells_both (cells.parameter_cells sc b) (instances.parameter_cells b.parameters given) ws (zero_cells b) _ (replicate (length (zero_cells b)) zero_word) are (block_zeros b)))
 
 -- those of the parameters that are arrays lead to arrays
-pub fresh_lead : (sc : Scopes) (w : World) (lay : Layout) (parts : List Part) (b : Block) (given : List Cell) (ws : List Word) →
-    LeadAll sc w lay parts (cells.parameter_cells sc b) (instances.parameter_cells b.parameters given) ws →
-    LeadAll sc w lay parts (simple_cells sc b) (fresh_cells b given) (ws ++ replicate (length (zero_cells b)) zero_word)
-fresh_lead sc w lay parts b given ws lead =
+pub fresh_lead : (sc : Scopes) (w : World) (lay : Layout) (Stand : ℕ → Type 0) (b : Block) (given : List Cell) (ws : List Word) →
+    LeadAll sc w lay Stand (cells.parameter_cells sc b) (instances.parameter_cells b.parameters given) ws →
+    LeadAll sc w lay Stand (simple_cells sc b) (fresh_cells b given) (ws ++ replicate (length (zero_cells b)) zero_word)
+fresh_lead sc w lay Stand b given ws lead =
     let all : List Word = ws ++ replicate (length (zero_cells b)) zero_word in
-    subst (λ (ss : List Simple). LeadAll sc w lay parts ss (fresh_cells b given) all) (sym (cells_joined sc b))
-    (subst (λ (cs : List NamedCell). LeadAll sc w lay parts (cells.parameter_cells sc b ++ zero_cells b) cs all)
+    subst (λ (ss : List Simple). LeadAll sc w lay Stand ss (fresh_cells b given) all) (sym (cells_joined sc b))
+    (subst (λ (cs : List NamedCell). LeadAll sc w lay Stand (cells.parameter_cells sc b ++ zero_cells b) cs all)
     (sym (append_assoc (instances.parameter_cells b.parameters given) (instances.result_cells b.result b.name) (instances.variable_cells b.decls)))
-    (lead_both sc w lay parts (cells.parameter_cells sc b) (instances.parameter_cells b.parameters given) ws (zero_cells b) _ (replicate (length (zero_cells b)) zero_word) lead
-    (kinds_lead sc w lay parts (zero_cells b) _ (replicate (length (zero_cells b)) zero_word) (block_kinds b) (block_zeros b))))
+    (lead_both sc w lay Stand (cells.parameter_cells sc b) (instances.parameter_cells b.parameters given) ws (zero_cells b) _ (replicate (length (zero_cells b)) zero_word) lead
+    (kinds_lead sc w lay Stand (zero_cells b) _ (replicate (length (zero_cells b)) zero_word) (block_kinds b) (block_zeros b))))
 
 -- a block that is no procedure has no cells of parameters
 pub none_given : (sc : Scopes) (b : Block) → AreParameters sc b → b.parameters ≡ [] → cells.parameter_cells sc b ≡ []
@@ -67,11 +67,11 @@ none_are sc b no_cells none =
     subst (λ (ss : List Simple). CellsAre ss (instances.parameter_cells b.parameters []) []) (sym no_cells)
     (subst (λ (ps : List Parameter). CellsAre [] (instances.parameter_cells ps []) []) (sym none) tt)
 
-pub none_lead : (sc : Scopes) (w : World) (lay : Layout) (parts : List Part) (b : Block) → cells.parameter_cells sc b ≡ [] → b.parameters ≡ [] →
-    LeadAll sc w lay parts (cells.parameter_cells sc b) (instances.parameter_cells b.parameters []) []
-none_lead sc w lay parts b no_cells none =
-    subst (λ (ss : List Simple). LeadAll sc w lay parts ss (instances.parameter_cells b.parameters []) []) (sym no_cells)
-    (subst (λ (ps : List Parameter). LeadAll sc w lay parts [] (instances.parameter_cells ps []) []) (sym none) tt)
+pub none_lead : (sc : Scopes) (w : World) (lay : Layout) (Stand : ℕ → Type 0) (b : Block) → cells.parameter_cells sc b ≡ [] → b.parameters ≡ [] →
+    LeadAll sc w lay Stand (cells.parameter_cells sc b) (instances.parameter_cells b.parameters []) []
+none_lead sc w lay Stand b no_cells none =
+    subst (λ (ss : List Simple). LeadAll sc w lay Stand ss (instances.parameter_cells b.parameters []) []) (sym no_cells)
+    (subst (λ (ps : List Parameter). LeadAll sc w lay Stand [] (instances.parameter_cells ps []) []) (sym none) tt)
 
 -- their number
 pub simple_many : (sc : Scopes) (b : Block) → length (simple_cells sc b) ≡ length (cells.parameter_cells sc b) + length (zero_cells b)

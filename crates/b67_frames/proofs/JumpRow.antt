@@ -1,5 +1,5 @@
 -- GO TO: the entry of its intrinsic, which leaves all frames above that of a level and goes on in that one.
-use Rattle.std.proofs.Common.{◌≡◌, refl, sym, ap, ◌∙◌, ℕ, ◌+◌, ◌-◌, ◌≤◌, List, [], ◌∷◌, ◌++◌, length, take, drop, Option, Some, None, Bool, true, false, Ok, arith, append_assoc, append-nil, ℤ}
+use Rattle.std.proofs.Common.{◌≡◌, sym, ap, ◌∙◌, ℕ, ◌+◌, ◌-◌, ◌≤◌, List, [], ◌∷◌, ◌++◌, length, take, drop, Option, Some, None, Bool, true, false, Ok, arith, append_assoc, append-nil, ℤ}
 use Rattle.std.specs.Prelude.{if◌then◌else◌, ◌&&◌, nat_eq, nat_le, reverse, pos}
 use Rattle.std.proofs.lemmas.Bool.Decides.{nat_tests}
 use Rattle.b67_num.specs.declared.FaultKind.TheVariants.{BadGoTo, CriticalBlockExit}
@@ -13,7 +13,7 @@ use Rattle.b67_segment.specs.declared.code.Code.{Code}
 use Rattle.b67_store.specs.Store.{Rows, words_of, with_stack}
 use Rattle.b67_table.specs.Arguments.{Three, three_in, wholes_in, number_in}
 use Rattle.b67_table.specs.Chains.{place, rebuilt}
-use Rattle.b67_table.specs.Effect.{Effect, gives}
+use Rattle.b67_table.specs.Effect.{Effect, gives, faults}
 use Rattle.b67_table.specs.GoingTo.{Passed, Passing, Target, passing, passed_by, level_in, target_of, frames_left, passed_frames, gone_to, if_same_stack}
 use Rattle.b67_table.specs.Image.{Image, with_stacks, with_registers}
 use Rattle.b67_table.specs.Limits.{segment_numbers, end_of_code}
@@ -33,11 +33,6 @@ use Rattle.b67_frames.proofs.JumpClosing.{image_left}
 
 pub same_number : (n : ℕ) → nat_eq n n ≡ true
 same_number n = grind (arith, nat_tests)
-
--- no frame is critical where no process depends on any
-none_critical : (stack : ℕ) (frames : List ℕ) → is_critical stack frames [] ≡ false
-none_critical stack [] = refl
-none_critical stack (f ∷ fs) = none_critical stack fs
 
 -- where the core goes on: in the frame at a place, with these words up to the end of its cells
 abbrev pub jumped : Core → List Word → ℕ → ℕ → ℕ → ℕ → ℕ → List (Option Place) → Core
@@ -61,8 +56,6 @@ pub record Jumps (img : Image) (core : Core) (front rest : List Word) (at cells 
   pub shows : seen img.stacks (rebuilt (place core.registers.stack at) level) ≡ Ok display
   pub rows : Rows
   pub closed : (m : ℕ) (next : Change) → changed m (frames_left core.registers.stack (stack_of core) passed next) img ≡ changed m next (image_left img rows core.registers.stack passed)
-  -- no process depends on a frame
-  pub free : live_criticals img.states img.regs ≡ []
 
 module _ (code : Code) (img : Image) (p : ℕ) (core : Core) (has : HasCore img p core) (next : ℕ) (there : operator_at code core.registers ≡ Ok (ops.Plain kinds.Entr, next))
     (arguments : List Word) (reference marked : Word) (below : List Word) (c : CallsIntrinsic img core GoTo arguments reference marked below)
@@ -147,11 +140,9 @@ module _ (code : Code) (img : Image) (p : ℕ) (core : Core) (has : HasCore img 
       ∙ ap gives (e.closed p last)
       ∙ ap (λ (ws : List Word). gives (with_registers (with_stacks (image_left img e.rows r.stack passed) (with_stack img.stacks r.stack ws)) p new.registers)) cut_there
 
-  frames_free : tested (with_display target passing_it display) ≡ tested (gone target passing_it display)
-  frames_free =
-      ap (λ (b : Bool). tested (if b then if_not_critical r.stack (passed_frames passed) (gone target passing_it display) else fault BadGoTo)) (same_number r.stack)
-      ∙ ap (λ (places : List Place). tested (if is_critical r.stack (passed_frames passed) places then fault CriticalBlockExit else gone target passing_it display)) e.free
-      ∙ ap (λ (b : Bool). tested (if b then fault CriticalBlockExit else gone target passing_it display)) (none_critical r.stack (passed_frames passed))
+  -- the test of the frames that are left
+  same_stack : tested (with_display target passing_it display) ≡ tested (if_not_critical r.stack (passed_frames passed) (gone target passing_it display))
+  same_stack = ap (λ (b : Bool). tested (if b then if_not_critical r.stack (passed_frames passed) (gone target passing_it display) else fault BadGoTo)) (same_number r.stack)
 
   targeted : tested (with_three (record { first = pos level; second = pos segment; third = pos pointer })) ≡ tested (with_target target)
   targeted =
@@ -160,12 +151,24 @@ module _ (code : Code) (img : Image) (p : ℕ) (core : Core) (has : HasCore img 
       ∙ ap (λ (b : Bool). tested (see (valid (if b then Some segment else None) >-> to_segment (place r.stack at) level) >>= with_target)) (most_is segment (segment_numbers - 1) e.segment_small)
       ∙ ap (λ (b : Bool). tested (see (valid (if b then Some pointer else None) >-> to_pointer (place r.stack at) level segment) >>= with_target)) (most_is pointer end_of_code e.pointer_small)
 
-  pub jump_raw : raw code img p ≡ gives after_jump
-  jump_raw =
+  jump_tests : raw code img p ≡ tested (if_not_critical r.stack (passed_frames passed) (gone target passing_it display))
+  jump_tests =
       entered code img p core has next there GoTo arguments reference marked below c
       ∙ ap (λ (o : Option (List ℤ)). tested (see (valid o >-> three_in) >>= with_three)) whole
       ∙ targeted
       ∙ ap (λ (x : Effect Change). effect_of p img x) (see_found img (passed_by r (place r.stack at)) passing_it (with_passing target) passed_there)
       ∙ ap (λ (x : Effect Change). effect_of p img x) (see_found img (rebuilt (place r.stack at) level) display (with_display target passing_it) e.shows)
-      ∙ frames_free
+      ∙ same_stack
+
+  -- no process depends on a frame that is left
+  pub jump_raw : is_critical core.registers.stack (passed_frames passed) (live_criticals img.states img.regs) ≡ false → raw code img p ≡ gives after_jump
+  jump_raw free =
+      jump_tests
+      ∙ ap (λ (b : Bool). tested (if b then fault CriticalBlockExit else gone target passing_it display)) free
       ∙ jump_does
+
+  -- or one does
+  pub jump_blocked : is_critical core.registers.stack (passed_frames passed) (live_criticals img.states img.regs) ≡ true → raw code img p ≡ faults CriticalBlockExit
+  jump_blocked critical =
+      jump_tests
+      ∙ ap (λ (b : Bool). tested (if b then fault CriticalBlockExit else gone target passing_it display)) critical

@@ -9,8 +9,10 @@ use Rattle.algol_tree.specs.Blocks.{block_numbered}
 use Rattle.algol_tree.specs.Scopes.{Scopes, use_of}
 use Rattle.algol_tree.specs.Sorts.{same_name}
 use Rattle.algol_meaning.specs.Value.{Value, Reference, EventCell, Bounds, ArrayCell, NameCell, Cell, simple, event, array, named, reference}
-use Rattle.algol_meaning.specs.World.{NamedCell, Instance, Part, World, instance_at, or_no_instance, ancestor, cell_in, cells_with, by_cell, followed}
+use Rattle.algol_meaning.specs.World.{NamedCell, Instance, World, instance_at, or_no_instance, ancestor, cell_in, cells_with, by_cell, followed}
+use Rattle.algol_meaning.specs.Critical.{referred_in}
 use Rattle.algol_paths.specs.Arrays.{DeclaredArray, Shape}
+use Rattle.algol_standing.specs.Skeleton.{IsIn as IsAmongThese}
 use Rattle.b67_word.specs.declared.Place.{Place}
 use Rattle.b67_word.specs.Word.{Word}
 use Rattle.b67_table.specs.References.{cell_word}
@@ -19,15 +21,15 @@ use Rattle.b67_ops.specs.declared.Couple.{Couple}
 use Rattle.b67_templates.specs.Cells.{Wanted, simple_cells, found_from, made_base, made_of, made_from, IsOwnActual}
 use Rattle.b67_standing.specs.Stepping.{Held, row, element, variable, cell_named, actual, passed}
 use Rattle.b67_cores.specs.Slots.{Known, IsKnown}
-use Rattle.b67_frames.specs.Arrays.{Allotted, Layout, IsOwn, IsArrayOf, IsIn, LeadsTo, LeadsToEvent, LeadsToVariable, Denotes, named_from, Names, an_array_named, an_event_named, a_variable_named, IsNamed, IsActual, IsRow, IsElement, HeldIs, AreKnown}
+use Rattle.b67_frames.specs.Arrays.{Allotted, Layout, IsArrayOf, IsIn, LeadsTo, LeadsToEvent, LeadsToVariable, Denotes, named_from, Names, an_array_named, an_event_named, a_variable_named, IsNamed, IsActual, IsRow, IsElement, HeldIs, AreKnown}
 
 -- what is known of a word is so
-pub known_is : (sc : Scopes) (w : World) (lay : Layout) (parts : List Part) (i : ℕ) (known : List Known) → AreKnown sc w lay (IsOwn parts) i known → (held : Held) (word : Word) → IsKnown known held word →
-    HeldIs sc w lay (IsOwn parts) i held word
-known_is sc w lay parts i [] are held word is = absurd is
-known_is sc w lay parts i (x ∷ known) are held word (inl same) =
-    subst (λ (u : Word). HeldIs sc w lay (IsOwn parts) i held u) same.1 (subst (λ (h : Held). HeldIs sc w lay (IsOwn parts) i h x.word) same.0 are.0)
-known_is sc w lay parts i (x ∷ known) are held word (inr later) = known_is sc w lay parts i known are.1 held word later
+pub known_is : (sc : Scopes) (w : World) (lay : Layout) (Stand : ℕ → Type 0) (i : ℕ) (known : List Known) → AreKnown sc w lay Stand i known → (held : Held) (word : Word) → IsKnown known held word →
+    HeldIs sc w lay Stand i held word
+known_is sc w lay Stand i [] are held word is = absurd is
+known_is sc w lay Stand i (x ∷ known) are held word (inl same) =
+    subst (λ (u : Word). HeldIs sc w lay Stand i held u) same.1 (subst (λ (h : Held). HeldIs sc w lay Stand i h x.word) same.0 are.0)
+known_is sc w lay Stand i (x ∷ known) are held word (inr later) = known_is sc w lay Stand i known are.1 held word later
 
 -- ---- what a parameter's cell stands for
 
@@ -36,19 +38,19 @@ pub data HasReferred (wanted : Wanted) (c : Cell) : Type 0 where
   has_reference : (r : Reference) → c ≡ reference r → HasReferred wanted c
   has_actual : (kind : Kind) (a : NameCell) → wanted ≡ wants.by_name kind → c ≡ named a → HasReferred wanted c
 
-pub referred_denoted : (sc : Scopes) (w : World) (lay : Layout) (parts : List Part) (wanted : Wanted) (c : Cell) (word : Word) → Denotes sc w lay (IsOwn parts) wanted c word → HasReferred wanted c
-referred_denoted sc w lay parts (wants.array shape) (reference r) word is = has_reference r refl
-referred_denoted sc w lay parts wants.event (reference r) word is = has_reference r refl
-referred_denoted sc w lay parts (wants.by_name kind) (reference r) word is = has_reference r refl
-referred_denoted sc w lay parts (wants.by_name kind) (named a) word is = has_actual kind a refl refl
-referred_denoted sc w lay parts _ c word is = absurd is
+pub referred_denoted : (sc : Scopes) (w : World) (lay : Layout) (Stand : ℕ → Type 0) (wanted : Wanted) (c : Cell) (word : Word) → Denotes sc w lay Stand wanted c word → HasReferred wanted c
+referred_denoted sc w lay Stand (wants.array shape) (reference r) word is = has_reference r refl
+referred_denoted sc w lay Stand wants.event (reference r) word is = has_reference r refl
+referred_denoted sc w lay Stand (wants.by_name kind) (reference r) word is = has_reference r refl
+referred_denoted sc w lay Stand (wants.by_name kind) (named a) word is = has_actual kind a refl refl
+referred_denoted sc w lay Stand _ c word is = absurd is
 
--- what stands for that from some parts does so from more
-pub denotes_so : (sc : Scopes) (w : World) (lay : Layout) (parts parts' : List Part) → ((j : ℕ) → IsOwn parts j → IsOwn parts' j) → (wanted : Wanted) (c : Cell) (word : Word) →
-    Denotes sc w lay (IsOwn parts) wanted c word → Denotes sc w lay (IsOwn parts') wanted c word
-denotes_so sc w lay parts parts' owned (wants.array shape) (reference r) word h =
+-- so it does where the instances to which it leads stand in another way
+pub denotes_so : (sc : Scopes) (w : World) (lay : Layout) (Stand Stand' : ℕ → Type 0) (wanted : Wanted) (c : Cell) (word : Word) → ((j : ℕ) → IsAmongThese (referred_in c) j → Stand j → Stand' j) →
+    Denotes sc w lay Stand wanted c word → Denotes sc w lay Stand' wanted c word
+denotes_so sc w lay Stand Stand' (wants.array shape) (reference r) word so h =
     record {
-      own = owned r.instance h.own;
+      own = so r.instance (inl refl) h.own;
       declared = h.declared;
       agrees = h.agrees;
       cell = h.cell;
@@ -58,16 +60,16 @@ denotes_so sc w lay parts parts' owned (wants.array shape) (reference r) word h 
       laid = h.laid;
       word_is = h.word_is;
     }
-denotes_so sc w lay parts parts' owned wants.event (reference r) word h = record { own = owned r.instance h.own; made = h.made; frame = h.frame; laid = h.laid; word_is = h.word_is }
-denotes_so sc w lay parts parts' owned (wants.by_name kind) (reference r) word h =
-    record { own = owned r.instance h.own; found = h.found; there = h.there; wanted_is = h.wanted_is; frame = h.frame; laid = h.laid; word_is = h.word_is }
-denotes_so sc w lay parts parts' owned (wants.by_name kind) (named a) word h =
-    record { own = owned a.instance h.own; level = h.level; couple = h.couple; stands = h.stands; frame = h.frame; laid = h.laid; word_is = h.word_is }
-denotes_so sc w lay parts parts' owned _ c word h = absurd h
+denotes_so sc w lay Stand Stand' wants.event (reference r) word so h = record { own = so r.instance (inl refl) h.own; made = h.made; frame = h.frame; laid = h.laid; word_is = h.word_is }
+denotes_so sc w lay Stand Stand' (wants.by_name kind) (reference r) word so h =
+    record { own = so r.instance (inl refl) h.own; found = h.found; there = h.there; wanted_is = h.wanted_is; frame = h.frame; laid = h.laid; word_is = h.word_is }
+denotes_so sc w lay Stand Stand' (wants.by_name kind) (named a) word so h =
+    record { own = so a.instance (inl refl) h.own; level = h.level; couple = h.couple; stands = h.stands; frame = h.frame; laid = h.laid; word_is = h.word_is }
+denotes_so sc w lay Stand Stand' _ c word so h = absurd h
 
--- an instance of these parts, or none
-abbrev pub IsOwnOrNone : List Part → ℕ → Type 0
-IsOwnOrNone parts j = (j ≡ 0) ⊎ IsOwn parts j
+-- an instance that stands so, or none
+abbrev pub IsInOrNone : (ℕ → Type 0) → ℕ → Type 0
+IsInOrNone Stand j = (j ≡ 0) ⊎ Stand j
 
 module _ (sc : Scopes) (w w' : World) (lay lay' : Layout) where
   -- an array that an instance has by its name stays, with its bounds
@@ -95,24 +97,24 @@ module _ (sc : Scopes) (w w' : World) (lay lay' : Layout) where
         allotted = keeps.rows h.number a h.allotted;
       }
 
-  -- The instances of these parts keep their arrays and the places of their frames, and are those of others later.
-  pub record Remain (parts parts' : List Part) : Type 0 where
-    pub owned : (j : ℕ) → IsOwn parts j → IsOwn parts' j
-    pub keeps : (j : ℕ) → IsOwn parts j → KeepsArrays j
-    pub places : (j : ℕ) (f : Place) → IsOwn parts j → numbered lay.places j ≡ Some f → numbered lay'.places j ≡ Some f
+  -- The instances that stand so keep their arrays and the places of their frames, and stand so later.
+  pub record Remain (Stand Stand' : ℕ → Type 0) : Type 0 where
+    pub stays : (j : ℕ) → Stand j → Stand' j
+    pub keeps : (j : ℕ) → Stand j → KeepsArrays j
+    pub places : (j : ℕ) (f : Place) → Stand j → numbered lay.places j ≡ Some f → numbered lay'.places j ≡ Some f
 
   -- the static parents of an instance stay, and what their names lead to
   pub record Climbs (i : ℕ) : Type 0 where
     pub same : (up : ℕ) → ancestor w' up i ≡ ancestor w up i
     pub leads : (up : ℕ) (name : List ℕ) → followed w' (record { instance = ancestor w up i; name = name }) ≡ followed w (record { instance = ancestor w up i; name = name })
 
-  module _ (parts parts' : List Part) (remain : Remain parts parts') where
+  module _ (Stand Stand' : ℕ → Type 0) (remain : Remain Stand Stand') where
     -- a reference leads where it led
-    pub leads_lasts : (shape : Shape) (r : Reference) (word : Word) → LeadsTo sc w lay (IsOwn parts) shape r word → LeadsTo sc w' lay' (IsOwn parts') shape r word
+    pub leads_lasts : (shape : Shape) (r : Reference) (word : Word) → LeadsTo sc w lay Stand shape r word → LeadsTo sc w' lay' Stand' shape r word
     leads_lasts shape r word h =
         let k : KeepsArrays r.instance = remain.keeps r.instance h.own in
         record {
-          own = remain.owned r.instance h.own;
+          own = remain.stays r.instance h.own;
           declared = h.declared;
           agrees = h.agrees;
           cell = (k.arrays r.name h.cell h.array.is).later;
@@ -127,10 +129,10 @@ module _ (sc : Scopes) (w w' : World) (lay lay' : Layout) where
               })) (sym k.block);
         }
 
-    pub variable_lasts : (kind : Kind) (r : Reference) (word : Word) → LeadsToVariable sc w lay (IsOwn parts) kind r word → LeadsToVariable sc w' lay' (IsOwn parts') kind r word
+    pub variable_lasts : (kind : Kind) (r : Reference) (word : Word) → LeadsToVariable sc w lay Stand kind r word → LeadsToVariable sc w' lay' Stand' kind r word
     variable_lasts kind r word h =
         record {
-          own = remain.owned r.instance h.own;
+          own = remain.stays r.instance h.own;
           found = h.found;
           there = ap (λ (b : ℕ). found_from 0 (simple_cells sc (block_numbered sc.blocks b)) r.name) (remain.keeps r.instance h.own).block ∙ h.there;
           wanted_is = h.wanted_is;
@@ -139,12 +141,12 @@ module _ (sc : Scopes) (w w' : World) (lay lay' : Layout) where
           word_is = h.word_is;
         }
 
-    pub event_lasts : (r : Reference) (word : Word) → LeadsToEvent sc w lay (IsOwn parts) r word → LeadsToEvent sc w' lay' (IsOwn parts') r word
+    pub event_lasts : (r : Reference) (word : Word) → LeadsToEvent sc w lay Stand r word → LeadsToEvent sc w' lay' Stand' r word
     event_lasts r word h =
         let k : KeepsArrays r.instance = remain.keeps r.instance h.own in
         let still : (later : EventCell) × (cell_in ((instance_at w' r.instance).cells) r.name ≡ event later) = k.events r.name h.made.cell h.made.is in
         record {
-          own = remain.owned r.instance h.own;
+          own = remain.stays r.instance h.own;
           made = record {
             number = h.made.number;
             found = ap (λ (b : ℕ). made_from 0 (made_of (block_numbered sc.blocks b).decls) r.name) k.block ∙ h.made.found;
@@ -160,10 +162,10 @@ module _ (sc : Scopes) (w w' : World) (lay lay' : Layout) where
               })) (sym k.block);
         }
 
-    actual_lasts : (i : ℕ) (e : PExpr) (kind : Kind) (word : Word) → IsActual sc w lay (IsOwn parts) i e kind word → IsActual sc w' lay' (IsOwn parts') i e kind word
+    actual_lasts : (i : ℕ) (e : PExpr) (kind : Kind) (word : Word) → IsActual sc w lay Stand i e kind word → IsActual sc w' lay' Stand' i e kind word
     actual_lasts i e kind word h =
         record {
-          own = remain.owned i h.own;
+          own = remain.stays i h.own;
           level = h.level;
           couple = h.couple;
           stands = subst (λ (b : ℕ). IsOwnActual sc b h.level e kind h.couple) (sym (remain.keeps i h.own).block) h.stands;
@@ -172,7 +174,7 @@ module _ (sc : Scopes) (w w' : World) (lay lay' : Layout) where
           word_is = h.word_is;
         }
 
-    pub denotes_lasts : (wanted : Wanted) (c : Cell) (word : Word) → Denotes sc w lay (IsOwn parts) wanted c word → Denotes sc w' lay' (IsOwn parts') wanted c word
+    pub denotes_lasts : (wanted : Wanted) (c : Cell) (word : Word) → Denotes sc w lay Stand wanted c word → Denotes sc w' lay' Stand' wanted c word
     denotes_lasts (wants.array shape) (reference r) word h = leads_lasts shape r word h
     denotes_lasts wants.event (reference r) word h = event_lasts r word h
     denotes_lasts (wants.by_name kind) (reference r) word h = variable_lasts kind r word h
@@ -185,13 +187,13 @@ module _ (sc : Scopes) (w w' : World) (lay lay' : Layout) where
           ap (λ (j : ℕ). followed w' (record { instance = j; name = n.name })) (climbs.same ((use_of sc n).up))
           ∙ climbs.leads ((use_of sc n).up) n.name
 
-      row_lasts : (n : Named) (ks : List ℕ) (word : Word) → IsRow sc w lay (IsOwn parts) i n ks word → IsRow sc w' lay' (IsOwn parts') i n ks word
+      row_lasts : (n : Named) (ks : List ℕ) (word : Word) → IsRow sc w lay Stand i n ks word → IsRow sc w' lay' Stand' i n ks word
       row_lasts n ks word h =
           let k : KeepsArrays h.home.instance = remain.keeps h.home.instance h.own in
           record {
             home = h.home;
             home_is = h.home_is ∙ sym (home_lasts n);
-            own = remain.owned h.home.instance h.own;
+            own = remain.stays h.home.instance h.own;
             declared = h.declared;
             cell = (k.arrays h.home.name h.cell h.array.is).later;
             allotted = h.allotted;
@@ -208,11 +210,11 @@ module _ (sc : Scopes) (w w' : World) (lay lay' : Layout) where
             word_is = h.word_is;
           }
 
-      element_lasts : (r : Reference) (ks : List ℕ) (kind : Kind) (word : Word) → IsElement sc w lay (IsOwn parts) r ks kind word → IsElement sc w' lay' (IsOwn parts') r ks kind word
+      element_lasts : (r : Reference) (ks : List ℕ) (kind : Kind) (word : Word) → IsElement sc w lay Stand r ks kind word → IsElement sc w' lay' Stand' r ks kind word
       element_lasts r ks kind word h =
           let k : KeepsArrays r.instance = remain.keeps r.instance h.own in
           record {
-            own = remain.owned r.instance h.own;
+            own = remain.stays r.instance h.own;
             declared = h.declared;
             kind_is = h.kind_is;
             cell = (k.arrays r.name h.cell h.array.is).later;
@@ -232,11 +234,11 @@ module _ (sc : Scopes) (w w' : World) (lay lay' : Layout) where
       still_names level n couple (an_event_named is) = an_event_named is
       still_names level n couple (a_variable_named kind is) = a_variable_named kind is
 
-      named_lasts : (n : Named) (word : Word) → IsNamed sc w lay (IsOwn parts) i n word → IsNamed sc w' lay' (IsOwn parts') i n word
+      named_lasts : (n : Named) (word : Word) → IsNamed sc w lay Stand i n word → IsNamed sc w' lay' Stand' i n word
       named_lasts n word h =
           let up : ℕ = (use_of sc n).up in
           record {
-            own = subst (λ (j : ℕ). IsOwn parts' j) (sym (climbs.same up)) (remain.owned (ancestor w up i) h.own);
+            own = subst (λ (j : ℕ). Stand' j) (sym (climbs.same up)) (remain.stays (ancestor w up i) h.own);
             level = h.level;
             couple = h.couple;
             names = still_names h.level n h.couple h.names;
@@ -245,7 +247,7 @@ module _ (sc : Scopes) (w w' : World) (lay lay' : Layout) where
             word_is = h.word_is;
           }
 
-      held_lasts : (held : Held) (word : Word) → HeldIs sc w lay (IsOwn parts) i held word → HeldIs sc w' lay' (IsOwn parts') i held word
+      held_lasts : (held : Held) (word : Word) → HeldIs sc w lay Stand i held word → HeldIs sc w' lay' Stand' i held word
       held_lasts (row n ks) word h = row_lasts n ks word h
       held_lasts (element r ks kind) word h = element_lasts r ks kind word h
       held_lasts (cell_named n) word h = named_lasts n word h
@@ -254,38 +256,38 @@ module _ (sc : Scopes) (w w' : World) (lay lay' : Layout) where
       held_lasts (passed wanted c) word h = denotes_lasts wanted c word h
 
       -- so all of it holds later
-      pub known_lasts : (known : List Known) → AreKnown sc w lay (IsOwn parts) i known → AreKnown sc w' lay' (IsOwn parts') i known
+      pub known_lasts : (known : List Known) → AreKnown sc w lay Stand i known → AreKnown sc w' lay' Stand' i known
       known_lasts [] are = tt
       known_lasts (x ∷ known) are = (held_lasts x.held x.word are.0, known_lasts known are.1)
 
   -- ---- static parents
 
-  module _ (parts : List Part) (keeps : (j : ℕ) → IsOwn parts j → KeepsArrays j) (next : (j : ℕ) → IsOwn parts j → IsOwnOrNone parts ((instance_at w j).parent)) where
-    parent_same : (j : ℕ) → IsOwnOrNone parts j → (instance_at w' j).parent ≡ (instance_at w j).parent
+  module _ (Stand : ℕ → Type 0) (keeps : (j : ℕ) → Stand j → KeepsArrays j) (next : (j : ℕ) → Stand j → IsInOrNone Stand ((instance_at w j).parent)) where
+    parent_same : (j : ℕ) → IsInOrNone Stand j → (instance_at w' j).parent ≡ (instance_at w j).parent
     parent_same j (inl none) = ap (λ (k : ℕ). (instance_at w' k).parent) none ∙ sym (ap (λ (k : ℕ). (instance_at w k).parent) none)
     parent_same j (inr own) = (keeps j own).parent
 
-    next_of : (j : ℕ) → IsOwnOrNone parts j → IsOwnOrNone parts ((instance_at w j).parent)
+    next_of : (j : ℕ) → IsInOrNone Stand j → IsInOrNone Stand ((instance_at w j).parent)
     next_of j (inl none) = inl (ap (λ (k : ℕ). (instance_at w k).parent) none)
     next_of j (inr own) = next j own
 
-    names_lead : (j : ℕ) → IsOwnOrNone parts j → (name : List ℕ) → followed w' (record { instance = j; name = name }) ≡ followed w (record { instance = j; name = name })
+    names_lead : (j : ℕ) → IsInOrNone Stand j → (name : List ℕ) → followed w' (record { instance = j; name = name }) ≡ followed w (record { instance = j; name = name })
     names_lead j (inl none) name =
         ap (λ (k : ℕ). followed w' (record { instance = k; name = name })) none
         ∙ sym (ap (λ (k : ℕ). followed w (record { instance = k; name = name })) none)
     names_lead j (inr own) name = (keeps j own).leads name (record { instance = j; name = name })
 
-    same_up : (up j : ℕ) → IsOwnOrNone parts j → ancestor w' up j ≡ ancestor w up j
+    same_up : (up j : ℕ) → IsInOrNone Stand j → ancestor w' up j ≡ ancestor w up j
     same_up zero j own = refl
     same_up (suc up) j own = ap (λ (k : ℕ). ancestor w' up k) (parent_same j own) ∙ same_up up ((instance_at w j).parent) (next_of j own)
 
-    leads_up : (up j : ℕ) → IsOwnOrNone parts j → (name : List ℕ) →
+    leads_up : (up j : ℕ) → IsInOrNone Stand j → (name : List ℕ) →
         followed w' (record { instance = ancestor w up j; name = name }) ≡ followed w (record { instance = ancestor w up j; name = name })
     leads_up zero j own name = names_lead j own name
     leads_up (suc up) j own name = leads_up up ((instance_at w j).parent) (next_of j own) name
 
-    pub climbs_own : (i : ℕ) → IsOwn parts i → Climbs i
-    climbs_own i own = record { same = λ up. same_up up i (inr own); leads = λ up name. leads_up up i (inr own) name }
+    pub climbs_in : (i : ℕ) → Stand i → Climbs i
+    climbs_in i own = record { same = λ up. same_up up i (inr own); leads = λ up name. leads_up up i (inr own) name }
 
   -- where all instances keep their arrays
   module _ (keeps : (j : ℕ) → KeepsArrays j) where
@@ -314,12 +316,12 @@ keeps_same sc w w' lay lay' j same rows =
       rows = λ number a there. ap (λ (as' : List Allotted). slice_get as' number) rows ∙ there;
     }
 
--- what is known is known of other parts with the same instances, and in a world with the same instances
-pub known_of : (sc : Scopes) (w w' : World) (lay : Layout) (parts parts' : List Part) → w'.instances ≡ w.instances → ((j : ℕ) → IsOwn parts j → IsOwn parts' j) → (i : ℕ) (known : List Known) →
-    AreKnown sc w lay (IsOwn parts) i known → AreKnown sc w' lay (IsOwn parts') i known
-known_of sc w w' lay parts parts' same owned i =
+-- what is known is known in a world with the same instances, where those that it is of stand
+pub known_of : (sc : Scopes) (w w' : World) (lay : Layout) (Stand Stand' : ℕ → Type 0) → w'.instances ≡ w.instances → ((j : ℕ) → Stand j → Stand' j) → (i : ℕ) (known : List Known) →
+    AreKnown sc w lay Stand i known → AreKnown sc w' lay Stand' i known
+known_of sc w w' lay Stand Stand' same stays i =
     let keeps : (j : ℕ) → KeepsArrays sc w w' lay lay j = λ j. keeps_same sc w w' lay lay j (ap (λ (xs : List Instance). or_no_instance (numbered xs j)) same) refl in
-    known_lasts sc w w' lay lay parts parts' (record { owned = owned; keeps = λ j own. keeps j; places = λ j f own laid. laid }) i (climbs_all sc w w' lay lay keeps i)
+    known_lasts sc w w' lay lay Stand Stand' (record { stays = stays; keeps = λ j own. keeps j; places = λ j f own laid. laid }) i (climbs_all sc w w' lay lay keeps i)
 
 -- the cells with another one in the first of a name, by whether the first cell has it
 abbrev with_cell : Bool → NamedCell → List NamedCell → List ℕ → Cell → List NamedCell

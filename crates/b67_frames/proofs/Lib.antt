@@ -1,4 +1,9 @@
+pub mod Facts
 pub mod Knowing
+pub mod Onward
+pub mod Paths
+pub mod ChoicePaths
+pub mod StaticParents
 pub mod ArraysKept
 pub mod Expressions
 pub mod Lying
@@ -49,3 +54,5 @@ pub mod NamedEvents
 pub mod EventsChanged
 pub mod EventCells
 pub mod EventRows
+pub mod BlockedRow
+pub mod BadJumpRow

@@ -1,5 +1,5 @@
--- The frames of a process's parts in its stack, and the links between them.
-use Rattle.std.proofs.Common.{◌≡◌, inl, inr, refl, sym, ap, ◌∙◌, subst, ℕ, zero, suc, ◌+◌, ◌-◌, ◌<◌, ◌≤◌, List, [], ◌∷◌, ◌++◌, length, Option, Some, arith, append_assoc, length-append}
+-- The frames of instances in the stacks, and the links between them.
+use Rattle.std.proofs.Common.{◌≡◌, refl, sym, ap, ◌∙◌, subst, ℕ, zero, suc, ◌+◌, ◌-◌, ◌<◌, ◌≤◌, List, [], ◌∷◌, ◌++◌, length, Some, arith, append_assoc, length-append}
 use Rattle.std.specs.Prelude.{slice_get, reverse}
 use Rattle.b67_list.specs.Numbered.{numbered}
 use Rattle.algol_tree.specs.Blocks.{Block, block_numbered, around}
@@ -7,12 +7,12 @@ use Rattle.algol_tree.specs.Cells.{level_of}
 use Rattle.algol_tree.specs.Plain.{PProgram}
 use Rattle.algol_tree.specs.Scopes.{Scopes, scopes_of}
 use Rattle.algol_meaning.specs.World.{Instance, Part, World, instance_at, or_no_instance, ancestor}
+use Rattle.algol_standing.specs.Worlds.{IsStanding}
 use Rattle.b67_word.specs.declared.Place.{Place}
 use Rattle.b67_word.specs.Word.{Word}
 use Rattle.b67_control.specs.Control.{as_mscw, as_rcw}
 use Rattle.b67_control.specs.Display.{place_at}
 use Rattle.b67_segment.specs.declared.code.Code.{Code}
-use Rattle.b67_templates.specs.Contexts.{Yields}
 use Rattle.b67_templates.specs.Programs.{Texts}
 use Rattle.b67_store.specs.Store.{Stacks, words_of, word_at}
 use Rattle.b67_table.specs.Chains.{place}
@@ -24,9 +24,9 @@ use Rattle.b67_rows.proofs.Displays.{IsEntered, Links, root, onward, shown, show
 use Rattle.b67_rows.proofs.Rows.{words_are}
 use Rattle.b67_rows.proofs.Parents.{length_around}
 use Rattle.b67_rows.proofs.StackWords.{get-seam, get-front}
-use Rattle.b67_frames.specs.Arrays.{Layout, IsOwn}
-use Rattle.b67_frames.specs.Frames.{IsChained, home_of, IsPlaced, outermost, inside, Frame, Stands, Around, Owned}
-use Rattle.b67_frames.proofs.Lying.{Lies, lies_in, lies_low, owned_frame}
+use Rattle.b67_frames.specs.Arrays.{Layout}
+use Rattle.b67_frames.specs.Frames.{IsChained, home_of, IsPlaced, outermost, inside, ArePlaced, Frame, Owned}
+use Rattle.b67_frames.proofs.Lying.{Lies}
 
 -- the level of a block, by the blocks around it
 pub level_around : (bs : List Block) (i : ℕ) → level_of (block_numbered bs i) ≡ length (around bs i) + 2
@@ -36,30 +36,100 @@ level_around bs i = sym (length_around bs i)
 abbrev pub Begins_with : Stacks → ℕ → List Word → Type 0
 Begins_with stacks p words = (n : ℕ) (x : Word) → slice_get words n ≡ Some x → word_at stacks (place p n) ≡ Some x
 
-module _ (sc : Scopes) (w : World) (lay : Layout) (stacks : Stacks) (p : ℕ) where
-  -- The frame of an instance stands in the stack of process p, linked to its home, from which links lead down along the frames of its
-  -- static parents.
+module _ (sc : Scopes) (w : World) (lay : Layout) (stacks : Stacks) where
+  -- The frame of an instance stands in some stack, and is linked to where that of its parent is.
+  pub record Entered (i : ℕ) : Type 0 where
+    pub at : Place
+    pub laid : numbered lay.places i ≡ Some at
+    pub home : Place
+    pub linked : home_of sc w lay ((instance_at w i).parent) ≡ Some home
+    pub there : IsEntered stacks at home (level_of (block_numbered sc.blocks ((instance_at w i).block)))
+
+  -- so do the frames of all that stand
+  abbrev pub AreEntered : Type 0
+  AreEntered = (i : ℕ) → IsStanding w i → Entered i
+
+  -- The frame of an instance stands in some stack, linked to its home, from which links lead down along the frames of its static parents.
   pub record Linked (i : ℕ) : Type 0 where
-    pub instance : Instance
-    pub is : numbered w.instances i ≡ Some instance
-    pub at : ℕ
-    pub laid : numbered lay.places i ≡ Some (place p at)
+    pub at : Place
+    pub laid : numbered lay.places i ≡ Some at
     pub home : Place
     pub more : List Place
-    pub entered : IsEntered stacks (place p at) home (length more + 2)
+    pub entered : IsEntered stacks at home (length more + 2)
     pub links : Links stacks home more
-    pub level_is : level_of (block_numbered sc.blocks instance.block) ≡ length more + 2
-    pub each : (up : ℕ) → up < length more → slice_get more up ≡ numbered lay.places (ancestor w up instance.parent)
+    pub level_is : level_of (block_numbered sc.blocks ((instance_at w i).block)) ≡ length more + 2
+    pub each : (up : ℕ) → up < length more → slice_get more up ≡ numbered lay.places (ancestor w up ((instance_at w i).parent))
 
   -- so the frames from that of the instance on
-  pub all_linked : (i : ℕ) (l : Linked i) → Links stacks (place p l.at) (place p l.at ∷ l.more)
+  pub all_linked : (i : ℕ) (l : Linked i) → Links stacks l.at (l.at ∷ l.more)
   all_linked i l = onward l.entered l.links
 
-  pub all_each : (i : ℕ) (l : Linked i) (up : ℕ) → up < suc (length l.more) → slice_get (place p l.at ∷ l.more) up ≡ numbered lay.places (ancestor w up i)
+  pub all_each : (i : ℕ) (l : Linked i) (up : ℕ) → up < suc (length l.more) → slice_get (l.at ∷ l.more) up ≡ numbered lay.places (ancestor w up i)
   all_each i l zero low = sym l.laid
-  all_each i l (suc up) low =
-      l.each up (omega (arith, low))
-      ∙ ap (λ (o : Option Instance). numbered lay.places (ancestor w up ((or_no_instance o).parent))) (sym l.is)
+  all_each i l (suc up) low = l.each up (omega (arith, low))
+
+  module _ (placed : ArePlaced sc w lay) (entered : AreEntered) where
+    abbrev block : ℕ → ℕ
+    block i = (instance_at w i).block
+
+    abbrev parent : ℕ → ℕ
+    parent i = (instance_at w i).parent
+
+    -- an outermost one is linked to the system's stack
+    from_outermost : (i : ℕ) → Entered i → parent i ≡ 0 → around sc.blocks (block i) ≡ [] → Linked i
+    from_outermost i e none alone =
+        let level : level_of (block_numbered sc.blocks (block i)) ≡ 2 = level_around sc.blocks (block i) ∙ ap (λ (bs : List ℕ). length bs + 2) alone in
+        let home : e.home ≡ place 0 0 = some_same (sym e.linked ∙ ap (home_of sc w lay) none) in
+        record {
+          at = e.at;
+          laid = e.laid;
+          home = place 0 0;
+          more = [];
+          entered = subst (λ (n : ℕ). IsEntered stacks e.at (place 0 0) n) level (subst (λ (h : Place). IsEntered stacks e.at h (level_of (block_numbered sc.blocks (block i)))) home e.there);
+          links = root;
+          level_is = level;
+          each = λ up low. absurd (omega (arith, low));
+        }
+
+    -- and another one to the frame of its parent
+    from_parent : (i : ℕ) → Entered i → Linked (parent i) → around sc.blocks (block i) ≡ block (parent i) ∷ around sc.blocks (block (parent i)) → Linked i
+    from_parent i e l alone =
+        let level : level_of (block_numbered sc.blocks (block i)) ≡ suc (length l.more) + 2 =
+        omega (arith, level_around sc.blocks (block i), ap length alone, l.level_is, level_around sc.blocks (block (parent i))) in
+        let home : e.home ≡ l.at = some_same (sym e.linked ∙ home_is (parent i) l.laid) in
+        record {
+          at = e.at;
+          laid = e.laid;
+          home = l.at;
+          more = l.at ∷ l.more;
+          entered = subst (λ (n : ℕ). IsEntered stacks e.at l.at n) level (subst (λ (h : Place). IsEntered stacks e.at h (level_of (block_numbered sc.blocks (block i)))) home e.there);
+          links = all_linked (parent i) l;
+          level_is = level;
+          each = all_each (parent i) l;
+        }
+      where
+        home_is : (k : ℕ) → numbered lay.places k ≡ Some l.at → home_of sc w lay k ≡ Some l.at
+        home_is zero f = none_some f
+        home_is (suc k) f = f
+
+    linked_by : (bs : List ℕ) (i : ℕ) → IsStanding w i → around sc.blocks (block i) ≡ bs → Linked i
+    linked_by [] i st e = by_placed (placed i st)
+      where
+        by_placed : IsPlaced sc w lay (instance_at w i) → Linked i
+        by_placed (outermost none alone) = from_outermost i (entered i st) none alone
+        by_placed (inside one_up next made) = absurd (let clash : block (parent i) ∷ around sc.blocks (block (parent i)) ≡ [] = sym next ∙ e in cc)
+    linked_by (b ∷ bs) i st e = by_placed (placed i st) (λ j one h. linked_by bs j one h)
+      where
+        by_placed : IsPlaced sc w lay (instance_at w i) → ((j : ℕ) → IsStanding w j → around sc.blocks (block j) ≡ bs → Linked j) → Linked i
+        by_placed (outermost none alone) again = from_outermost i (entered i st) none alone
+        by_placed (inside one_up next made) again =
+            let both : block (parent i) ∷ around sc.blocks (block (parent i)) ≡ b ∷ bs = sym next ∙ e in
+            let rest : around sc.blocks (block (parent i)) ≡ bs = cc in
+            from_parent i (entered i st) (again (parent i) one_up rest) next
+
+    -- so are the frames of all that stand
+    pub linked : (i : ℕ) → IsStanding w i → Linked i
+    linked i st = linked_by (around sc.blocks (block i)) i st refl
 
 -- what begins with words begins with those before them
 pub begins_front : (stacks : Stacks) (p : ℕ) (front back : List Word) → Begins_with stacks p (front ++ back) → Begins_with stacks p front
@@ -72,130 +142,62 @@ begins_core img p core has n x e =
     ∙ ap (λ (ws : List Word). slice_get ws n) (words_are img p core has)
     ∙ get-front core.below (reverse core.words) n x e
 
-module _ (tree : PProgram) (code : Code) (texts : Texts) (w : World) (lay : Layout) (p : ℕ) (stacks : Stacks) where
+module _ (tree : PProgram) (code : Code) (texts : Texts) (w : World) (lay : Layout) (p : ℕ) where
   abbrev sc : Scopes
   sc = scopes_of tree
 
-  -- the frame of a part
-  module _ (part : Part) (outer : List Part) (words : List Word) (f : Frame tree code texts w lay p part outer words) (b : Begins_with stacks p words) where
-    abbrev at : ℕ
-    at = length f.lower
+  -- the two first words of the frame of a part, among these that end with it
+  module _ (part : Part) (outer : List Part) (words : List Word) (f : Frame tree code texts w lay p part outer words) where
+    pub mark_lies : slice_get words (length f.lower) ≡ Some f.mark
+    mark_lies = ap (λ (ws : List Word). slice_get ws (length f.lower)) f.words_are ∙ get-seam f.lower f.mark (f.control ∷ f.cells) (length f.lower) refl
 
-    abbrev back : List Word
-    back = f.mark ∷ f.control ∷ f.cells
+    pub control_lies : slice_get words (length f.lower + 1) ≡ Some f.control
+    control_lies =
+        ap (λ (ws : List Word). slice_get ws (length f.lower + 1)) (f.words_are ∙ sym (append_assoc f.lower (f.mark ∷ []) (f.control ∷ f.cells)))
+        ∙ get-seam (f.lower ++ f.mark ∷ []) f.control f.cells (length f.lower + 1) (sym (length-append f.lower (f.mark ∷ [])))
 
-    pub mark_there : word_at stacks (place p at) ≡ Some f.mark
-    mark_there = b at f.mark (ap (λ (ws : List Word). slice_get ws at) f.words_are ∙ get-seam f.lower f.mark (f.control ∷ f.cells) at refl)
-
-    pub control_there : word_at stacks (place p (at + 1)) ≡ Some f.control
-    control_there =
-        b (at + 1) f.control (ap (λ (ws : List Word). slice_get ws (at + 1)) (f.words_are ∙ sym (append_assoc f.lower (f.mark ∷ []) (f.control ∷ f.cells)))
-        ∙ get-seam (f.lower ++ f.mark ∷ []) f.control f.cells (at + 1) (sym (length-append f.lower (f.mark ∷ []))))
-
-    module _ (o : Owned tree code texts w lay p part outer (length f.lower) f.mark f.control f.cells) where
-      abbrev x : Instance
-      x = o.framed.instance
-
-      pub entered_at : (home : Place) (level : ℕ) → o.framed.home ≡ home → level_of (block_numbered sc.blocks x.block) ≡ level → IsEntered stacks (place p at) home level
-      entered_at home level same is =
-          subst (λ (h : Place). IsEntered stacks (place p at) h level) same (record {
+  module _ (stacks : Stacks) where
+    -- an own frame, the two first words of which are there
+    pub owned_entered : (part : Part) (outer : List Part) (at : ℕ) (mark control : Word) (cells : List Word) (o : Owned tree code texts w lay p part outer at mark control cells) →
+        word_at stacks (place p at) ≡ Some mark → word_at stacks (place p (at + 1)) ≡ Some control → Entered (scopes_of tree) w lay stacks part.instance
+    owned_entered part outer at mark control cells o marked controlled =
+        let here : o.framed.instance ≡ instance_at w part.instance = sym (ap or_no_instance o.framed.is) in
+        record {
+          at = place p at;
+          laid = o.framed.laid;
+          home = o.framed.home;
+          linked = ap (λ (x : Instance). home_of sc w lay x.parent) (sym here) ∙ o.framed.linked;
+          there = record {
             df = o.framed.df;
-            marked = ap (read_as as_mscw) mark_there ∙ o.framed.mark_is;
+            marked = ap (read_as as_mscw) marked ∙ o.framed.mark_is;
             control = o.framed.back;
-            controlled = ap (read_as as_rcw) control_there ∙ o.framed.control_is;
-            level_is = o.framed.level_is ∙ is;
-          })
+            controlled = ap (read_as as_rcw) controlled ∙ o.framed.control_is;
+            level_is = o.framed.level_is ∙ ap (λ (x : Instance). level_of (block_numbered sc.blocks x.block)) here;
+          };
+        }
 
-      -- an outermost one is linked to the system's stack
-      from_outermost : x.parent ≡ 0 → around sc.blocks x.block ≡ [] → Linked sc w lay stacks p part.instance
-      from_outermost none alone =
-          let level : level_of (block_numbered sc.blocks x.block) ≡ 2 = level_around sc.blocks x.block ∙ ap (λ (bs : List ℕ). length bs + 2) alone in
-          let home : o.framed.home ≡ place 0 0 = some_same (sym o.framed.linked ∙ ap (home_of sc w lay) none) in
-          record {
-            instance = x;
-            is = o.framed.is;
-            at = at;
-            laid = o.framed.laid;
-            home = place 0 0;
-            more = [];
-            entered = entered_at (place 0 0) 2 home level;
-            links = root;
-            level_is = level;
-            each = λ up low. absurd (omega (arith, low));
-          }
+    -- that of an instance of these parts: the stack has the words below some place, and its two first words lie below that
+    pub lies_entered : (parts : List Part) (i : ℕ) (words : List Word) (limit : ℕ) → ((n : ℕ) (x : Word) → n < limit → slice_get words n ≡ Some x → word_at stacks (place p n) ≡ Some x) →
+        (l : Lies tree code texts w lay p parts i words) → length l.frame.lower + 2 ≤ limit → Entered (scopes_of tree) w lay stacks i
+    lies_entered parts i words limit there l low =
+        subst (λ (j : ℕ). Entered sc w lay stacks j) l.instance_is
+        (owned_entered l.part l.outer (length l.frame.lower) l.frame.mark l.frame.control l.frame.cells l.owned
+        (there (length l.frame.lower) l.frame.mark (omega (arith, low)) (in_words (length l.frame.lower) l.frame.mark (mark_lies l.part l.outer l.front l.frame)))
+        (there (length l.frame.lower + 1) l.frame.control (omega (arith, low)) (in_words (length l.frame.lower + 1) l.frame.control (control_lies l.part l.outer l.front l.frame))))
+      where
+        in_words : (n : ℕ) (x : Word) → slice_get l.front n ≡ Some x → slice_get words n ≡ Some x
+        in_words n x e = ap (λ (ws : List Word). slice_get ws n) l.words_are ∙ get-front l.front l.rest n x e
 
-      -- and another one to the frame of its parent
-      from_parent : (l : Linked sc w lay stacks p x.parent) → around sc.blocks x.block ≡ (instance_at w x.parent).block ∷ around sc.blocks (instance_at w x.parent).block → Linked sc w lay stacks p part.instance
-      from_parent l alone =
-          let block : instance_at w x.parent ≡ l.instance = ap or_no_instance l.is in
-          let parent_level : level_of (block_numbered sc.blocks ((instance_at w x.parent).block)) ≡ length l.more + 2 = ap (λ (y : Instance). level_of (block_numbered sc.blocks y.block)) block ∙ l.level_is in
-          let level : level_of (block_numbered sc.blocks x.block) ≡ suc (length l.more) + 2 =
-          level_around sc.blocks x.block ∙ ap (λ (bs : List ℕ). length bs + 2) alone ∙ omega (arith, parent_level, level_around sc.blocks ((instance_at w x.parent).block)) in
-          let home : o.framed.home ≡ place p l.at = some_same (sym o.framed.linked ∙ home_is x.parent l.laid) in
-          record {
-            instance = x;
-            is = o.framed.is;
-            at = at;
-            laid = o.framed.laid;
-            home = place p l.at;
-            more = place p l.at ∷ l.more;
-            entered = entered_at (place p l.at) (suc (length l.more) + 2) home level;
-            links = all_linked sc w lay stacks p x.parent l;
-            level_is = level;
-            each = all_each sc w lay stacks p x.parent l;
-          }
-        where
-          home_is : (k : ℕ) → numbered lay.places k ≡ Some (place p l.at) → home_of sc w lay k ≡ Some (place p l.at)
-          home_is zero e = none_some e
-          home_is (suc k) e = e
+    -- the frame of a part, where these words begin the stack
+    module _ (part : Part) (outer : List Part) (words : List Word) (f : Frame tree code texts w lay p part outer words) (b : Begins_with stacks p words) where
+      pub mark_there : word_at stacks (place p (length f.lower)) ≡ Some f.mark
+      mark_there = b (length f.lower) f.mark (mark_lies part outer words f)
 
-      -- where those of the parts around are linked
-      pub frame_linked : ((j : ℕ) → IsOwn outer j → Linked sc w lay stacks p j) → Linked sc w lay stacks p part.instance
-      frame_linked around_linked = by_place o.framed.placed
-        where
-          by_place : IsPlaced sc w lay outer x → Linked sc w lay stacks p part.instance
-          by_place (outermost none alone) = from_outermost none alone
-          by_place (inside own alone made) = from_parent (around_linked x.parent own) alone
+      pub control_there : word_at stacks (place p (length f.lower + 1)) ≡ Some f.control
+      control_there = b (length f.lower + 1) f.control (control_lies part outer words f)
 
-  -- so stand the frames of all parts around, whose words begin the stack
-  pub around_linked : (parts : List Part) (lower : List Word) (mark control : Word) (wanted : Yields) → Around tree code texts w lay p parts lower mark control wanted → Begins_with stacks p lower → (i : ℕ) → IsOwn parts i →
-      Linked sc w lay stacks p i
-  around_linked [] lower mark control wanted a b i own = absurd own
-  around_linked (part ∷ outer) lower mark control wanted a b i own =
-      let b' : Begins_with stacks p a.0.below = begins_front stacks p a.0.below (reverse a.0.words) (subst (Begins_with stacks p) a.0.lower_is b) in
-      let b'' : Begins_with stacks p a.0.frame.lower =
-      begins_front stacks p a.0.frame.lower (a.0.frame.mark ∷ a.0.frame.control ∷ a.0.frame.cells) (subst (Begins_with stacks p) a.0.frame.words_are b') in
-      by_part b' (λ j. around_linked outer a.0.frame.lower a.0.frame.mark a.0.frame.control a.0.frame.gives a.1 b'' j) own
-    where
-      by_part : Begins_with stacks p a.0.below → ((j : ℕ) → IsOwn outer j → Linked sc w lay stacks p j) → IsOwn (part ∷ outer) i → Linked sc w lay stacks p i
-      by_part b' outer_linked (inl same) = subst (Linked sc w lay stacks p) same.1 (frame_linked part outer a.0.below a.0.frame b' (owned_frame tree code texts w lay p part outer a.0.below a.0.frame same.0) outer_linked)
-      by_part b' outer_linked (inr later) = outer_linked i later
-
-  -- and those of all parts
-  pub own_linked : (part : Part) (outer : List Part) (core : Core) (s : Stands tree code texts w lay p part outer core) → Around tree code texts w lay p outer s.frame.lower s.frame.mark s.frame.control s.frame.gives →
-      Begins_with stacks p core.below → (i : ℕ) → IsOwn (part ∷ outer) i → Linked sc w lay stacks p i
-  own_linked part outer core s a b i own = by_part own
-    where
-      around_it : (j : ℕ) → IsOwn outer j → Linked sc w lay stacks p j
-      around_it =
-          around_linked outer s.frame.lower s.frame.mark s.frame.control s.frame.gives a
-          (begins_front stacks p s.frame.lower (s.frame.mark ∷ s.frame.control ∷ s.frame.cells) (subst (Begins_with stacks p) s.frame.words_are b))
-
-      by_part : IsOwn (part ∷ outer) i → Linked sc w lay stacks p i
-      by_part (inl same) = subst (Linked sc w lay stacks p) same.1 (frame_linked part outer core.below s.frame b (owned_frame tree code texts w lay p part outer core.below s.frame same.0) around_it)
-      by_part (inr later) = around_it i later
-
-  -- the frame of each lies where its words do
-  pub linked_lies : (part : Part) (outer : List Part) (core : Core) (s : Stands tree code texts w lay p part outer core) (a : Around tree code texts w lay p outer s.frame.lower s.frame.mark s.frame.control s.frame.gives)
-      (i : ℕ) (own : IsOwn (part ∷ outer) i) (l : Linked sc w lay stacks p i) → l.at ≡ length (lies_in tree code texts w lay p part outer core s a i own).frame.lower
-  linked_lies part outer core s a i own l =
-      let x : Lies tree code texts w lay p (part ∷ outer) i core.below = lies_in tree code texts w lay p part outer core s a i own in
-      ap (λ (f : Place). f.at) (some_same (sym l.laid ∙ ap (λ (k : ℕ). numbered lay.places k) (sym x.instance_is) ∙ x.owned.framed.laid))
-
-  pub linked_low : (part : Part) (outer : List Part) (core : Core) (s : Stands tree code texts w lay p part outer core) (a : Around tree code texts w lay p outer s.frame.lower s.frame.mark s.frame.control s.frame.gives)
-      (i : ℕ) (own : IsOwn (part ∷ outer) i) (l : Linked sc w lay stacks p i) → l.at + 2 ≤ length core.below
-  linked_low part outer core s a i own l =
-      omega (arith, linked_lies part outer core s a i own l, lies_low tree code texts w lay p (part ∷ outer) i core.below (lies_in tree code texts w lay p part outer core s a i own))
+      pub entered_at : Owned tree code texts w lay p part outer (length f.lower) f.mark f.control f.cells → Entered (scopes_of tree) w lay stacks part.instance
+      entered_at o = owned_entered part outer (length f.lower) f.mark f.control f.cells o mark_there control_there
 
 -- ---- the display of a frame, and of those down its links
 

@@ -1,39 +1,40 @@
 -- Where the frames of a process's parts lie in its stack.
-use Rattle.std.proofs.Common.{◌≡◌, ◌⊎◌, inl, inr, refl, sym, ap, ◌∙◌, subst, ℕ, zero, suc, ◌+◌, ◌<◌, ◌≤◌, List, [], ◌∷◌, ◌++◌, length, Some, true, false, arith, append_assoc, append-nil, length-append, Bool, Option}
+use Rattle.std.proofs.Common.{◌≡◌, ◌⊎◌, inl, inr, refl, sym, ap, ◌∙◌, subst, ℕ, suc, ◌+◌, ◌<◌, ◌≤◌, List, [], ◌∷◌, ◌++◌, length, Some, true, false, arith, append_assoc, append-nil, length-append, Bool, Option}
 use Rattle.std.specs.Prelude.{◌*◌, if◌then◌else◌, slice_get, reverse}
 use Rattle.b67_list.specs.Numbered.{numbered}
-use Rattle.algol_tree.specs.Blocks.{around, block_numbered}
+use Rattle.algol_tree.specs.Blocks.{block_numbered}
 use Rattle.algol_tree.specs.Cells.{level_of}
 use Rattle.algol_tree.specs.Plain.{PProgram}
 use Rattle.algol_tree.specs.Scopes.{Scopes, scopes_of}
-use Rattle.algol_meaning.specs.World.{Instance, Part, World, instance_at, or_no_instance, ancestor}
+use Rattle.algol_meaning.specs.World.{NamedCell, Instance, Part, World, instance_at, or_no_instance}
 use Rattle.algol_meaning.specs.Rest.{Rest, Answer}
 use Rattle.algol_meaning.specs.Asks.{Ask, ask, resume}
 use Rattle.algol_meaning.specs.Critical.{is_evaluation}
 use Rattle.algol_paths.specs.Laws.{KeepsToText}
 use Rattle.algol_paths.specs.Segments.{segment_of}
+use Rattle.algol_standing.specs.Worlds.{IsStanding, IsOnPath, IsOwn, newest_own, skeleton}
 use Rattle.b67_word.specs.declared.Place.{Place}
 use Rattle.b67_word.specs.Word.{Word}
 use Rattle.b67_segment.specs.declared.code.Code.{Code}
 use Rattle.b67_table.specs.Chains.{place}
-use Rattle.b67_ops.specs.declared.TheConstants.{OUTER_LEVEL}
 use Rattle.b67_templates.specs.Contexts.{Yields, yields_of}
-use Rattle.b67_templates.specs.Cells.{simple_cells, made_of}
+use Rattle.b67_templates.specs.Cells.{Simple, simple_cells}
 use Rattle.b67_templates.specs.Code.{in_routine}
 use Rattle.b67_templates.specs.Programs.{Texts, context_of}
 use Rattle.b67_standing.specs.Standing.{Gives, pushed, ComesTo}
 use Rattle.b67_cores.specs.Cores.{Core}
 use Rattle.b67_cores.specs.Slots.{Known, SlotsAre}
 use Rattle.b67_faithful.specs.Weight.{part_weight, parts_weight, tokens_around}
-use Rattle.b67_faithful.proofs.Contradictions.{some_same, none_some}
-use Rattle.b67_rows.proofs.Numbers.{get_within}
-use Rattle.b67_rows.proofs.Parents.{length_around}
-use Rattle.b67_frames.specs.Arrays.{Allotted, Layout, IsOwn, AreMade, AreKnown}
-use Rattle.b67_frames.specs.Frames.{most_around, IsComplete, IsPlaced, outermost, inside, home_of, Framed, Frame, Stands, Waits, Around, Owned, Shape, of_own, of_lent, run_level, level_at}
-use Rattle.b67_frames.proofs.Knowing.{Remain, IsOwnOrNone, keeps_same, denotes_lasts, climbs_own, known_lasts}
+use Rattle.b67_faithful.proofs.Contradictions.{none_some}
+use Rattle.b67_rows.proofs.StackWords.{get-front}
+use Rattle.b67_frames.specs.Arrays.{Allotted, Layout, AreMade, Denotes, AreKnown}
+use Rattle.b67_frames.specs.Frames.{Refers, most_around, IsInReach, Framed, Frame, Stands, Waits, Around, Owned, Shape, of_own, of_lent, run_level, level_at}
+use Rattle.b67_frames.proofs.Facts.{HasFacts, cell_refers, leads_nowhere}
+use Rattle.b67_frames.proofs.Knowing.{Remain, known_lasts}
+use Rattle.b67_frames.proofs.Onward.{StandOn, still_keeps, climbs_still, path_still, reach_remains, denotes_on, home_on}
 use Rattle.algol_paths.specs.Arrays.{all_to_make}
 use Rattle.b67_control.proofs.ControlLaws.{Fits-as_rcw}
-use Rattle.b67_frames.specs.Lent.{IsOfExpression}
+use Rattle.b67_frames.specs.Lent.{IsOfExpression, Lent}
 use Rattle.b67_frames.proofs.Expressions.{IsExpressionAsk, expression_asks}
 
 -- the words below a frame end before those of the frame
@@ -81,14 +82,6 @@ module _ (tree : PProgram) (code : Code) (texts : Texts) (w : World) (lay : Layo
     pub owned : Owned tree code texts w lay p part outer (length frame.lower) frame.mark frame.control frame.cells
     pub around : Around tree code texts w lay p outer frame.lower frame.mark frame.control frame.gives
     pub inside : (j : ℕ) → IsOwn outer j → IsOwn parts j
-
-  -- the instance of a frame's part is one of these: its own, or one of the parts around
-  pub part_own : (part : Part) (outer : List Part) (words : List Word) (f : Frame tree code texts w lay p part outer words) → IsOwn (part ∷ outer) part.instance
-  part_own part outer words f = by_shape f.shape
-    where
-      by_shape : Shape tree code texts w lay p part outer (length f.lower) f.mark f.control f.cells f.home f.gives → IsOwn (part ∷ outer) part.instance
-      by_shape (of_own o is) = inl (o.owns, refl)
-      by_shape (of_lent l) = inr l.stands
 
   -- a part that asks for what no expression asks for has an instance for its own
   pub asks_as_own : (part : Part) (outer : List Part) (words : List Word) (f : Frame tree code texts w lay p part outer words) (k : Ask) → ask part.rest ≡ k → (IsExpressionAsk k → ⊥) → is_evaluation part.purpose ≡ false
@@ -200,93 +193,114 @@ module _ (tree : PProgram) (code : Code) (texts : Texts) (w : World) (lay : Layo
       (i : ℕ) → IsOwn (part ∷ outer) i → Lies (part ∷ outer) i core.below
   lies_in part outer core s a = lies_frame part outer core.below s.frame a
 
-  -- so are those of all parts
-  around_own : (parts : List Part) (lower : List Word) (mark control : Word) (wanted : Yields) → Around tree code texts w lay p parts lower mark control wanted → (i : ℕ) → IsOfPart parts i → IsOwn parts i
-  around_own [] lower mark control wanted a i one = absurd one
-  around_own (part ∷ outer) lower mark control wanted a i (inl same) = subst (λ (n : ℕ). IsOwn (part ∷ outer) n) same (part_own part outer a.0.below a.0.frame)
-  around_own (part ∷ outer) lower mark control wanted a i (inr later) =
-      inr (around_own outer a.0.frame.lower a.0.frame.mark a.0.frame.control a.0.frame.gives a.1 i later)
+  -- ---- which instances stand
 
-  pub parts_own : (part : Part) (outer : List Part) (words : List Word) (f : Frame tree code texts w lay p part outer words) → Around tree code texts w lay p outer f.lower f.mark f.control f.gives →
-      (i : ℕ) → IsOfPart (part ∷ outer) i → IsOwn (part ∷ outer) i
-  parts_own part outer words f a i (inl same) = subst (λ (n : ℕ). IsOwn (part ∷ outer) n) same (part_own part outer words f)
-  parts_own part outer words f a i (inr later) = inr (around_own outer f.lower f.mark f.control f.gives a i later)
+  frame_low : (part : Part) (outer : List Part) (lower : List Word) (mark control : Word) (wanted : Yields) (limit : ℕ) → length lower ≤ limit → (s : Waits tree code texts w lay p part outer lower mark control wanted) →
+      length (s.frame.lower) < limit
+  frame_low part outer lower mark control wanted limit low s =
+      omega (arith, low, ap length s.lower_is, length-append s.below (reverse s.words), below_frame s.below s.frame.lower s.frame.mark s.frame.control s.frame.cells s.frame.words_are)
 
-  -- ---- static parents
+  -- What holds of the instances of own frames that lie so low, and with an instance of what lies on the path from it, holds of all that parts have,
+  -- the frames of which lie so low.
+  module _ (In : ℕ → Type 0) (limit : ℕ) (nobody : IsStanding w 0 → ⊥)
+      (own_in : (part : Part) (outer : List Part) (at : ℕ) (mark control : Word) (cells : List Word) → Owned tree code texts w lay p part outer at mark control cells → at < limit → In part.instance)
+      (path_in : (a b : ℕ) → In a → IsOnPath w a b → In b) where
+    abbrev IsInOrNone : ℕ → Type 0
+    IsInOrNone i = (i ≡ 0) ⊎ In i
 
-  -- So many up, where there is a block b around that of the instance, a static parent is an instance of b, and one of those of these parts.
-  -- It has made all its arrays, if it is another one.
-  pub record IsParent (parts : List Part) (i up b : ℕ) : Type 0 where
-    pub own : IsOwn parts (ancestor w up i)
-    pub block : (instance_at w (ancestor w up i)).block ≡ b
-    pub complete : 1 ≤ up → IsComplete (scopes_of tree) w lay (ancestor w up i)
+    -- an evaluation is above an instance of a part around
+    lent_top : (part : Part) (outer : List Part) (cells : List Word) (home : Place) (gives : Yields) → Lent lay (IsInReach w outer) part cells home gives → IsInOrNone (newest_own outer) → In (newest_own outer)
+    lent_top part outer cells home gives l (inr top) = top
+    lent_top part outer cells home gives l (inl none) =
+        let same : newest_own outer ≡ part.instance =
+        leads_nowhere (skeleton w) (newest_own outer) part.instance (λ st. nobody (subst (λ (k : ℕ). IsStanding w k) none st)) l.stands in
+        none_some (ap (λ (k : ℕ). numbered lay.places k) (sym none ∙ same) ∙ l.linked)
 
-  parents_by : (parts : List Part) (words : List Word) → ((i : ℕ) → IsOwn parts i → Lies parts i words) →
-      (i : ℕ) → IsOwn parts i → (up b : ℕ) → slice_get ((instance_at w i).block ∷ around (scopes_of tree).blocks ((instance_at w i).block)) up ≡ Some b → IsParent parts i up b
-  parents_by parts words lies i own zero b e = record { own = own; block = some_same e; complete = λ far. absurd (omega (arith, far)) }
-  parents_by parts words lies i own (suc up) b e =
-      let l : Lies parts i words = lies i own in
-      let here : l.owned.framed.instance ≡ instance_at w i = sym (ap or_no_instance l.owned.framed.is) ∙ ap (λ (k : ℕ). instance_at w k) l.instance_is in
-      by_placed l.outer l.inside l.owned.framed.instance here l.owned.framed.placed (λ j o h. parents_by parts words lies j o up b h)
-    where
-      by_placed : (around_it : List Part) → ((j : ℕ) → IsOwn around_it j → IsOwn parts j) → (x : Instance) → x ≡ instance_at w i → IsPlaced (scopes_of tree) w lay around_it x →
-          ((j : ℕ) → IsOwn parts j → slice_get ((instance_at w j).block ∷ around (scopes_of tree).blocks ((instance_at w j).block)) up ≡ Some b → IsParent parts j up b) → IsParent parts i (suc up) b
-      by_placed around_it within x here (outermost none_up alone) again =
-          absurd (none_some (ap (λ (bs : List ℕ). slice_get bs up) (sym alone) ∙ ap (λ (y : Instance). slice_get (around (scopes_of tree).blocks y.block) up) here ∙ e))
-      by_placed around_it within x here (inside own_up next made) again =
-          let one : slice_get ((instance_at w x.parent).block ∷ around (scopes_of tree).blocks ((instance_at w x.parent).block)) up ≡ Some b =
-          ap (λ (bs : List ℕ). slice_get bs up) (sym next) ∙ ap (λ (y : Instance). slice_get (around (scopes_of tree).blocks y.block) up) here ∙ e in
-          let up_one : IsParent parts x.parent up b = again x.parent (within x.parent own_up) one in
-          record {
-            own = subst (λ (y : Instance). IsOwn parts (ancestor w up y.parent)) here up_one.own;
-            block = subst (λ (y : Instance). (instance_at w (ancestor w up y.parent)).block ≡ b) here up_one.block;
-            complete = λ far. subst (λ (y : Instance). IsComplete (scopes_of tree) w lay (ancestor w up y.parent)) here (made_up up made up_one.complete);
-          }
+    -- that of an own part is the newest
+    own_top : (part : Part) (outer : List Part) → is_evaluation part.purpose ≡ false → In part.instance → In (newest_own (part ∷ outer))
+    own_top part outer owns here = subst (λ (b : Bool). In (if b then newest_own outer else part.instance)) (sym owns) here
+
+    top_by : (part : Part) (outer : List Part) (words : List Word) (f : Frame tree code texts w lay p part outer words) → length f.lower < limit → IsInOrNone (newest_own outer) → In (newest_own (part ∷ outer))
+    top_by part outer words f low below = by_shape f.shape
+      where
+        by_shape : Shape tree code texts w lay p part outer (length f.lower) f.mark f.control f.cells f.home f.gives → In (newest_own (part ∷ outer))
+        by_shape (of_own o is) = own_top part outer o.owns (own_in part outer (length f.lower) f.mark f.control f.cells o low)
+        by_shape (of_lent l) = subst (λ (b : Bool). In (if b then newest_own outer else part.instance)) (sym l.evaluates) (lent_top part outer f.cells f.home f.gives l below)
+
+    pub tops_in : (parts : List Part) (lower : List Word) (mark control : Word) (wanted : Yields) → Around tree code texts w lay p parts lower mark control wanted → length lower ≤ limit → (newest_own parts ≡ 0) ⊎ In (newest_own parts)
+    tops_in [] lower mark control wanted a low = inl refl
+    tops_in (part ∷ outer) lower mark control wanted a low =
+        let lowest : length a.0.frame.lower < limit = frame_low part outer lower mark control wanted limit low a.0 in
+        inr (top_by part outer a.0.below a.0.frame lowest (tops_in outer a.0.frame.lower a.0.frame.mark a.0.frame.control a.0.frame.gives a.1 (omega (arith, lowest))))
+
+    module _ (part : Part) (outer : List Part) (words : List Word) (f : Frame tree code texts w lay p part outer words) (a : Around tree code texts w lay p outer f.lower f.mark f.control f.gives) (low : length f.lower < limit) where
+      below_top : (newest_own outer ≡ 0) ⊎ In (newest_own outer)
+      below_top = tops_in outer f.lower f.mark f.control f.gives a (omega (arith, low))
+
+      pub top_in : In (newest_own (part ∷ outer))
+      top_in = top_by part outer words f low below_top
+
+      pub lent_in : Lent lay (IsInReach w outer) part f.cells f.home f.gives → In (newest_own outer)
+      lent_in l = lent_top part outer f.cells f.home f.gives l below_top
+
+      pub part_in : In part.instance
+      part_in = by_shape f.shape
         where
-          made_up : (k : ℕ) → IsComplete (scopes_of tree) w lay x.parent → (1 ≤ k → IsComplete (scopes_of tree) w lay (ancestor w k x.parent)) → IsComplete (scopes_of tree) w lay (ancestor w k x.parent)
-          made_up zero made more = made
-          made_up (suc k) made more = more (omega arith)
+          by_shape : Shape tree code texts w lay p part outer (length f.lower) f.mark f.control f.cells f.home f.gives → In part.instance
+          by_shape (of_own o is) = own_in part outer (length f.lower) f.mark f.control f.cells o low
+          by_shape (of_lent l) = path_in (newest_own outer) part.instance (lent_in l) l.stands
 
-  -- of a frame's part
-  pub parents_of : (part : Part) (outer : List Part) (words : List Word) (f : Frame tree code texts w lay p part outer words) → Around tree code texts w lay p outer f.lower f.mark f.control f.gives →
-      (i : ℕ) → IsOwn (part ∷ outer) i → (up b : ℕ) → slice_get ((instance_at w i).block ∷ around (scopes_of tree).blocks ((instance_at w i).block)) up ≡ Some b → IsParent (part ∷ outer) i up b
-  parents_of part outer words f a = parents_by (part ∷ outer) words (lies_frame part outer words f a)
+    pub around_in : (parts : List Part) (lower : List Word) (mark control : Word) (wanted : Yields) → Around tree code texts w lay p parts lower mark control wanted → length lower ≤ limit → (i : ℕ) → IsOfPart parts i → In i
+    around_in [] lower mark control wanted a low i one = absurd one
+    around_in (part ∷ outer) lower mark control wanted a low i (inl same) =
+        subst In same (part_in part outer a.0.below a.0.frame a.1 (frame_low part outer lower mark control wanted limit low a.0))
+    around_in (part ∷ outer) lower mark control wanted a low i (inr later) =
+        around_in outer a.0.frame.lower a.0.frame.mark a.0.frame.control a.0.frame.gives a.1 (let lowest : length a.0.frame.lower < limit = frame_low part outer lower mark control wanted limit low a.0 in omega (arith, lowest)) i later
 
-  -- so far up as the level of the innermost part there are parents
-  pub own_parent : (part : Part) (outer : List Part) (words : List Word) (f : Frame tree code texts w lay p part outer words) → Around tree code texts w lay p outer f.lower f.mark f.control f.gives →
-      (up : ℕ) → up + OUTER_LEVEL ≤ level_of (block_numbered (scopes_of tree).blocks ((instance_at w part.instance).block)) → IsOwn (part ∷ outer) (ancestor w up part.instance)
-  own_parent part outer words f a up h =
-      let j : ℕ = (instance_at w part.instance).block in
-      let there = get_within (j ∷ around (scopes_of tree).blocks j) up (omega (arith, h, length_around (scopes_of tree).blocks j)) in
-      (parents_of part outer words f a part.instance (part_own part outer words f) up there.0 there.1).own
+  module _ (facts : HasFacts w) where
+    -- an own instance stands
+    pub owned_stands : (part : Part) (outer : List Part) (at : ℕ) (mark control : Word) (cells : List Word) → Owned tree code texts w lay p part outer at mark control cells → IsStanding w part.instance
+    owned_stands part outer at mark control cells o = facts.stands part.instance o.framed.instance o.framed.is o.framed.stands
 
-  -- the parent of an instance of these parts is one of theirs, or none
-  pub next_own : (part : Part) (outer : List Part) (words : List Word) (f : Frame tree code texts w lay p part outer words) → Around tree code texts w lay p outer f.lower f.mark f.control f.gives →
-      (i : ℕ) → IsOwn (part ∷ outer) i → IsOwnOrNone (part ∷ outer) ((instance_at w i).parent)
-  next_own part outer words f a i own =
-      let l : Lies (part ∷ outer) i words = lies_frame part outer words f a i own in
-      let here : l.owned.framed.instance ≡ instance_at w i = sym (ap or_no_instance l.owned.framed.is) ∙ ap (λ (k : ℕ). instance_at w k) l.instance_is in
-      subst (λ (x : Instance). IsOwnOrNone (part ∷ outer) x.parent) here (by_placed l.outer l.inside l.owned.framed.instance l.owned.framed.placed)
-    where
-      by_placed : (around_it : List Part) → ((j : ℕ) → IsOwn around_it j → IsOwn (part ∷ outer) j) → (x : Instance) → IsPlaced (scopes_of tree) w lay around_it x → IsOwnOrNone (part ∷ outer) x.parent
-      by_placed around_it within x (outermost none_up alone) = inl none_up
-      by_placed around_it within x (inside own_up next made) = inr (within x.parent own_up)
+    module _ (part : Part) (outer : List Part) (words : List Word) (f : Frame tree code texts w lay p part outer words) (a : Around tree code texts w lay p outer f.lower f.mark f.control f.gives) where
+      abbrev limit : ℕ
+      limit = suc (length f.lower)
 
-  pub parents_in : (part : Part) (outer : List Part) (core : Core) (s : Stands tree code texts w lay p part outer core) → Around tree code texts w lay p outer s.frame.lower s.frame.mark s.frame.control s.frame.gives →
-      (i : ℕ) → IsOwn (part ∷ outer) i → (up b : ℕ) → slice_get ((instance_at w i).block ∷ around (scopes_of tree).blocks ((instance_at w i).block)) up ≡ Some b → IsParent (part ∷ outer) i up b
-  parents_in part outer core s a = parents_by (part ∷ outer) core.below (lies_in part outer core s a)
+      own_stands : (x : Part) (more : List Part) (at : ℕ) (mark control : Word) (cells : List Word) → Owned tree code texts w lay p x more at mark control cells → at < suc (length f.lower) → IsStanding w x.instance
+      own_stands x more at mark control cells o low = owned_stands x more at mark control cells o
+
+      path_stands : (i j : ℕ) → IsStanding w i → IsOnPath w i j → IsStanding w j
+      path_stands i j st path = facts.on_path i j st path
+
+      -- so do the instance of a frame's part, and the newest own one at or below it
+      pub top_stands : IsStanding w (newest_own (part ∷ outer))
+      top_stands = top_in (λ i. IsStanding w i) limit facts.nobody own_stands path_stands part outer words f a (omega arith)
+
+      pub part_stands : IsStanding w part.instance
+      part_stands = part_in (λ i. IsStanding w i) limit facts.nobody own_stands path_stands part outer words f a (omega arith)
+
+      -- and those of all parts
+      pub parts_stand : (i : ℕ) → IsOfPart (part ∷ outer) i → IsStanding w i
+      parts_stand i (inl same) = subst (λ (n : ℕ). IsStanding w n) same part_stands
+      parts_stand i (inr later) = around_in (λ j. IsStanding w j) limit facts.nobody own_stands path_stands outer f.lower f.mark f.control f.gives a (omega arith) i later
 
 -- ---- what a change of the world leaves
 
--- The instances of process p whose frames lie so low are as they were, with the rows of their arrays, and so are the places of all.
-pub record StayBelow (w w' : World) (lay lay' : Layout) (p limit : ℕ) : Type 0 where
+-- The instances of process p whose frames lie so low are as they were, with the rows of their arrays. What stands before and after the change stands on.
+pub record StayBelow (sc : Scopes) (w w' : World) (lay lay' : Layout) (p limit : ℕ) : Type 0 where
+  pub on : StandOn sc w w' lay lay'
   pub instances : (i at : ℕ) (x : Instance) → numbered w.instances i ≡ Some x → x.process ≡ p → numbered lay.places i ≡ Some (place p at) → at < limit → numbered w'.instances i ≡ Some x
-  pub places : (i : ℕ) (f : Place) → numbered lay.places i ≡ Some f → numbered lay'.places i ≡ Some f
   pub rows : (i at : ℕ) (x : Instance) → numbered w.instances i ≡ Some x → x.process ≡ p → numbered lay.places i ≡ Some (place p at) → at < limit → lay'.rows i ≡ lay.rows i
 
-module _ (tree : PProgram) (code : Code) (texts : Texts) (w w' : World) (lay lay' : Layout) (p limit : ℕ) (stay : StayBelow w w' lay lay' p limit) where
+module _ (tree : PProgram) (code : Code) (texts : Texts) (w w' : World) (lay lay' : Layout) (p limit : ℕ) (stay : StayBelow (scopes_of tree) w w' lay lay' p limit) where
   abbrev sc : Scopes
   sc = scopes_of tree
+
+  abbrev on : StandOn (scopes_of tree) w w' lay lay'
+  on = stay.on
+
+  abbrev Still : ℕ → Type 0
+  Still i = IsStanding w i × IsStanding w' i
 
   abbrev OldFrame : Part → List Part → List Word → Type 0
   OldFrame part outer words = Frame tree code texts w lay p part outer words
@@ -301,74 +315,79 @@ module _ (tree : PProgram) (code : Code) (texts : Texts) (w w' : World) (lay lay
   own_rows : (part : Part) (outer : List Part) (at : ℕ) (mark control : Word) (cells : List Word) (o : OldOwned part outer at mark control cells) → at < limit → lay'.rows part.instance ≡ lay.rows part.instance
   own_rows part outer at mark control cells o low = stay.rows part.instance at o.framed.instance o.framed.is o.framed.own o.framed.laid low
 
-  -- an instance of the parts is as it was, and so are its rows
-  pub record Lasts (j : ℕ) : Type 0 where
-    pub there : numbered w'.instances j ≡ numbered w.instances j
-    pub rows : lay'.rows j ≡ lay.rows j
+  own_still : (part : Part) (outer : List Part) (at : ℕ) (mark control : Word) (cells : List Word) → OldOwned part outer at mark control cells → at < limit → Still part.instance
+  own_still part outer at mark control cells o low = (
+    on.before.stands part.instance o.framed.instance o.framed.is o.framed.stands,
+    on.after.stands part.instance o.framed.instance (own_after part outer at mark control cells o low) o.framed.stands,
+  )
 
-  lasts_outer : (outer : List Part) (lower : List Word) (mark control : Word) (wanted : Yields) → Around tree code texts w lay p outer lower mark control wanted → length lower ≤ limit → (j : ℕ) → IsOwn outer j → Lasts j
-  lasts_outer outer lower mark control wanted a low j own =
-      let l : Lies tree code texts w lay p outer j lower = lies_around tree code texts w lay p outer lower mark control wanted a j own in
-      let lowest : length l.frame.lower < limit = omega (arith, lies_low tree code texts w lay p outer j lower l, low) in
-      subst (λ (n : ℕ). Lasts n) l.instance_is (record {
-        there = own_after l.part l.outer (length l.frame.lower) l.frame.mark l.frame.control l.frame.cells l.owned lowest ∙ sym l.owned.framed.is;
-        rows = own_rows l.part l.outer (length l.frame.lower) l.frame.mark l.frame.control l.frame.cells l.owned lowest;
-      })
+  still_path : (a b : ℕ) → Still a → IsOnPath w a b → Still b
+  still_path = path_still sc w w' lay lay' on
 
-  -- so is the instance of each frame
-  lasts_here : (part : Part) (outer : List Part) (words : List Word) (f : OldFrame part outer words) → Around tree code texts w lay p outer f.lower f.mark f.control f.gives → length f.lower < limit → Lasts part.instance
-  lasts_here part outer words f a low = by_shape f.shape
-    where
-      by_shape : Shape tree code texts w lay p part outer (length f.lower) f.mark f.control f.cells f.home f.gives → Lasts part.instance
-      by_shape (of_own o is) =
-          record {
-            there = own_after part outer (length f.lower) f.mark f.control f.cells o low ∙ sym o.framed.is;
-            rows = own_rows part outer (length f.lower) f.mark f.control f.cells o low;
-          }
-      by_shape (of_lent l) = lasts_outer outer f.lower f.mark f.control f.gives a (omega (arith, low)) part.instance l.stands
+  -- so do all instances of the parts whose frames lie lower, and that of a frame
+  pub outer_still : (parts : List Part) (lower : List Word) (mark control : Word) (wanted : Yields) → Around tree code texts w lay p parts lower mark control wanted → length lower ≤ limit → (i : ℕ) → IsOfPart parts i →
+      IsStanding w i × IsStanding w' i
+  outer_still = around_in tree code texts w lay p Still limit on.before.nobody own_still still_path
 
-  pub same_instance : (part : Part) (outer : List Part) (words : List Word) (f : OldFrame part outer words) → Around tree code texts w lay p outer f.lower f.mark f.control f.gives → length f.lower < limit →
-      instance_at w part.instance ≡ instance_at w' part.instance
-  same_instance part outer words f a low = sym (ap or_no_instance (lasts_here part outer words f a low).there)
+  module _ (part : Part) (outer : List Part) (words : List Word) (f : OldFrame part outer words) (a : Around tree code texts w lay p outer f.lower f.mark f.control f.gives) (low : length f.lower < limit) where
+    pub here_still : IsStanding w part.instance × IsStanding w' part.instance
+    here_still = part_in tree code texts w lay p Still limit on.before.nobody own_still still_path part outer words f a low
 
-  pub home_after : (i : ℕ) (h : Place) → home_of sc w lay i ≡ Some h → home_of sc w' lay' i ≡ Some h
-  home_after zero h e = e
-  home_after (suc i) h e = stay.places (suc i) h e
+    pub top_still : IsStanding w (newest_own (part ∷ outer)) × IsStanding w' (newest_own (part ∷ outer))
+    top_still = top_in tree code texts w lay p Still limit on.before.nobody own_still still_path part outer words f a low
 
-  -- the parts around, whose frames lie lower
-  pub outer_remain : (outer : List Part) (lower : List Word) (mark control : Word) (wanted : Yields) → Around tree code texts w lay p outer lower mark control wanted → length lower ≤ limit → Remain sc w w' lay lay' outer outer
-  outer_remain outer lower mark control wanted a low =
-      record {
-        owned = λ j own. own;
-        keeps = λ j own. let l : Lasts j = lasts_outer outer lower mark control wanted a low j own in keeps_same sc w w' lay lay' j (ap or_no_instance l.there) l.rows;
-        places = λ j f own laid. stay.places j f laid;
-      }
+    pub lent_still : Lent lay (IsInReach w outer) part f.cells f.home f.gives → IsStanding w (newest_own outer) × IsStanding w' (newest_own outer)
+    lent_still = lent_in tree code texts w lay p Still limit on.before.nobody own_still still_path part outer words f a low
 
-  -- the parent of an instance is one of the parts around, whose frames lie lower
-  pub placed_after : (outer : List Part) (lower : List Word) (mark control : Word) (wanted : Yields) → Around tree code texts w lay p outer lower mark control wanted → length lower < limit → (x : Instance) → IsPlaced sc w lay outer x →
-      IsPlaced sc w' lay' outer x
-  placed_after outer lower mark control wanted a low x (outermost none_up alone) = outermost none_up alone
-  placed_after outer lower mark control wanted a low x (inside own next made) =
-      let same : instance_at w x.parent ≡ instance_at w' x.parent = sym (ap or_no_instance (lasts_outer outer lower mark control wanted a (omega (arith, low)) x.parent own).there) in
-      inside own (subst (λ (y : Instance). around sc.blocks x.block ≡ y.block ∷ around sc.blocks y.block) same next)
-      (subst (λ (y : Instance). length y.cells ≡ length (simple_cells sc (block_numbered sc.blocks y.block)) + length (made_of (block_numbered sc.blocks y.block).decls)) same made)
+    -- it is of the same block
+    pub same_block : (instance_at w' part.instance).block ≡ (instance_at w part.instance).block
+    same_block = (still_keeps sc w w' lay lay' on part.instance here_still).block
 
-  abbrev framed_after : (part : Part) (outer : List Part) (lower : List Word) (mark control : Word) (cells : List Word) (wanted : Yields) (o : OldOwned part outer (length lower) mark control cells) →
-      Around tree code texts w lay p outer lower mark control wanted → length lower < limit → Framed sc w' lay' p part.instance outer (length lower) mark control cells
-  framed_after part outer lower mark control cells wanted o a low =
+    -- what the parts can come to remains
+    pub frame_remains : Remain (scopes_of tree) w w' lay lay' (IsInReach w (part ∷ outer)) (IsInReach w' (part ∷ outer))
+    frame_remains = reach_remains sc w w' lay lay' on (part ∷ outer) top_still
+
+    -- what is known of descriptors and references holds as it did
+    pub known_after : (known : List Known) → AreKnown (scopes_of tree) w lay (IsInReach w (part ∷ outer)) part.instance known → AreKnown (scopes_of tree) w' lay' (IsInReach w' (part ∷ outer)) part.instance known
+    known_after =
+        known_lasts sc w w' lay lay' (IsInReach w (part ∷ outer)) (IsInReach w' (part ∷ outer)) frame_remains part.instance
+        (climbs_still sc w w' lay lay' on part.instance here_still)
+
+  -- what the parts around can come to
+  pub outer_remain : (part : Part) (outer : List Part) (lower : List Word) (mark control : Word) (wanted : Yields) → Around tree code texts w lay p (part ∷ outer) lower mark control wanted → length lower ≤ limit →
+      Remain (scopes_of tree) w w' lay lay' (IsInReach w (part ∷ outer)) (IsInReach w' (part ∷ outer))
+  outer_remain part outer lower mark control wanted a low =
+      frame_remains part outer a.0.below a.0.frame a.1 (frame_low tree code texts w lay p part outer lower mark control wanted limit low a.0)
+
+  -- what a parameter stands for that refers only to what stands
+  own_formals : (part : Part) (outer : List Part) (at : ℕ) (mark control : Word) (cells : List Word) (o : OldOwned part outer at mark control cells) (low : at < limit) (k : ℕ) (s : Simple) →
+      slice_get (simple_cells sc (block_numbered sc.blocks o.framed.instance.block)) k ≡ Some s → Refers s.wanted →
+      (c : NamedCell) × (word : Word) × (slice_get o.framed.simple k ≡ Some c) × (slice_get o.framed.values k ≡ Some word) × Denotes sc w' lay' (IsStanding w') s.wanted c.cell word
+  own_formals part outer at mark control cells o low k s there refers =
+      let g = o.framed.formals k s there refers in
+      let among : slice_get o.framed.instance.cells k ≡ Some g.0 = ap (λ (cs : List NamedCell). slice_get cs k) o.framed.has ∙ get-front o.framed.simple o.framed.arrays k g.0 g.2 in (
+        g.0,
+        g.1,
+        g.2,
+        g.3,
+        denotes_on sc w w' lay lay' on s.wanted g.0.cell g.1
+            (cell_refers w' on.after part.instance o.framed.instance (own_after part outer at mark control cells o low) o.framed.stands k g.0 among) g.4,
+      )
+
+  abbrev framed_after : (part : Part) (outer : List Part) (at : ℕ) (mark control : Word) (cells : List Word) (o : OldOwned part outer at mark control cells) → at < limit →
+      Framed sc w' lay' p part.instance outer at mark control cells
+  framed_after part outer at mark control cells o low =
       record {
         instance = o.framed.instance;
-        is = own_after part outer (length lower) mark control cells o low;
+        is = own_after part outer at mark control cells o low;
         own = o.framed.own;
         known = o.framed.known;
-        laid = stay.places part.instance (place p (length lower)) o.framed.laid;
+        laid = on.places part.instance (place p at) o.framed.laid;
         stands = o.framed.stands;
         simple = o.framed.simple;
         values = o.framed.values;
         simple_are = o.framed.simple_are;
-        formals = λ k s there refers.
-            let g = o.framed.formals k s there refers in
-            (g.0, g.1, g.2, g.3, denotes_lasts sc w w' lay lay' outer outer (outer_remain outer lower mark control wanted a (omega (arith, low))) s.wanted g.0.cell g.1 g.4);
+        formals = own_formals part outer at mark control cells o low;
         ats = o.framed.ats;
         each_has_place = o.framed.each_has_place;
         arrays = o.framed.arrays;
@@ -376,12 +395,11 @@ module _ (tree : PProgram) (code : Code) (texts : Texts) (w w' : World) (lay lay
         later = o.framed.later;
         order = o.framed.order;
         descriptors = o.framed.descriptors;
-        made = subst (λ (rows : List Allotted). AreMade o.framed.declared o.framed.arrays rows o.framed.descriptors) (sym (own_rows part outer (length lower) mark control cells o low)) o.framed.made;
+        made = subst (λ (rows : List Allotted). AreMade o.framed.declared o.framed.arrays rows o.framed.descriptors) (sym (own_rows part outer at mark control cells o low)) o.framed.made;
         has = o.framed.has;
         cells_is = o.framed.cells_is;
-        placed = placed_after outer lower mark control wanted a low o.framed.instance o.framed.placed;
         home = o.framed.home;
-        linked = home_after o.framed.instance.parent o.framed.home o.framed.linked;
+        linked = home_on sc w w' lay lay' on o.framed.instance.parent o.framed.home o.framed.linked;
         df = o.framed.df;
         mark_is = o.framed.mark_is;
         back = o.framed.back;
@@ -390,74 +408,73 @@ module _ (tree : PProgram) (code : Code) (texts : Texts) (w w' : World) (lay lay
       }
 
   -- an own frame is one later
-  abbrev owned_after : (part : Part) (outer : List Part) (lower : List Word) (mark control : Word) (cells : List Word) (wanted : Yields) (o : OldOwned part outer (length lower) mark control cells) →
-      Around tree code texts w lay p outer lower mark control wanted → length lower < limit → Owned tree code texts w' lay' p part outer (length lower) mark control cells
-  owned_after part outer lower mark control cells wanted o a low =
-      record { owns = o.owns; framed = framed_after part outer lower mark control cells wanted o a low; routines = o.routines; items = o.items; making = o.making }
+  abbrev owned_after : (part : Part) (outer : List Part) (at : ℕ) (mark control : Word) (cells : List Word) (o : OldOwned part outer at mark control cells) → at < limit →
+      Owned tree code texts w' lay' p part outer at mark control cells
+  owned_after part outer at mark control cells o low =
+      record { owns = o.owns; framed = framed_after part outer at mark control cells o low; routines = o.routines; items = o.items; making = o.making }
 
-  shape_after : (part : Part) (outer : List Part) (lower : List Word) (mark control : Word) (cells : List Word) (home : Place) (wanted : Yields) →
-      Shape tree code texts w lay p part outer (length lower) mark control cells home wanted → Around tree code texts w lay p outer lower mark control wanted → length lower < limit →
-      Shape tree code texts w' lay' p part outer (length lower) mark control cells home wanted
-  shape_after part outer lower mark control cells home wanted (of_own o is) a low = of_own (owned_after part outer lower mark control cells wanted o a low) is
-  shape_after part outer lower mark control cells home wanted (of_lent l) a low =
-      of_lent (record { evaluates = l.evaluates; asked = l.asked; expression = l.expression; stands = l.stands; none = l.none; linked = stay.places part.instance home l.linked })
+  shape_after : (part : Part) (outer : List Part) (words : List Word) (f : OldFrame part outer words) → Around tree code texts w lay p outer f.lower f.mark f.control f.gives → length f.lower < limit →
+      Shape tree code texts w' lay' p part outer (length f.lower) f.mark f.control f.cells f.home f.gives
+  shape_after part outer words f a low = by_shape f.shape
+    where
+      by_shape : Shape tree code texts w lay p part outer (length f.lower) f.mark f.control f.cells f.home f.gives → Shape tree code texts w' lay' p part outer (length f.lower) f.mark f.control f.cells f.home f.gives
+      by_shape (of_own o is) = of_own (owned_after part outer (length f.lower) f.mark f.control f.cells o low) is
+      by_shape (of_lent l) =
+          let top = lent_still part outer words f a low l in
+          of_lent (record {
+            evaluates = l.evaluates;
+            asked = l.asked;
+            expression = l.expression;
+            stands = on.paths (newest_own outer) part.instance top.0 top.1 l.stands;
+            none = l.none;
+            linked = on.places part.instance f.home l.linked;
+          })
 
   abbrev frame_after : (part : Part) (outer : List Part) (words : List Word) (f : OldFrame part outer words) → Around tree code texts w lay p outer f.lower f.mark f.control f.gives → length f.lower < limit →
       Frame tree code texts w' lay' p part outer words
   frame_after part outer words f a low =
+      let later = on.after.there part.instance (here_still part outer words f a low).1 in
+      let same : f.instance.block ≡ (later.0).block = ap (λ (o : Option Instance). (or_no_instance o).block) (sym f.is) ∙ sym (same_block part outer words f a low) ∙ ap (λ (o : Option Instance). (or_no_instance o).block) later.1 in
       record {
         lower = f.lower;
         mark = f.mark;
         control = f.control;
         cells = f.cells;
         words_are = f.words_are;
-        instance = f.instance;
-        is = (lasts_here part outer words f a low).there ∙ f.is;
-        known = f.known;
+        instance = later.0;
+        is = later.1;
+        known = subst (λ (b : ℕ). b < length sc.blocks) same f.known;
         home = f.home;
         df = f.df;
         mark_is = f.mark_is;
         back = f.back;
         control_is = f.control_is;
-        level_is = f.level_is;
-        text = subst (λ (x : Instance). KeepsToText sc x.block part.rest) (same_instance part outer words f a low) f.text;
+        level_is = subst (λ (b : ℕ). f.back.own_level ≡ run_level (is_evaluation part.purpose) (level_of (block_numbered sc.blocks b))) same f.level_is;
+        text = subst (λ (b : ℕ). KeepsToText sc b part.rest) (sym (same_block part outer words f a low)) f.text;
         gives = f.gives;
-        shape = shape_after part outer f.lower f.mark f.control f.cells f.home f.gives f.shape a low;
+        shape = shape_after part outer words f a low;
       }
 
-  -- ---- descriptors and references
-
-  module _ (part : Part) (outer : List Part) (words : List Word) (f : OldFrame part outer words) (a : Around tree code texts w lay p outer f.lower f.mark f.control f.gives) (low : length f.lower < limit) where
-    lasts : (j : ℕ) → IsOwn (part ∷ outer) j → Lasts j
-    lasts j (inl e) = subst (λ (n : ℕ). Lasts n) e.1 (lasts_here part outer words f a low)
-    lasts j (inr own) = lasts_outer outer f.lower f.mark f.control f.gives a (omega (arith, low)) j own
-
-    remain : Remain sc w w' lay lay' (part ∷ outer) (part ∷ outer)
-    remain =
-        record {
-          owned = λ j own. own;
-          keeps = λ j own. let l : Lasts j = lasts j own in keeps_same sc w w' lay lay' j (ap or_no_instance l.there) l.rows;
-          places = λ j f own laid. stay.places j f laid;
-        }
-
-    -- what is known of descriptors and references holds as it did
-    pub known_after : (known : List Known) → AreKnown sc w lay (IsOwn (part ∷ outer)) part.instance known → AreKnown sc w' lay' (IsOwn (part ∷ outer)) part.instance known
-    known_after =
-        known_lasts sc w w' lay lay' (part ∷ outer) (part ∷ outer) remain part.instance
-        (climbs_own sc w w' lay lay' (part ∷ outer) remain.keeps (next_own tree code texts w lay p part outer words f a) part.instance (part_own tree code texts w lay p part outer words f))
-
-  frame_low : (part : Part) (outer : List Part) (lower : List Word) (mark control : Word) (wanted : Yields) → length lower ≤ limit → (s : Waits tree code texts w lay p part outer lower mark control wanted) → length (s.frame.lower) < limit
-  frame_low part outer lower mark control wanted low s =
-      omega (arith, low, ap length s.lower_is, length-append s.below (reverse s.words), below_frame s.below s.frame.lower s.frame.mark s.frame.control s.frame.cells s.frame.words_are)
-
   -- the parts whose frames lie so low weigh as much
+  weighs_here : (part : Part) (outer : List Part) (words : List Word) (f : OldFrame part outer words) → Around tree code texts w lay p outer f.lower f.mark f.control f.gives → length f.lower < limit →
+      part_weight tree w part ≡ part_weight tree w' part
+  weighs_here part outer words f a low = by_shape f.shape
+    where
+      by_shape : Shape tree code texts w lay p part outer (length f.lower) f.mark f.control f.cells f.home f.gives → part_weight tree w part ≡ part_weight tree w' part
+      by_shape (of_own o is) =
+          ap (λ (x : Instance). 8 + (if is_evaluation part.purpose then 0 else length x.cells) + 4 * tokens_around tree x.block)
+          (ap or_no_instance (o.framed.is ∙ sym (own_after part outer (length f.lower) f.mark f.control f.cells o low)))
+      by_shape (of_lent l) =
+          ap (λ (b : Bool). 8 + (if b then 0 else length ((instance_at w part.instance).cells)) + 4 * tokens_around tree ((instance_at w part.instance).block)) l.evaluates
+          ∙ ap (λ (b : ℕ). 8 + 0 + 4 * tokens_around tree b) (sym (same_block part outer words f a low))
+          ∙ ap (λ (b : Bool). 8 + (if b then 0 else length ((instance_at w' part.instance).cells)) + 4 * tokens_around tree ((instance_at w' part.instance).block)) (sym l.evaluates)
+
   pub weight_stays : (parts : List Part) (lower : List Word) (mark control : Word) (wanted : Yields) → length lower ≤ limit → Around tree code texts w lay p parts lower mark control wanted → parts_weight tree w parts ≡ parts_weight tree w' parts
   weight_stays [] lower mark control wanted low a = refl
   weight_stays (part ∷ outer) lower mark control wanted low a =
       let s : Waits tree code texts w lay p part outer lower mark control wanted = a.0 in
-      let lowest : length s.frame.lower < limit = frame_low part outer lower mark control wanted low s in
-      let here : part_weight tree w part ≡ part_weight tree w' part =
-      ap (λ (x : Instance). 8 + (if is_evaluation part.purpose then 0 else length x.cells) + 4 * tokens_around tree x.block) (same_instance part outer s.below s.frame a.1 lowest) in
+      let lowest : length s.frame.lower < limit = frame_low tree code texts w lay p part outer lower mark control wanted limit low s in
+      let here : part_weight tree w part ≡ part_weight tree w' part = weighs_here part outer s.below s.frame a.1 lowest in
       let others : parts_weight tree w outer ≡ parts_weight tree w' outer = weight_stays outer s.frame.lower s.frame.mark s.frame.control s.frame.gives (omega (arith, lowest)) a.1 in
       ap (λ (n : ℕ). n + parts_weight tree w outer) here ∙ ap (λ (n : ℕ). part_weight tree w' part + n) others
 
@@ -467,8 +484,8 @@ module _ (tree : PProgram) (code : Code) (texts : Texts) (w w' : World) (lay lay
   around_stays [] lower mark control wanted low a = a
   around_stays (part ∷ outer) lower mark control wanted low a =
       let s : Waits tree code texts w lay p part outer lower mark control wanted = a.0 in
-      let lowest : length s.frame.lower < limit = frame_low part outer lower mark control wanted low s in
-      let same : instance_at w part.instance ≡ instance_at w' part.instance = same_instance part outer s.below s.frame a.1 lowest in (
+      let lowest : length s.frame.lower < limit = frame_low tree code texts w lay p part outer lower mark control wanted limit low s in
+      let same : (instance_at w part.instance).block ≡ (instance_at w' part.instance).block = sym (same_block part outer s.below s.frame a.1 lowest) in (
         record {
           below = s.below;
           words = s.words;
@@ -477,23 +494,23 @@ module _ (tree : PProgram) (code : Code) (texts : Texts) (w w' : World) (lay lay
           waits = s.waits;
           pc = s.pc;
           slots = s.slots;
-          returns = subst (λ (x : Instance). (r : Answer) → Gives wanted r →
-              ComesTo sc (in_routine s.frame.gives (context_of code texts sc x.block)) (texts.placed (segment_of sc.blocks x.block)) (run_level (is_evaluation part.purpose) (level_of (block_numbered sc.blocks x.block))) (most_around tree x.block) (resume sc part.rest r) s.pc (pushed wanted r s.slots)) same s.returns;
-          few = subst (λ (x : Instance). length s.slots + 1 ≤ most_around tree x.block) same s.few;
+          returns = subst (λ (b : ℕ). (r : Answer) → Gives wanted r →
+              ComesTo sc (in_routine s.frame.gives (context_of code texts sc b)) (texts.placed (segment_of sc.blocks b)) (run_level (is_evaluation part.purpose) (level_of (block_numbered sc.blocks b))) (most_around tree b) (resume sc part.rest r) s.pc (pushed wanted r s.slots)) same s.returns;
+          few = subst (λ (b : ℕ). length s.slots + 1 ≤ most_around tree b) same s.few;
           held = s.held;
           held_are = known_after part outer s.below s.frame a.1 lowest s.held s.held_are;
-          words_are = subst (λ (x : Instance). SlotsAre sc s.held (run_level (is_evaluation part.purpose) (level_of (block_numbered sc.blocks x.block))) (length s.frame.lower) (length s.below) s.slots s.words) same s.words_are;
+          words_are = subst (λ (b : ℕ). SlotsAre sc s.held (run_level (is_evaluation part.purpose) (level_of (block_numbered sc.blocks b))) (length s.frame.lower) (length s.below) s.slots s.words) same s.words_are;
           home = s.home;
           df = s.df;
           mark_is = s.mark_is;
           far = s.far;
           back = s.back;
           control_is = s.control_is;
-          segment_is = s.segment_is ∙ ap (λ (x : Instance). segment_of sc.blocks x.block) same;
+          segment_is = s.segment_is ∙ ap (λ (b : ℕ). segment_of sc.blocks b) same;
           place_is = s.place_is;
-          level_is = s.level_is ∙ ap (λ (x : Instance). run_level (is_evaluation part.purpose) (level_of (block_numbered sc.blocks x.block))) same;
+          level_is = s.level_is ∙ ap (λ (b : ℕ). run_level (is_evaluation part.purpose) (level_of (block_numbered sc.blocks b))) same;
           cells_are = s.cells_are;
-          light = subst (λ (x : Instance). length s.below + most_around tree x.block + 3 ≤ parts_weight tree w' (part ∷ outer)) same
+          light = subst (λ (b : ℕ). length s.below + most_around tree b + 3 ≤ parts_weight tree w' (part ∷ outer)) same
               (subst (λ (n : ℕ). length s.below + most_around tree ((instance_at w part.instance).block) + 3 ≤ n) (weight_stays (part ∷ outer) lower mark control wanted low a) s.light);
         },
         around_stays outer s.frame.lower s.frame.mark s.frame.control s.frame.gives (omega (arith, lowest)) a.1,

@@ -1,27 +1,25 @@
 -- The name of a declared array that is given to a procedure leads to the cell of an array, which its instance has made.
-use Rattle.std.proofs.Common.{◌≡◌, ◌⊎◌, inl, inr, sym, ap, ◌∙◌, subst, ℕ, zero, suc, ◌+◌, ◌≤◌, List, [], ◌∷◌, Some, true, false, arith}
-use Rattle.std.specs.Prelude.{slice_get}
+use Rattle.std.proofs.Common.{◌≡◌, ◌⊎◌, inl, inr, sym, ap, ◌∙◌, ℕ, zero, suc, ◌+◌, ◌≤◌, List, [], ◌∷◌, Some, true, false, arith}
 use Rattle.algol_tree.specs.declared.tree.Named.{Named}
 use Rattle.algol_tree.specs.Blocks.{block_numbered}
 use Rattle.algol_tree.specs.Plain.{PProgram}
 use Rattle.algol_tree.specs.Scopes.{Scopes, scopes_of, use_of}
 use Rattle.algol_tree.specs.Sorts.{is_variable, is_formal}
 use Rattle.algol_meaning.specs.Rest.{Given, valued, passed, refers, names}
-use Rattle.algol_meaning.specs.World.{Instance, Part, World, instance_at, or_no_instance, ancestor, cell_in}
+use Rattle.algol_meaning.specs.World.{Instance, Part, World, instance_at, or_no_instance, ancestor}
 use Rattle.algol_paths.specs.Arrays.{DeclaredArray, an_array, Shape, shape_of}
 use Rattle.algol_paths.specs.Blocks.{IsSeen, IsSeenAround}
+use Rattle.algol_standing.specs.Worlds.{IsStanding}
 use Rattle.b67_word.specs.Word.{Word}
 use Rattle.b67_ops.specs.declared.Couple.{Couple}
-use Rattle.b67_segment.specs.declared.code.Code.{Code}
 use Rattle.b67_table.specs.References.{cell_word}
 use Rattle.b67_templates.specs.Cells.{Agrees, simple_cells, made_base, found_from, IsDeclaredArray, made_of, made_from, FoundMade}
-use Rattle.b67_templates.specs.Programs.{Texts}
 use Rattle.b67_faithful.proofs.Contradictions.{some_same}
 use Rattle.b67_rows.proofs.AskedEntries.{InReferred}
-use Rattle.b67_frames.specs.Arrays.{Layout, named_from, LeadsTo, Names, an_array_named, an_event_named, a_variable_named, IsNamed, IsOwn}
-use Rattle.b67_frames.specs.Frames.{IsComplete, Frame, Around}
-use Rattle.b67_frames.proofs.Lying.{Lies, lies_frame, IsParent, parents_of, part_own}
-use Rattle.b67_frames.proofs.OwnCells.{OwnCells, framed_cells, OwnArray, none_later, all_made, own_array}
+use Rattle.b67_frames.specs.Arrays.{Layout, named_from, LeadsTo, Names, an_array_named, an_event_named, a_variable_named, IsNamed}
+use Rattle.b67_frames.specs.Frames.{IsComplete, ArePlaced}
+use Rattle.b67_frames.proofs.OwnCells.{OwnCells, HasCells, OwnArray, none_later, all_made, own_array}
+use Rattle.b67_frames.proofs.StaticParents.{IsParent, parents}
 
 -- a name that is seen, where all is made that its block declares, or as one in a bound
 abbrev pub IsSeenMade : PProgram → World → Layout → Part → Named → Type 0
@@ -50,22 +48,23 @@ both_seen tree w lay part gs seen (inr around_it) = all_around gs seen around_it
     all_around (passed c ∷ xs) is more = all_around xs is more
     all_around (names e ∷ xs) is more = all_around xs is more
 
-module _ (tree : PProgram) (code : Code) (texts : Texts) (w : World) (lay : Layout) (p : ℕ) (part : Part) (outer : List Part) (words : List Word) (f : Frame tree code texts w lay p part outer words)
-    (a : Around tree code texts w lay p outer f.lower f.mark f.control f.gives) where
+-- so far up all arrays are made
+pub up_complete : (sc : Scopes) (w : World) (lay : Layout) (i k : ℕ) → IsComplete sc w lay i ⊎ (1 ≤ k) → (1 ≤ k → IsComplete sc w lay (ancestor w k i)) → IsComplete sc w lay (ancestor w k i)
+up_complete sc w lay i zero (inl whole) further = whole
+up_complete sc w lay i zero (inr far) further = absurd (omega (arith, far))
+up_complete sc w lay i (suc k) made further = further (omega arith)
+
+-- The part's instance stands. Instances that stand are placed, and have their cells.
+module _ (tree : PProgram) (w : World) (lay : Layout) (placed : ArePlaced (scopes_of tree) w lay) (each : (j : ℕ) → IsStanding w j → HasCells (scopes_of tree) w lay j)
+    (part : Part) (st : IsStanding w part.instance) (Stand : ℕ → Type 0) where
   abbrev sc : Scopes
   sc = scopes_of tree
 
   abbrev block : ℕ
   block = (instance_at w part.instance).block
 
-  -- so far up all arrays are made
-  pub up_complete : (k : ℕ) → IsComplete (scopes_of tree) w lay part.instance ⊎ (1 ≤ k) → (1 ≤ k → IsComplete (scopes_of tree) w lay (ancestor w k part.instance)) → IsComplete (scopes_of tree) w lay (ancestor w k part.instance)
-  up_complete zero (inl whole) further = whole
-  up_complete zero (inr far) further = absurd (omega (arith, far))
-  up_complete (suc k) made further = further (omega arith)
-
   module _ (level : ℕ) (n : Named) (seen : IsSeenMade tree w lay part n) (shape : Shape) (d : DeclaredArray) (c : Couple) (v : IsDeclaredArray sc level n d c) (agrees : Agrees shape (shape_of d))
-      (x : Word) (h : IsNamed sc w lay (IsOwn (part ∷ outer)) part.instance n x) where
+      (x : Word) (h : IsNamed sc w lay Stand part.instance n x) where
     abbrev up : ℕ
     up = (use_of sc n).up
 
@@ -82,32 +81,26 @@ module _ (tree : PProgram) (code : Code) (texts : Texts) (w : World) (lay : Layo
     far_or_made (inl whole) = inl whole
     far_or_made (inr around_it) = inr (in_bound around_it.1)
 
-    parent : IsParent tree code texts w lay p (part ∷ outer) part.instance up ((use_of sc n).block)
-    parent = parents_of tree code texts w lay p part outer words f a part.instance (part_own tree code texts w lay p part outer words f) up ((use_of sc n).block) seen.0
+    parent : IsParent sc w lay part.instance up ((use_of sc n).block)
+    parent = parents sc w lay placed part.instance st up ((use_of sc n).block) seen.0
 
-    module _ (l : Lies tree code texts w lay p (part ∷ outer) home words) where
-      abbrev here : Instance
-      here = l.owned.framed.instance
+    complete : IsComplete sc w lay home
+    complete = up_complete sc w lay part.instance up (far_or_made seen.1) parent.complete
 
+    module _ (here : Instance) (own : OwnCells sc w lay home here) where
       instance_here : instance_at w home ≡ here
-      instance_here = ap (instance_at w) (sym l.instance_is) ∙ ap or_no_instance l.owned.framed.is
+      instance_here = ap or_no_instance own.is
 
       block_here : here.block ≡ (use_of sc n).block
       block_here = sym (ap (λ (y : Instance). y.block) instance_here) ∙ parent.block
 
-      complete : IsComplete sc w lay l.part.instance
-      complete = subst (λ (i : ℕ). IsComplete sc w lay i) (sym l.instance_is) (up_complete up (far_or_made seen.1) parent.complete)
-
-      abbrev own : OwnCells sc w lay l.part.instance here
-      own = framed_cells sc w lay l.owned.framed
-
       there : made_from 0 (made_of (block_numbered sc.blocks here.block).decls) n.name ≡ Some (record { number = v.made.number; made = an_array d })
       there = ap (λ (j : ℕ). made_from 0 (made_of (block_numbered sc.blocks j).decls) n.name) block_here ∙ v.made.there
 
-      found : OwnArray sc w lay l.part.instance here own n.name v.made.number d
+      found : OwnArray sc w lay home here own n.name v.made.number d
       found =
-          own_array sc w lay l.part.instance here own n.name v.made.number d there
-          (all_made sc w lay l.part.instance here own n.name v.made.number d there (none_later sc w lay l.part.instance here own complete))
+          own_array sc w lay home here own n.name v.made.number d there
+          (all_made sc w lay home here own n.name v.made.number d there (none_later sc w lay home here own complete))
           (ap (λ (j : ℕ). found_from 0 (simple_cells sc (block_numbered sc.blocks j)) n.name) block_here ∙ v.made.apart)
 
       same_block : (instance_at w home).block ≡ (use_of sc n).block
@@ -133,10 +126,10 @@ module _ (tree : PProgram) (code : Code) (texts : Texts) (w : World) (lay : Layo
               )
           by_name (a_variable_named kind is) = absurd (let clash : false ≡ true = sym (ap is_variable v.sort_is) ∙ is.variable in cc)
 
-      leads_there : LeadsTo sc w lay (IsOwn (part ∷ outer)) shape (named_from sc w lay part.instance n) x
+      leads_there : LeadsTo sc w lay Stand shape (named_from sc w lay part.instance n) x
       leads_there =
           record {
-            own = parent.own;
+            own = h.own;
             declared = d;
             agrees = agrees;
             cell = found.cell;
@@ -144,13 +137,13 @@ module _ (tree : PProgram) (code : Code) (texts : Texts) (w : World) (lay : Layo
             array = record {
               number = v.made.number;
               found = ap (λ (y : Instance). made_from 0 (made_of (block_numbered sc.blocks y.block).decls) n.name) instance_here ∙ there;
-              is = ap (λ (k : ℕ). cell_in ((instance_at w k).cells) n.name) (sym l.instance_is) ∙ found.of.is;
-              allotted = ap (λ (k : ℕ). slice_get (lay.rows k) v.made.number) (sym l.instance_is) ∙ found.has.allotted;
+              is = found.of.is;
+              allotted = found.has.allotted;
             };
             frame = h.frame;
             laid = h.laid;
             word_is = h.word_is ∙ ap (λ (k : ℕ). cell_word (record { frame = h.frame; index = k })) index_is;
           }
 
-    pub named_leads : LeadsTo sc w lay (IsOwn (part ∷ outer)) shape (named_from sc w lay part.instance n) x
-    named_leads = leads_there (lies_frame tree code texts w lay p part outer words f a home parent.own)
+    pub named_leads : LeadsTo (scopes_of tree) w lay Stand shape (named_from (scopes_of tree) w lay part.instance n) x
+    named_leads = let c = each home parent.stands in leads_there c.0 c.1

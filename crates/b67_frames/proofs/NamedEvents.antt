@@ -1,5 +1,5 @@
 -- The name of a declared event that is given to a procedure leads to the cell of an event, which its instance has made.
-use Rattle.std.proofs.Common.{◌≡◌, ◌⊎◌, inl, inr, sym, ap, ◌∙◌, subst, ℕ, ◌+◌, ◌≤◌, List, ◌∷◌, Some, true, false, arith}
+use Rattle.std.proofs.Common.{◌≡◌, ◌⊎◌, inl, inr, sym, ap, ◌∙◌, ℕ, ◌+◌, ◌≤◌, Some, true, false, arith}
 use Rattle.algol_tree.specs.declared.tree.Named.{Named}
 use Rattle.algol_tree.specs.Blocks.{block_numbered}
 use Rattle.algol_tree.specs.Plain.{PProgram}
@@ -8,19 +8,18 @@ use Rattle.algol_tree.specs.Sorts.{is_variable, is_formal}
 use Rattle.algol_meaning.specs.World.{Instance, Part, World, instance_at, or_no_instance, ancestor, cell_in}
 use Rattle.algol_paths.specs.Arrays.{an_event}
 use Rattle.algol_paths.specs.Blocks.{IsSeenAround}
+use Rattle.algol_standing.specs.Worlds.{IsStanding}
 use Rattle.b67_word.specs.Word.{Word}
 use Rattle.b67_ops.specs.declared.Couple.{Couple}
-use Rattle.b67_segment.specs.declared.code.Code.{Code}
 use Rattle.b67_table.specs.References.{cell_word}
 use Rattle.b67_templates.specs.Cells.{simple_cells, made_base, found_from, IsDeclaredEvent, made_of, made_from, FoundMade}
-use Rattle.b67_templates.specs.Programs.{Texts}
 use Rattle.b67_faithful.proofs.Contradictions.{some_same}
-use Rattle.b67_frames.specs.Arrays.{Layout, named_from, LeadsToEvent, Names, an_array_named, an_event_named, a_variable_named, IsNamed, IsOwn}
-use Rattle.b67_frames.specs.Frames.{IsComplete, Frame, Around}
-use Rattle.b67_frames.proofs.Lying.{Lies, lies_frame, IsParent, parents_of, part_own}
+use Rattle.b67_frames.specs.Arrays.{Layout, named_from, LeadsToEvent, Names, an_array_named, an_event_named, a_variable_named, IsNamed}
+use Rattle.b67_frames.specs.Frames.{IsComplete, ArePlaced}
 use Rattle.b67_frames.proofs.NamedArrays.{IsSeenMade, up_complete}
-use Rattle.b67_frames.proofs.OwnCells.{OwnCells, framed_cells, none_later}
+use Rattle.b67_frames.proofs.OwnCells.{OwnCells, HasCells, none_later}
 use Rattle.b67_frames.proofs.OwnEvents.{OwnEvent, own_event}
+use Rattle.b67_frames.proofs.StaticParents.{IsParent, parents}
 
 -- an event that a block declares is no variable and no parameter, so its name in a bound is one of a block around
 pub far_event : (sc : Scopes) (level : ℕ) (n : Named) (c : Couple) → IsDeclaredEvent sc level n c → (1 ≤ (use_of sc n).up) ⊎ (is_variable ((use_of sc n).sort) ≡ true) ⊎ (is_formal ((use_of sc n).sort) ≡ true) → 1 ≤ (use_of sc n).up
@@ -28,9 +27,9 @@ far_event sc level n c v (inl far) = far
 far_event sc level n c v (inr (inl is)) = absurd (let clash : false ≡ true = sym (ap is_variable v.sort_is) ∙ is in cc)
 far_event sc level n c v (inr (inr is)) = absurd (let clash : false ≡ true = sym (ap is_formal v.sort_is) ∙ is in cc)
 
-module _ (tree : PProgram) (code : Code) (texts : Texts) (w : World) (lay : Layout) (p : ℕ) (part : Part) (outer : List Part) (words : List Word) (f : Frame tree code texts w lay p part outer words)
-    (a : Around tree code texts w lay p outer f.lower f.mark f.control f.gives) (level : ℕ) (n : Named) (seen : IsSeenMade tree w lay part n) (c : Couple) (v : IsDeclaredEvent (scopes_of tree) level n c)
-    (x : Word) (h : IsNamed (scopes_of tree) w lay (IsOwn (part ∷ outer)) part.instance n x) where
+module _ (tree : PProgram) (w : World) (lay : Layout) (placed : ArePlaced (scopes_of tree) w lay) (each : (j : ℕ) → IsStanding w j → HasCells (scopes_of tree) w lay j)
+    (part : Part) (st : IsStanding w part.instance) (Stand : ℕ → Type 0) (level : ℕ) (n : Named) (seen : IsSeenMade tree w lay part n) (c : Couple) (v : IsDeclaredEvent (scopes_of tree) level n c)
+    (x : Word) (h : IsNamed (scopes_of tree) w lay Stand part.instance n x) where
   abbrev sc : Scopes
   sc = scopes_of tree
 
@@ -44,33 +43,25 @@ module _ (tree : PProgram) (code : Code) (texts : Texts) (w : World) (lay : Layo
   far_or_made (inl whole) = inl whole
   far_or_made (inr around_it) = inr (far_event sc level n c v around_it.1)
 
-  parent : IsParent tree code texts w lay p (part ∷ outer) part.instance up ((use_of sc n).block)
-  parent = parents_of tree code texts w lay p part outer words f a part.instance (part_own tree code texts w lay p part outer words f) up ((use_of sc n).block) seen.0
+  parent : IsParent sc w lay part.instance up ((use_of sc n).block)
+  parent = parents sc w lay placed part.instance st up ((use_of sc n).block) seen.0
 
-  module _ (l : Lies tree code texts w lay p (part ∷ outer) home words) where
-    abbrev here : Instance
-    here = l.owned.framed.instance
+  complete : IsComplete sc w lay home
+  complete = up_complete sc w lay part.instance up (far_or_made seen.1) parent.complete
 
+  module _ (here : Instance) (own : OwnCells sc w lay home here) where
     instance_here : instance_at w home ≡ here
-    instance_here = ap (instance_at w) (sym l.instance_is) ∙ ap or_no_instance l.owned.framed.is
+    instance_here = ap or_no_instance own.is
 
     block_here : here.block ≡ (use_of sc n).block
     block_here = sym (ap (λ (y : Instance). y.block) instance_here) ∙ parent.block
 
-    complete : IsComplete sc w lay l.part.instance
-    complete =
-        subst (λ (i : ℕ). IsComplete sc w lay i) (sym l.instance_is)
-        (up_complete tree code texts w lay p part outer words f a up (far_or_made seen.1) parent.complete)
-
-    abbrev own : OwnCells sc w lay l.part.instance here
-    own = framed_cells sc w lay l.owned.framed
-
     there : made_from 0 (made_of (block_numbered sc.blocks here.block).decls) n.name ≡ Some (record { number = v.made.number; made = an_event n.name })
     there = ap (λ (j : ℕ). made_from 0 (made_of (block_numbered sc.blocks j).decls) n.name) block_here ∙ v.made.there
 
-    found : OwnEvent sc w lay l.part.instance here own n.name v.made.number
+    found : OwnEvent sc w lay home here own n.name v.made.number
     found =
-        own_event sc w lay l.part.instance here own n.name v.made.number there (none_later sc w lay l.part.instance here own complete)
+        own_event sc w lay home here own n.name v.made.number there (none_later sc w lay home here own complete)
         (ap (λ (j : ℕ). found_from 0 (simple_cells sc (block_numbered sc.blocks j)) n.name) block_here ∙ v.made.apart)
 
     index_is : h.couple.index ≡ made_base sc (block_numbered sc.blocks ((instance_at w home).block)) + v.made.number
@@ -96,10 +87,10 @@ module _ (tree : PProgram) (code : Code) (texts : Texts) (w : World) (lay : Layo
             )
         by_name (a_variable_named kind is) = absurd (let clash : false ≡ true = sym (ap is_variable v.sort_is) ∙ is.variable in cc)
 
-    leads_there : LeadsToEvent sc w lay (IsOwn (part ∷ outer)) (named_from sc w lay part.instance n) x
+    leads_there : LeadsToEvent sc w lay Stand (named_from sc w lay part.instance n) x
     leads_there =
         record {
-          own = parent.own;
+          own = h.own;
           made = record {
             number = v.made.number;
             found = ap (λ (y : Instance). made_from 0 (made_of (block_numbered sc.blocks y.block).decls) n.name) instance_here ∙ there;
@@ -111,5 +102,5 @@ module _ (tree : PProgram) (code : Code) (texts : Texts) (w : World) (lay : Layo
           word_is = h.word_is ∙ ap (λ (k : ℕ). cell_word (record { frame = h.frame; index = k })) index_is;
         }
 
-  pub event_leads : LeadsToEvent (scopes_of tree) w lay (IsOwn (part ∷ outer)) (named_from (scopes_of tree) w lay part.instance n) x
-  event_leads = leads_there (lies_frame tree code texts w lay p part outer words f a home parent.own)
+  pub event_leads : LeadsToEvent (scopes_of tree) w lay Stand (named_from (scopes_of tree) w lay part.instance n) x
+  event_leads = let c = each home parent.stands in leads_there c.0 c.1

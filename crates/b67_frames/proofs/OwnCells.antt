@@ -55,6 +55,10 @@ module _ (sc : Scopes) (w : World) (lay : Layout) where
         has = f.has;
       }
 
+  -- an instance is there, with such cells
+  abbrev pub HasCells : ℕ → Type 0
+  HasCells i = (x : Instance) × OwnCells i x
+
   -- an array that it has made, by its number among those that its block declares: its cell, its rows and its descriptor
   pub record OwnArray (i : ℕ) (x : Instance) (own : OwnCells i x) (name : List ℕ) (number : ℕ) (declared : DeclaredArray) : Type 0 where
     pub cell : ArrayCell

@@ -14,6 +14,7 @@ use Rattle.algol_tree.specs.Sorts.{same_name}
 use Rattle.algol_meaning.specs.Value.{Value, Bounds, Cell, simple, event, array, named, reference as refers}
 use Rattle.algol_meaning.specs.World.{NamedCell, Instance, Part, World, or_no_instance}
 use Rattle.algol_paths.specs.Arrays.{Made, an_array, an_event}
+use Rattle.algol_standing.specs.Worlds.{IsStanding}
 use Rattle.b67_word.specs.declared.Place.{Place}
 use Rattle.b67_word.specs.Word.{Word, field}
 use Rattle.b67_control.specs.Kind as kind
@@ -52,9 +53,10 @@ use Rattle.b67_fitting.specs.Nested.{AreNested}
 use Rattle.b67_rows.proofs.Numbers.{get_below}
 use Rattle.b67_rows.proofs.StackWords.{reverse-cons}
 use Rattle.b67_rows.proofs.Words.{value_tag, event_kind, mark_read}
-use Rattle.b67_frames.specs.Arrays.{Allotted, Layout, DescriptorIs, AreMade, Denotes, HeldIs, AreKnown, IsOwn}
-use Rattle.b67_frames.specs.Frames.{CellIs, Refers, CellsAre, block_controls, IsPlaced, outermost, inside, home_of, Frame, Stands, Waits, Around, level_at, Owned, Shape, of_own, of_lent, run_level}
-use Rattle.b67_frames.proofs.Lying.{Lies, lies_low, lies_around}
+use Rattle.b67_frames.specs.Arrays.{Allotted, Layout, DescriptorIs, AreMade, Denotes, HeldIs, AreKnown}
+use Rattle.b67_frames.specs.Frames.{CellIs, Refers, CellsAre, block_controls, IsInReach, IsPlaced, outermost, inside, ArePlaced, home_of, Frame, Stands, Waits, Around, level_at, Owned, Shape, of_own, of_lent, run_level}
+use Rattle.b67_frames.proofs.Facts.{HasFacts}
+use Rattle.b67_frames.proofs.Lying.{owned_stands, part_stands}
 use Rattle.algol_meaning.specs.Critical.{is_evaluation}
 
 -- the number of an intrinsic fits a reference
@@ -241,15 +243,15 @@ module _ (Home : ℕ → ℕ → Type 0) (root : (n : ℕ) → Home 0 n) where
 abbrev pub KnownLead : (ℕ → ℕ → Type 0) → List Known → Type 0
 KnownLead Home known = (h : Held) (x : Word) → IsKnown known h x → LinksTo Home x
 
-module _ (sc : Scopes) (w : World) (lay : Layout) (Home : ℕ → ℕ → Type 0) (root : (n : ℕ) → Home 0 n) (parts : List Part) (i : ℕ) where
-  pub denoted_leads : (wanted : Wanted) (c : Cell) (x : Word) → Denotes sc w lay (IsOwn parts) wanted c x → LinksTo Home x
+module _ (sc : Scopes) (w : World) (lay : Layout) (Home : ℕ → ℕ → Type 0) (root : (n : ℕ) → Home 0 n) (Stand : ℕ → Type 0) (i : ℕ) where
+  pub denoted_leads : (wanted : Wanted) (c : Cell) (x : Word) → Denotes sc w lay Stand wanted c x → LinksTo Home x
   denoted_leads (wants.array shape) (refers r) x is = subst (LinksTo Home) (sym is.word_is) (cell_word_leads Home root _)
   denoted_leads wants.event (refers r) x is = subst (LinksTo Home) (sym is.word_is) (cell_word_leads Home root _)
   denoted_leads (wants.by_name kind) (refers r) x is = subst (LinksTo Home) (sym is.word_is) (cell_word_leads Home root _)
   denoted_leads (wants.by_name kind) (named a) x is = subst (LinksTo Home) (sym is.word_is) (cell_word_leads Home root _)
   denoted_leads _ c x is = absurd is
 
-  held_leads : (h : Held) (x : Word) → HeldIs sc w lay (IsOwn parts) i h x → LinksTo Home x
+  held_leads : (h : Held) (x : Word) → HeldIs sc w lay Stand i h x → LinksTo Home x
   held_leads (row n ks) x is = subst (LinksTo Home) (sym is.word_is) (descriptor_leads Home root _)
   held_leads (element r ks kind) x is = subst (LinksTo Home) (sym is.word_is) (descriptor_leads Home root _)
   held_leads (cell_named n) x is = subst (LinksTo Home) (sym is.word_is) (cell_word_leads Home root _)
@@ -257,7 +259,7 @@ module _ (sc : Scopes) (w : World) (lay : Layout) (Home : ℕ → ℕ → Type 0
   held_leads (variable r kind) x is = subst (LinksTo Home) (sym is.word_is) (cell_word_leads Home root _)
   held_leads (passed wanted c) x is = denoted_leads wanted c x is
 
-  pub known_lead : (known : List Known) → AreKnown sc w lay (IsOwn parts) i known → KnownLead Home known
+  pub known_lead : (known : List Known) → AreKnown sc w lay Stand i known → KnownLead Home known
   known_lead [] are h x is = absurd is
   known_lead (k ∷ known) are h x is = by_place is (known_lead known are.1 h x)
     where
@@ -341,90 +343,84 @@ module _ (tree : PProgram) (code : Code) (texts : Texts) (nested : AreNested (sc
         ap (λ (o : Option Instance). run_level (is_evaluation part.purpose) (level_of (block_numbered sc.blocks ((or_no_instance o).block)))) s.frame.is in
         omega (arith, same, s.frame.level_is, (Fits-as_rcw s.frame.control s.frame.control_is).1.1.1.1.1.0)
 
-  -- Where frames so low are such places, and those of the system's stack.
-  module _ (Home : ℕ → ℕ → Type 0) (root : (n : ℕ) → Home 0 n) (limit : ℕ) (frames : (n : ℕ) → n + 2 ≤ limit → Home p n) where
+  -- Where the frames of the instances that stand are such places, and those of the system's stack.
+  module _ (facts : HasFacts w) (placed : ArePlaced (scopes_of tree) w lay) (Home : ℕ → ℕ → Type 0) (root : (n : ℕ) → Home 0 n)
+      (frames : (i : ℕ) (f : Place) → IsStanding w i → numbered lay.places i ≡ Some f → Home f.stack f.at) where
     abbrev IsHome : Place → Type 0
     IsHome f = Home f.stack f.at
-
-    -- the frame of an instance that lies in these parts
-    laid_near : (outer : List Part) (lower : List Word) → length lower ≤ limit → (i : ℕ) (home : Place) → numbered lay.places i ≡ Some home → Lies tree code texts w lay p outer i lower → IsHome home
-    laid_near outer lower low i home e l =
-        let at : numbered lay.places i ≡ Some (place p (length l.frame.lower)) = ap (numbered lay.places) (sym l.instance_is) ∙ l.owned.framed.laid in
-        let ends : length l.frame.lower + 2 + length l.frame.cells ≤ length lower = lies_low tree code texts w lay p outer i lower l in
-        subst (λ (f : Place). Home f.stack f.at) (some_same (sym at ∙ e)) (frames (length l.frame.lower) (omega (arith, ends, low)))
 
     root_near : (home : Place) → Some (place 0 0) ≡ Some home → IsHome home
     root_near home e = subst (λ (f : Place). Home f.stack f.at) (some_same e) (root 0)
 
-    home_near : (outer : List Part) (lower : List Word) (m c : Word) (wanted : Yields) → Outer outer lower m c wanted → length lower ≤ limit → (x : Instance) → IsPlaced sc w lay outer x → (home : Place) →
-        home_of sc w lay x.parent ≡ Some home → IsHome home
-    home_near outer lower m c wanted a low x (outermost none_up alone) home e = root_near home (sym (ap (home_of sc w lay) none_up) ∙ e)
-    home_near outer lower m c wanted a low x (inside own next made) home e = by_parent x.parent e (lies_around tree code texts w lay p outer lower m c wanted a x.parent own)
+    home_near : (x : Instance) → IsPlaced sc w lay x → (home : Place) → home_of sc w lay x.parent ≡ Some home → IsHome home
+    home_near x (outermost none_up alone) home e = root_near home (sym (ap (home_of sc w lay) none_up) ∙ e)
+    home_near x (inside up next made) home e = by_parent x.parent e up
       where
-        by_parent : (i : ℕ) → home_of sc w lay i ≡ Some home → Lies tree code texts w lay p outer i lower → IsHome home
-        by_parent zero f l = root_near home f
-        by_parent (suc i) f l = laid_near outer lower low (suc i) home f l
+        by_parent : (i : ℕ) → home_of sc w lay i ≡ Some home → IsStanding w i → IsHome home
+        by_parent zero f st = root_near home f
+        by_parent (suc i) f st = frames (suc i) home st f
 
     -- the cells of parameters that stand for something else
     formals_lead : (part : Part) (outer : List Part) (at : ℕ) (m c : Word) (cells : List Word) (o : Owned tree code texts w lay p part outer at m c cells) (k : ℕ) (s : Simple) (x : Word) →
         slice_get (simple_cells sc (block_numbered sc.blocks o.framed.instance.block)) k ≡ Some s → Refers s.wanted → slice_get o.framed.values k ≡ Some x → LinksTo Home x
     formals_lead part outer at m c cells o k s x there asked lies =
         let g = o.framed.formals k s there asked in
-        subst (LinksTo Home) (some_same (sym g.3 ∙ lies)) (denoted_leads sc w lay Home root outer part.instance s.wanted g.0.cell g.1 g.4)
+        subst (LinksTo Home) (some_same (sym g.3 ∙ lies)) (denoted_leads sc w lay Home root (IsStanding w) part.instance s.wanted g.0.cell g.1 g.4)
 
-    owned_leads : (part : Part) (outer : List Part) (lower : List Word) (m c : Word) (cells : List Word) (wanted : Yields) (o : Owned tree code texts w lay p part outer (length lower) m c cells) → Outer outer lower m c wanted →
-        length lower ≤ limit → AllLead Home root (m ∷ c ∷ cells)
-    owned_leads part outer lower m c cells wanted o a ends = (
-      mark_leads Home root m _ o.framed.mark_is (home_near outer lower m c wanted a ends o.framed.instance o.framed.placed o.framed.home o.framed.linked),
+    owned_leads : (part : Part) (outer : List Part) (at : ℕ) (m c : Word) (cells : List Word) (o : Owned tree code texts w lay p part outer at m c cells) → AllLead Home root (m ∷ c ∷ cells)
+    owned_leads part outer at m c cells o = (
+      mark_leads Home root m _ o.framed.mark_is (home_near o.framed.instance own_placed o.framed.home o.framed.linked),
       (
         back_leads Home root c o.framed.back o.framed.control_is,
         subst (AllLead Home root) (sym o.framed.cells_is)
             (lead_both Home root o.framed.values _ (cells_lead Home root (simple_cells sc (block_numbered sc.blocks o.framed.instance.block)) o.framed.simple o.framed.values o.framed.simple_are
-            (formals_lead part outer (length lower) m c cells o))
+            (formals_lead part outer at m c cells o))
             (lead_both Home root (control_words (block_controls sc o.framed.instance.block o.framed.ats)) o.framed.descriptors
             (controls_lead Home root (block_controls sc o.framed.instance.block o.framed.ats))
             (arrays_lead Home root o.framed.declared o.framed.arrays (lay.rows part.instance) o.framed.descriptors o.framed.made))),
       ),
     )
+      where
+        own_placed : IsPlaced sc w lay o.framed.instance
+        own_placed = subst (λ (x : Instance). IsPlaced sc w lay x) (ap or_no_instance o.framed.is) (placed part.instance (owned_stands tree code texts w lay p facts part outer at m c cells o))
 
-    frame_leads : (part : Part) (outer : List Part) (words : List Word) (f : Frame tree code texts w lay p part outer words) → Outer outer f.lower f.mark f.control f.gives → length f.lower ≤ limit → AllLead Home root f.lower → AllLead Home root words
-    frame_leads part outer words f a ends low =
+    frame_leads : (part : Part) (outer : List Part) (words : List Word) (f : Frame tree code texts w lay p part outer words) → Outer outer f.lower f.mark f.control f.gives → AllLead Home root f.lower → AllLead Home root words
+    frame_leads part outer words f a low =
         subst (AllLead Home root) (sym f.words_are) (lead_both Home root f.lower (f.mark ∷ f.control ∷ f.cells) low (by_shape f.shape))
       where
-        -- the mark of one that is lent leads to the frame of a part around
+        -- the mark of one that is lent leads to the frame of its instance
         by_shape : Shape tree code texts w lay p part outer (length f.lower) f.mark f.control f.cells f.home f.gives → AllLead Home root (f.mark ∷ f.control ∷ f.cells)
-        by_shape (of_own o is) = owned_leads part outer f.lower f.mark f.control f.cells f.gives o a ends
+        by_shape (of_own o is) = owned_leads part outer (length f.lower) f.mark f.control f.cells o
         by_shape (of_lent l) = (
-          mark_leads Home root f.mark _ f.mark_is
-              (laid_near outer f.lower ends part.instance f.home l.linked (lies_around tree code texts w lay p outer f.lower f.mark f.control f.gives a part.instance l.stands)),
+          mark_leads Home root f.mark _ f.mark_is (frames part.instance f.home (part_stands tree code texts w lay p facts part outer words f a) l.linked),
           (back_leads Home root f.control f.back f.control_is, subst (AllLead Home root) (sym l.none) tt),
         )
 
-    around_leads : (parts : List Part) (lower : List Word) (m c : Word) (wanted : Yields) → Outer parts lower m c wanted → length lower ≤ 2 ^ 16 → length lower ≤ limit → AllLead Home root lower
-    around_leads [] lower m c wanted a room low = subst (AllLead Home root) (sym a.0) tt
-    around_leads (part ∷ outer) lower m c wanted a room low =
+    around_leads : (parts : List Part) (lower : List Word) (m c : Word) (wanted : Yields) → Outer parts lower m c wanted → length lower ≤ 2 ^ 16 → AllLead Home root lower
+    around_leads [] lower m c wanted a room = subst (AllLead Home root) (sym a.0) tt
+    around_leads (part ∷ outer) lower m c wanted a room =
         let s : Waits tree code texts w lay p part outer lower m c wanted = a.0 in
         let long : length lower ≡ length s.below + length s.words = ap length s.lower_is ∙ length-append s.below (reverse s.words) ∙ ap (λ (n : ℕ). length s.below + n) (length-reverse s.words) in
         let lowest : length s.below ≡ length s.frame.lower + (2 + length s.frame.cells) = ap length s.frame.words_are ∙ length-append s.frame.lower (s.frame.mark ∷ s.frame.control ∷ s.frame.cells) ∙ omega arith in
         let many : length s.words ≡ length s.slots = slots_length sc s.held (level_at tree code texts w lay p part) (length s.frame.lower) (length s.below) s.slots s.words s.words_are in
         subst (AllLead Home root) (sym s.lower_is)
         (lead_both Home root s.below (reverse s.words)
-        (frame_leads part outer s.below s.frame a.1 (omega (arith, low, long, lowest))
-        (around_leads outer s.frame.lower s.frame.mark s.frame.control s.frame.gives a.1 (omega (arith, room, long, lowest)) (omega (arith, low, long, lowest))))
+        (frame_leads part outer s.below s.frame a.1
+        (around_leads outer s.frame.lower s.frame.mark s.frame.control s.frame.gives a.1 (omega (arith, room, long, lowest))))
         (lead_turned Home root s.words (slots_lead sc s.held Home root (level_at tree code texts w lay p part) (length s.frame.lower) (length s.below)
-        (known_lead sc w lay Home root (part ∷ outer) part.instance s.held s.held_are) s.slots s.words s.words_are (omega (arith, room, long, many)))))
+        (known_lead sc w lay Home root (IsInReach w (part ∷ outer)) part.instance s.held s.held_are) s.slots s.words s.words_are (omega (arith, room, long, many)))))
 
     module _ (part : Part) (outer : List Part) (core : Core) (s : Stands tree code texts w lay p part outer core) (a : Outer outer s.frame.lower s.frame.mark s.frame.control s.frame.gives) where
       -- so do the words below the floor
-      pub below_leads : length s.frame.lower ≤ 2 ^ 16 → length s.frame.lower ≤ limit → AllLead Home root core.below
-      below_leads room low = frame_leads part outer core.below s.frame a low (around_leads outer s.frame.lower s.frame.mark s.frame.control s.frame.gives a room low)
+      pub below_leads : length s.frame.lower ≤ 2 ^ 16 → AllLead Home root core.below
+      below_leads room = frame_leads part outer core.below s.frame a (around_leads outer s.frame.lower s.frame.mark s.frame.control s.frame.gives a room)
 
       -- and those above it
-      pub core_leads : size core ≤ stack_limit → length s.frame.lower ≤ limit → AllLead Home root (stack_of core)
-      core_leads room low =
+      pub core_leads : size core ≤ stack_limit → AllLead Home root (stack_of core)
+      core_leads room =
           let lowest : length core.below ≡ length s.frame.lower + (2 + length s.frame.cells) = ap length s.frame.words_are ∙ length-append s.frame.lower (s.frame.mark ∷ s.frame.control ∷ s.frame.cells) ∙ omega arith in
           let many : length core.words ≡ length s.slots =
           slots_length sc s.held (level_at tree code texts w lay p part) _ (length core.below) s.slots core.words s.there.words_are in
-          lead_both Home root core.below (reverse core.words) (below_leads (omega (arith, room, lowest)) low)
+          lead_both Home root core.below (reverse core.words) (below_leads (omega (arith, room, lowest)))
           (lead_turned Home root core.words (slots_lead sc s.held Home root (level_at tree code texts w lay p part) _ (length core.below)
-          (known_lead sc w lay Home root (part ∷ outer) part.instance s.held s.held_are) s.slots core.words s.there.words_are (omega (arith, room, many))))
+          (known_lead sc w lay Home root (IsInReach w (part ∷ outer)) part.instance s.held s.held_are) s.slots core.words s.there.words_are (omega (arith, room, many))))

@@ -1,5 +1,5 @@
 -- The name of a variable that is given to a parameter by name leads to the cell of that variable.
-use Rattle.std.proofs.Common.{◌≡◌, sym, ap, ◌∙◌, ℕ, ◌+◌, List, ◌∷◌, true, false, arith}
+use Rattle.std.proofs.Common.{◌≡◌, sym, ap, ◌∙◌, ℕ, ◌+◌, true, false, arith}
 use Rattle.algol_tree.specs.declared.tree.Kind.{Kind}
 use Rattle.algol_tree.specs.declared.tree.Named.{Named}
 use Rattle.algol_tree.specs.Blocks.{block_numbered}
@@ -8,20 +8,19 @@ use Rattle.algol_tree.specs.Scopes.{Scopes, scopes_of, use_of}
 use Rattle.algol_tree.specs.Sorts.{is_variable}
 use Rattle.algol_meaning.specs.World.{Part, World, instance_at}
 use Rattle.algol_paths.specs.Blocks.{IsSeen}
+use Rattle.algol_standing.specs.Worlds.{IsStanding}
 use Rattle.b67_word.specs.Word.{Word}
 use Rattle.b67_ops.specs.declared.Couple.{Couple}
-use Rattle.b67_segment.specs.declared.code.Code.{Code}
 use Rattle.b67_table.specs.References.{cell_word}
 use Rattle.b67_templates.specs.Cells.{Found, found_from, simple_cells, IsVariable}
-use Rattle.b67_templates.specs.Programs.{Texts}
 use Rattle.b67_faithful.proofs.Contradictions.{some_same}
-use Rattle.b67_frames.specs.Arrays.{Layout, named_from, LeadsToVariable, Names, an_array_named, an_event_named, a_variable_named, IsNamed, IsOwn}
-use Rattle.b67_frames.specs.Frames.{Frame, Around}
-use Rattle.b67_frames.proofs.Lying.{IsParent, parents_of, part_own}
+use Rattle.b67_frames.specs.Arrays.{Layout, named_from, LeadsToVariable, Names, an_array_named, an_event_named, a_variable_named, IsNamed}
+use Rattle.b67_frames.specs.Frames.{ArePlaced}
+use Rattle.b67_frames.proofs.StaticParents.{IsParent, parents}
 
-module _ (tree : PProgram) (code : Code) (texts : Texts) (w : World) (lay : Layout) (p : ℕ) (part : Part) (outer : List Part) (words : List Word) (f : Frame tree code texts w lay p part outer words)
-    (a : Around tree code texts w lay p outer f.lower f.mark f.control f.gives) (level : ℕ) (n : Named) (seen : IsSeen (scopes_of tree) ((instance_at w part.instance).block) n)
-    (kind : Kind) (c : Couple) (v : IsVariable (scopes_of tree) level n kind c) (x : Word) (h : IsNamed (scopes_of tree) w lay (IsOwn (part ∷ outer)) part.instance n x) where
+module _ (tree : PProgram) (w : World) (lay : Layout) (placed : ArePlaced (scopes_of tree) w lay) (part : Part) (st : IsStanding w part.instance) (Stand : ℕ → Type 0)
+    (level : ℕ) (n : Named) (seen : IsSeen (scopes_of tree) ((instance_at w part.instance).block) n)
+    (kind : Kind) (c : Couple) (v : IsVariable (scopes_of tree) level n kind c) (x : Word) (h : IsNamed (scopes_of tree) w lay Stand part.instance n x) where
   abbrev sc : Scopes
   sc = scopes_of tree
 
@@ -36,10 +35,13 @@ module _ (tree : PProgram) (code : Code) (texts : Texts) (w : World) (lay : Layo
       by_name (an_event_named is) = absurd (let clash : false ≡ true = sym (ap is_variable is.sort_is) ∙ v.variable in cc)
       by_name (an_array_named declared is) = absurd (let clash : false ≡ true = sym (ap is_variable is.sort_is) ∙ v.variable in cc)
 
-  leads_from : IsParent tree code texts w lay p (part ∷ outer) part.instance up ((use_of sc n).block) → LeadsToVariable sc w lay (IsOwn (part ∷ outer)) kind (named_from sc w lay part.instance n) x
-  leads_from parent =
+  parent : IsParent sc w lay part.instance up ((use_of sc n).block)
+  parent = parents sc w lay placed part.instance st up ((use_of sc n).block) seen
+
+  pub variable_leads : LeadsToVariable (scopes_of tree) w lay Stand kind (named_from (scopes_of tree) w lay part.instance n) x
+  variable_leads =
       record {
-        own = parent.own;
+        own = h.own;
         found = v.found;
         there = ap (λ (j : ℕ). found_from 0 (simple_cells sc (block_numbered sc.blocks j)) n.name) parent.block ∙ v.there;
         wanted_is = v.wanted_is;
@@ -47,6 +49,3 @@ module _ (tree : PProgram) (code : Code) (texts : Texts) (w : World) (lay : Layo
         laid = h.laid;
         word_is = h.word_is ∙ ap (λ (k : ℕ). cell_word (record { frame = h.frame; index = k })) index_is;
       }
-
-  pub variable_leads : LeadsToVariable sc w lay (IsOwn (part ∷ outer)) kind (named_from sc w lay part.instance n) x
-  variable_leads = leads_from (parents_of tree code texts w lay p part outer words f a part.instance (part_own tree code texts w lay p part outer words f) up ((use_of sc n).block) seen)

@@ -1,5 +1,5 @@
 -- How the rows of an image hold the arrays of a world.
-use Rattle.std.specs.Prelude.{◌≡◌, ◌⊎◌, ℕ, ◌+◌, ◌*◌, ◌<◌, ◌≤◌, true, false, List, [], ◌∷◌, length, map, Option, Some, None, slice_get}
+use Rattle.std.specs.Prelude.{◌≡◌, ℕ, ◌+◌, ◌*◌, ◌<◌, ◌≤◌, true, false, List, [], ◌∷◌, length, map, Option, Some, None, slice_get}
 use Rattle.b67_list.specs.Numbered.{numbered}
 use Rattle.algol_tree.specs.declared.tree.Kind.{Kind}
 use Rattle.algol_tree.specs.declared.tree.Named.{Named}
@@ -9,9 +9,8 @@ use Rattle.algol_tree.specs.Scopes.{Scopes, use_of}
 use Rattle.algol_meaning.specs.declared.TheConstants.{MOST_ELEMENTS}
 use Rattle.algol_meaning.specs.Value as meant
 use Rattle.algol_meaning.specs.Value.{Value, Reference, EventCell, Bounds, ArrayCell, Cell, event, array, reference}
-use Rattle.algol_meaning.specs.Critical.{is_evaluation}
 use Rattle.algol_meaning.specs.Arrays.{size_of, elements_of, size_of_cells, size_unless, live_elements}
-use Rattle.algol_meaning.specs.World.{NamedCell, Instance, Part, World, instance_at, ancestor, cell_in, followed}
+use Rattle.algol_meaning.specs.World.{NamedCell, Instance, World, instance_at, ancestor, cell_in, followed}
 use Rattle.algol_paths.specs.Arrays.{DeclaredArray, Made, an_array, an_event, Shape, shape_of, lows_of}
 use Rattle.b67_word.specs.declared.Place.{Place}
 use Rattle.b67_word.specs.Word.{Word}
@@ -132,11 +131,6 @@ rows_of_cells (c ∷ cells) = rows_of_cell c.cell + rows_of_cells cells
 abbrev pub live_rows : List Instance → ℕ
 live_rows [] = 0
 live_rows (x ∷ xs) = size_unless x.left (rows_of_cells x.cells) + live_rows xs
-
--- a part has the instance for its own: one that evaluates an actual has none
-abbrev pub IsOwn : List Part → ℕ → Type 0
-IsOwn [] i = ⊥
-IsOwn (part ∷ parts) i = ((is_evaluation part.purpose ≡ false) × (part.instance ≡ i)) ⊎ IsOwn parts i
 
 module _ (sc : Scopes) (w : World) (lay : Layout) where
   -- the instance stands, and has this array by this number among what its block declares

@@ -17,6 +17,7 @@ use Rattle.algol_paths.specs.Blocks.{IsSeenAround}
 use Rattle.algol_paths.specs.Laws.{KeepsToText}
 use Rattle.algol_paths.specs.Segments.{segment_of}
 use Rattle.algol_paths.specs.Texts.{InRest}
+use Rattle.algol_standing.specs.Worlds.{IsStanding, IsOnPath, newest_own}
 use Rattle.b67_word.specs.declared.Place.{Place}
 use Rattle.b67_word.specs.Word.{Word}
 use Rattle.b67_control.specs.declared.Pcw.{Pcw}
@@ -27,8 +28,7 @@ use Rattle.b67_ops.specs.declared.TheConstants.{OUTER_LEVEL}
 use Rattle.b67_segment.specs.Operators.{Placed}
 use Rattle.b67_segment.specs.declared.code.Code.{Code}
 use Rattle.b67_table.specs.Chains.{place}
-use Rattle.b67_table.specs.Beginning.{base_mark}
-use Rattle.b67_table.specs.Linkage.{base_control, code_place}
+use Rattle.b67_table.specs.Linkage.{code_place}
 use Rattle.b67_templates.specs.Contexts as yielding
 use Rattle.b67_templates.specs.Contexts.{Yields, yields_of, Context}
 use Rattle.b67_templates.specs.Fragments.{HasKind}
@@ -42,7 +42,7 @@ use Rattle.b67_cores.specs.Cores.{Core}
 use Rattle.b67_cores.specs.Slots.{ValueIs, Known, newest, SlotsAre}
 use Rattle.b67_cores.specs.Stretches.{CoreAt, control_words}
 use Rattle.b67_faithful.specs.Weight.{tokens_around, parts_weight}
-use Rattle.b67_frames.specs.Arrays.{Layout, IsOwn, AreMade, Denotes, AreKnown}
+use Rattle.b67_frames.specs.Arrays.{Layout, AreMade, Denotes, AreKnown}
 use Rattle.b67_frames.specs.Lent.{Lent}
 
 -- ---- cells
@@ -86,6 +86,10 @@ abbrev pub run_level : Bool → ℕ → ℕ
 run_level true level = level + 1
 run_level false level = level
 
+-- What these parts can come to lies on the path from the newest instance that is one of theirs.
+abbrev pub IsInReach : World → List Part → ℕ → Type 0
+IsInReach w parts i = IsOnPath w (newest_own parts) i
+
 module _ (sc : Scopes) (w : World) (lay : Layout) where
   -- the block of an instance
   abbrev pub block_at : ℕ → Block
@@ -110,14 +114,18 @@ module _ (sc : Scopes) (w : World) (lay : Layout) where
       is_evaluation part.purpose ≡ true → IsComplete part.instance
       ⊎ InRest (IsSeenAround sc ((instance_at w part.instance).block)) (λ (b : PBody). ⊥) (IsSeenAround sc ((instance_at w part.instance).block)) part.rest
 
-  -- An instance of an outermost block has no parent. That of another block has one among those of these parts, of the block around it, and
-  -- that has all its cells.
-  pub data IsPlaced (outer : List Part) (x : Instance) : Type 0 where
-    outermost : x.parent ≡ 0 → around sc.blocks x.block ≡ [] → IsPlaced outer x
-    inside : IsOwn outer x.parent → around sc.blocks x.block ≡ (instance_at w x.parent).block ∷ around sc.blocks (instance_at w x.parent).block → IsComplete x.parent → IsPlaced outer x
+  -- An instance of an outermost block has no parent. That of another block has one that stands, of the block around it, and that has made all
+  -- that its block declares.
+  pub data IsPlaced (x : Instance) : Type 0 where
+    outermost : x.parent ≡ 0 → around sc.blocks x.block ≡ [] → IsPlaced x
+    inside : IsStanding w x.parent → around sc.blocks x.block ≡ (instance_at w x.parent).block ∷ around sc.blocks ((instance_at w x.parent).block) → IsComplete x.parent → IsPlaced x
 
-  -- The frame of an instance of process p, so high in its stack, below which those of these parts lie: its mark and its control word, which
-  -- are read as such, and these words for its cells.
+  -- so are the instances that stand
+  abbrev pub ArePlaced : Type 0
+  ArePlaced = (i : ℕ) → IsStanding w i → IsPlaced (instance_at w i)
+
+  -- The frame of an instance of process p, so high in its stack: its mark and its control word, which are read as such, and these words for its
+  -- cells.
   pub record Framed (p i : ℕ) (outer : List Part) (at : ℕ) (mark control : Word) (cells : List Word) : Type 0 where
     pub instance : Instance
     pub is : numbered w.instances i ≡ Some instance
@@ -128,9 +136,9 @@ module _ (sc : Scopes) (w : World) (lay : Layout) where
     pub simple : List NamedCell
     pub values : List Word
     pub simple_are : CellsAre (simple_cells sc (block_numbered sc.blocks instance.block)) simple values
-    -- each parameter that stands for something leads to it
+    -- each parameter that stands for something leads to it, in an instance that stands
     pub formals : (k : ℕ) (s : Simple) → slice_get (simple_cells sc (block_numbered sc.blocks instance.block)) k ≡ Some s → Refers s.wanted →
-        (c : NamedCell) × (word : Word) × (slice_get simple k ≡ Some c) × (slice_get values k ≡ Some word) × Denotes sc w lay (IsOwn outer) s.wanted c.cell word
+        (c : NamedCell) × (word : Word) × (slice_get simple k ≡ Some c) × (slice_get values k ≡ Some word) × Denotes sc w lay (IsStanding w) s.wanted c.cell word
     -- after them lie the control words of the block's procedures and of its actuals, whose code stands at these places, and then the
     -- descriptors of the arrays that are made, and the words of the events that are
     pub ats : List ℕ
@@ -143,7 +151,6 @@ module _ (sc : Scopes) (w : World) (lay : Layout) where
     pub made : AreMade declared arrays (lay.rows i) descriptors
     pub has : instance.cells ≡ simple ++ arrays
     pub cells_is : cells ≡ values ++ (control_words (block_controls sc instance.block ats) ++ descriptors)
-    pub placed : IsPlaced outer instance
     pub home : Place
     pub linked : home_of instance.parent ≡ Some home
     pub df : ℕ
@@ -207,10 +214,10 @@ module _ (tree : PProgram) (code : Code) (texts : Texts) (w : World) (lay : Layo
     pub making : framed.later ≡ all_to_make part.rest
 
   -- Whose frame it is, and what the part gives when it leaves: of an own instance the result of its block. Or it is lent to the evaluation
-  -- of an actual, whose instance is one of those of the parts around; its mark leads there, to home.
+  -- of an actual, whose instance lies in reach of the parts around; its mark leads there, to home.
   pub data Shape (part : Part) (outer : List Part) (at : ℕ) (mark control : Word) (cells : List Word) (home : Place) (gives : Yields) : Type 0 where
     of_own : (o : Owned part outer at mark control cells) → gives ≡ yields_of (block_numbered (scopes_of tree).blocks o.framed.instance.block).result → Shape part outer at mark control cells home gives
-    of_lent : Lent lay (IsOwn outer) part cells home gives → Shape part outer at mark control cells home gives
+    of_lent : Lent lay (IsInReach w outer) part cells home gives → Shape part outer at mark control cells home gives
 
   -- These words of a stack, the bottom first, end with the frame of a part: a mark and a control word, which are read as such, and these words
   -- for cells. What the part has still to do keeps to the text of its block.
@@ -245,7 +252,7 @@ module _ (tree : PProgram) (code : Code) (texts : Texts) (w : World) (lay : Layo
     pub pc : ℕ
     pub slots : List Slot
     pub held : List Known
-    pub held_are : AreKnown (scopes_of tree) w lay (IsOwn (part ∷ outer)) part.instance held
+    pub held_are : AreKnown (scopes_of tree) w lay (IsInReach w (part ∷ outer)) part.instance held
     pub stands : StandsFor (scopes_of tree) (context_at part frame.gives) (text_of part) (level_at part) (most_of part) part.rest pc slots
     pub there : CoreAt (scopes_of tree) held code (text_of part) (level_at part) pc slots core
     pub few : length slots ≤ most_of part
@@ -264,7 +271,7 @@ module _ (tree : PProgram) (code : Code) (texts : Texts) (w : World) (lay : Layo
         ComesTo (scopes_of tree) (context_at part frame.gives) (text_of part) (level_at part) (most_of part) (resume (scopes_of tree) part.rest a) pc (pushed wanted a slots)
     pub few : length slots + 1 ≤ most_of part
     pub held : List Known
-    pub held_are : AreKnown (scopes_of tree) w lay (IsOwn (part ∷ outer)) part.instance held
+    pub held_are : AreKnown (scopes_of tree) w lay (IsInReach w (part ∷ outer)) part.instance held
     pub words_are : SlotsAre (scopes_of tree) held (level_at part) (length frame.lower) (length below) slots words
     pub home : Place
     pub df : ℕ
@@ -281,7 +288,7 @@ module _ (tree : PProgram) (code : Code) (texts : Texts) (w : World) (lay : Layo
   -- The parts around, the innermost first, whose frames lie in these words, below a frame of this mark and this control word, of whose part
   -- that is wanted.
   abbrev pub Around : List Part → List Word → Word → Word → Yields → Type 0
-  Around [] lower mark control wanted = (lower ≡ []) × (mark ≡ base_mark) × (control ≡ base_control OUTER_LEVEL) × (wanted ≡ yielding.nothing)
+  Around [] lower mark control wanted = (lower ≡ []) × (wanted ≡ yielding.nothing)
   Around (part ∷ outer) lower mark control wanted =
       (s : Waits part outer lower mark control wanted) × Around outer s.frame.lower s.frame.mark s.frame.control s.frame.gives
 

@@ -1,0 +1,47 @@
+-- EXIT of a base frame on which a process depends: a fault.
+use Rattle.std.proofs.Common.{◌≡◌, ap, ◌∙◌, ℕ, ◌+◌, List, [], ◌∷◌, take, drop, Bool, true, Ok}
+use Rattle.std.specs.Prelude.{if◌then◌else◌, nat_eq}
+use Rattle.b67_num.specs.declared.FaultKind.TheVariants.{CriticalBlockExit}
+use Rattle.b67_word.specs.Word.{Word}
+use Rattle.b67_control.specs.declared.Registers.{Registers}
+use Rattle.b67_ops.specs.declared.Operator.TheVariants as ops
+use Rattle.b67_ops.specs.declared.PlainKind.TheVariants as kinds
+use Rattle.b67_segment.specs.declared.code.Code.{Code}
+use Rattle.b67_store.specs.Store.{words_of}
+use Rattle.b67_table.specs.Effect.{Effect, faults}
+use Rattle.b67_table.specs.Image.{Image}
+use Rattle.b67_table.specs.Linkage.{caused_by, frame_left, is_critical, leave_base, leave_other}
+use Rattle.b67_table.specs.Private.{frame}
+use Rattle.b67_table.specs.Program.{Program, Change, done, does, effect_of, asked, answer, fault, registers, end_process}
+use Rattle.b67_table.specs.Questions.{live_criticals}
+use Rattle.b67_table.specs.Rows.{row, exit}
+use Rattle.b67_table.specs.Table.{raw, operator_at}
+use Rattle.b67_cores.specs.Cores.{Core, HasCore}
+use Rattle.b67_rows.proofs.Rows.{raw_is}
+
+module _ (code : Code) (img : Image) (p : ℕ) (core : Core) (has : HasCore img p core) (next : ℕ) where
+  abbrev r : Registers
+  r = core.registers
+
+  abbrev tested : Program → Effect Image
+  tested t = effect_of p img (asked img t)
+
+  -- what is done with the words of the cells of a frame so high, in whose place these words come
+  abbrev left_with : List Word → ℕ → List Word → Program
+  left_with words n ws = if nat_eq n 0 then leave_base r ws next else leave_other r ws n words
+
+  abbrev cells_at : ℕ → List Word
+  cells_at n = take r.cells (drop (n + 2) (words_of img.stacks r.stack))
+
+  module _ (base : frame core.registers ≡ 0) (critical : is_critical core.registers.stack (0 ∷ []) (live_criticals img.states img.regs) ≡ true) where
+    abbrev ends : Change
+    ends = frame_left r.stack 0 (cells_at 0) (registers (record r { place = next }) (caused_by r.task (end_process r.stack done)))
+
+    base_blocked : does p (exit r next) img ≡ faults CriticalBlockExit
+    base_blocked =
+        ap (λ (n : ℕ). tested (left_with [] n (cells_at n))) base
+        ∙ ap (λ (b : Bool). tested (if b then fault CriticalBlockExit else answer ends)) critical
+
+    pub end_blocked : operator_at code core.registers ≡ Ok (ops.Plain kinds.Exit, next) → raw code img p ≡ faults CriticalBlockExit
+    unfolding row
+    end_blocked at = raw_is code img p core has (ops.Plain kinds.Exit) next at ∙ base_blocked

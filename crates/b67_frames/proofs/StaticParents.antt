@@ -1,0 +1,45 @@
+-- The static parents of an instance that stands: they stand, and their blocks are those around its own.
+use Rattle.std.proofs.Common.{◌≡◌, sym, ap, ◌∙◌, ℕ, zero, suc, ◌+◌, ◌≤◌, List, ◌∷◌, Some, arith}
+use Rattle.std.specs.Prelude.{slice_get}
+use Rattle.algol_tree.specs.Blocks.{around, block_numbered}
+use Rattle.algol_tree.specs.Cells.{level_of}
+use Rattle.algol_tree.specs.Scopes.{Scopes}
+use Rattle.algol_meaning.specs.World.{World, instance_at, ancestor}
+use Rattle.algol_standing.specs.Worlds.{IsStanding}
+use Rattle.b67_ops.specs.declared.TheConstants.{OUTER_LEVEL}
+use Rattle.b67_faithful.proofs.Contradictions.{some_same, none_some}
+use Rattle.b67_rows.proofs.Numbers.{get_within}
+use Rattle.b67_rows.proofs.Parents.{length_around}
+use Rattle.b67_frames.specs.Arrays.{Layout}
+use Rattle.b67_frames.specs.Frames.{IsComplete, IsPlaced, outermost, inside, ArePlaced}
+
+module _ (sc : Scopes) (w : World) (lay : Layout) where
+  -- So many up, where there is a block b around that of the instance, a static parent stands, and is an instance of b. It has made all that its
+  -- block declares, if it is another one.
+  pub record IsParent (i up b : ℕ) : Type 0 where
+    pub stands : IsStanding w (ancestor w up i)
+    pub block : (instance_at w (ancestor w up i)).block ≡ b
+    pub complete : 1 ≤ up → IsComplete sc w lay (ancestor w up i)
+
+  made_up : (k i : ℕ) → IsComplete sc w lay i → (1 ≤ k → IsComplete sc w lay (ancestor w k i)) → IsComplete sc w lay (ancestor w k i)
+  made_up zero i made more = made
+  made_up (suc k) i made more = more (omega arith)
+
+  module _ (placed : ArePlaced sc w lay) where
+    pub parents : (i : ℕ) → IsStanding w i → (up b : ℕ) → slice_get ((instance_at w i).block ∷ around sc.blocks ((instance_at w i).block)) up ≡ Some b → IsParent i up b
+    parents i st zero b e = record { stands = st; block = some_same e; complete = λ far. absurd (omega (arith, far)) }
+    parents i st (suc up) b e = by_placed (placed i st) (λ j one h. parents j one up b h)
+      where
+        by_placed : IsPlaced sc w lay (instance_at w i) →
+            ((j : ℕ) → IsStanding w j → slice_get ((instance_at w j).block ∷ around sc.blocks ((instance_at w j).block)) up ≡ Some b → IsParent j up b) → IsParent i (suc up) b
+        by_placed (outermost none alone) again = absurd (none_some (ap (λ (bs : List ℕ). slice_get bs up) (sym alone) ∙ e))
+        by_placed (inside one_up next made) again =
+            let there : IsParent ((instance_at w i).parent) up b = again ((instance_at w i).parent) one_up (ap (λ (bs : List ℕ). slice_get bs up) (sym next) ∙ e) in
+            record { stands = there.stands; block = there.block; complete = λ far. made_up up ((instance_at w i).parent) made there.complete }
+
+    -- so far up as the level of its block there are parents
+    pub parent_stands : (i up : ℕ) → IsStanding w i → up + OUTER_LEVEL ≤ level_of (block_numbered sc.blocks ((instance_at w i).block)) → IsStanding w (ancestor w up i)
+    parent_stands i up st far =
+        let j : ℕ = (instance_at w i).block in
+        let there = get_within (j ∷ around sc.blocks j) up (omega (arith, far, length_around sc.blocks j)) in
+        (parents i st up there.0 there.1).stands
