@@ -1,21 +1,20 @@
 -- Whom a choice starts and whom it releases, by what the head asks for.
-use Rattle.std.proofs.Common.{◌≡◌, refl, sym, ap, ◌∙◌, ℕ, zero, suc, ◌+◌, List, [], ◌∷◌, ◌++◌, length, Option, Some, None, Bool, true, false, arith}
+use Rattle.std.proofs.Common.{◌≡◌, refl, sym, ap, ◌∙◌, ℕ, zero, suc, ◌+◌, ◌≤◌, List, [], ◌∷◌, ◌++◌, length, Option, Some, None, Bool, true, false, arith}
 use Rattle.std.specs.Prelude.{if◌then◌else◌, nat_lt, slice_set, ◌==◌}
 use Rattle.std.proofs.lemmas.Bool.Decides.{nat_tests}
 use Rattle.std.proofs.lemmas.List.{length-append}
-use Rattle.b67_list.specs.Numbered.{numbered, set_numbered}
+use Rattle.b67_list.specs.Numbered.{set_numbered}
 use Rattle.b67_num.specs.declared.FaultKind.{FaultKind}
 use Rattle.b67_num.specs.declared.FaultKind.TheVariants as fault
 use Rattle.algol_tree.specs.declared.tree.EventAct.{EventAct}
 use Rattle.algol_tree.specs.declared.tree.EventAct.TheVariants as act
 use Rattle.algol_tree.specs.declared.tree.Kind.{Kind}
 use Rattle.algol_tree.specs.declared.tree.Named.{Named}
-use Rattle.algol_tree.specs.Plain as tree
-use Rattle.algol_tree.specs.Blocks.{Block, block_numbered, spot_of, number_at}
+use Rattle.algol_tree.specs.Blocks.{Block, block_numbered}
 use Rattle.algol_tree.specs.Scopes.{Scopes, use_of}
 use Rattle.algol_meaning.specs.declared.TheConstants.{MOST_STARTED}
 use Rattle.algol_meaning.specs.Value.{Value, Bounds, ArrayCell, EventCell, Cell, simple, event, array, named, reference, Reference, whole_of}
-use Rattle.algol_meaning.specs.Rest.{Given, Place, own, there, element_of, Answer, done}
+use Rattle.algol_meaning.specs.Rest.{Place, own, there, element_of, Answer, done}
 use Rattle.algol_meaning.specs.Settle.{block_of}
 use Rattle.algol_meaning.specs.World.{State, Process, Part, World, instance_at, with_instance, cell_at, followed, array_in, add_cells, set_able, set_all_able, process_at}
 use Rattle.algol_meaning.specs.Critical.{some_depends, some_depends_on_any, is_evaluation, own_instances}
@@ -84,10 +83,16 @@ pub record StartsNext (w : World) (c : Choice) : Type 0 where
   pub next : c.started ≡ Some (length w.processes + 1)
   pub more : length c.world.processes ≡ length w.processes + 1
 
--- it releases nobody
-pub record ReleasesNone (c : Choice) : Type 0 where
+-- where this action ends a process, that has no task
+abbrev pub EndsIdle : Option Reference → Action → Type 0
+EndsIdle task actions.End = task ≡ None
+EndsIdle task _ = Unit {0}
+
+-- it releases nobody: it is no action on an event, nor the end of a process that has a task
+pub record ReleasesNone (task : Option Reference) (c : Choice) : Type 0 where
   pub none : c.released ≡ []
   pub calm : is_releasing c.action ≡ false
+  pub idle : EndsIdle task c.action
 
 -- the head asks for no start of a process, and for no action on an event
 abbrev pub NoStart : Ask → Type 0
@@ -97,6 +102,11 @@ NoStart _ = Unit {0}
 abbrev pub NoEvent : Ask → Type 0
 NoEvent (acts x n) = ⊥
 NoEvent _ = Unit {0}
+
+-- the head does not ask that the last part of a process that has a task be left
+abbrev pub NoTask : Option Reference → List Part → Ask → Type 0
+NoTask task outer (leaves a) = outer ≡ [] → task ≡ None
+NoTask task outer _ = Unit {0}
 
 module _ (sc : Scopes) (w : World) (p : ℕ) (q : Process) (part : Part) (outer : List Part) where
   abbrev Stays : Choice → Type 0
@@ -228,9 +238,10 @@ module _ (sc : Scopes) (w : World) (p : ℕ) (q : Process) (part : Part) (outer 
   starts_next j parent cells task =
       record { next = refl; more = length_set_numbered (w.processes ++ _ ∷ []) p _ ∙ length-append w.processes (_ ∷ []) ∙ omega arith }
 
-  -- the process that it starts is the one that is added
-  Told : Choice → Type 0
-  Told c = c.started ≡ started_between (length w.processes) (length c.world.processes)
+  -- the process that it starts is the one that is added, and none goes
+  record Told (c : Choice) : Type 0 where
+    started : c.started ≡ started_between (length w.processes) (length c.world.processes)
+    grows : length w.processes ≤ length c.world.processes
 
   none_more : (n : ℕ) → started_between n n ≡ None
   none_more n = ap (λ (b : Bool). if b then Some n else None) (not_less n)
@@ -245,12 +256,12 @@ module _ (sc : Scopes) (w : World) (p : ℕ) (q : Process) (part : Part) (outer 
       less n = grind (arith, nat_tests)
 
   none_told : (c : Choice) → StartsNone w c → Told c
-  unfolding Told
-  none_told c s = s.none ∙ sym (none_more (length w.processes)) ∙ ap (started_between (length w.processes)) (sym s.same)
+  none_told c s =
+      record { started = s.none ∙ sym (none_more (length w.processes)) ∙ ap (started_between (length w.processes)) (sym s.same); grows = omega (arith, s.same) }
 
   next_told : (c : Choice) → StartsNext w c → Told c
-  unfolding Told
-  next_told c s = s.next ∙ sym (one_more (length w.processes)) ∙ ap (started_between (length w.processes)) (sym s.more)
+  next_told c s =
+      record { started = s.next ∙ sym (one_more (length w.processes)) ∙ ap (started_between (length w.processes)) (sym s.more); grows = omega (arith, s.more) }
 
   told_by : (k : Ask) → Told (choice_of sc w p q part outer k)
   told_by nothing = none_told _ (stays nothing tt)
@@ -283,99 +294,100 @@ module _ (sc : Scopes) (w : World) (p : ℕ) (q : Process) (part : Part) (outer 
   told_by (makes_event n) = none_told _ (stays (makes_event n) tt)
 
   pub told_so : (k : Ask) → (choice_of sc w p q part outer k).started ≡ started_between (length w.processes) (length (choice_of sc w p q part outer k).world.processes)
-  unfolding Told
-  told_so k = told_by k
+  told_so k = (told_by k).started
+
+  pub grows_so : (k : Ask) → length w.processes ≤ length (choice_of sc w p q part outer k).world.processes
+  grows_so k = (told_by k).grows
 
   -- ---- whom it releases
 
-  module _ (no_task : q.task ≡ None) where
-    frees_if : (b : Bool) (c d : Choice) → ReleasesNone c → ReleasesNone d → ReleasesNone (if b then c else d)
-    frees_if true c d x y = x
-    frees_if false c d x y = y
+  frees_if : (b : Bool) (c d : Choice) → ReleasesNone q.task c → ReleasesNone q.task d → ReleasesNone q.task (if b then c else d)
+  frees_if true c d x y = x
+  frees_if false c d x y = y
 
-    frees_fails : (k : FaultKind) → ReleasesNone (choices.fails sc w p q part outer k)
-    frees_fails k = record { none = refl; calm = refl }
+  frees_fails : (k : FaultKind) → ReleasesNone q.task (choices.fails sc w p q part outer k)
+  frees_fails k = record { none = refl; calm = refl; idle = tt }
 
-    frees_read : (c : Cell) → ReleasesNone (choices.read_of sc w p q part outer c)
-    frees_read (named n) = record { none = refl; calm = refl }
-    frees_read (reference r) = record { none = refl; calm = refl }
-    frees_read (simple v) = record { none = refl; calm = refl }
-    frees_read (event e) = record { none = refl; calm = refl }
-    frees_read (array a) = record { none = refl; calm = refl }
+  frees_read : (c : Cell) → ReleasesNone q.task (choices.read_of sc w p q part outer c)
+  frees_read (named n) = record { none = refl; calm = refl; idle = tt }
+  frees_read (reference r) = record { none = refl; calm = refl; idle = tt }
+  frees_read (simple v) = record { none = refl; calm = refl; idle = tt }
+  frees_read (event e) = record { none = refl; calm = refl; idle = tt }
+  frees_read (array a) = record { none = refl; calm = refl; idle = tt }
 
-    frees_resolved : (n : Named) (c : Cell) → ReleasesNone (choices.resolved_of sc w p q part outer n c)
-    frees_resolved n (named c) = frees_if (is_subscripted c.actual) _ _ (record { none = refl; calm = refl }) (frees_fails fault.NotAVariable)
-    frees_resolved n (reference r) = record { none = refl; calm = refl }
-    frees_resolved n (simple v) = record { none = refl; calm = refl }
-    frees_resolved n (event e) = record { none = refl; calm = refl }
-    frees_resolved n (array a) = record { none = refl; calm = refl }
+  frees_resolved : (n : Named) (c : Cell) → ReleasesNone q.task (choices.resolved_of sc w p q part outer n c)
+  frees_resolved n (named c) = frees_if (is_subscripted c.actual) _ _ (record { none = refl; calm = refl; idle = tt }) (frees_fails fault.NotAVariable)
+  frees_resolved n (reference r) = record { none = refl; calm = refl; idle = tt }
+  frees_resolved n (simple v) = record { none = refl; calm = refl; idle = tt }
+  frees_resolved n (event e) = record { none = refl; calm = refl; idle = tt }
+  frees_resolved n (array a) = record { none = refl; calm = refl; idle = tt }
 
-    frees_element : (a : ArrayCell) (ks : List ℕ) (o : Option ℕ) → ReleasesNone (choices.element_read_at sc w p q part outer a ks o)
-    frees_element a ks None = record { none = refl; calm = refl }
-    frees_element a ks (Some k) = record { none = refl; calm = refl }
+  frees_element : (a : ArrayCell) (ks : List ℕ) (o : Option ℕ) → ReleasesNone q.task (choices.element_read_at sc w p q part outer a ks o)
+  frees_element a ks None = record { none = refl; calm = refl; idle = tt }
+  frees_element a ks (Some k) = record { none = refl; calm = refl; idle = tt }
 
-    frees_index : (r : Reference) (ks : List ℕ) (o : Option ℕ) → ReleasesNone (choices.indexed_at sc w p q part outer r ks o)
-    frees_index r ks None = record { none = refl; calm = refl }
-    frees_index r ks (Some k) = record { none = refl; calm = refl }
+  frees_index : (r : Reference) (ks : List ℕ) (o : Option ℕ) → ReleasesNone q.task (choices.indexed_at sc w p q part outer r ks o)
+  frees_index r ks None = record { none = refl; calm = refl; idle = tt }
+  frees_index r ks (Some k) = record { none = refl; calm = refl; idle = tt }
 
-    frees_stored : (x : Place) (v : Value) → ReleasesNone (choices.stored sc w p q part outer x v)
-    frees_stored (own n) v = record { none = refl; calm = refl }
-    frees_stored (there r) v = record { none = refl; calm = refl }
-    frees_stored (element_of r ks) v = record { none = refl; calm = refl }
+  frees_stored : (x : Place) (v : Value) → ReleasesNone q.task (choices.stored sc w p q part outer x v)
+  frees_stored (own n) v = record { none = refl; calm = refl; idle = tt }
+  frees_stored (there r) v = record { none = refl; calm = refl; idle = tt }
+  frees_stored (element_of r ks) v = record { none = refl; calm = refl; idle = tt }
 
-    frees_evaluated : (after : World) (a : Answer) (parts : List Part) → ReleasesNone (choices.left_with sc w p q part outer after a parts)
-    frees_evaluated after a [] = record { none = refl; calm = refl }
-    frees_evaluated after a (next ∷ parts) = record { none = refl; calm = refl }
+  frees_evaluated : (after : World) (a : Answer) (parts : List Part) → ReleasesNone q.task (choices.left_with sc w p q part outer after a parts)
+  frees_evaluated after a [] = record { none = refl; calm = refl; idle = tt }
+  frees_evaluated after a (next ∷ parts) = record { none = refl; calm = refl; idle = tt }
 
-    frees_over : (a : Answer) (parts : List Part) → ReleasesNone (choices.left_or_ended sc w p q part outer a parts)
-    frees_over a [] = record { none = ap (λ (t : Option Reference). (caused_by_end (leave w (part.instance ∷ [])) t).processes) no_task; calm = refl }
-    frees_over a (next ∷ parts) = record { none = refl; calm = refl }
+  frees_over : (a : Answer) (parts : List Part) → (parts ≡ [] → q.task ≡ None) → ReleasesNone q.task (choices.left_or_ended sc w p q part outer a parts)
+  frees_over a [] idle = record { none = ap (λ (t : Option Reference). (caused_by_end (leave w (part.instance ∷ [])) t).processes) (idle refl); calm = refl; idle = idle refl }
+  frees_over a (next ∷ parts) idle = record { none = refl; calm = refl; idle = tt }
 
-    frees_left : (a : Answer) → ReleasesNone (choices.left sc w p q part outer a)
-    frees_left a =
-        frees_if (is_evaluation part.purpose) _ _ (frees_evaluated w a outer)
-        (frees_if (some_depends w.processes part.instance) _ _ (frees_fails fault.CriticalBlockExit) (frees_over a outer))
+  frees_left : (a : Answer) → (outer ≡ [] → q.task ≡ None) → ReleasesNone q.task (choices.left sc w p q part outer a)
+  frees_left a idle =
+      frees_if (is_evaluation part.purpose) _ _ (frees_evaluated w a outer)
+      (frees_if (some_depends w.processes part.instance) _ _ (frees_fails fault.CriticalBlockExit) (frees_over a outer idle))
 
-    frees_gone : (newer : List ℕ) (b : Block) (n : Named) (parts : List Part) → ReleasesNone (choices.gone sc w p q part outer newer b n parts)
-    frees_gone newer b n [] = record { none = refl; calm = refl }
-    frees_gone newer b n (target ∷ parts) = record { none = refl; calm = refl }
+  frees_gone : (newer : List ℕ) (b : Block) (n : Named) (parts : List Part) → ReleasesNone q.task (choices.gone sc w p q part outer newer b n parts)
+  frees_gone newer b n [] = record { none = refl; calm = refl; idle = tt }
+  frees_gone newer b n (target ∷ parts) = record { none = refl; calm = refl; idle = tt }
 
-    frees_gone_to : (n : Named) (i : ℕ) (cut : Cut) → ReleasesNone (choices.gone_to sc w p q part outer n i cut)
-    frees_gone_to n i cut =
-        frees_if (some_depends_on_any w.processes (own_instances cut.newer)) _ _ (frees_fails fault.CriticalBlockExit)
-        (frees_gone (own_instances cut.newer) (block_numbered sc.blocks ((instance_at w i).block)) n cut.from)
+  frees_gone_to : (n : Named) (i : ℕ) (cut : Cut) → ReleasesNone q.task (choices.gone_to sc w p q part outer n i cut)
+  frees_gone_to n i cut =
+      frees_if (some_depends_on_any w.processes (own_instances cut.newer)) _ _ (frees_fails fault.CriticalBlockExit)
+      (frees_gone (own_instances cut.newer) (block_numbered sc.blocks ((instance_at w i).block)) n cut.from)
 
-    pub frees : (k : Ask) → NoEvent k → ReleasesNone (choice_of sc w p q part outer k)
-    frees nothing h = record { none = refl; calm = refl }
-    frees (reads n) h = frees_read (cell_at w (choices.here sc w p q part outer n))
-    frees (reads_element n ks v) h =
-        frees_element (array_in (cell_at w (followed w (choices.here sc w p q part outer n)))) ks
-        (subscript_place ((use_of sc n).sort) (array_in (cell_at w (followed w (choices.here sc w p q part outer n)))) ks (whole_of v))
-    frees (indexes n ks v) h =
-        frees_index (followed w (choices.here sc w p q part outer n)) ks
-        (subscript_place ((use_of sc n).sort) (array_in (cell_at w (followed w (choices.here sc w p q part outer n)))) ks (whole_of v))
-    frees (asks_happened n) h = record { none = refl; calm = refl }
-    frees (fails f) h = record { none = refl; calm = refl }
-    frees (enters n gs) h = record { none = refl; calm = refl }
-    frees (passes n) h = record { none = refl; calm = refl }
-    frees (resolves n) h = frees_resolved n (cell_at w (choices.here sc w p q part outer n))
-    frees (reads_result name) h = record { none = refl; calm = refl }
-    frees (leaves a) h = frees_left a
-    frees (stores x v) h = frees_stored x v
-    frees (selects v ss) h = frees_if (nth_exists (whole_of v) ss) _ _ (record { none = refl; calm = refl }) (frees_fails fault.CaseIndex)
-    frees turns h = record { none = refl; calm = refl }
-    frees (goes_to n) h =
-        frees_if ((instance_at w (choices.home sc w p q part outer n)).process == p) _ _
-        (frees_gone_to n (choices.home sc w p q part outer n) (cut_at [] (part ∷ outer) (choices.home sc w p q part outer n))) (frees_fails fault.BadGoTo)
-    frees (enters_block b) h = record { none = refl; calm = refl }
-    frees (starts n gs task) h =
-        frees_if (nat_lt MOST_STARTED (length w.processes)) _ _ (frees_fails fault.ProcessLimit) (record { none = refl; calm = refl })
-    frees (acts x n) h = absurd h
-    frees (writes phrases vs) h = record { none = refl; calm = refl }
-    frees (makes_arrays kind ns pairs vs) h =
-        frees_if (has_wrong_size (bounds_of pairs vs)) _ _ (frees_fails fault.ArraySize)
-        (frees_if (has_no_room w (bounds_of pairs vs) ns) _ _ (frees_fails fault.CoreFull) (record { none = refl; calm = refl }))
-    frees (makes_event n) h = record { none = refl; calm = refl }
+  pub frees : (k : Ask) → NoEvent k → NoTask q.task outer k → ReleasesNone q.task (choice_of sc w p q part outer k)
+  frees nothing h idle = record { none = refl; calm = refl; idle = tt }
+  frees (reads n) h idle = frees_read (cell_at w (choices.here sc w p q part outer n))
+  frees (reads_element n ks v) h idle =
+      frees_element (array_in (cell_at w (followed w (choices.here sc w p q part outer n)))) ks
+      (subscript_place ((use_of sc n).sort) (array_in (cell_at w (followed w (choices.here sc w p q part outer n)))) ks (whole_of v))
+  frees (indexes n ks v) h idle =
+      frees_index (followed w (choices.here sc w p q part outer n)) ks
+      (subscript_place ((use_of sc n).sort) (array_in (cell_at w (followed w (choices.here sc w p q part outer n)))) ks (whole_of v))
+  frees (asks_happened n) h idle = record { none = refl; calm = refl; idle = tt }
+  frees (fails f) h idle = record { none = refl; calm = refl; idle = tt }
+  frees (enters n gs) h idle = record { none = refl; calm = refl; idle = tt }
+  frees (passes n) h idle = record { none = refl; calm = refl; idle = tt }
+  frees (resolves n) h idle = frees_resolved n (cell_at w (choices.here sc w p q part outer n))
+  frees (reads_result name) h idle = record { none = refl; calm = refl; idle = tt }
+  frees (leaves a) h idle = frees_left a idle
+  frees (stores x v) h idle = frees_stored x v
+  frees (selects v ss) h idle = frees_if (nth_exists (whole_of v) ss) _ _ (record { none = refl; calm = refl; idle = tt }) (frees_fails fault.CaseIndex)
+  frees turns h idle = record { none = refl; calm = refl; idle = tt }
+  frees (goes_to n) h idle =
+      frees_if ((instance_at w (choices.home sc w p q part outer n)).process == p) _ _
+      (frees_gone_to n (choices.home sc w p q part outer n) (cut_at [] (part ∷ outer) (choices.home sc w p q part outer n))) (frees_fails fault.BadGoTo)
+  frees (enters_block b) h idle = record { none = refl; calm = refl; idle = tt }
+  frees (starts n gs task) h idle =
+      frees_if (nat_lt MOST_STARTED (length w.processes)) _ _ (frees_fails fault.ProcessLimit) (record { none = refl; calm = refl; idle = tt })
+  frees (acts x n) h idle = absurd h
+  frees (writes phrases vs) h idle = record { none = refl; calm = refl; idle = tt }
+  frees (makes_arrays kind ns pairs vs) h idle =
+      frees_if (has_wrong_size (bounds_of pairs vs)) _ _ (frees_fails fault.ArraySize)
+      (frees_if (has_no_room w (bounds_of pairs vs) ns) _ _ (frees_fails fault.CoreFull) (record { none = refl; calm = refl; idle = tt }))
+  frees (makes_event n) h idle = record { none = refl; calm = refl; idle = tt }
 
 -- ---- the choice of a process
 
@@ -393,3 +405,12 @@ starts_who_is_added sc w p = by (process_at w p) ((process_at w p).todo)
     by : (q : Process) (parts : List Part) → (choice_in sc w p q parts).started ≡ started_between (length w.processes) (length (choice_in sc w p q parts).world.processes)
     by q [] = none_added (length w.processes)
     by q (part ∷ outer) = told_so sc w p q part outer (ask part.rest)
+
+-- no process goes
+pub processes_stay : (sc : Scopes) (w : World) (p : ℕ) → length w.processes ≤ length (choice sc w p).world.processes
+unfolding choice
+processes_stay sc w p = by (process_at w p) ((process_at w p).todo)
+  where
+    by : (q : Process) (parts : List Part) → length w.processes ≤ length (choice_in sc w p q parts).world.processes
+    by q [] = omega arith
+    by q (part ∷ outer) = grows_so sc w p q part outer (ask part.rest)

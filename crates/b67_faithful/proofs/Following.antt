@@ -15,7 +15,6 @@ use Rattle.b67_table.specs.Outcome.{Outcome}
 use Rattle.b67_table.specs.Beginning.{first_image}
 use Rattle.b67_table.specs.Runs.{Plains, stay, go, Acts, Entry, Runs, begin, entry, Tails, none, next, TableRun}
 use Rattle.b67_table.specs.Runs as runs
-use Rattle.b67_table.specs.Table.{table}
 use Rattle.b67_table.specs.Sound.{Sound}
 use Rattle.b67_faithful.specs.Agreement.{Agrees}
 use Rattle.b67_letters.specs.Releases.{releases, started_between, started_by, starts}
