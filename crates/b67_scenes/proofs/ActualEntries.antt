@@ -47,11 +47,15 @@ use Rattle.b67_rows.proofs.Marks.{newest_low}
 use Rattle.b67_rows.proofs.Segmented.{segment_low}
 use Rattle.b67_rows.proofs.Spelled.{HasText, HaveTexts}
 use Rattle.b67_rows.proofs.StackWords.{length-stack}
-use Rattle.b67_frames.specs.Arrays.{Layout, IsActual, IsOwn}
-use Rattle.b67_frames.proofs.Linked.{Linked, Begins_with, begins_core, all_linked, own_linked}
+use Rattle.b67_frames.specs.Arrays.{Layout, IsActual}
+use Rattle.b67_frames.specs.Frames.{IsInReach}
+use Rattle.b67_frames.proofs.Linked.{Linked, Begins_with, begins_core, all_linked, linked as linked_down}
 use Rattle.b67_frames.proofs.Lying.{lies_low, runs_low}
 use Rattle.b67_scenes.proofs.ActualHomes.{ActualHome, routine_of}
 use Rattle.b67_scenes.proofs.Entries.{frame_few, home_level}
+use Rattle.b67_scenes.proofs.Finding.{Found, found_laid, entered_of}
+use Rattle.b67_scenes.proofs.Led.{reached_stands}
+use Rattle.b67_scenes.proofs.Worlds.{placed_of}
 use Rattle.b67_scenes.proofs.Scene.{Scene, frame_is}
 use Rattle.b67_scenes.proofs.Staying.{text_in, level_in, frame_low}
 
@@ -105,7 +109,7 @@ module _ (tree : PProgram) (code : Code) (texts : Texts) (nested : LiesNested tr
     pub returns : next < end_of_code
 
   module _ (next : ℕ) (taken rest : List Word) (waiting : List Slot) (t : Takes next taken rest waiting) (i : ℕ) (e : PExpr) (kind : Kind) (word : Word)
-      (is : IsActual sc w lay (IsOwn (part ∷ outer)) i e kind word) (h : ActualHome tree code texts nested.nested w lay img p q part outer bound core s i e kind word is) where
+      (is : IsActual sc w lay (IsInReach w (part ∷ outer)) i e kind word) (h : ActualHome tree code texts nested.nested w lay img p q part outer bound core s i e kind word is) where
     -- the block in whose text the actual stands, and the level at which its code runs
     abbrev pub block : ℕ
     block = (instance_at w i).block
@@ -116,11 +120,14 @@ module _ (tree : PProgram) (code : Code) (texts : Texts) (nested : LiesNested tr
     abbrev pub c : Pcw
     c = routine_of sc block e h.at
 
+    abbrev pub f : Found tree code texts w lay img i
+    f = h.seen_there.found
+
     abbrev pub high : ℕ
-    high = length h.lies.frame.lower
+    high = length f.lies.frame.lower
 
     abbrev pub home : Place
-    home = place p high
+    home = place f.number high
 
     -- ---- the words
 
@@ -158,20 +165,22 @@ module _ (tree : PProgram) (code : Code) (texts : Texts) (nested : LiesNested tr
 
     -- ---- the frame of the instance, and those down its links
 
-    pub l : Linked sc w lay img.stacks p i
-    l = own_linked tree code texts w lay p img.stacks part outer core s.stands s.around begins i is.own
+    pub l : Linked sc w lay img.stacks i
+    l =
+        linked_down sc w lay img.stacks (placed_of tree code texts w lay img s.by s.ok) (entered_of tree code texts w lay img s.by s.ok) i
+        (reached_stands tree code texts w lay img p q part outer bound core s i is.own)
 
-    same_at : l.at ≡ high
-    same_at = ap (λ (f : Place). f.at) (some_same (sym l.laid ∙ ap (λ (j : ℕ). numbered lay.places j) (sym h.lies.instance_is) ∙ h.lies.owned.framed.laid))
+    same_at : l.at ≡ home
+    same_at = some_same (sym l.laid ∙ found_laid tree code texts w lay img i f)
 
     abbrev pub frames : List Place
     frames = home ∷ l.more
 
     links_there : Links img.stacks home frames
-    links_there = subst (λ (n : ℕ). Links img.stacks (place p n) (place p n ∷ l.more)) same_at (all_linked sc w lay img.stacks p i l)
+    links_there = subst (λ (g : Place). Links img.stacks g (g ∷ l.more)) same_at (all_linked sc w lay img.stacks i l)
 
     block_level : level_of (block_numbered sc.blocks block) ≡ length l.more + 2
-    block_level = ap (λ (o : Option Instance). level_of (block_numbered sc.blocks ((or_no_instance o).block))) l.is ∙ l.level_is
+    block_level = l.level_is
 
     pub level_is : inner_level ≡ length frames + 2
     level_is = omega (arith, block_level)
@@ -182,8 +191,8 @@ module _ (tree : PProgram) (code : Code) (texts : Texts) (nested : LiesNested tr
     linked_there : seen img.stacks (linked (place p at) home inner_level) ≡ Ok display
     linked_there = linked_seen (place p at) home frames inner_level links_there level_is
 
-    outer_reads : read_as as_rcw (word_at img.stacks (place p (high + 1))) ≡ Some l.entered.control
-    outer_reads = subst (λ (n : ℕ). read_as as_rcw (word_at img.stacks (place p (n + 1))) ≡ Some l.entered.control) same_at l.entered.controlled
+    outer_reads : read_as as_rcw (word_at img.stacks (place f.number (high + 1))) ≡ Some l.entered.control
+    outer_reads = subst (λ (g : Place). read_as as_rcw (word_at img.stacks (place g.stack (g.at + 1))) ≡ Some l.entered.control) same_at l.entered.controlled
 
     pub evaluates : Evaluates img core next taken rest c home display
     evaluates =
@@ -203,13 +212,13 @@ module _ (tree : PProgram) (code : Code) (texts : Texts) (nested : LiesNested tr
 
     -- ---- the mark and the control word
 
-    low_number : p < 2 ^ 10
-    low_number = omega (arith, numbered_low w.processes p q s.at, s.by.few)
+    low_number : f.number < 2 ^ 10
+    low_number = omega (arith, numbered_low w.processes f.number f.process f.is, s.by.few)
 
-    pub mark_reads : at < stack_limit → as_mscw (entered_mark home df) ≡ Some (record { entered = true; stack = p; displacement = high; df = df })
+    pub mark_reads : at < stack_limit → as_mscw (entered_mark home df) ≡ Some (record { entered = true; stack = f.number; displacement = high; df = df })
     mark_reads small =
-        as_mscw-mscw_word (record { entered = true; stack = p; displacement = high; df = df })
-        (low_number, (omega (arith, lies_low tree code texts w lay p (part ∷ outer) i core.below h.lies, at_is, room), (omega (arith, small), tt)))
+        as_mscw-mscw_word (record { entered = true; stack = f.number; displacement = high; df = df })
+        (low_number, (omega (arith, h.below, f.small), (omega (arith, small), tt)))
 
     abbrev pub back : Rcw
     back = record { segment = core.registers.segment; psr = next % 6; pir = next / 6; caller_level = core.registers.ll; caller_cells = core.registers.cells; own_level = inner_level }

@@ -1,55 +1,47 @@
--- The static parents of an instance of a process's parts, before and after a change that leaves them.
-use Rattle.std.proofs.Common.{◌≡◌, refl, sym, ap, ◌∙◌, ℕ, zero, suc, ◌+◌, ◌≤◌, List, ◌∷◌, length, Option, arith}
+-- The static parents of an instance that stands, and the places of their frames, before and after a change of the world.
+use Rattle.std.proofs.Common.{◌≡◌, inl, inr, sym, ap, ◌∙◌, ℕ, zero, suc, length, Some, arith}
 use Rattle.b67_list.specs.Numbered.{numbered}
-use Rattle.algol_tree.specs.Blocks.{block_numbered, around}
-use Rattle.algol_tree.specs.Cells.{level_of}
-use Rattle.algol_tree.specs.Plain.{PProgram}
-use Rattle.algol_tree.specs.Scopes.{Scopes, scopes_of}
-use Rattle.algol_meaning.specs.World.{Instance, Part, World, instance_at, or_no_instance, ancestor}
-use Rattle.b67_ops.specs.declared.TheConstants.{OUTER_LEVEL}
-use Rattle.b67_segment.specs.declared.code.Code.{Code}
-use Rattle.b67_templates.specs.Programs.{Texts}
-use Rattle.b67_cores.specs.Cores.{Core}
-use Rattle.b67_rows.proofs.Numbers.{get_within}
-use Rattle.b67_rows.proofs.Parents.{length_around, ancestor_up}
-use Rattle.b67_frames.specs.Arrays.{Layout, IsOwn}
-use Rattle.b67_frames.specs.Frames.{Stands, Around}
-use Rattle.b67_frames.proofs.Lying.{parents_in, StayBelow}
-use Rattle.b67_scenes.proofs.Staying.{Remains, remains}
+use Rattle.algol_tree.specs.Scopes.{Scopes}
+use Rattle.algol_meaning.specs.World.{Instance, World, instance_at, ancestor}
+use Rattle.algol_standing.specs.Worlds.{IsStanding}
+use Rattle.b67_word.specs.declared.Place.{Place}
+use Rattle.b67_faithful.proofs.Contradictions.{none_some}
+use Rattle.b67_rows.proofs.Numbers.{get_within, get_below}
+use Rattle.b67_frames.specs.Arrays.{Layout}
+use Rattle.b67_frames.proofs.Facts.{HasFacts, IsStandingOrNone}
+use Rattle.b67_frames.proofs.Onward.{StandOn, StandsStill, climbs_still}
 
-module _ (tree : PProgram) (code : Code) (texts : Texts) (w w' : World) (lay lay' : Layout) (p limit : ℕ) (stay : StayBelow w w' lay lay' p limit)
-    (part : Part) (outer : List Part) (core : Core) (s : Stands tree code texts w lay p part outer core) (a : Around tree code texts w lay p outer s.frame.lower s.frame.mark s.frame.control s.frame.gives)
-    (low : length core.below ≤ limit) (h : ℕ) (own : IsOwn (part ∷ outer) h) where
-  abbrev sc : Scopes
-  sc = scopes_of tree
+-- the frame of each instance that stands has a place
+abbrev pub AreLaid : World → Layout → Type 0
+AreLaid w lay = (j : ℕ) → IsStanding w j → (f : Place) × (numbered lay.places j ≡ Some f)
 
-  abbrev level_there : ℕ
-  level_there = level_of (block_numbered sc.blocks ((instance_at w h).block))
+-- so it is where there are as many places as instances
+pub all_laid : (w : World) (lay : Layout) → HasFacts w → length lay.places ≡ length w.instances → AreLaid w lay
+all_laid w lay facts many j st = by_number j (facts.there j st).0 (facts.there j st).1
+  where
+    by_number : (k : ℕ) (x : Instance) → numbered w.instances k ≡ Some x → (f : Place) × (numbered lay.places k ≡ Some f)
+    by_number zero x is = none_some is
+    by_number (suc k) x is = get_within lay.places k (omega (arith, get_below w.instances k x is, many))
 
-  abbrev Stays : ℕ → Type 0
-  Stays j = Remains tree code texts w w' lay lay' p limit stay part outer core s a low j
+module _ (sc : Scopes) (w w' : World) (lay lay' : Layout) (on : StandOn sc w w' lay lay') (laid : AreLaid w lay) where
+  -- a static parent stands, or there is none
+  up_or_none : (up j : ℕ) → IsStandingOrNone w j → IsStandingOrNone w (ancestor w up j)
+  up_or_none zero j st = st
+  up_or_none (suc up) j (inl none) = up_or_none up ((instance_at w j).parent) (inl (ap (λ (k : ℕ). (instance_at w k).parent) none))
+  up_or_none (suc up) j (inr st) = up_or_none up ((instance_at w j).parent) (on.before.parents j st)
 
-  -- so far up there are parents
-  pub ancestor_own : (up : ℕ) → up + OUTER_LEVEL ≤ level_there → IsOwn (part ∷ outer) (ancestor w up h)
-  ancestor_own up high =
-      let j : ℕ = (instance_at w h).block in
-      let there = get_within (j ∷ around sc.blocks j) up (omega (arith, high, length_around sc.blocks j)) in
-      (parents_in tree code texts w lay p part outer core s a h own up there.0 there.1).own
+  place_stays : (j : ℕ) → IsStandingOrNone w j → numbered lay'.places j ≡ numbered lay.places j
+  place_stays j (inl none) = ap (λ (k : ℕ). numbered lay'.places k) none ∙ sym (ap (λ (k : ℕ). numbered lay.places k) none)
+  place_stays j (inr st) = on.places j (laid j st).0 (laid j st).1 ∙ sym (laid j st).1
 
-  ancestor_remains : (up : ℕ) → up + OUTER_LEVEL ≤ level_there → Stays (ancestor w up h)
-  ancestor_remains up high = remains tree code texts w w' lay lay' p limit stay part outer core s a low (ancestor w up h) (ancestor_own up high)
+  module _ (h : ℕ) (still : StandsStill sc w w' lay lay' h) where
+    -- they are the same
+    pub same_ancestor : (up : ℕ) → ancestor w' up h ≡ ancestor w up h
+    same_ancestor = (climbs_still sc w w' lay lay' on h still).same
 
-  -- and they are the same
-  pub same_ancestor : (up : ℕ) → up + OUTER_LEVEL ≤ level_there → ancestor w' up h ≡ ancestor w up h
-  same_ancestor zero high = refl
-  same_ancestor (suc up) high =
-      let lower : up + OUTER_LEVEL ≤ level_there = omega (arith, high) in
-      let r : Stays (ancestor w up h) = ancestor_remains up lower in
-      ancestor_up w' up h
-      ∙ ap (λ (j : ℕ). (instance_at w' j).parent) (same_ancestor up lower)
-      ∙ ap (λ (o : Option Instance). (or_no_instance o).parent) (r.still ∙ sym r.is)
-      ∙ sym (ancestor_up w up h)
+    -- and so are the places of their frames
+    pub old_place : (up : ℕ) → numbered lay'.places (ancestor w up h) ≡ numbered lay.places (ancestor w up h)
+    old_place up = place_stays (ancestor w up h) (up_or_none up h (inr still.0))
 
-  -- with their frames
-  pub same_place : (up : ℕ) → up + OUTER_LEVEL ≤ level_there → numbered lay'.places (ancestor w' up h) ≡ numbered lay.places (ancestor w up h)
-  same_place up high = ap (λ (j : ℕ). numbered lay'.places j) (same_ancestor up high) ∙ (ancestor_remains up high).place
+    pub same_place : (up : ℕ) → numbered lay'.places (ancestor w' up h) ≡ numbered lay.places (ancestor w up h)
+    same_place up = ap (λ (j : ℕ). numbered lay'.places j) (same_ancestor up) ∙ old_place up

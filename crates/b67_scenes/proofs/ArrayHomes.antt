@@ -1,4 +1,4 @@
--- Where a process finds an array: its descriptor lies in the frame of one of its parts. A name that a block declares means one that is made;
+-- Where a process finds an array: its descriptor lies in the frame of an instance in reach. A name that a block declares means one that is made;
 -- that of a parameter leads to one.
 use Rattle.std.proofs.Common.{◌≡◌, ◌⊎◌, inl, inr, refl, sym, ap, ◌∙◌, subst, ℕ, zero, suc, ◌+◌, ◌-◌, ◌<◌, ◌≤◌, ◌^◌, List, ◌∷◌, length, Option, Some, true, false, arith}
 use Rattle.std.proofs.lemmas.List.{length-map}
@@ -13,12 +13,13 @@ use Rattle.algol_meaning.specs.Asks.{ask}
 use Rattle.algol_meaning.specs.World.{Instance, Part, Process, World, instance_at, or_no_instance, ancestor, by_cell, followed}
 use Rattle.algol_paths.specs.Arrays.{DeclaredArray, an_array, Shape, shape_of}
 use Rattle.algol_paths.specs.Blocks.{IsSeen, IsSeenAround, IsInner}
+use Rattle.algol_paths.specs.Texts.{InRest}
+use Rattle.algol_standing.specs.Worlds.{IsNoBlock}
 use Rattle.b67_word.specs.declared.Place.{Place}
 use Rattle.b67_word.specs.Word.{Word}
 use Rattle.b67_control.specs.declared.Sirw.{Sirw}
 use Rattle.b67_control.specs.Control.{as_sirw}
 use Rattle.b67_ops.specs.declared.Couple.{Couple}
-use Rattle.b67_ops.specs.declared.TheConstants.{OUTER_LEVEL}
 use Rattle.b67_segment.specs.declared.code.Code.{Code}
 use Rattle.b67_store.specs.Store.{word_at}
 use Rattle.b67_table.specs.Chains.{place}
@@ -31,20 +32,21 @@ use Rattle.b67_cores.specs.Cores.{Core}
 use Rattle.b67_fitting.specs.Nested.{AreNested}
 use Rattle.b67_faithful.proofs.Contradictions.{some_same}
 use Rattle.b67_rows.proofs.AskedElements.{array_asked, ArraySeen, array_seen}
-use Rattle.b67_rows.proofs.Numbers.{get_below}
-use Rattle.b67_rows.proofs.Parents.{length_around}
-use Rattle.b67_rows.proofs.Touching.{NearCell, own_cell}
-use Rattle.b67_frames.specs.Arrays.{Allotted, Layout, DescriptorIs, AreSized, IsOwn, HasArray, IsArrayOf, named_from}
-use Rattle.b67_frames.specs.Frames.{IsComplete}
+use Rattle.b67_rows.proofs.Touching.{NearCell}
+use Rattle.b67_frames.specs.Arrays.{Allotted, Layout, DescriptorIs, AreSized, HasArray, IsArrayOf, named_from}
+use Rattle.b67_frames.specs.Frames.{IsComplete, IsInReach, Framed}
 use Rattle.b67_frames.proofs.ControlWords.{block_few}
-use Rattle.b67_frames.proofs.Lying.{Lies, lies_in, IsParent, parents_in, part_own}
+use Rattle.b67_frames.proofs.NamedArrays.{up_complete}
+use Rattle.b67_frames.proofs.StaticParents.{IsParent}
 use Rattle.b67_frames.proofs.MadeArrays.{low_number}
 use Rattle.b67_frames.proofs.OwnCells.{OwnCells, framed_cells, OwnArray, none_later, all_made, own_array}
 use Rattle.b67_frames.proofs.Subscripts.{CountsBy, by_own, by_others}
 use Rattle.b67_scenes.proofs.ArrayPlaces.{array_index, ArrayPlace, array_place}
 use Rattle.b67_scenes.proofs.FormalHomes.{FormalHome, formal_home}
+use Rattle.b67_scenes.proofs.Led.{IsLed, declared_led, named_parent, named_seen, named_at}
 use Rattle.b67_scenes.proofs.Narrowing.{made_or_around}
 use Rattle.b67_scenes.proofs.Scene.{Scene}
+use Rattle.b67_scenes.proofs.Sights.{Seen}
 use Rattle.b67_scenes.proofs.Staying.{names_in}
 
 module _ (tree : PProgram) (code : Code) (texts : Texts) (nested : AreNested (scopes_of tree)) (w : World) (lay : Layout) (img : Image)
@@ -69,10 +71,9 @@ module _ (tree : PProgram) (code : Code) (texts : Texts) (nested : AreNested (sc
         word_at img.stacks (place home.stack (home.at + couple.index)) ≡ Some first → as_sirw first ≡ Some r → NearCell p img (sirw_cell r) →
         word_at img.stacks (cell_place (sirw_cell r)) ≡ Some word → Reaches couple word
 
-  -- The array to whose cell this reference leads: its instance, whose frame lies in the stack, its cell, its rows, and the word of its
-  -- descriptor. A name of this sort means it there, which counts by that shape; so does that couple.
+  -- The array to whose cell this reference leads: its instance, which is in reach, its cell, its rows, and the word of its descriptor. A name of this sort means it there, which counts by that shape; so does that couple.
   pub record ArrayHome (sort : Sort) (home : Reference) (shape : Shape) (couple : Couple) : Type 0 where
-    pub own : IsOwn (part ∷ outer) home.instance
+    pub own : IsInReach w (part ∷ outer) home.instance
     pub array : DeclaredArray
     pub kind_is : array.kind ≡ shape.kind
     pub cell : ArrayCell
@@ -95,18 +96,13 @@ module _ (tree : PProgram) (code : Code) (texts : Texts) (nested : AreNested (sc
 
   -- ---- a declared array
 
-  module _ (n : Named) (d : DeclaredArray) (couple : Couple) (is_seen : IsSeenThere n) (made : IsComplete (scopes_of tree) w lay part.instance ⊎ IsSeenAround (scopes_of tree) block n) (v : IsDeclaredArray sc level n d couple) where
+  module _ (n : Named) (d : DeclaredArray) (couple : Couple) (is_seen : IsSeenThere n) (made : IsComplete (scopes_of tree) w lay part.instance ⊎ IsSeenAround (scopes_of tree) block n)
+      (keeps : InRest (IsSeenAround (scopes_of tree) block) IsNoBlock (IsSeenAround (scopes_of tree) block) part.rest → IsSeenAround (scopes_of tree) block n) (v : IsDeclaredArray sc level n d couple) where
     abbrev up : ℕ
     up = (use_of sc n).up
 
-    low : up + OUTER_LEVEL ≤ level
-    low = omega (arith, length_around sc.blocks block, get_below (block ∷ around sc.blocks block) up ((use_of sc n).block) is_seen.seen)
-
-    -- so far up all arrays are made
-    made_there : (k : ℕ) → IsComplete sc w lay part.instance ⊎ (1 ≤ k) → (1 ≤ k → IsComplete sc w lay (ancestor w k part.instance)) → IsComplete sc w lay (ancestor w k part.instance)
-    made_there zero (inl whole) further = whole
-    made_there zero (inr far) further = absurd (omega (arith, far))
-    made_there (suc k) whole further = further (omega arith)
+    abbrev home : ℕ
+    home = ancestor w up part.instance
 
     -- the name of a declared array in a bound is one of a block around
     in_bound : (1 ≤ up) ⊎ (is_variable ((use_of sc n).sort) ≡ true) ⊎ (is_formal ((use_of sc n).sort) ≡ true) → 1 ≤ up
@@ -118,34 +114,45 @@ module _ (tree : PProgram) (code : Code) (texts : Texts) (nested : AreNested (sc
     far_or_made (inl whole) = inl whole
     far_or_made (inr around_it) = inr (in_bound around_it.1)
 
-    module _ (parent : IsParent tree code texts w lay p (part ∷ outer) part.instance up ((use_of sc n).block))
-        (l : Lies tree code texts w lay p (part ∷ outer) (ancestor w up part.instance) core.below) where
+    parent : IsParent sc w lay part.instance up ((use_of sc n).block)
+    parent = named_parent tree code texts w lay img p q part outer bound core s n is_seen.seen
+
+    led : IsLed tree code texts w lay img p q part outer bound core s (named n)
+    led = declared_led tree code texts w lay img p q part outer bound core s n is_seen.seen (λ text. in_bound (keeps text).1)
+
+    module _ (l : Seen tree code texts w lay img p q part outer bound core s home) where
+      abbrev framed_there : Framed sc w lay l.found.number l.found.lies.part.instance l.found.lies.outer (length l.found.lies.frame.lower) l.found.lies.frame.mark l.found.lies.frame.control l.found.lies.frame.cells
+      framed_there = l.found.lies.owned.framed
+
+      abbrev i : ℕ
+      i = l.found.lies.part.instance
+
       abbrev here : Instance
-      here = l.owned.framed.instance
+      here = framed_there.instance
 
       block_here : here.block ≡ (use_of sc n).block
-      block_here = sym (ap (λ (x : Instance). x.block) (ap (instance_at w) (sym l.instance_is) ∙ ap or_no_instance l.owned.framed.is)) ∙ parent.block
+      block_here = sym (ap (λ (x : Instance). x.block) (ap (instance_at w) (sym l.found.lies.instance_is) ∙ ap or_no_instance framed_there.is)) ∙ parent.block
 
-      complete : IsComplete sc w lay l.part.instance
-      complete = subst (λ (i : ℕ). IsComplete sc w lay i) (sym l.instance_is) (made_there up (far_or_made made) parent.complete)
+      complete : IsComplete sc w lay i
+      complete = subst (λ (j : ℕ). IsComplete sc w lay j) (sym l.found.lies.instance_is) (up_complete sc w lay part.instance up (far_or_made made) parent.complete)
 
-      abbrev own : OwnCells sc w lay l.part.instance here
-      own = framed_cells sc w lay l.owned.framed
+      abbrev own : OwnCells sc w lay i here
+      own = framed_cells sc w lay framed_there
 
       there : made_from 0 (made_of (block_numbered sc.blocks here.block).decls) n.name ≡ Some (record { number = v.made.number; made = an_array d })
       there = ap (λ (j : ℕ). made_from 0 (made_of (block_numbered sc.blocks j).decls) n.name) block_here ∙ v.made.there
 
-      found : OwnArray sc w lay l.part.instance here own n.name v.made.number d
+      found : OwnArray sc w lay i here own n.name v.made.number d
       found =
-          own_array sc w lay l.part.instance here own n.name v.made.number d there
-          (all_made sc w lay l.part.instance here own n.name v.made.number d there (none_later sc w lay l.part.instance here own complete))
+          own_array sc w lay i here own n.name v.made.number d there
+          (all_made sc w lay i here own n.name v.made.number d there (none_later sc w lay i here own complete))
           (ap (λ (j : ℕ). found_from 0 (simple_cells sc (block_numbered sc.blocks j)) n.name) block_here ∙ v.made.apart)
 
-      of_there : IsArrayOf sc w lay (ancestor w up part.instance) n.name d found.cell found.allotted
-      of_there = subst (λ (i : ℕ). IsArrayOf sc w lay i n.name d found.cell found.allotted) l.instance_is found.of
+      of_there : IsArrayOf sc w lay home n.name d found.cell found.allotted
+      of_there = subst (λ (j : ℕ). IsArrayOf sc w lay j n.name d found.cell found.allotted) l.found.lies.instance_is found.of
 
-      h : ArrayPlace tree code texts w lay img p q part outer bound core s (ancestor w up part.instance) n.name d found.cell found.allotted of_there
-      h = array_place tree code texts w lay img p q part outer bound core s (ancestor w up part.instance) parent.own n.name d found.cell found.allotted of_there
+      h : ArrayPlace tree code texts w lay img p q part outer bound core s home n.name d found.cell found.allotted of_there
+      h = array_place tree code texts w lay img p q part outer bound core s nested home n.name led d found.cell found.allotted of_there
 
       number_is : v.made.number ≡ of_there.number
       number_is =
@@ -153,17 +160,8 @@ module _ (tree : PProgram) (code : Code) (texts : Texts) (nested : AreNested (sc
           some_same (sym v.made.there ∙ ap (λ (j : ℕ). made_from 0 (made_of (block_numbered sc.blocks j).decls) n.name) (sym parent.block) ∙ of_there.found) in
           ap (λ f. f.number) same
 
-      index_is : couple.index ≡ array_index tree code texts w lay img p q part outer bound core s (ancestor w up part.instance) of_there.number
-      index_is =
-          omega (
-            arith,
-            v.made.index_is,
-            number_is,
-            ap (λ (j : ℕ). made_base sc (block_numbered sc.blocks j)) parent.block,
-          )
-
-      level_up : couple.level ≡ level - up
-      level_up = omega (arith, v.made.level_is)
+      index_is : couple.index ≡ array_index tree code texts w lay img p q part outer bound core s home of_there.number
+      index_is = omega (arith, v.made.index_is, number_is, ap (λ (j : ℕ). made_base sc (block_numbered sc.blocks j)) parent.block)
 
       -- a reference can hold its couple
       couple_fits : (couple.level < 32) × (couple.index < 2 ^ 14)
@@ -174,7 +172,7 @@ module _ (tree : PProgram) (code : Code) (texts : Texts) (nested : AreNested (sc
             omega (
               arith,
               v.made.index_is,
-              block_few sc nested ((use_of sc n).block) (subst (λ (j : ℕ). j < length sc.blocks) block_here l.owned.framed.known),
+              block_few sc nested ((use_of sc n).block) (subst (λ (j : ℕ). j < length sc.blocks) block_here framed_there.known),
               low_number 0 (made_of ((block_numbered sc.blocks ((use_of sc n).block)).decls)) n.name v.made.number d v.made.there,
             ),
           )
@@ -182,7 +180,7 @@ module _ (tree : PProgram) (code : Code) (texts : Texts) (nested : AreNested (sc
       home_there : ArrayHome ((use_of sc n).sort) (named n) (shape_of d) couple
       home_there =
           record {
-            own = parent.own;
+            own = led.reached;
             array = d;
             kind_is = refl;
             cell = found.cell;
@@ -194,18 +192,14 @@ module _ (tree : PProgram) (code : Code) (texts : Texts) (nested : AreNested (sc
             sized = h.sized;
             descriptor = h.descriptor;
             reaches =
-                directly (place p h.at)
-                (ap (λ (k : ℕ). display_at core.registers k) level_up ∙ s.stands.chained up low ∙ h.laid)
-                (own_cell p img (record { frame = place p h.at; index = couple.index }) refl)
-                (ap (λ (k : ℕ). word_at img.stacks (place p (h.at + k))) index_is ∙ h.lies);
+                directly h.at (named_at tree code texts w lay img p q part outer bound core s n is_seen.seen couple.level v.made.level_is ∙ h.laid)
+                (subst (λ (k : ℕ). NearCell p img (record { frame = h.at; index = k })) (sym index_is) h.near)
+                (ap (λ (k : ℕ). word_at img.stacks (place (h.at).stack ((h.at).at + k))) index_is ∙ h.lies);
             fits = couple_fits;
           }
 
     declared_home : ArrayHome ((use_of sc n).sort) (named n) (shape_of d) couple
-    declared_home =
-        let parent : IsParent tree code texts w lay p (part ∷ outer) part.instance up ((use_of sc n).block) =
-        parents_in tree code texts w lay p part outer core s.stands s.around part.instance (part_own tree code texts w lay p part outer core.below s.stands.frame) up ((use_of sc n).block) is_seen.seen in
-        home_there parent (lies_in tree code texts w lay p part outer core s.stands s.around (ancestor w up part.instance) parent.own)
+    declared_home = home_there (named_seen tree code texts w lay img p q part outer bound core s n is_seen.seen)
 
   -- ---- an array that a parameter stands for
 
@@ -214,7 +208,7 @@ module _ (tree : PProgram) (code : Code) (texts : Texts) (nested : AreNested (sc
     f = formal_home tree code texts nested w lay img p q part outer bound core s n shape couple is_seen.seen v
 
     abbrev leads_to : Sirw
-    leads_to = record { stack = p; displacement = f.target.at; index = array_index tree code texts w lay img p q part outer bound core s f.r.instance f.leads.array.number }
+    leads_to = record { stack = (f.target.at).stack; displacement = (f.target.at).at; index = array_index tree code texts w lay img p q part outer bound core s f.r.instance f.leads.array.number }
 
     formal_array_home : ArrayHome ((use_of sc n).sort) f.r shape couple
     formal_array_home =
@@ -232,9 +226,8 @@ module _ (tree : PProgram) (code : Code) (texts : Texts) (nested : AreNested (sc
               (sym (length-map f.leads.cell.bounds (λ (b : Bounds). b.low)) ∙ ap (λ (lows : List _). length lows) f.target.lows ∙ f.leads.agrees.1);
           sized = f.target.sized;
           descriptor = f.target.descriptor;
-          reaches =
-              by_reference (place p f.at) f.word leads_to f.shown (own_cell p img (record { frame = place p f.at; index = couple.index }) refl) f.lies f.reads (own_cell p img (sirw_cell leads_to) refl) f.target.lies;
-          fits = f.fits;
+          reaches = by_reference f.home.at f.home.word leads_to f.home.shown f.home.near f.home.lies f.reads f.target.near f.target.lies;
+          fits = f.home.fits;
         }
 
   -- ---- the one or the other
@@ -242,6 +235,9 @@ module _ (tree : PProgram) (code : Code) (texts : Texts) (nested : AreNested (sc
   module _ (n : Named) (shape : Shape) (couple : Couple) (asks : array_asked (ask part.rest) ≡ Some n) where
     is_seen : IsSeenThere n
     is_seen = array_seen (IsSeen sc block) n (IsInner sc block) (IsSeenAround sc block) (λ (around_it : IsSeenAround sc block n). around_it.0) part.rest asks s.stands.frame.text
+
+    keeps_around : InRest (IsSeenAround (scopes_of tree) block) IsNoBlock (IsSeenAround (scopes_of tree) block) part.rest → IsSeenAround (scopes_of tree) block n
+    keeps_around text = (array_seen (IsSeenAround sc block) n IsNoBlock (IsSeenAround sc block) (λ (seen : IsSeenAround sc block n). seen) part.rest asks text).seen
 
     -- all is made there, or the array is one around
     made_there_or_around : IsComplete sc w lay part.instance ⊎ IsSeenAround sc block n
@@ -251,7 +247,7 @@ module _ (tree : PProgram) (code : Code) (texts : Texts) (nested : AreNested (sc
 
     pub array_home : IsArray sc level n shape couple → MeantArray n shape couple
     array_home (declared d is v) =
-        let h : ArrayHome ((use_of sc n).sort) (named n) (shape_of d) couple = declared_home n d couple is_seen made_there_or_around v in
+        let h : ArrayHome ((use_of sc n).sort) (named n) (shape_of d) couple = declared_home n d couple is_seen made_there_or_around keeps_around v in
         subst (λ (t : Shape). MeantArray n t couple) (sym is)
         (subst (λ (r : Reference). ArrayHome ((use_of sc n).sort) r (shape_of d) couple) (sym (ap (λ (c : Cell). by_cell c (named n)) h.of.is)) h)
     array_home (formal v) =

@@ -1,36 +1,40 @@
--- Where the descriptor of an array lies: in the frame of the part whose instance has made it. A reference to its cell is read back.
-use Rattle.std.proofs.Common.{◌≡◌, refl, sym, ap, ◌∙◌, subst, ℕ, zero, suc, ◌+◌, ◌<◌, ◌≤◌, ◌^◌, List, ◌∷◌, length, Some, arith}
+-- Where the descriptor of an array lies: in the frame of the instance that has made it. A reference to its cell is read back.
+use Rattle.std.proofs.Common.{◌≡◌, refl, sym, ap, ◌∙◌, subst, ℕ, zero, suc, ◌+◌, ◌<◌, ◌≤◌, ◌^◌, List, ◌∷◌, ◌++◌, length, Some, None, arith}
 use Rattle.std.specs.Prelude.{slice_get, map}
 use Rattle.b67_list.specs.Numbered.{numbered}
 use Rattle.algol_tree.specs.Blocks.{block_numbered}
 use Rattle.algol_tree.specs.Plain.{PProgram}
 use Rattle.algol_tree.specs.Scopes.{Scopes, scopes_of}
-use Rattle.algol_meaning.specs.Value.{Bounds, ArrayCell}
-use Rattle.algol_meaning.specs.World.{Instance, Part, Process, World, instance_at, or_no_instance}
-use Rattle.algol_paths.specs.Arrays.{DeclaredArray, lows_of}
+use Rattle.algol_meaning.specs.Value.{Reference, Bounds, ArrayCell, array}
+use Rattle.algol_meaning.specs.World.{NamedCell, Instance, Part, Process, World, instance_at, or_no_instance, cell_in}
+use Rattle.algol_paths.specs.Arrays.{DeclaredArray, an_array, lows_of}
+use Rattle.b67_word.specs.declared.Place.{Place}
 use Rattle.b67_word.specs.Word.{Word}
 use Rattle.b67_control.specs.Control.{as_sirw}
 use Rattle.b67_control.proofs.ControlLaws.{sirw_laws}
 use Rattle.b67_segment.specs.declared.code.Code.{Code}
-use Rattle.b67_store.specs.Store.{words_of, word_at}
+use Rattle.b67_store.specs.Store.{stack_limit, word_at}
 use Rattle.b67_table.specs.Chains.{place}
 use Rattle.b67_table.specs.Image.{Image}
+use Rattle.b67_table.specs.Limits.{most_processes}
 use Rattle.b67_table.specs.References.{cell_word}
 use Rattle.b67_table.specs.declared.Cell.{Cell}
-use Rattle.b67_templates.specs.Cells.{simple_cells, made_base, made_of}
+use Rattle.b67_templates.specs.Cells.{found_from, simple_cells, made_base, made_of}
 use Rattle.b67_templates.specs.Programs.{Texts}
 use Rattle.b67_cores.specs.Cores.{Core}
 use Rattle.b67_fitting.specs.Nested.{AreNested}
 use Rattle.b67_rows.proofs.Numbers.{get_below}
-use Rattle.b67_rows.proofs.Rows.{words_are}
-use Rattle.b67_rows.proofs.StackWords.{get-front, get-behind}
-use Rattle.b67_frames.specs.Arrays.{Allotted, Layout, DescriptorIs, AreSized, IsOwn, HasArray, IsArrayOf}
-use Rattle.b67_frames.specs.Frames.{block_controls}
+use Rattle.b67_rows.proofs.Touching.{NearCell}
+use Rattle.b67_frames.specs.Arrays.{Allotted, Layout, DescriptorIs, AreSized, HasArray, IsArrayOf}
+use Rattle.b67_frames.specs.Frames.{block_controls, Framed}
 use Rattle.b67_frames.proofs.ControlWords.{block_few, controls_many}
-use Rattle.b67_frames.proofs.Lying.{Lies, lies_low, lies_in}
 use Rattle.b67_frames.proofs.MadeArrays.{low_number}
 use Rattle.b67_frames.proofs.OwnCells.{OwnCells, framed_cells, OwnArray, known_array, descriptor_lies}
+use Rattle.b67_scenes.proofs.Finding.{found_laid, frame_near, place_near}
+use Rattle.b67_scenes.proofs.Led.{IsLed, led_below}
+use Rattle.b67_scenes.proofs.MadeNames.{no_simple}
 use Rattle.b67_scenes.proofs.Scene.{Scene}
+use Rattle.b67_scenes.proofs.Sights.{Seen, seen, cell_lies}
 
 -- a reference to a cell is read back
 pub cell_read : (c : Cell) → c.frame.stack < 2 ^ 10 → c.frame.at < 2 ^ 16 → c.index < 2 ^ 14 →
@@ -47,54 +51,54 @@ module _ (tree : PProgram) (code : Code) (texts : Texts) (w : World) (lay : Layo
   abbrev sc : Scopes
   sc = scopes_of tree
 
-  -- a word below the slots lies in the stack
-  pub lies_there : (k : ℕ) (word : Word) → slice_get core.below k ≡ Some word → word_at img.stacks (place p k) ≡ Some word
-  lies_there k word e =
-      ap (λ (n : ℕ). slice_get (words_of img.stacks n) k) (sym s.has.own)
-      ∙ ap (λ (ws : List Word). slice_get ws k) (words_are img p core s.has)
-      ∙ get-front core.below _ k word e
-
-  -- a word of a frame does
-  pub frame_lies : {i : ℕ} (l : Lies tree code texts w lay p (part ∷ outer) i core.below) (far : ℕ) (word : Word) → slice_get l.frame.cells far ≡ Some word →
-      word_at img.stacks (place p (length l.frame.lower + suc (suc far))) ≡ Some word
-  frame_lies l far word e =
-      lies_there (length l.frame.lower + suc (suc far)) word
-      (ap (λ (ws : List Word). slice_get ws (length l.frame.lower + suc (suc far))) l.words_are
-      ∙ get-front l.front l.rest (length l.frame.lower + suc (suc far)) word
-      (ap (λ (ws : List Word). slice_get ws (length l.frame.lower + suc (suc far))) l.frame.words_are
-      ∙ get-behind l.frame.lower (l.frame.mark ∷ l.frame.control ∷ l.frame.cells) (suc (suc far)) (length l.frame.lower + suc (suc far)) refl
-      ∙ e))
-
   -- the index of the cell of an array of an instance, by its number among the declared ones
   abbrev pub array_index : ℕ → ℕ → ℕ
   array_index i number =
       made_base sc (block_numbered sc.blocks ((instance_at w i).block)) + number
 
-  -- the descriptor of an array, and how high the frame lies in which it lies
+  -- the descriptor of an array, and where the frame lies in which it lies, below the floor of its process
   pub record ArrayPlace (i : ℕ) (name : List ℕ) (declared : DeclaredArray) (cell : ArrayCell) (a : Allotted) (of : IsArrayOf sc w lay i name declared cell a) : Type 0 where
     pub word : Word
-    pub at : ℕ
+    pub at : Place
     pub lows : map (λ (b : Bounds). b.low) cell.bounds ≡ lows_of declared.pairs
     pub sized : AreSized cell.bounds
     pub descriptor : DescriptorIs cell.bounds a word
     pub has : HasArray sc w lay i of.number declared cell a
-    pub laid : numbered lay.places i ≡ Some (place p at)
-    pub low : at + 2 ≤ length core.below
+    pub laid : numbered lay.places i ≡ Some at
+    pub few : at.stack ≤ most_processes
+    pub low : at.at < stack_limit
     pub known : (instance_at w i).block < length sc.blocks
-    pub lies : word_at img.stacks (place p (at + array_index i of.number)) ≡ Some word
+    pub near : NearCell p img (record { frame = at; index = array_index i of.number })
+    pub lies : word_at img.stacks (place at.stack (at.at + array_index i of.number)) ≡ Some word
 
-  module _ (j : ℕ) (l : Lies tree code texts w lay p (part ∷ outer) j core.below) where
+  module _ (j : ℕ) (h : Seen tree code texts w lay img p q part outer bound core s j) where
+    abbrev framed_there : Framed sc w lay h.found.number h.found.lies.part.instance h.found.lies.outer (length h.found.lies.frame.lower) h.found.lies.frame.mark h.found.lies.frame.control h.found.lies.frame.cells
+    framed_there = h.found.lies.owned.framed
+
     abbrev i : ℕ
-    i = l.part.instance
+    i = h.found.lies.part.instance
 
     abbrev here : Instance
-    here = l.owned.framed.instance
+    here = framed_there.instance
 
     here_is : here ≡ instance_at w i
-    here_is = sym (ap or_no_instance l.owned.framed.is)
+    here_is = sym (ap or_no_instance framed_there.is)
 
     abbrev own : OwnCells sc w lay i here
-    own = framed_cells sc w lay l.owned.framed
+    own = framed_cells sc w lay framed_there
+
+    -- the descriptor among the cells of the frame
+    record ArrayWord (k : ℕ) (name : List ℕ) (declared : DeclaredArray) (cell : ArrayCell) (a : Allotted) (of : IsArrayOf sc w lay k name declared cell a) : Type 0 where
+      word : Word
+      far : ℕ
+      lows : map (λ (b : Bounds). b.low) cell.bounds ≡ lows_of declared.pairs
+      sized : AreSized cell.bounds
+      descriptor : DescriptorIs cell.bounds a word
+      has : HasArray sc w lay k of.number declared cell a
+      known : (instance_at w k).block < length sc.blocks
+      far_is : 2 + far ≡ array_index k of.number
+      lies : slice_get h.found.lies.frame.cells far ≡ Some word
+      apart : found_from 0 (simple_cells sc (block_numbered sc.blocks ((instance_at w k).block))) name ≡ None
 
     module _ (name : List ℕ) (declared : DeclaredArray) (cell : ArrayCell) (a : Allotted) (of : IsArrayOf sc w lay i name declared cell a) where
       abbrev Known_there : Type 0
@@ -104,26 +108,16 @@ module _ (tree : PProgram) (code : Code) (texts : Texts) (w : World) (lay : Layo
       found = known_array sc w lay i here own name declared cell a of
 
       abbrev far : ℕ
-      far = length (simple_cells sc (block_numbered sc.blocks here.block)) + length (block_controls sc here.block l.owned.framed.ats) + of.number
+      far = length (simple_cells sc (block_numbered sc.blocks here.block)) + length (block_controls sc here.block framed_there.ats) + of.number
 
-      cells_lie : slice_get l.frame.cells far ≡ Some found.0.word
-      cells_lie =
-          ap (λ (ws : List Word). slice_get ws far) l.owned.framed.cells_is
-          ∙ descriptor_lies sc w lay i here own name of.number declared found.0 (block_controls sc here.block l.owned.framed.ats)
+      has_here : cell_in (framed_there.simple ++ framed_there.arrays) name ≡ array cell
+      has_here = ap (λ (cells : List NamedCell). cell_in cells name) (sym framed_there.has) ∙ ap (λ (x : Instance). cell_in x.cells name) here_is ∙ of.is
 
-      index_is : suc (suc far) ≡ array_index i of.number
-      index_is =
-          omega (
-            arith,
-            ap (λ (x : Instance). made_base sc (block_numbered sc.blocks x.block)) here_is,
-            controls_many sc here.block l.owned.framed.ats l.owned.framed.each_has_place,
-          )
-
-      there : ArrayPlace i name declared cell a of
+      there : ArrayWord i name declared cell a of
       there =
           record {
             word = found.0.word;
-            at = length l.frame.lower;
+            far = far;
             lows = subst (λ (c : ArrayCell). map (λ (b : Bounds). b.low) c.bounds ≡ lows_of declared.pairs) found.1 found.0.lows;
             sized = subst (λ (c : ArrayCell). AreSized c.bounds) found.1 found.0.sized;
             descriptor =
@@ -132,25 +126,66 @@ module _ (tree : PProgram) (code : Code) (texts : Texts) (w : World) (lay : Layo
             has =
                 subst (λ (b : Allotted). HasArray sc w lay i of.number declared cell b) found.2
                 (subst (λ (c : ArrayCell). HasArray sc w lay i of.number declared c found.0.allotted) found.1 found.0.has);
-            laid = l.owned.framed.laid;
-            low = omega (arith, lies_low tree code texts w lay p (part ∷ outer) j core.below l);
-            known = subst (λ (x : Instance). x.block < length sc.blocks) here_is l.owned.framed.known;
-            lies = ap (λ (n : ℕ). word_at img.stacks (place p (length l.frame.lower + n))) (sym index_is) ∙ frame_lies l far found.0.word cells_lie;
+            known = subst (λ (x : Instance). x.block < length sc.blocks) here_is framed_there.known;
+            far_is =
+                omega (
+                  arith,
+                  ap (λ (x : Instance). made_base sc (block_numbered sc.blocks x.block)) here_is,
+                  controls_many sc here.block framed_there.ats framed_there.each_has_place,
+                );
+            lies =
+                ap (λ (ws : List Word). slice_get ws far) framed_there.cells_is
+                ∙ descriptor_lies sc w lay i here own name of.number declared found.0 (block_controls sc here.block framed_there.ats);
+            apart =
+                ap (λ (x : Instance). found_from 0 (simple_cells sc (block_numbered sc.blocks x.block)) name) (sym here_is)
+                ∙ no_simple (simple_cells sc (block_numbered sc.blocks here.block)) framed_there.simple framed_there.values framed_there.arrays name (array cell) framed_there.simple_are has_here refl;
           }
 
-  pub array_place : (i : ℕ) → IsOwn (part ∷ outer) i → (name : List ℕ) (declared : DeclaredArray) (cell : ArrayCell) (a : Allotted) (of : IsArrayOf sc w lay i name declared cell a) →
-      ArrayPlace i name declared cell a of
-  array_place i mine =
-      let l : Lies tree code texts w lay p (part ∷ outer) i core.below = lies_in tree code texts w lay p part outer core s.stands s.around i mine in
-      subst (λ (j : ℕ). (name : List ℕ) (declared : DeclaredArray) (cell : ArrayCell) (a : Allotted) (of : IsArrayOf sc w lay j name declared cell a) → ArrayPlace j name declared cell a of) l.instance_is
-      (there i l)
+    word_there : (name : List ℕ) (declared : DeclaredArray) (cell : ArrayCell) (a : Allotted) (of : IsArrayOf sc w lay j name declared cell a) → ArrayWord j name declared cell a of
+    word_there = subst (λ (k : ℕ). (name : List ℕ) (declared : DeclaredArray) (cell : ArrayCell) (a : Allotted) (of : IsArrayOf sc w lay k name declared cell a) → ArrayWord k name declared cell a of) h.found.lies.instance_is there
+
+    module _ (nested : AreNested (scopes_of tree)) (name : List ℕ) (led : IsLed tree code texts w lay img p q part outer bound core s (record { instance = j; name = name })) (declared : DeclaredArray) (cell : ArrayCell) (a : Allotted)
+        (of : IsArrayOf sc w lay j name declared cell a) where
+      x : ArrayWord j name declared cell a of
+      x = word_there name declared cell a of
+
+      below : length h.found.lies.frame.lower + (2 + x.far) < length h.found.core.below
+      below =
+          led_below tree code texts w lay img p q part outer bound core s nested (record { instance = j; name = name }) led h x.apart x.far
+          (get_below h.found.lies.frame.cells x.far x.word x.lies)
+
+      place_seen : ArrayPlace j name declared cell a of
+      place_seen =
+          record {
+            word = x.word;
+            at = place h.found.number (length h.found.lies.frame.lower);
+            lows = x.lows;
+            sized = x.sized;
+            descriptor = x.descriptor;
+            has = x.has;
+            laid = found_laid tree code texts w lay img j h.found;
+            few = omega (arith, number_within w.processes h.found.number h.found.process h.found.is, s.by.few);
+            low = omega (arith, below, h.found.small);
+            known = x.known;
+            near = (
+              frame_near tree code texts w lay img j h.found p,
+              place_near tree code texts w lay img j h.found p (length h.found.lies.frame.lower + array_index j of.number) (omega (arith, below, x.far_is)),
+            );
+            lies =
+                ap (λ (n : ℕ). word_at img.stacks (place h.found.number (length h.found.lies.frame.lower + n))) (sym x.far_is)
+                ∙ cell_lies tree code texts w lay img p q part outer bound core s j h x.far x.word x.lies below;
+          }
+
+  pub array_place : AreNested (scopes_of tree) → (i : ℕ) (name : List ℕ) → IsLed tree code texts w lay img p q part outer bound core s (record { instance = i; name = name }) → (declared : DeclaredArray) (cell : ArrayCell) (a : Allotted)
+      (of : IsArrayOf sc w lay i name declared cell a) → ArrayPlace i name declared cell a of
+  array_place nested i name led declared cell a of = place_seen i (seen tree code texts w lay img p q part outer bound core s i led.reached) nested name led declared cell a of
 
   module _ (nested : AreNested sc) (i : ℕ) (name : List ℕ) (declared : DeclaredArray) (cell : ArrayCell) (a : Allotted) (of : IsArrayOf sc w lay i name declared cell a)
       (h : ArrayPlace i name declared cell a of) where
     -- the reference to its cell is read back
-    pub place_read : as_sirw (cell_word (record { frame = place p h.at; index = array_index i of.number })) ≡ Some (record { stack = p; displacement = h.at; index = array_index i of.number })
+    pub place_read : as_sirw (cell_word (record { frame = h.at; index = array_index i of.number })) ≡ Some (record { stack = h.at.stack; displacement = h.at.at; index = array_index i of.number })
     place_read =
-        cell_read (record { frame = place p h.at; index = array_index i of.number }) (omega (arith, number_within w.processes p q s.at, s.by.few)) (omega (arith, h.low, s.small))
+        cell_read (record { frame = h.at; index = array_index i of.number }) (omega (arith, h.few)) (omega (arith, h.low))
         (omega (
           arith,
           block_few sc nested ((instance_at w i).block) h.known,

@@ -1,4 +1,4 @@
--- Where a process finds the cell of a parameter that stands for something else: in the frame of one of its parts.
+-- Where a process finds the cell of a parameter that stands for something else: in a frame that its display names.
 use Rattle.std.proofs.Common.{◌≡◌, sym, ap, ◌∙◌, subst, ℕ, suc, ◌+◌, ◌-◌, ◌<◌, ◌≤◌, ◌^◌, List, [], ◌∷◌, length, Option, Some, Bool, true, false, arith}
 use Rattle.std.specs.Prelude.{if◌then◌else◌, slice_get}
 use Rattle.b67_list.specs.Numbered.{numbered}
@@ -8,12 +8,13 @@ use Rattle.algol_tree.specs.Cells.{level_of}
 use Rattle.algol_tree.specs.Plain.{PProgram}
 use Rattle.algol_tree.specs.Scopes.{Scopes, scopes_of, use_of}
 use Rattle.algol_tree.specs.Sorts.{same_name}
-use Rattle.algol_meaning.specs.Value.{Reference, Cell}
+use Rattle.algol_meaning.specs.Value.{Reference, Cell, reference}
 use Rattle.algol_meaning.specs.World.{NamedCell, Instance, Part, Process, World, instance_at, or_no_instance, ancestor, cell_at, cell_in}
 use Rattle.algol_paths.specs.Blocks.{IsSeen}
+use Rattle.algol_standing.specs.Worlds.{IsStanding}
+use Rattle.b67_word.specs.declared.Place.{Place}
 use Rattle.b67_word.specs.Word.{Word}
 use Rattle.b67_ops.specs.declared.Couple.{Couple}
-use Rattle.b67_ops.specs.declared.TheConstants.{OUTER_LEVEL}
 use Rattle.b67_segment.specs.declared.code.Code.{Code}
 use Rattle.b67_store.specs.Store.{word_at}
 use Rattle.b67_table.specs.Chains.{place}
@@ -25,14 +26,15 @@ use Rattle.b67_cores.specs.Cores.{Core}
 use Rattle.b67_fitting.specs.Nested.{AreNested}
 use Rattle.b67_faithful.proofs.Contradictions.{some_same}
 use Rattle.b67_rows.proofs.Numbers.{get_below}
-use Rattle.b67_rows.proofs.Parents.{length_around}
 use Rattle.b67_rows.proofs.StackWords.{get-front}
-use Rattle.b67_frames.specs.Arrays.{Layout, Denotes, named_from, IsOwn}
-use Rattle.b67_frames.specs.Frames.{CellsAre, Refers}
+use Rattle.b67_rows.proofs.Touching.{NearCell}
+use Rattle.b67_frames.specs.Arrays.{Layout, Denotes, named_from}
+use Rattle.b67_frames.specs.Frames.{CellsAre, IsInReach, Refers, Framed}
 use Rattle.b67_frames.proofs.Knowing.{denotes_so}
-use Rattle.b67_frames.proofs.Lying.{Lies, lies_in, IsParent, parents_in, part_own}
 use Rattle.b67_frames.proofs.Variables.{cell_front}
-use Rattle.b67_scenes.proofs.ArrayPlaces.{frame_lies}
+use Rattle.b67_scenes.proofs.Finding.{frame_near, place_near}
+use Rattle.b67_scenes.proofs.Led.{named_parent, named_reached, named_seen, named_shown, IsLed, cell_reached, cell_led}
+use Rattle.b67_scenes.proofs.Sights.{Seen, cell_below, cell_lies as seen_word}
 use Rattle.b67_scenes.proofs.Scene.{Scene}
 use Rattle.b67_scenes.proofs.Staying.{names_in}
 
@@ -89,34 +91,39 @@ module _ (tree : PProgram) (code : Code) (texts : Texts) (nested : AreNested (sc
     pub cell : Cell
     pub cell_is : cell_at w (named n) ≡ cell
     pub word : Word
-    pub denotes : Denotes sc w lay (IsOwn (part ∷ outer)) wanted cell word
-    pub at : ℕ
-    pub shown : display_at core.registers couple.level ≡ Some (place p at)
-    pub lies : word_at img.stacks (place p (at + couple.index)) ≡ Some word
+    pub denotes : Denotes sc w lay (IsInReach w (part ∷ outer)) wanted cell word
+    -- a reference in it leads to what the process may look at
+    pub leads : (r : Reference) → cell ≡ reference r → IsLed tree code texts w lay img p q part outer bound core s r
+    pub at : Place
+    pub near : NearCell p img (record { frame = at; index = couple.index })
+    pub shown : display_at core.registers couple.level ≡ Some at
+    pub lies : word_at img.stacks (place at.stack (at.at + couple.index)) ≡ Some word
     pub fits : (couple.level < 32) × (couple.index < 2 ^ 14)
 
-  module _ (n : Named) (wanted : Wanted) (couple : Couple) (found : Found) (refers : Refers wanted) (seen : IsSeen sc ((instance_at w part.instance).block) n)
+  module _ (n : Named) (wanted : Wanted) (couple : Couple) (found : Found) (refers : Refers wanted) (is_seen : IsSeen sc ((instance_at w part.instance).block) n)
       (named_there : found_from 0 (simple_cells sc (block_numbered sc.blocks ((use_of sc n).block))) n.name ≡ Some found) (wanted_is : found.cell.wanted ≡ wanted)
       (level_is : couple.level + (use_of sc n).up ≡ level) (index_is : couple.index ≡ 2 + found.number) where
-    abbrev up : ℕ
-    up = (use_of sc n).up
+    abbrev home_at : ℕ
+    home_at = ancestor w ((use_of sc n).up) part.instance
 
-    abbrev block : ℕ
-    block = (instance_at w part.instance).block
+    reached : IsInReach w (part ∷ outer) home_at
+    reached = named_reached tree code texts w lay img p q part outer bound core s n is_seen
 
-    low : up + OUTER_LEVEL ≤ level
-    low = omega (arith, length_around sc.blocks block, get_below (block ∷ around sc.blocks block) up ((use_of sc n).block) seen)
+    module _ (h : Seen tree code texts w lay img p q part outer bound core s home_at) where
+      abbrev framed_there : Framed sc w lay h.found.number h.found.lies.part.instance h.found.lies.outer (length h.found.lies.frame.lower) h.found.lies.frame.mark h.found.lies.frame.control h.found.lies.frame.cells
+      framed_there = h.found.lies.owned.framed
 
-    module _ (parent : IsParent tree code texts w lay p (part ∷ outer) part.instance up ((use_of sc n).block))
-        (l : Lies tree code texts w lay p (part ∷ outer) (ancestor w up part.instance) core.below) where
       abbrev here : Instance
-      here = l.owned.framed.instance
+      here = framed_there.instance
 
-      instance_here : instance_at w (ancestor w up part.instance) ≡ here
-      instance_here = ap (instance_at w) (sym l.instance_is) ∙ ap or_no_instance l.owned.framed.is
+      is_here : numbered w.instances home_at ≡ Some here
+      is_here = ap (numbered w.instances) (sym h.found.lies.instance_is) ∙ framed_there.is
+
+      instance_here : instance_at w home_at ≡ here
+      instance_here = ap or_no_instance is_here
 
       block_here : here.block ≡ (use_of sc n).block
-      block_here = sym (ap (λ (x : Instance). x.block) instance_here) ∙ parent.block
+      block_here = sym (ap (λ (x : Instance). x.block) instance_here) ∙ (named_parent tree code texts w lay img p q part outer bound core s n is_seen).block
 
       abbrev ss : List Simple
       ss = simple_cells sc (block_numbered sc.blocks here.block)
@@ -124,45 +131,53 @@ module _ (tree : PProgram) (code : Code) (texts : Texts) (nested : AreNested (sc
       there : found_from 0 ss n.name ≡ Some found
       there = ap (λ (k : ℕ). found_from 0 (simple_cells sc (block_numbered sc.blocks k)) n.name) block_here ∙ named_there
 
-      c : FirstCell ss l.owned.framed.simple 0 n.name found
-      c = first_cell ss l.owned.framed.simple l.owned.framed.values 0 n.name found l.owned.framed.simple_are there
+      c : FirstCell ss framed_there.simple 0 n.name found
+      c = first_cell ss framed_there.simple framed_there.values 0 n.name found framed_there.simple_are there
 
       abbrev Denoting : Type 0
       Denoting =
-          (d : NamedCell) × (word : Word) × (slice_get l.owned.framed.simple c.far ≡ Some d) × (slice_get l.owned.framed.values c.far ≡ Some word)
-          × Denotes sc w lay (IsOwn l.outer) found.cell.wanted d.cell word
+          (d : NamedCell) × (word : Word) × (slice_get framed_there.simple c.far ≡ Some d) × (slice_get framed_there.values c.far ≡ Some word)
+          × Denotes sc w lay (IsStanding w) found.cell.wanted d.cell word
 
       g : Denoting
-      g = l.owned.framed.formals c.far found.cell c.lies (subst (λ (o : Wanted). Refers o) (sym wanted_is) refers)
+      g = framed_there.formals c.far found.cell c.lies (subst (λ (o : Wanted). Refers o) (sym wanted_is) refers)
 
-      denotes_here : Denotes sc w lay (IsOwn (part ∷ outer)) wanted g.0.cell g.1
+      among : slice_get here.cells c.far ≡ Some g.0
+      among = ap (λ (cells : List NamedCell). slice_get cells c.far) framed_there.has ∙ get-front framed_there.simple framed_there.arrays c.far g.0 g.2
+
+      -- what it leads to is in reach, as the instance is
+      denotes_here : Denotes sc w lay (IsInReach w (part ∷ outer)) wanted g.0.cell g.1
       denotes_here =
-          denotes_so sc w lay l.outer (part ∷ outer) l.inside wanted g.0.cell g.1 (subst (λ (o : Wanted). Denotes sc w lay (IsOwn l.outer) o g.0.cell g.1) wanted_is g.4)
+          denotes_so sc w lay (IsStanding w) (IsInReach w (part ∷ outer)) wanted g.0.cell g.1
+          (λ j inside st. cell_reached tree code texts w lay img p q part outer bound core s home_at reached c.far here g.0 is_here framed_there.stands among j inside)
+          (subst (λ (o : Wanted). Denotes sc w lay (IsStanding w) o g.0.cell g.1) wanted_is g.4)
 
       -- the cell lies before the arrays
       cell_here : cell_at w (named n) ≡ g.0.cell
       cell_here =
           ap (λ (x : Instance). cell_in x.cells n.name) instance_here
-          ∙ ap (λ (cells : List NamedCell). cell_in cells n.name) l.owned.framed.has
-          ∙ cell_front ss l.owned.framed.simple l.owned.framed.arrays l.owned.framed.values 0 n.name found l.owned.framed.simple_are there
+          ∙ ap (λ (cells : List NamedCell). cell_in cells n.name) framed_there.has
+          ∙ cell_front ss framed_there.simple framed_there.arrays framed_there.values 0 n.name found framed_there.simple_are there
           ∙ c.is g.0 g.2
 
-      far_is : couple.index ≡ suc (suc c.far)
+      far_is : couple.index ≡ 2 + c.far
       far_is = omega (arith, index_is, c.number)
 
       -- the values lie before the control words
-      cells_lie : slice_get l.frame.cells c.far ≡ Some g.1
-      cells_lie = ap (λ (ws : List Word). slice_get ws c.far) l.owned.framed.cells_is ∙ get-front l.owned.framed.values _ c.far g.1 g.3
+      cells_lie : slice_get h.found.lies.frame.cells c.far ≡ Some g.1
+      cells_lie = ap (λ (ws : List Word). slice_get ws c.far) framed_there.cells_is ∙ get-front framed_there.values _ c.far g.1 g.3
 
-      level_up : couple.level ≡ level - up
-      level_up = omega (arith, level_is)
+      low : length h.found.lies.frame.lower + (2 + c.far) < length h.found.core.below
+      low =
+          cell_below tree code texts w lay img p q part outer bound core s home_at h c.far (get_below h.found.lies.frame.cells c.far g.1 cells_lie)
+          (omega (arith, get_below ss c.far found.cell c.lies, ap (λ (x : Instance). length (simple_cells sc (block_numbered sc.blocks x.block))) instance_here))
 
       couple_fits : (couple.level < 32) × (couple.index < 2 ^ 14)
       couple_fits =
           let own : Instance = s.stands.frame.instance in
           let same : level ≡ level_of (block_numbered sc.blocks own.block) = ap (λ (o : Option Instance). level_of (block_numbered sc.blocks (or_no_instance o).block)) s.stands.frame.is in (
             omega (arith, level_is, same, (nested.each own.block s.stands.frame.known).low),
-            omega (arith, far_is, (nested.each here.block l.owned.framed.known).few, get_below ss c.far found.cell c.lies),
+            omega (arith, far_is, (nested.each here.block framed_there.known).few, get_below ss c.far found.cell c.lies),
           )
 
       home_there : CellHome n wanted couple
@@ -172,20 +187,15 @@ module _ (tree : PProgram) (code : Code) (texts : Texts) (nested : AreNested (sc
             cell_is = cell_here;
             word = g.1;
             denotes = denotes_here;
-            at = length l.frame.lower;
-            shown =
-                ap (λ (k : ℕ). display_at core.registers k) level_up
-                ∙ s.stands.chained up low
-                ∙ ap (λ (k : ℕ). numbered lay.places k) (sym l.instance_is)
-                ∙ l.owned.framed.laid;
+            leads = cell_led tree code texts w lay img p q part outer bound core s home_at reached c.far here g.0 is_here framed_there.stands among;
+            at = place h.found.number (length h.found.lies.frame.lower);
+            near = (frame_near tree code texts w lay img home_at h.found p, place_near tree code texts w lay img home_at h.found p (length h.found.lies.frame.lower + couple.index) (omega (arith, low, far_is)));
+            shown = named_shown tree code texts w lay img p q part outer bound core s n is_seen couple.level level_is h;
             lies =
-                ap (λ (k : ℕ). word_at img.stacks (place p (length l.frame.lower + k))) far_is
-                ∙ frame_lies tree code texts w lay img p q part outer bound core s l c.far g.1 cells_lie;
+                ap (λ (k : ℕ). word_at img.stacks (place h.found.number (length h.found.lies.frame.lower + k))) far_is
+                ∙ seen_word tree code texts w lay img p q part outer bound core s home_at h c.far g.1 cells_lie low;
             fits = couple_fits;
           }
 
     pub cell_home : CellHome n wanted couple
-    cell_home =
-        let parent : IsParent tree code texts w lay p (part ∷ outer) part.instance up ((use_of sc n).block) =
-        parents_in tree code texts w lay p part outer core s.stands s.around part.instance (part_own tree code texts w lay p part outer core.below s.stands.frame) up ((use_of sc n).block) seen in
-        home_there parent (lies_in tree code texts w lay p part outer core s.stands s.around (ancestor w up part.instance) parent.own)
+    cell_home = home_there (named_seen tree code texts w lay img p q part outer bound core s n is_seen)

@@ -1,4 +1,4 @@
--- Where a process finds an element whose descriptor lies on its stack: in an array of an instance whose frame lies there, too.
+-- Where a process finds an element whose descriptor lies on its stack: in an array of an instance in reach.
 use Rattle.std.proofs.Common.{◌≡◌, sym, ap, ◌∙◌, subst, ℕ, ◌≤◌, List, [], ◌∷◌, Some, true, false, arith}
 use Rattle.algol_tree.specs.declared.tree.Kind.{Kind}
 use Rattle.algol_tree.specs.Plain.{PProgram}
@@ -12,10 +12,13 @@ use Rattle.b67_templates.specs.Programs.{Texts}
 use Rattle.b67_table.specs.Arrays.{as_indexed}
 use Rattle.b67_table.specs.Image.{Image}
 use Rattle.b67_cores.specs.Cores.{Core}
-use Rattle.b67_frames.specs.Arrays.{Allotted, Layout, AreSized, IsOwn, HasArray, IsArrayOf, IsIn, IsElement}
+use Rattle.b67_frames.specs.Arrays.{Allotted, Layout, AreSized, HasArray, IsArrayOf, IsIn, IsElement}
 use Rattle.b67_frames.proofs.ElementRows.{element_copy_read}
 use Rattle.b67_frames.proofs.FewElements.{OneSized, one_sized, TwoSized, two_sized}
-use Rattle.b67_frames.proofs.Lying.{Lies, lies_in}
+use Rattle.b67_frames.specs.Frames.{IsInReach}
+use Rattle.b67_frames.proofs.Lying.{Lies}
+use Rattle.b67_scenes.proofs.Finding.{Found, find}
+use Rattle.b67_scenes.proofs.Led.{reached_stands}
 use Rattle.b67_frames.proofs.OwnCells.{OwnArray, known_array, framed_cells}
 use Rattle.b67_scenes.proofs.Scene.{Scene}
 
@@ -37,20 +40,22 @@ at_element at n = record { presence = true; copy = true; indexed = true; mother 
 
 module _ (tree : PProgram) (code : Code) (texts : Texts) (w : World) (lay : Layout) (img : Image)
     (p : ℕ) (q : Process) (part : Part) (outer : List Part) (bound : ℕ) (core : Core) (s : Scene tree code texts w lay img p q part outer bound core)
-    (r : Reference) (ks : List ℕ) (kind : Kind) (word : Word) (e : IsElement (scopes_of tree) w lay (IsOwn (part ∷ outer)) r ks kind word) where
+    (r : Reference) (ks : List ℕ) (kind : Kind) (word : Word) (e : IsElement (scopes_of tree) w lay (IsInReach w (part ∷ outer)) r ks kind word) where
   abbrev sc : Scopes
   sc = scopes_of tree
 
-  -- The instance of its array is one of the parts', and has that array. The word is read as the descriptor of the element.
+  -- The instance of its array is in reach, and has that array. The word is read as the descriptor of the element.
   pub record ElementHome : Type 0 where
-    pub lies : Lies tree code texts w lay p (part ∷ outer) r.instance core.below
-    pub own : IsOwn (part ∷ outer) lies.part.instance
-    pub home_is : r.instance ≡ lies.part.instance
-    pub of : IsArrayOf sc w lay lies.part.instance r.name e.declared e.cell e.allotted
-    pub has : HasArray sc w lay lies.part.instance of.number e.declared e.cell e.allotted
+    pub lies : Found tree code texts w lay img r.instance
+    pub home_is : r.instance ≡ lies.lies.part.instance
+    pub of : IsArrayOf sc w lay lies.lies.part.instance r.name e.declared e.cell e.allotted
+    pub has : HasArray sc w lay lies.lies.part.instance of.number e.declared e.cell e.allotted
     pub reads : as_indexed word ≡ Some (at_element e.at e.number)
 
-  module _ (own_home : IsOwn (part ∷ outer) r.instance) (l : Lies tree code texts w lay p (part ∷ outer) r.instance core.below) where
+  module _ (f : Found tree code texts w lay img r.instance) where
+    abbrev l : Lies tree code texts w lay f.number (f.part ∷ f.outer) r.instance f.settled
+    l = f.lies
+
     abbrev i : ℕ
     i = l.part.instance
 
@@ -70,8 +75,7 @@ module _ (tree : PProgram) (code : Code) (texts : Texts) (w : World) (lay : Layo
     home_there : ElementHome
     home_there =
         record {
-          lies = l;
-          own = subst (λ (j : ℕ). IsOwn (part ∷ outer) j) (sym l.instance_is) own_home;
+          lies = f;
           home_is = here_is;
           of = of_here;
           has =
@@ -84,4 +88,4 @@ module _ (tree : PProgram) (code : Code) (texts : Texts) (w : World) (lay : Layo
         }
 
   pub element_home : ElementHome
-  element_home = home_there e.own (lies_in tree code texts w lay p part outer core s.stands s.around r.instance e.own)
+  element_home = home_there (find tree code texts w lay img s.by s.ok r.instance (reached_stands tree code texts w lay img p q part outer bound core s r.instance e.own))

@@ -27,7 +27,7 @@ use Rattle.b67_store.specs.Store.{stack_limit}
 use Rattle.b67_table.specs.Chains.{place, linked}
 use Rattle.b67_table.specs.Effect.{gives}
 use Rattle.b67_table.specs.Image.{Image}
-use Rattle.b67_table.specs.Limits.{end_of_code}
+use Rattle.b67_table.specs.Limits.{most_processes, end_of_code}
 use Rattle.b67_table.specs.Linkage.{entered_mark, control_word}
 use Rattle.b67_table.specs.Look.{seen}
 use Rattle.b67_table.specs.Outcome as outcomes
@@ -49,7 +49,7 @@ use Rattle.b67_fitting.specs.Nested.{AreNested, LiesNested}
 use Rattle.b67_rows.proofs.Displays.{shown, shown_top, linked_seen}
 use Rattle.b67_rows.proofs.EntryRow.{Leads, Enters, lower_of, with_frame, enter_raw, enter_class, enter_action, new_is}
 use Rattle.b67_rows.proofs.GivenWords.{AreFit, Taken, taken_words}
-use Rattle.b67_rows.proofs.Growing.{numbered_low, next_within}
+use Rattle.b67_rows.proofs.Growing.{next_within}
 use Rattle.b67_rows.proofs.Marks.{newest_low}
 use Rattle.b67_rows.proofs.Rows.{action_not_plain}
 use Rattle.b67_rows.proofs.Segmented.{segment_low}
@@ -57,8 +57,8 @@ use Rattle.b67_rows.proofs.Slotted.{Top, top_slot}
 use Rattle.b67_rows.proofs.StackWords.{length-stack}
 use Rattle.b67_rows.proofs.Words.{mark_read}
 use Rattle.b67_frames.proofs.ControlWords.{block_few, as_many_controls, controls_many}
-use Rattle.b67_frames.specs.Arrays.{Layout, IsOwn}
-use Rattle.b67_frames.specs.Frames.{block_controls, IsComplete, Framed, Frame, Shape, of_own, of_lent}
+use Rattle.b67_frames.specs.Arrays.{Layout}
+use Rattle.b67_frames.specs.Frames.{block_controls, IsComplete, Framed, Frame, Shape, of_own, of_lent, IsInReach}
 use Rattle.b67_frames.proofs.Completing.{made_many}
 use Rattle.b67_frames.proofs.FreshCells.{words_long}
 use Rattle.b67_frames.proofs.Linked.{Linked, Begins_with, begins_core, all_linked, level_around}
@@ -125,17 +125,18 @@ module _ (tree : PProgram) (code : Code) (texts : Texts) (nested : LiesNested tr
     pub given_few : length gs ≤ MOST_BLOCK_CELLS
     pub marks : newest own base (slot ∷ mark ∷ waiting) ≡ base + length waiting
     pub stands : Has (text_in tree texts w part) level s.stands.pc (ops.Plain kinds.Entr) next
-    pub own_parent : IsOwn (part ∷ outer) h
+    pub in_reach : IsInReach w (part ∷ outer) h
     pub complete : IsComplete sc w lay h
     pub known : j < length sc.blocks
     pub around_is : around sc.blocks j ≡ (instance_at w h).block ∷ around sc.blocks ((instance_at w h).block)
-    pub linked : Linked sc w lay img.stacks p h
-    pub low : linked.at + 2 ≤ length core.below
+    pub linked : Linked sc w lay img.stacks h
+    pub few : (linked.at).stack ≤ most_processes
+    pub low : (linked.at).at < stack_limit
     pub segment : Segment
     pub there : slice_get code.segments (segment_of sc.blocks j) ≡ Some segment
     pub spells : Spells (texts.placed (segment_of sc.blocks j)) segment
     pub leads : (m : Mscw) (x : Word) → SlotIs sc s.stands.held level own base (mark ∷ waiting) slot x →
-        Leads code img core next x m (code_at (segment_of sc.blocks j) begin (level_of (block_numbered sc.blocks j))) (place p linked.at)
+        Leads code img core next x m (code_at (segment_of sc.blocks j) begin (level_of (block_numbered sc.blocks j))) linked.at
     pub calls : (x : Word) → SlotIs sc s.stands.held level own base (mark ∷ waiting) slot x →
         seen img.stacks (called_by x (cell_of core.registers x)) ≡ Ok (code_at (segment_of sc.blocks j) begin (level_of (block_numbered sc.blocks j)))
 
@@ -203,10 +204,10 @@ module _ (tree : PProgram) (code : Code) (texts : Texts) (nested : LiesNested tr
     -- ---- the frame of the parent
 
     abbrev pub home : Place
-    home = place p e.linked.at
+    home = e.linked.at
 
     home_level_is : level_of (block_numbered sc.blocks ((instance_at w h).block)) ≡ length e.linked.more + 2
-    home_level_is = ap (λ (o : Option Instance). level_of (block_numbered sc.blocks ((or_no_instance o).block))) e.linked.is ∙ e.linked.level_is
+    home_level_is = e.linked.level_is
 
     pub level_is : inner_level ≡ length e.linked.more + 3
     level_is =
@@ -219,7 +220,7 @@ module _ (tree : PProgram) (code : Code) (texts : Texts) (nested : LiesNested tr
     display = shown (place p at) frames
 
     linked_there : seen img.stacks (linked (place p at) home inner_level) ≡ Ok display
-    linked_there = linked_seen (place p at) home frames inner_level (all_linked sc w lay img.stacks p h e.linked) (omega (arith, level_is))
+    linked_there = linked_seen (place p at) home frames inner_level (all_linked sc w lay img.stacks h e.linked) (omega (arith, level_is))
 
     -- ---- what control words hold
 
@@ -230,13 +231,10 @@ module _ (tree : PProgram) (code : Code) (texts : Texts) (nested : LiesNested tr
         next_within (text_in tree texts w part) s.stands.there.segment s.stands.pc level (ops.Plain kinds.Entr) next s.stands.there.spells e.stands in
         omega (arith, within, short core.registers.segment s.stands.there.segment s.stands.there.there, nested.short core.registers.segment)
 
-    pub low_number : p < 2 ^ 10
-    low_number = omega (arith, numbered_low w.processes p q s.at, s.by.few)
-
-    pub mark_reads : as_mscw (entered_mark home df) ≡ Some (record { entered = true; stack = p; displacement = e.linked.at; df = df })
+    pub mark_reads : as_mscw (entered_mark home df) ≡ Some (record { entered = true; stack = home.stack; displacement = home.at; df = df })
     mark_reads =
-        as_mscw-mscw_word (record { entered = true; stack = p; displacement = e.linked.at; df = df })
-        (low_number, (omega (arith, e.low, room), (omega (arith, as_many, room), tt)))
+        as_mscw-mscw_word (record { entered = true; stack = home.stack; displacement = home.at; df = df })
+        (omega (arith, e.few), (omega (arith, e.low), (omega (arith, as_many, room), tt)))
 
     abbrev pub back : Rcw
     back = record { segment = core.registers.segment; psr = next % 6; pir = next / 6; caller_level = core.registers.ll; caller_cells = core.registers.cells; own_level = inner_level }

@@ -1,5 +1,5 @@
--- Where a process finds the cell of a parameter that stands for an array: in the frame of one of its parts. It leads to the array's cell.
-use Rattle.std.proofs.Common.{◌≡◌, sym, ap, ◌∙◌, ℕ, ◌+◌, ◌<◌, ◌^◌, List, ◌∷◌, Some}
+-- Where a process finds the cell of a parameter that stands for an array: in a frame that its display names. It leads to the array's cell.
+use Rattle.std.proofs.Common.{◌≡◌, sym, ap, ◌∙◌, ℕ, ◌+◌, ◌<◌, ◌^◌, List, ◌∷◌, Some, refl}
 use Rattle.algol_tree.specs.declared.tree.Named.{Named}
 use Rattle.algol_tree.specs.Plain.{PProgram}
 use Rattle.algol_tree.specs.Scopes.{Scopes, scopes_of}
@@ -23,29 +23,13 @@ use Rattle.b67_templates.specs.Programs.{Texts}
 use Rattle.b67_cores.specs.Cores.{Core}
 use Rattle.b67_fitting.specs.Nested.{AreNested}
 use Rattle.b67_faithful.proofs.Contradictions.{some_same}
-use Rattle.b67_frames.specs.Arrays.{Layout, IsOwn, LeadsTo, Denotes, named_from}
+use Rattle.b67_frames.specs.Arrays.{Layout, LeadsTo, Denotes, named_from}
 use Rattle.b67_scenes.proofs.ArrayPlaces.{array_index, ArrayPlace, array_place, place_read}
 use Rattle.b67_scenes.proofs.Scene.{Scene}
 use Rattle.b67_scenes.proofs.Staying.{names_in}
+use Rattle.b67_frames.specs.Frames.{IsInReach}
 use Rattle.b67_scenes.proofs.CellHomes.{CellHome, cell_home}
-
--- ---- references of other parts
-
--- a reference that leads from some parts leads from more, for each shape with which all agree that agree with the first
-pub leads_so : (sc : Scopes) (w : World) (lay : Layout) (parts parts' : List Part) → ((j : ℕ) → IsOwn parts j → IsOwn parts' j) → (shape shape' : Shape) → ((a : Shape) → Agrees shape a → Agrees shape' a) →
-    (r : Reference) (word : Word) → LeadsTo sc w lay (IsOwn parts) shape r word → LeadsTo sc w lay (IsOwn parts') shape' r word
-leads_so sc w lay parts parts' owned shape shape' agree r word h =
-    record {
-      own = owned r.instance h.own;
-      declared = h.declared;
-      agrees = agree _ h.agrees;
-      cell = h.cell;
-      allotted = h.allotted;
-      array = h.array;
-      frame = h.frame;
-      laid = h.laid;
-      word_is = h.word_is;
-    }
+use Rattle.b67_scenes.proofs.Led.{IsLed}
 
 -- ---- the parameter's cell
 
@@ -65,53 +49,51 @@ module _ (tree : PProgram) (code : Code) (texts : Texts) (nested : AreNested (sc
   pub record FormalHome (n : Named) (shape : Shape) (couple : Couple) : Type 0 where
     pub r : Reference
     pub cell_is : cell_at w (named n) ≡ reference r
-    pub word : Word
-    pub leads : LeadsTo sc w lay (IsOwn (part ∷ outer)) shape r word
+    pub home : CellHome tree code texts nested w lay img p q part outer bound core s n (wants.array shape) couple
+    pub leads : LeadsTo sc w lay (IsInReach w (part ∷ outer)) shape r home.word
+    pub led : IsLed tree code texts w lay img p q part outer bound core s r
     pub target : ArrayPlace tree code texts w lay img p q part outer bound core s r.instance r.name leads.declared leads.cell leads.allotted leads.array
-    pub reads : as_sirw word ≡ Some (record { stack = p; displacement = target.at; index = array_index tree code texts w lay img p q part outer bound core s r.instance leads.array.number })
-    pub at : ℕ
-    pub shown : display_at core.registers couple.level ≡ Some (place p at)
-    pub lies : word_at img.stacks (place p (at + couple.index)) ≡ Some word
-    pub fits : (couple.level < 32) × (couple.index < 2 ^ 14)
+    pub reads : as_sirw home.word
+        ≡ Some (record { stack = target.at.stack; displacement = target.at.at; index = array_index tree code texts w lay img p q part outer bound core s r.instance leads.array.number })
 
-  module _ (n : Named) (shape : Shape) (couple : Couple) (seen : IsSeen sc ((instance_at w part.instance).block) n) (v : IsFormalArray sc level n shape couple) where
+  module _ (n : Named) (shape : Shape) (couple : Couple) (is_seen : IsSeen sc ((instance_at w part.instance).block) n) (v : IsFormalArray sc level n shape couple) where
     h : CellHome tree code texts nested w lay img p q part outer bound core s n (wants.array shape) couple
-    h = cell_home tree code texts nested w lay img p q part outer bound core s n (wants.array shape) couple v.found tt seen v.there v.wanted_is v.level_is v.index_is
+    h = cell_home tree code texts nested w lay img p q part outer bound core s n (wants.array shape) couple v.found tt is_seen v.there v.wanted_is v.level_is v.index_is
 
-    module _ (r : Reference) (cell_is : cell_at w (named n) ≡ reference r) (leads : LeadsTo sc w lay (IsOwn (part ∷ outer)) shape r h.word) where
+    module _ (r : Reference) (same : h.cell ≡ reference r) (leads : LeadsTo sc w lay (IsInReach w (part ∷ outer)) shape r h.word) where
+      led : IsLed tree code texts w lay img p q part outer bound core s r
+      led = h.leads r same
+
       abbrev IsTarget : Type 0
       IsTarget = ArrayPlace tree code texts w lay img p q part outer bound core s r.instance r.name leads.declared leads.cell leads.allotted leads.array
 
       target : IsTarget
-      target = array_place tree code texts w lay img p q part outer bound core s r.instance leads.own r.name leads.declared leads.cell leads.allotted leads.array
+      target = array_place tree code texts w lay img p q part outer bound core s nested r.instance r.name led leads.declared leads.cell leads.allotted leads.array
 
       abbrev far_away : ℕ
       far_away = array_index tree code texts w lay img p q part outer bound core s r.instance leads.array.number
 
-      frame_is : leads.frame ≡ place p target.at
+      frame_is : leads.frame ≡ target.at
       frame_is = some_same (sym leads.laid ∙ target.laid)
 
       home_there : FormalHome n shape couple
       home_there =
           record {
             r = r;
-            cell_is = cell_is;
-            word = h.word;
+            cell_is = h.cell_is ∙ same;
+            home = h;
             leads = leads;
+            led = led;
             target = target;
             reads =
                 ap as_sirw leads.word_is
                 ∙ ap (λ (f : Place). as_sirw (cell_word (record { frame = f; index = far_away }))) frame_is
                 ∙ place_read tree code texts w lay img p q part outer bound core s nested r.instance r.name leads.declared leads.cell leads.allotted leads.array target;
-            at = h.at;
-            shown = h.shown;
-            lies = h.lies;
-            fits = h.fits;
           }
 
     pub formal_home : FormalHome n shape couple
-    formal_home = by_cell h.cell h.cell_is h.denotes
+    formal_home = by_cell h.cell refl h.denotes
       where
-        by_cell : (c : Cell) → cell_at w (named n) ≡ c → Denotes sc w lay (IsOwn (part ∷ outer)) (wants.array shape) c h.word → FormalHome n shape couple
+        by_cell : (c : Cell) → h.cell ≡ c → Denotes sc w lay (IsInReach w (part ∷ outer)) (wants.array shape) c h.word → FormalHome n shape couple
         by_cell (reference r) is leads = home_there r is leads
         by_cell _ is leads = absurd leads

@@ -1,10 +1,10 @@
 -- Processes that wait are able again, in a world and in its image: whom an event releases.
-use Rattle.std.proofs.Common.{◌≡◌, ◌≢◌, ◌⊎◌, inl, inr, refl, sym, ap, ◌∙◌, subst, ℕ, zero, suc, List, [], ◌∷◌, Option, Some, true}
+use Rattle.std.proofs.Common.{◌≡◌, ◌≢◌, ◌⊎◌, inl, inr, refl, sym, ap, ◌∙◌, subst, ℕ, zero, suc, List, [], ◌∷◌, Option, Some, None, true}
 use Rattle.std.specs.Prelude.{slice_set}
 use Rattle.b67_list.specs.Numbered.{numbered, set_numbered}
 use Rattle.algol_tree.specs.Plain.{PProgram}
 use Rattle.algol_tree.specs.Scopes.{scopes_of}
-use Rattle.algol_meaning.specs.World.{Process, able, lives, World, process_at, or_no_process, with_process, set_able, set_all_able}
+use Rattle.algol_meaning.specs.World.{Process, State, able, lives, World, process_at, or_no_process, with_process, set_able, set_all_able}
 use Rattle.algol_standing.specs.Worlds.{IsListed}
 use Rattle.b67_segment.specs.declared.code.Code.{Code}
 use Rattle.b67_templates.specs.Programs.{Texts}
@@ -21,7 +21,10 @@ use Rattle.b67_frames.proofs.ArraysKept.{arrays_unchanged}
 use Rattle.b67_frames.proofs.EventsKept.{events_unchanged}
 use Rattle.b67_scenes.specs.Pictures.{Living, Pictured, living, dead, PicturesBy}
 use Rattle.b67_scenes.specs.States.{StateIs}
-use Rattle.b67_scenes.proofs.Kept.{alike_by, living_alike}
+use Rattle.b67_frames.proofs.Facts.{HasFacts}
+use Rattle.b67_scenes.proofs.Ancestors.{all_laid}
+use Rattle.b67_scenes.proofs.StatesOnly.{alone_still}
+use Rattle.b67_scenes.proofs.Kept.{LeavesAlone, alike_by, living_alike}
 use Rattle.b67_scenes.proofs.Stage.{state_there, process_is, comes_to}
 
 -- the process is there, and lives
@@ -30,8 +33,30 @@ pub record LivesIn (w : World) (m : ℕ) : Type 0 where
   pub is : numbered w.processes m ≡ Some process
   pub alive : lives process.state ≡ true
 
+-- who waits is there, and lives
+pub lives_waiting : (w : World) (k : ℕ) (state : State) → (process_at w k).state ≡ state → lives state ≡ true → LivesIn w k
+lives_waiting w k state is alive = found (numbered w.processes k) refl
+  where
+    found : (y : Option Process) → numbered w.processes k ≡ y → LivesIn w k
+    found (Some z) there_is = record { process = z; is = there_is; alive = ap lives (sym (ap (λ (y : Process). y.state) (ap or_no_process there_is)) ∙ is) ∙ alive }
+    found None gone = true_false alive (ap lives (sym is ∙ ap (λ (y : Option Process). (or_no_process y).state) gone))
+
+-- who lived before lives then
+pub lives_then : (w : World) (m : ℕ) (o : Process) → numbered w.processes m ≡ Some o → (k : ℕ) → LivesIn w k → LivesIn (set_able w m) k
+lives_then w m o at k h = by_number (same_or_not k m)
+  where
+    by_number : (k ≡ m) ⊎ (k ≢ m) → LivesIn (set_able w m) k
+    by_number (inl same) =
+        record {
+          process = record (process_at w m) { state = able };
+          is = ap (λ (n : ℕ). numbered (set_numbered w.processes m (record (process_at w m) { state = able })) n) same ∙ numbered_set w.processes m o (record (process_at w m) { state = able }) at;
+          alive = refl;
+        }
+    by_number (inr other) = record { process = h.process; is = numbered_other w.processes m k (record (process_at w m) { state = able }) (λ (e : m ≡ k). other (sym e)) ∙ h.is; alive = h.alive }
+
 module _ (tree : PProgram) (code : Code) (texts : Texts) (lay : Layout) where
-  module _ (w : World) (img : Image) (by : PicturesBy tree code texts w lay img) (m : ℕ) (o : Process) (at : numbered w.processes m ≡ Some o) (alive : lives o.state ≡ true) where
+  module _ (w : World) (img : Image) (by : PicturesBy tree code texts w lay img) (m : ℕ) (o : Process) (at : numbered w.processes m ≡ Some o) (alive : lives o.state ≡ true)
+      (facts : HasFacts w) where
     abbrev o' : Process
     o' = record o { state = able }
 
@@ -40,6 +65,13 @@ module _ (tree : PProgram) (code : Code) (texts : Texts) (lay : Layout) where
 
     abbrev img' : Image
     img' = with_states img (set_numbered img.states m Able)
+
+    -- all others are left alone
+    still : (r : ℕ) → LeavesAlone (scopes_of tree) w w' lay lay r
+    still = alone_still w m o at able alive refl (scopes_of tree) lay facts (all_laid w lay facts by.laid)
+
+    facts_freed : HasFacts (set_able w m)
+    facts_freed = subst (λ (x : Process). HasFacts (with_process w m (record x { state = able }))) (sym (process_is w m o at)) ((still m).on.after)
 
     same_core : (r : ℕ) (core : Core) → is_live (numbered (set_numbered img.states m Able) r) ≡ true → HasCore img r core → HasCore img' r core
     same_core r core live has = record { live = live; registers = has.registers; own = has.own; stack = has.stack; is = has.is }
@@ -52,16 +84,14 @@ module _ (tree : PProgram) (code : Code) (texts : Texts) (lay : Layout) where
     goes_on (living a s l) =
         let now : numbered (set_numbered img.states m Able) m ≡ Some Able = able_now l in
         let later : Living tree code texts w' lay img' m o =
-        living_alike tree code texts w w' lay lay m (alike_by w w' lay m refl) img img' o (ap (λ (x : Process). x.todo) (process_is w m o at)) (ap (λ (x : Process). x.todo) (process_is w' m o' (numbered_set w.processes m o o' at)))
+        living_alike tree code texts w w' lay lay m (alike_by (scopes_of tree) w w' lay m (still m) refl) img img' o at (ap (λ (x : Process). x.todo) (process_is w' m o' (numbered_set w.processes m o o' at)))
         (λ core has. same_core m core (ap is_live now) has) l in
         living refl (subst (λ (x : Option ProcessState). StateIs able x) (sym now) tt)
         (record {
-          independent = later.independent;
-          without_task = later.without_task;
           core = later.core;
           has = later.has;
-          free = later.free;
-          idle = later.idle;
+          critical = later.critical;
+          task = later.task;
           sees = later.sees;
           small = later.small;
           settled = later.settled;
@@ -69,6 +99,7 @@ module _ (tree : PProgram) (code : Code) (texts : Texts) (lay : Layout) where
           count = later.count;
           steps = later.steps;
           frames = later.frames;
+          reaches = later.reaches;
           room = later.room;
           light = later.light;
         })
@@ -76,31 +107,18 @@ module _ (tree : PProgram) (code : Code) (texts : Texts) (lay : Layout) where
     freed_so : PicturesBy tree code texts w' lay img'
     freed_so =
         comes_to tree code texts w lay img by m o at w' lay img' o' refl by.laid (arrays_unchanged (scopes_of tree) w w' lay img.rows refl by.arrays) (events_unchanged (scopes_of tree) w w' lay img.events refl by.events)
-        (λ r other. alike_by w w' lay r refl) by.output refl refl refl (length_set_numbered img.states m Able) (λ r other. numbered_other img.states m r Able (λ e. other (sym e))) refl
+        (λ r other. alike_by (scopes_of tree) w w' lay r (still r) refl) by.output refl refl refl (length_set_numbered img.states m Able) (λ r other. numbered_other img.states m r Able (λ e. other (sym e))) refl
         (λ r core other has. same_core r core (ap is_live (numbered_other img.states m r Able (λ e. other (sym e))) ∙ has.live) has) (goes_on (by.each m o at))
 
     one_freed : PicturesBy tree code texts (set_able w m) lay (with_states img (set_numbered img.states m Able))
     one_freed = subst (λ (x : Process). PicturesBy tree code texts (with_process w m (record x { state = able })) lay img') (sym (process_is w m o at)) freed_so
 
-  -- who lived before lives then
-  lives_then : (w : World) (m : ℕ) (o : Process) → numbered w.processes m ≡ Some o → (k : ℕ) → LivesIn w k → LivesIn (set_able w m) k
-  lives_then w m o at k h = by_number (same_or_not k m)
-    where
-      by_number : (k ≡ m) ⊎ (k ≢ m) → LivesIn (set_able w m) k
-      by_number (inl same) =
-          record {
-            process = record (process_at w m) { state = able };
-            is = ap (λ (n : ℕ). numbered (set_numbered w.processes m (record (process_at w m) { state = able })) n) same ∙ numbered_set w.processes m o (record (process_at w m) { state = able }) at;
-            alive = refl;
-          }
-      by_number (inr other) = record { process = h.process; is = numbered_other w.processes m k (record (process_at w m) { state = able }) (λ (e : m ≡ k). other (sym e)) ∙ h.is; alive = h.alive }
-
   -- these are freed in their order
-  pub all_freed : (ps : List ℕ) (w : World) (img : Image) → PicturesBy tree code texts w lay img → ((k : ℕ) → IsListed ps k → LivesIn w k) → PicturesBy tree code texts (set_all_able w ps) lay (with_states img (able_again ps img.states))
-  all_freed [] w img by alive = by
-  all_freed (m ∷ ps) w img by alive =
+  pub all_freed : (ps : List ℕ) (w : World) (img : Image) → HasFacts w → PicturesBy tree code texts w lay img → ((k : ℕ) → IsListed ps k → LivesIn w k) → PicturesBy tree code texts (set_all_able w ps) lay (with_states img (able_again ps img.states))
+  all_freed [] w img facts by alive = by
+  all_freed (m ∷ ps) w img facts by alive =
       let h : LivesIn w m = alive m (inl refl) in
-      all_freed ps (set_able w m) (with_states img (set_numbered img.states m Able)) (one_freed w img by m h.process h.is h.alive) (λ k listed. lives_then w m h.process h.is k (alive k (inr listed)))
+      all_freed ps (set_able w m) (with_states img (set_numbered img.states m Able)) (facts_freed w img by m h.process h.is h.alive facts) (one_freed w img by m h.process h.is h.alive facts) (λ k listed. lives_then w m h.process h.is k (alive k (inr listed)))
 
 -- ---- another process goes on beside them
 
@@ -128,3 +146,9 @@ freed_beside (m ∷ ps) w p q none = ap (λ (u : World). set_all_able u ps) one 
     one =
         ap (λ (o : Option Process). with_process (with_process w p q) m (record (or_no_process o) { state = able })) (numbered_other w.processes p m q other)
         ∙ ap (λ (qs : List Process). record w { processes = qs }) (numbered_swap w.processes p m q (record (process_at w m) { state = able }) other)
+
+pub able_beside : (ps : List ℕ) (p : ℕ) (state : ProcessState) (states : List ProcessState) → (IsListed ps p → ⊥) → able_again ps (set_numbered states p state) ≡ set_numbered (able_again ps states) p state
+able_beside [] p state states none = refl
+able_beside (m ∷ ps) p state states none =
+    ap (able_again ps) (numbered_swap states p m state Able (λ (e : p ≡ m). none (inl (sym e))))
+    ∙ able_beside ps p state (set_numbered states m Able) (λ listed. none (inr listed))

@@ -1,4 +1,4 @@
--- Where a process finds a variable: in the frame of one of its parts.
+-- Where a process finds a variable: in the frame of its instance or of a static parent of that.
 use Rattle.std.proofs.Common.{◌≡◌, sym, ap, ◌∙◌, ℕ, ◌+◌, ◌-◌, ◌≤◌, List, ◌∷◌, length, Some, Ok, arith}
 use Rattle.std.specs.Prelude.{slice_get}
 use Rattle.b67_list.specs.Numbered.{numbered}
@@ -17,6 +17,7 @@ use Rattle.b67_segment.specs.Operators.{Placed}
 use Rattle.b67_segment.specs.Fetching.{fetched}
 use Rattle.b67_segment.specs.declared.code.Code.{Code}
 use Rattle.b67_segment.proofs.Among.{fetched-spelled}
+use Rattle.b67_store.specs.Store.{word_at}
 use Rattle.b67_table.specs.Chains.{place}
 use Rattle.b67_table.specs.Image.{Image}
 use Rattle.b67_table.specs.Private.{display_at}
@@ -31,7 +32,9 @@ use Rattle.b67_cores.specs.Stretches.{CoreAt}
 use Rattle.b67_rows.proofs.Numbers.{get_below}
 use Rattle.b67_rows.proofs.Parents.{length_around}
 use Rattle.b67_frames.specs.Arrays.{Layout}
-use Rattle.b67_frames.proofs.Lying.{IsParent, parents_in, part_own}
+use Rattle.b67_frames.specs.Frames.{IsInReach}
+use Rattle.b67_frames.proofs.StaticParents.{IsParent}
+use Rattle.b67_scenes.proofs.Led.{named_parent, named_reached, named_shown}
 use Rattle.b67_scenes.proofs.Scene.{Scene}
 use Rattle.b67_scenes.proofs.Staying.{names_in}
 use Rattle.b67_scenes.proofs.VariableHomes.{VariableHome, variable_home}
@@ -56,50 +59,36 @@ module _ (tree : PProgram) (code : Code) (texts : Texts) (w : World) (lay : Layo
   abbrev pub named_at : Named → Reference
   named_at n = record { instance = home_at n; name = n.name }
 
-  -- what a name means there: its instance, whose frame lies in the stack, and the cell in it
+  -- what a name means there: its instance, the frame of which the display names, and the cell in it
   pub record Home (n : Named) (kind : Kind) (couple : Couple) : Type 0 where
-    pub parent : IsParent tree code texts w lay p (part ∷ outer) part.instance ((use_of sc n).up) ((use_of sc n).block)
+    pub parent : IsParent sc w lay part.instance ((use_of sc n).up) ((use_of sc n).block)
+    pub reached : IsInReach w (part ∷ outer) (home_at n)
     pub found : Found
     pub at : VariableHome tree code texts w lay img p q part outer bound core s (named_at n) kind found
     pub index : couple.index ≡ 2 + at.number
-    pub below_lies : slice_get core.below (length at.lies.frame.lower + couple.index) ≡ Some at.word
-    pub shown : display_at core.registers couple.level ≡ Some (place p (length at.lies.frame.lower))
+    pub lies : word_at img.stacks (place at.seen_there.found.number (length at.seen_there.found.lies.frame.lower + couple.index)) ≡ Some at.word
+    pub shown : display_at core.registers couple.level ≡ Some (place at.seen_there.found.number (length at.seen_there.found.lies.frame.lower))
 
-  module _ (n : Named) (kind : Kind) (couple : Couple) (seen : IsSeen sc ((instance_at w part.instance).block) n) (v : IsVariable sc (names_in tree w part) n kind couple) where
-    abbrev up : ℕ
-    up = (use_of sc n).up
+  module _ (n : Named) (kind : Kind) (couple : Couple) (is_seen : IsSeen sc ((instance_at w part.instance).block) n) (v : IsVariable sc (names_in tree w part) n kind couple) where
+    parent : IsParent sc w lay part.instance ((use_of sc n).up) ((use_of sc n).block)
+    parent = named_parent tree code texts w lay img p q part outer bound core s n is_seen
 
-    low : up + OUTER_LEVEL ≤ names_in tree w part
-    low =
-        let j : ℕ = (instance_at w part.instance).block in
-        omega (arith, length_around sc.blocks ((instance_at w part.instance).block), get_below ((instance_at w part.instance).block ∷ around sc.blocks ((instance_at w part.instance).block)) up ((use_of sc n).block) seen)
+    there : found_from 0 (simple_cells sc (block_numbered sc.blocks ((instance_at w (home_at n)).block))) n.name ≡ Some v.found
+    there = ap (λ (k : ℕ). found_from 0 (simple_cells sc (block_numbered sc.blocks k)) n.name) parent.block ∙ v.there
 
-    level_up : couple.level ≡ names_in tree w part - up
-    level_up = omega (arith, v.level_is)
-
-    module _ (parent : IsParent tree code texts w lay p (part ∷ outer) part.instance up ((use_of sc n).block)) where
-      there : found_from 0 (simple_cells sc (block_numbered sc.blocks ((instance_at w (home_at n)).block))) n.name ≡ Some v.found
-      there = ap (λ (k : ℕ). found_from 0 (simple_cells sc (block_numbered sc.blocks k)) n.name) parent.block ∙ v.there
-
-      home_there : VariableHome tree code texts w lay img p q part outer bound core s (named_at n) kind v.found → Home n kind couple
-      home_there h =
-          let index_is : couple.index ≡ 2 + h.number = omega (arith, v.index_is, h.number_is) in
-          record {
-            parent = parent;
-            found = v.found;
-            at = h;
-            index = index_is;
-            below_lies = ap (λ (k : ℕ). slice_get core.below (length h.lies.frame.lower + k)) index_is ∙ h.below_lies;
-            shown =
-                ap (λ (k : ℕ). display_at core.registers k) level_up
-                ∙ s.stands.chained up low
-                ∙ ap (λ (k : ℕ). numbered lay.places k) (sym h.lies.instance_is)
-                ∙ h.lies.owned.framed.laid;
-          }
-
-      home_by : Home n kind couple
-      home_by = home_there (variable_home tree code texts w lay img p q part outer bound core s (named_at n) kind v.found parent.own there v.wanted_is)
+    home_there : VariableHome tree code texts w lay img p q part outer bound core s (named_at n) kind v.found → Home n kind couple
+    home_there h =
+        let index_is : couple.index ≡ 2 + h.number = omega (arith, v.index_is, h.number_is) in
+        record {
+          parent = parent;
+          reached = named_reached tree code texts w lay img p q part outer bound core s n is_seen;
+          found = v.found;
+          at = h;
+          index = index_is;
+          lies = ap (λ (k : ℕ). word_at img.stacks (place h.seen_there.found.number (length h.seen_there.found.lies.frame.lower + k))) index_is ∙ h.word_lies;
+          shown = named_shown tree code texts w lay img p q part outer bound core s n is_seen couple.level v.level_is h.seen_there;
+        }
 
     pub home : Home n kind couple
     home =
-        home_by (parents_in tree code texts w lay p part outer core s.stands s.around part.instance (part_own tree code texts w lay p part outer core.below s.stands.frame) up ((use_of sc n).block) seen)
+        home_there (variable_home tree code texts w lay img p q part outer bound core s (named_at n) kind v.found there v.wanted_is (named_reached tree code texts w lay img p q part outer bound core s n is_seen))

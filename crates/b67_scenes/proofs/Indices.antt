@@ -33,9 +33,10 @@ use Rattle.b67_rows.proofs.Described.{whole_read, IsDescriptor, is_descriptor, w
 use Rattle.b67_rows.proofs.IndexRows.{with_one, array_itself, array_reached, array_through}
 use Rattle.b67_rows.proofs.Slotted.{Top, top_slot}
 use Rattle.b67_rows.proofs.Words.{reference_read}
-use Rattle.b67_frames.specs.Arrays.{Allotted, Layout, DescriptorIs, AreSized, IsArrayOf, IsIn, row_copy, named_from, IsRow, IsOwn}
+use Rattle.b67_frames.specs.Arrays.{Allotted, Layout, DescriptorIs, AreSized, IsArrayOf, IsIn, row_copy, named_from, IsRow}
 use Rattle.b67_frames.proofs.ElementRows.{array_read, row_copy_read}
 use Rattle.b67_frames.proofs.FewElements.{OneSized, one_sized, TwoSized, two_sized}
+use Rattle.b67_frames.specs.Frames.{IsInReach}
 use Rattle.b67_frames.proofs.Knowing.{known_is}
 use Rattle.b67_frames.proofs.Subscripts.{CountsBy, one_bound, two_bounds, only_index, first_index, second_index}
 use Rattle.b67_scenes.proofs.ArrayHomes.{Reaches, directly, by_reference, MeantArray}
@@ -189,8 +190,8 @@ module _ (tree : PProgram) (code : Code) (texts : Texts) (nested : AreNested (sc
       two : Two_slots (descriptor (row n (j ∷ []))) (moved second_low subscript) below
       two = two_slots (descriptor (row n (j ∷ []))) (moved second_low subscript) below lies
 
-      of_row : IsRow sc w lay (IsOwn (part ∷ outer)) part.instance n (j ∷ []) two.upper.word
-      of_row = known_is sc w lay (part ∷ outer) part.instance s.stands.held s.stands.held_are (row n (j ∷ [])) two.upper.word two.upper.slot_is
+      of_row : IsRow sc w lay (IsInReach w (part ∷ outer)) part.instance n (j ∷ []) two.upper.word
+      of_row = known_is sc w lay (IsInReach w (part ∷ outer)) part.instance s.stands.held s.stands.held_are (row n (j ∷ [])) two.upper.word two.upper.slot_is
 
       -- it is of this array
       of_home : IsArrayOf sc w lay home.instance home.name of_row.declared of_row.cell of_row.allotted

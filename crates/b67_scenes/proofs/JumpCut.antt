@@ -1,13 +1,14 @@
 -- The way of GO TO down a process's stack: from the innermost part to that of the label's instance, past the frames that are left.
-use Rattle.std.proofs.Common.{◌≡◌, inl, inr, refl, sym, ap, ◌∙◌, subst, ℕ, zero, suc, ◌+◌, ◌<◌, ◌≤◌, List, [], ◌∷◌, ◌++◌, length, take, drop, Some, Bool, true, false, Ok, arith, append_assoc, append-nil, length-append}
-use Rattle.std.specs.Prelude.{if◌then◌else◌, ◌==◌, nat_eq, nat_lt, reverse}
+use Rattle.std.proofs.Common.{◌≡◌, inl, inr, refl, sym, ap, ◌∙◌, subst, ℕ, zero, suc, ◌+◌, ◌<◌, ◌≤◌, List, [], ◌∷◌, ◌++◌, length, take, drop, Some, None, Bool, true, false, Ok, arith, append_assoc, append-nil, length-append}
+use Rattle.std.specs.Prelude.{if◌then◌else◌, ◌==◌, nat_eq, nat_lt, reverse, slice_get, map}
 use Rattle.std.proofs.lemmas.Bool.Decides.{nat_tests}
 use Rattle.b67_list.specs.Numbered.{numbered}
 use Rattle.algol_tree.specs.Plain.{PProgram}
 use Rattle.algol_tree.specs.Scopes.{Scopes, scopes_of}
 use Rattle.algol_meaning.specs.Critical.{is_evaluation, own_instances}
 use Rattle.algol_meaning.specs.Instances.{leave, is_part_of, cut_at}
-use Rattle.algol_meaning.specs.World.{Part, World, instance_at}
+use Rattle.algol_meaning.specs.World.{NamedCell, Instance, Part, Process, World, instance_at, cell_in, by_cell}
+use Rattle.algol_standing.specs.Worlds.{IsOwn, IsStanding, stack_of}
 use Rattle.b67_word.specs.declared.Place.{Place}
 use Rattle.b67_word.specs.Word.{Word}
 use Rattle.b67_segment.specs.declared.code.Code.{Code}
@@ -24,18 +25,22 @@ use Rattle.b67_faithful.specs.Weight.{parts_weight}
 use Rattle.b67_faithful.proofs.Contradictions.{some_same, true_false}
 use Rattle.b67_rows.proofs.Displays.{same_is}
 use Rattle.b67_rows.proofs.Numbers.{numbered_other}
+use Rattle.b67_rows.proofs.Parting.{IsSameBut}
 use Rattle.b67_rows.proofs.TurnRow.{not_below}
-use Rattle.b67_frames.specs.Arrays.{Layout, ArraysAre, IsOwn}
-use Rattle.b67_frames.specs.Frames.{Frame, Waits, Around, Owned, Shape, of_own, of_lent}
+use Rattle.b67_frames.specs.Arrays.{Layout, ArraysAre}
+use Rattle.b67_frames.specs.Frames.{IsInReach, home_of, Framed, Frame, Waits, Around, Owned, Shape, of_own, of_lent}
 use Rattle.b67_frames.specs.Lent.{Lent}
 use Rattle.b67_frames.proofs.Closing.{IsClosed, FramesClose}
 use Rattle.b67_frames.proofs.JumpClosing.{after_one, cells_there, AreClosed, none_closed, own_closed, lent_closed}
 use Rattle.b67_frames.proofs.JumpRow.{same_number}
 use Rattle.b67_frames.proofs.Linked.{Begins_with}
-use Rattle.b67_frames.proofs.Lying.{StayBelow, Stayed, frame_stays, owned_frame}
+use Rattle.b67_frames.proofs.Knowing.{KeepsArrays, Remain, denotes_lasts}
+use Rattle.b67_frames.proofs.Lying.{owned_frame}
 use Rattle.b67_scenes.proofs.FrameBelow as down
 use Rattle.b67_scenes.proofs.FrameBelow.{leads_down, begins_below}
-use Rattle.b67_scenes.proofs.JumpWorld.{IsAmong, AreHigh, IsHigh}
+use Rattle.b67_scenes.proofs.Heights.{own_low}
+use Rattle.b67_scenes.proofs.JumpWorld.{IsAmong, AreHigh, IsHigh, leave_processes, leave_same}
+use Rattle.b67_scenes.proofs.PassedFrames.{IsPassed, ArePassed, passed_further}
 use Rattle.b67_scenes.proofs.Staying.{most_in}
 
 -- ---- tests of numbers
@@ -68,6 +73,78 @@ part_outer part outer i e (inr later) = later
 part_outer part outer i e (inl own) =
     true_false (ap (λ (t : Bool). if t then false else part.instance == i) own.0 ∙ same_is part.instance i own.1) e
 
+-- ---- worlds between
+
+-- In another world the instances of process p whose frames lie so low are as they were; all others may have been left; and the processes are the same.
+pub record LieStill (w w' : World) (lay : Layout) (p limit : ℕ) : Type 0 where
+  pub instances : (j at : ℕ) (x : Instance) → numbered w.instances j ≡ Some x → x.process ≡ p → numbered lay.places j ≡ Some (place p at) → at < limit → numbered w'.instances j ≡ Some x
+  pub same : (j : ℕ) → IsSameBut (instance_at w' j) (instance_at w j)
+  pub processes : w'.processes ≡ w.processes
+
+home_still : (sc : Scopes) (w w' : World) (lay : Layout) (j : ℕ) (h : Place) → home_of sc w lay j ≡ Some h → home_of sc w' lay j ≡ Some h
+home_still sc w w' lay zero h e = e
+home_still sc w w' lay (suc j) h e = e
+
+module _ (sc : Scopes) (w w' : World) (lay : Layout) (p limit : ℕ) (still : LieStill w w' lay p limit) where
+  standing_still : (j : ℕ) → IsStanding w j → IsStanding w' j
+  standing_still j st =
+      record {
+        number = st.number;
+        stack = st.stack;
+        is = ap (λ (qs : List Process). slice_get (record { own = []; evaluations = []; critical = None; live = false } ∷ map stack_of qs) st.number) still.processes ∙ st.is;
+        inside = st.inside;
+      }
+
+  cells_still : (j : ℕ) → KeepsArrays sc w w' lay lay j
+  cells_still j =
+      let same : IsSameBut (instance_at w' j) (instance_at w j) = still.same j in
+      record {
+        block = same.block;
+        parent = same.parent;
+        arrays = λ name cell is. record { later = cell; is = ap (λ (cells : List NamedCell). cell_in cells name) same.cells ∙ is; bounds = refl };
+        events = λ name e is. (e, ap (λ (cells : List NamedCell). cell_in cells name) same.cells ∙ is);
+        leads = λ name r. ap (λ (cells : List NamedCell). by_cell (cell_in cells name) r) same.cells;
+        rows = λ number a there. there;
+      }
+
+  still_remain : Remain sc w w' lay lay (IsStanding w) (IsStanding w')
+  still_remain = record { stays = standing_still; keeps = λ j st. cells_still j; places = λ j f st laid. laid }
+
+  -- so their frames are there
+  framed_still : {i : ℕ} {outer : List Part} {at : ℕ} {mark control : Word} {cells : List Word} → Framed sc w lay p i outer at mark control cells → at < limit → Framed sc w' lay p i outer at mark control cells
+  framed_still {i} {outer} {at} f low =
+      record {
+        instance = f.instance;
+        is = still.instances i at f.instance f.is f.own f.laid low;
+        own = f.own;
+        known = f.known;
+        stands = f.stands;
+        laid = f.laid;
+        simple = f.simple;
+        values = f.values;
+        simple_are = f.simple_are;
+        formals = λ k s there refers.
+            let g = f.formals k s there refers in
+            (g.0, g.1, g.2, g.3, denotes_lasts sc w w' lay lay (IsStanding w) (IsStanding w') still_remain s.wanted g.0.cell g.1 g.4);
+        ats = f.ats;
+        each_has_place = f.each_has_place;
+        arrays = f.arrays;
+        declared = f.declared;
+        later = f.later;
+        order = f.order;
+        descriptors = f.descriptors;
+        made = f.made;
+        has = f.has;
+        cells_is = f.cells_is;
+        home = f.home;
+        linked = home_still sc w w' lay f.instance.parent f.home f.linked;
+        df = f.df;
+        mark_is = f.mark_is;
+        back = f.back;
+        control_is = f.control_is;
+        level_is = f.level_is;
+      }
+
 module _ (tree : PProgram) (code : Code) (texts : Texts) (closing : FramesClose) (w : World) (lay : Layout) (p i : ℕ) (stacks : Stacks) (stack : List Word) where
   abbrev sc : Scopes
   sc = scopes_of tree
@@ -98,6 +175,7 @@ module _ (tree : PProgram) (code : Code) (texts : Texts) (closing : FramesClose)
     pub passed : List Passed
     pub passes : (steps : ℕ) → length f.lower < steps →
         seen stacks (passing steps p (length frame.lower) (record { frame = length f.lower; cells = length f.cells })) ≡ Ok (record { frames = passed; cells = length frame.cells })
+    pub are_passed : ArePassed lay p (length f.lower) (part ∷ outer) above passed
     -- the own instances of the part and of those around it, and below which frames these lie
     pub inside : (k : ℕ) → IsOwn (target ∷ parts) k → IsOwn (part ∷ outer) k
     pub others : (k : ℕ) → IsOwn (part ∷ outer) k → (IsAmong (own_instances above) k → ⊥) → IsOwn (target ∷ parts) k
@@ -105,7 +183,7 @@ module _ (tree : PProgram) (code : Code) (texts : Texts) (closing : FramesClose)
         ((next : Part) (more : List Part) (lower : List Word) (mark control : Word) (wanted : Yields) → Around tree code texts w lay p (next ∷ more) lower mark control wanted →
         ((k : ℕ) → IsOwn (target ∷ parts) k → IsOwn (next ∷ more) k) → is (length lower) ≡ false) →
         NoFrame is passed
-    pub closes : (w' : World) (limit : ℕ) → StayBelow w w' lay lay p limit → length f.lower < limit → (img : Image) → ArraysAre (scopes_of tree) w' lay img.rows →
+    pub closes : (w' : World) (limit : ℕ) → LieStill w w' lay p limit → length f.lower < limit → (img : Image) → ArraysAre (scopes_of tree) w' lay img.rows →
         AreClosed (scopes_of tree) lay p stack w' img (own_instances above) passed
 
   -- ---- it is the part itself
@@ -145,6 +223,7 @@ module _ (tree : PProgram) (code : Code) (texts : Texts) (closing : FramesClose)
           high = tt;
           passed = [];
           passes = arrives;
+          are_passed = tt;
           inside = λ k own. own;
           others = λ k own none. own;
           frames = λ is each. tt;
@@ -221,14 +300,22 @@ module _ (tree : PProgram) (code : Code) (texts : Texts) (closing : FramesClose)
       -- how its frame is closed, and all below it
       abbrev Closes : Type 0
       Closes =
-          (w' : World) (limit : ℕ) → StayBelow w w' lay lay p limit → length f.lower < limit → (img : Image) → ArraysAre sc w' lay img.rows →
+          (w' : World) (limit : ℕ) → LieStill w w' lay p limit → length f.lower < limit → (img : Image) → ArraysAre sc w' lay img.rows →
           AreClosed sc lay p stack w' img (own_instances (part ∷ way_on.above)) (first ∷ way_on.passed)
 
       abbrev Others : Type 0
       Others = (k : ℕ) → IsOwn (part ∷ next ∷ parts) k → (IsAmong (own_instances (part ∷ way_on.above)) k → ⊥) → IsOwn (way_on.target ∷ way_on.parts) k
 
-      abbrev way_by : AreHigh w lay p (length way_on.front) (own_instances (part ∷ way_on.above)) → Others → Closes → Way part (next ∷ parts) words f
-      way_by high others closes =
+      abbrev IsPassedHere : Type 0
+      IsPassedHere = IsPassed lay p (length f.lower) (part ∷ next ∷ parts) part (length f.lower)
+
+      passed_on : ArePassed lay p (length f.lower) (part ∷ next ∷ parts) way_on.above way_on.passed
+      passed_on =
+          passed_further lay p (length u.frame.lower) (length f.lower) part (next ∷ parts) (omega (arith, height, lowest))
+          (λ owns. (owned_frame tree code texts w lay p part (next ∷ parts) words f owns).framed.laid) way_on.above way_on.passed way_on.are_passed
+
+      abbrev way_by : AreHigh w lay p (length way_on.front) (own_instances (part ∷ way_on.above)) → IsPassedHere → Others → Closes → Way part (next ∷ parts) words f
+      way_by high passed_here others closes =
           record {
             target = way_on.target;
             parts = way_on.parts;
@@ -251,6 +338,7 @@ module _ (tree : PProgram) (code : Code) (texts : Texts) (closing : FramesClose)
             high = high;
             passed = first ∷ way_on.passed;
             passes = passes_it;
+            are_passed = (passed_here, passed_on);
             inside = λ k own. inr (way_on.inside k own);
             others = others;
             frames = λ is each. (each next parts f.lower f.mark f.control f.gives a way_on.inside, way_on.frames is each);
@@ -271,27 +359,21 @@ module _ (tree : PProgram) (code : Code) (texts : Texts) (closing : FramesClose)
         all_high =
             subst (λ (t : Bool). AreHigh w lay p (length way_on.front) (if t then own_instances way_on.above else part.instance ∷ own_instances way_on.above)) (sym o.owns) (own_high, way_on.high)
 
-        module _ (w' : World) (limit : ℕ) (stay : StayBelow w w' lay lay p limit) (within : length f.lower < limit) (img : Image) (are : ArraysAre sc w' lay img.rows) where
-          still : Stayed tree code texts w w' lay lay p limit stay part (next ∷ parts) words f
-          still = frame_stays tree code texts w w' lay lay p limit stay part (next ∷ parts) words f a within
-
-          owned_still : Owned tree code texts w' lay p part (next ∷ parts) (length still.frame.lower) still.frame.mark still.frame.control still.frame.cells
-          owned_still = owned_frame tree code texts w' lay p part (next ∷ parts) words still.frame o.owns
-
+        module _ (w' : World) (limit : ℕ) (stay : LieStill w w' lay p limit) (within : length f.lower < limit) (img : Image) (are : ArraysAre sc w' lay img.rows) where
           shut : IsClosed sc w' lay img part.instance f.cells
-          shut =
-              subst (λ (cells : List Word). IsClosed sc w' lay img part.instance cells) still.cells
-              (closing sc w' lay img are p part.instance (next ∷ parts) (length still.frame.lower) still.frame.mark still.frame.control still.frame.cells owned_still.framed)
+          shut = closing sc w' lay img are p part.instance (next ∷ parts) (length f.lower) f.mark f.control f.cells (framed_still sc w w' lay p limit stay o.framed within)
 
           -- what lies lower is as it was
-          lower_stay : StayBelow w (leave w' (part.instance ∷ [])) lay lay p (length f.lower)
+          lower_stay : LieStill w (leave w' (part.instance ∷ [])) lay p (length f.lower)
           lower_stay =
               record {
                 instances = λ j at x there own laid low.
                     numbered_other w'.instances part.instance j (record (instance_at w' part.instance) { left = true }) (λ same. apart j at laid low same)
                     ∙ stay.instances j at x there own laid (omega (arith, low, within));
-                places = λ j g there. there;
-                rows = λ j at x there own laid low. refl;
+                same = λ j.
+                    let one : IsSameBut (instance_at (leave w' (part.instance ∷ [])) j) (instance_at w' j) = leave_same (part.instance ∷ []) w' j in
+                    record { block = one.block ∙ (stay.same j).block; parent = one.parent ∙ (stay.same j).parent; cells = one.cells ∙ (stay.same j).cells };
+                processes = leave_processes (part.instance ∷ []) w' ∙ stay.processes;
               }
             where
               apart : (j at : ℕ) → numbered lay.places j ≡ Some (place p at) → at < length f.lower → part.instance ≡ j → ⊥
@@ -319,11 +401,11 @@ module _ (tree : PProgram) (code : Code) (texts : Texts) (closing : FramesClose)
         others_own k (inr later) none = way_on.others k later (λ among. none (subst (λ (t : Bool). AmongAll t k) (sym o.owns) (inr among)))
 
         past_own : Way part (next ∷ parts) words f
-        past_own = way_by all_high others_own closes_own
+        past_own = way_by all_high (record { low = omega arith; frame = inl (o.owns, inl (o.owns, refl), o.framed.laid) }) others_own closes_own
 
       -- one that is lent to an evaluation
 
-      module _ (l : Lent lay (IsOwn (next ∷ parts)) part f.cells f.home f.gives) where
+      module _ (l : Lent lay (IsInReach w (next ∷ parts)) part f.cells f.home f.gives) where
         lent_high : AreHigh w lay p (length way_on.front) (own_instances (part ∷ way_on.above))
         lent_high =
             subst (λ (t : Bool). AreHigh w lay p (length way_on.front) (if t then own_instances way_on.above else part.instance ∷ own_instances way_on.above)) (sym l.evaluates) way_on.high
@@ -340,8 +422,13 @@ module _ (tree : PProgram) (code : Code) (texts : Texts) (closing : FramesClose)
             way_on.others k later
             (λ among. none (subst (λ (t : Bool). IsAmong (if t then own_instances way_on.above else part.instance ∷ own_instances way_on.above) k) (sym l.evaluates) among))
 
+        -- no own instance has its frame there
+        lent_apart : (k : ℕ) (g : Place) → IsOwn (part ∷ next ∷ parts) k → numbered lay.places k ≡ Some g → g.at ≡ length f.lower → ⊥
+        lent_apart k g (inl own) laid at = true_false l.evaluates own.0
+        lent_apart k g (inr later) laid at = absurd (omega (arith, at, (own_low tree code texts w lay p (next ∷ parts) f.lower f.mark f.control f.gives a k later g laid).1))
+
         past_lent : Way part (next ∷ parts) words f
-        past_lent = way_by lent_high others_lent closes_lent
+        past_lent = way_by lent_high (record { low = omega arith; frame = inr (l.evaluates, lent_apart) }) others_lent closes_lent
 
       past : Way part (next ∷ parts) words f
       past = by_shape f.shape

@@ -16,7 +16,8 @@ use Rattle.b67_segment.specs.declared.code.Code.{Code}
 use Rattle.b67_store.specs.Store.{Stacks}
 use Rattle.b67_table.specs.GoingTo.{Passed}
 use Rattle.b67_templates.specs.Programs.{Texts}
-use Rattle.b67_frames.specs.Arrays.{Layout, IsOwn}
+use Rattle.algol_standing.specs.Worlds.{IsOwn}
+use Rattle.b67_frames.specs.Arrays.{Layout}
 use Rattle.b67_frames.specs.Events.{HasEvent, EventsAre}
 use Rattle.b67_frames.specs.Frames.{Frame}
 use Rattle.b67_frames.proofs.Closing.{FramesClose}

@@ -4,6 +4,7 @@ use Rattle.std.specs.Prelude.{slice_get, slice_set}
 use Rattle.b67_list.specs.Numbered.{numbered, set_numbered}
 use Rattle.algol_meaning.specs.Instances.{leave}
 use Rattle.algol_meaning.specs.World.{Instance, Process, World, no_process, instance_at, or_no_instance, ancestor, with_instance, with_process}
+use Rattle.algol_tree.specs.Scopes.{Scopes}
 use Rattle.b67_word.specs.declared.Place.{Place}
 use Rattle.b67_table.specs.Chains.{place}
 use Rattle.b67_faithful.proofs.Choices.{length_set_numbered}
@@ -12,7 +13,9 @@ use Rattle.b67_rows.proofs.Numbers.{same_or_not, numbered_set, numbered_other}
 use Rattle.b67_rows.proofs.Parting.{IsSameBut, same_but}
 use Rattle.b67_frames.specs.Arrays.{Layout}
 use Rattle.b67_frames.proofs.Lying.{StayBelow}
-use Rattle.b67_scenes.proofs.Kept.{AreAlike}
+use Rattle.b67_frames.proofs.Onward.{StandOn}
+use Rattle.b67_scenes.proofs.Kept.{LeavesAlone, AreAlike}
+use Rattle.b67_scenes.proofs.Tasks.{EventsStay, events_left}
 
 -- an instance is one of these
 abbrev pub IsAmong : List ℕ → ℕ → Type 0
@@ -164,11 +167,11 @@ module _ (w : World) (lay : Layout) (p limit : ℕ) where
   among_high (i ∷ is) high j (inr later) = among_high is high.1 j later
 
   -- what lies lower stays
-  pub leave_below : (is : List ℕ) → AreHigh is → (q : Process) → StayBelow w (with_process (leave w is) p q) lay lay p limit
-  leave_below is high q =
+  pub leave_below : (sc : Scopes) (is : List ℕ) → AreHigh is → (q : Process) → StandOn sc w (with_process (leave w is) p q) lay lay → StayBelow sc w (with_process (leave w is) p q) lay lay p limit
+  leave_below sc is high q on =
       record {
+        on = on;
         instances = λ j at x there own laid low. leave_others is w j (λ a. apart j at laid low (among_high is high j a)) ∙ there;
-        places = λ j f there. there;
         rows = λ j at x there own laid low. refl;
       }
     where
@@ -177,13 +180,18 @@ module _ (w : World) (lay : Layout) (p limit : ℕ) where
           let same : h.at ≡ at = ap (λ (x : Place). x.at) (some_same (sym h.laid ∙ laid)) in
           absurd (omega (arith, h.high, low, same))
 
-  -- and so does what other processes have
-  pub leave_alike : (is : List ℕ) → AreHigh is → (q : Process) (m : ℕ) → m ≢ p → AreAlike w (with_process (leave w is) p q) lay lay m
-  leave_alike is high q m other =
+  -- and so do events
+  pub leave_events : (is : List ℕ) (q : Process) → EventsStay w (with_process (leave w is) p q)
+  leave_events is q = events_left w (with_process (leave w is) p q) (λ j. let s : IsSameBut (instance_at (leave w is) j) (instance_at w j) = leave_same is w j in record { block = s.block; parent = s.parent; cells = s.cells })
+
+  -- and what other processes have
+  pub leave_alike : (sc : Scopes) (is : List ℕ) → AreHigh is → (q : Process) (m : ℕ) → m ≢ p → LeavesAlone sc w (with_process (leave w is) p q) lay lay m → AreAlike sc w (with_process (leave w is) p q) lay lay m
+  leave_alike sc is high q m other alone =
       record {
+        alone = alone;
         own = λ j x there own. leave_others is w j (λ a. apart j x there own (among_high is high j a)) ∙ there;
-        places = λ j f there. there;
         rows = λ j x there own. refl;
+        events = leave_events is q;
       }
     where
       apart : (j : ℕ) (x : Instance) → numbered w.instances j ≡ Some x → x.process ≡ m → IsHigh j → ⊥

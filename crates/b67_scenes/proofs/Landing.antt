@@ -1,9 +1,10 @@
 -- A process that has a core at a place from which private operators lead to where the machine stands for what its parts have still to do.
-use Rattle.std.proofs.Common.{◌≡◌, sym, ap, ◌∙◌, subst, ℕ, ◌+◌, ◌≤◌, List, ◌∷◌, ◌++◌, length, Some, None, arith}
+use Rattle.std.proofs.Common.{◌≡◌, sym, ap, ◌∙◌, subst, ℕ, ◌+◌, ◌≤◌, List, ◌∷◌, ◌++◌, length, Some, arith}
 use Rattle.algol_tree.specs.Plain.{PProgram}
 use Rattle.algol_tree.specs.Scopes.{Scopes, scopes_of}
 use Rattle.algol_meaning.specs.World.{Process, Part, World, instance_at}
 use Rattle.algol_paths.specs.Segments.{segment_of}
+use Rattle.b67_scenes.proofs.Paths.{CanClimb}
 use Rattle.b67_control.specs.declared.Registers.{Registers}
 use Rattle.b67_control.specs.Display.{place_at}
 use Rattle.b67_segment.specs.Operators.{Placed}
@@ -20,9 +21,13 @@ use Rattle.b67_cores.specs.Slots.{Known}
 use Rattle.b67_cores.specs.Stretches.{CoreAt, Arrives, FragmentsArePerformed}
 use Rattle.b67_cores.proofs.Moving.{slots_length, steps_on}
 use Rattle.b67_faithful.specs.Weight.{weight}
-use Rattle.b67_frames.specs.Arrays.{Layout, AreKnown, IsOwn}
-use Rattle.b67_frames.specs.Frames.{IsChained, Frame, Around, Frames}
+use Rattle.b67_frames.specs.Arrays.{Layout, AreKnown}
+use Rattle.b67_frames.specs.Frames.{IsInReach, IsChained, Frame, Around, Frames}
+use Rattle.b67_scenes.specs.Depending.{CriticalIs, TaskIs}
 use Rattle.b67_scenes.specs.Pictures.{innermost_most, Living}
+use Rattle.b67_scenes.specs.Reaches as reaching
+use Rattle.b67_scenes.specs.Reaches.{Reaches, ReachesFor}
+use Rattle.b67_scenes.proofs.Ancestors.{AreLaid}
 use Rattle.b67_scenes.proofs.Staying.{text_in, level_in, context_in, most_in, names_in}
 use Rattle.b67_scenes.proofs.Stuffed.{known_both, sees, stuffed_known}
 
@@ -37,11 +42,9 @@ module _ (tree : PProgram) (code : Code) (texts : Texts) (w : World) (lay : Layo
   -- a place from where the machine comes to where it stands for what the part has still to do.
   pub record Landed (p : ℕ) (q : Process) (part : Part) (outer : List Part) (bound : ℕ) (first core : Core) : Type 0 where
     pub todo : q.todo ≡ part ∷ outer
-    pub independent : q.critical ≡ None
-    pub without_task : q.task ≡ None
     pub has : HasCore img p first
-    pub free : first.registers.critical ≡ None
-    pub idle : first.registers.task ≡ None
+    pub critical : CriticalIs lay q.critical first.registers.critical
+    pub task : TaskIs (scopes_of tree) w lay q.task first.registers.task
     pub sees : place_at first.registers.display 0 ≡ Some (place 0 0)
     pub small : size first ≤ stack_limit
     pub begun : ℕ
@@ -55,18 +58,26 @@ module _ (tree : PProgram) (code : Code) (texts : Texts) (w : World) (lay : Layo
     pub pc : ℕ
     pub slots : List Slot
     pub known : List Known
-    pub known_are : AreKnown (scopes_of tree) w lay (IsOwn (part ∷ outer)) part.instance known
+    pub known_are : AreKnown (scopes_of tree) w lay (IsInReach w (part ∷ outer)) part.instance known
     pub at : CoreAt (scopes_of tree) known code (text_in tree texts w part) (level_in tree w part) pc slots core
     pub held : length slots ≤ most_in tree w part
     pub comes : ComesTo (scopes_of tree) (context_in tree code texts w part frame.gives) (text_in tree texts w part) (level_in tree w part) (most_in tree w part) part.rest pc slots
+    pub reaches : Reaches (scopes_of tree) w lay p part first core
     pub room : length core.below + most_in tree w part ≤ bound
     pub light : bound + 3 ≤ weight tree w p
 
-  pub living_of : FragmentsArePerformed → (p : ℕ) (q : Process) (part : Part) (outer : List Part) (bound : ℕ) (first core : Core) → Landed p q part outer bound first core → Living tree code texts w lay img p q
-  living_of fragments p q part outer bound first core l =
+  -- what others may look at does not change where no cell is added
+  reach_moved : (p : ℕ) (part : Part) (first core moved : Core) → moved.below ≡ core.below → Reaches (scopes_of tree) w lay p part first core → Reaches (scopes_of tree) w lay p part first moved
+  reach_moved p part first core moved same (reaching.all as_long) = reaching.all (as_long ∙ ap length (sym same))
+  reach_moved p part first core moved same (reaching.low at owns laid enough is_low) = reaching.low at owns laid enough is_low
+  reach_moved p part first core moved same (reaching.none_yet at owns laid enough free) = reaching.none_yet at owns laid enough free
+
+  -- so it lives, where names lead somewhere, and who stands has a place
+  pub living_of : CanClimb (scopes_of tree) w → AreLaid w lay → FragmentsArePerformed → (p : ℕ) (q : Process) (part : Part) (outer : List Part) (bound : ℕ) (first core : Core) → Landed p q part outer bound first core → Living tree code texts w lay img p q
+  living_of climb laid fragments p q part outer bound first core l =
       let a : Arrives (scopes_of tree) l.known (context_in tree code texts w part l.frame.gives) code (text_in tree texts w part) (level_in tree w part) (most_in tree w part) bound l.comes.at l.comes.with_slots core =
       fragments.leads (scopes_of tree) l.known (context_in tree code texts w part l.frame.gives) code (text_in tree texts w part) (level_in tree w part) (most_in tree w part) bound l.pc l.comes.at l.slots l.comes.with_slots core l.comes.leads l.at
-      (sees tree code texts w lay p part outer core.below l.frame l.around core l.chained) l.held l.room in
+      (sees tree code texts w climb lay laid p part outer core.below l.frame l.around core l.chained) l.held l.room in
       let chained_there : IsChained (scopes_of tree) w lay part.instance (names_in tree w part) a.core.registers.display =
       subst (λ d. IsChained (scopes_of tree) w lay part.instance (names_in tree w part) d) (sym (ap (λ (r : Registers). r.display) a.moved.registers)) l.chained in
       let stands : Frames tree code texts w lay p (part ∷ outer) a.core = (
@@ -98,8 +109,8 @@ module _ (tree : PProgram) (code : Code) (texts : Texts) (w : World) (lay : Layo
           pc = l.comes.at;
           slots = l.comes.with_slots;
           held = a.added ++ l.known;
-          held_are = known_both (scopes_of tree) w lay (part ∷ outer) part.instance a.added l.known
-              (stuffed_known tree code texts w lay p part outer core.below l.frame l.around core l.chained a.added a.added_are) l.known_are;
+          held_are = known_both (scopes_of tree) w lay (IsInReach w (part ∷ outer)) part.instance a.added l.known
+              (stuffed_known tree code texts w climb lay laid p part outer core.below l.frame l.around core l.chained a.added a.added_are) l.known_are;
           stands = l.comes.stands;
           there = a.at;
           few = a.room;
@@ -107,12 +118,10 @@ module _ (tree : PProgram) (code : Code) (texts : Texts) (w : World) (lay : Layo
         l.around,
       ) in
       record {
-        independent = l.independent;
-        without_task = l.without_task;
         core = first;
         has = l.has;
-        free = l.free;
-        idle = l.idle;
+        critical = l.critical;
+        task = l.task;
         sees = l.sees;
         small = l.small;
         settled = a.core;
@@ -120,6 +129,7 @@ module _ (tree : PProgram) (code : Code) (texts : Texts) (w : World) (lay : Layo
         count = l.begun + a.count;
         steps = steps_on l.begins a.steps;
         frames = subst (λ t. Frames tree code texts w lay p t a.core) (sym l.todo) stands;
+        reaches = subst (λ t. ReachesFor (scopes_of tree) w lay p t first a.core) (sym l.todo) (reach_moved p part first core a.core a.moved.below l.reaches);
         room = omega (arith, l.room, ap length a.moved.below, ap (innermost_most tree w) l.todo);
         light = l.light;
       }

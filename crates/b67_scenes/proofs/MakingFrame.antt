@@ -1,13 +1,15 @@
 -- The frame of a part that makes what its block declares: after its cells lie descriptors of arrays, and words of events.
 use Rattle.algol_meaning.specs.Critical.{is_evaluation}
-use Rattle.std.specs.Prelude.{if◌then◌else◌}
+use Rattle.algol_standing.specs.Worlds.{IsStanding}
+use Rattle.b67_rows.proofs.StackWords.{get-front}
+use Rattle.std.specs.Prelude.{if◌then◌else◌, slice_get}
 use Rattle.std.proofs.Common.{◌≡◌, ◌≢◌, refl, sym, ap, ◌∙◌, subst, ℕ, ◌+◌, ◌*◌, ◌<◌, ◌≤◌, List, ◌∷◌, ◌++◌, length, Option, Some, Bool, false, arith, append_assoc, length-append}
 use Rattle.b67_list.specs.Numbered.{numbered}
 use Rattle.algol_tree.specs.Blocks.{Block, block_numbered, around}
 use Rattle.algol_tree.specs.Plain.{PProgram}
 use Rattle.algol_tree.specs.Scopes.{Scopes, scopes_of}
 use Rattle.algol_meaning.specs.Rest.{done}
-use Rattle.algol_meaning.specs.World.{NamedCell, Instance, Process, Part, World, instance_at, or_no_instance, with_process}
+use Rattle.algol_meaning.specs.World.{NamedCell, Instance, Process, Part, World, instance_at, or_no_instance, with_process, cell_in}
 use Rattle.algol_meaning.specs.Asks.{resume}
 use Rattle.algol_paths.specs.Arrays.{Made, all_to_make, all_left_to_make}
 use Rattle.algol_paths.specs.Laws.{KeepsToText, RestsKeepToTheirText, AllIsMadeInOrder}
@@ -18,7 +20,7 @@ use Rattle.b67_table.specs.Chains.{place}
 use Rattle.b67_table.specs.Image.{Image}
 use Rattle.b67_table.specs.Limits.{most_cells, most_arrays}
 use Rattle.b67_templates.specs.Contexts.{yields_of}
-use Rattle.b67_templates.specs.Cells.{simple_cells, made_of}
+use Rattle.b67_templates.specs.Cells.{Simple, simple_cells, made_of}
 use Rattle.b67_templates.specs.Programs.{Texts}
 use Rattle.b67_cores.specs.Cores.{Core}
 use Rattle.b67_cores.specs.Stretches.{control_words}
@@ -26,16 +28,18 @@ use Rattle.b67_faithful.specs.Weight.{tokens_around, part_weight, weight}
 use Rattle.b67_faithful.proofs.Contradictions.{some_same}
 use Rattle.b67_fitting.specs.Nested.{AreNested, IsText}
 use Rattle.b67_rows.proofs.Numbers.{numbered_set}
-use Rattle.b67_frames.specs.Arrays.{Allotted, Layout, AreMade}
-use Rattle.b67_frames.specs.Frames.{block_controls, controls_count, IsPlaced, outermost, inside, IsChained, Framed, Frame, Around, Owned, of_own}
+use Rattle.b67_frames.specs.Arrays.{Allotted, Layout, AreMade, Denotes}
+use Rattle.b67_frames.specs.Frames.{Refers, block_controls, controls_count, IsChained, Framed, Frame, Around, Owned, of_own}
 use Rattle.b67_frames.proofs.ArraysKept.{rows_but, rows_there, rows_other}
 use Rattle.b67_frames.proofs.ArraysInTurn.{made_both}
 use Rattle.b67_frames.proofs.Completing.{made_many}
 use Rattle.b67_frames.proofs.ControlWords.{block_few, as_many_controls, controls_many}
 use Rattle.b67_frames.proofs.FreshCells.{words_long}
-use Rattle.b67_frames.proofs.Knowing.{denotes_lasts}
-use Rattle.b67_frames.proofs.Lying.{Lies, lies_low, lies_around, StayBelow, same_instance, home_after, weight_stays, around_stays, outer_remain, owned_frame, frame_gives, runs_at}
-use Rattle.b67_scenes.proofs.Kept.{AreAlike}
+use Rattle.b67_frames.proofs.Facts.{cell_refers}
+use Rattle.b67_frames.proofs.Onward.{StandOn, denotes_on, home_on}
+use Rattle.b67_frames.proofs.Lying.{StayBelow, weight_stays, around_stays, owned_frame, frame_gives, runs_at}
+use Rattle.b67_scenes.proofs.Kept.{LeavesAlone, AreAlike}
+use Rattle.b67_scenes.proofs.Tasks.{EventsStay, EventsStayIn, events_beside, event_front}
 use Rattle.b67_scenes.proofs.Scene.{Scene}
 use Rattle.b67_scenes.proofs.Stage.{weight_of}
 use Rattle.b67_scenes.proofs.Staying.{names_in}
@@ -136,156 +140,156 @@ module _ (tree : PProgram) (code : Code) (texts : Texts) (nested : AreNested (sc
         let height : there ≡ length f.lower = ap (λ (l : Place). l.at) (some_same (sym lies ∙ ap (λ (n : ℕ). numbered lay.places n) same ∙ framed.laid)) in
         omega (arith, height, low)
 
-    abbrev stays : StayBelow w w' lay lay' p (length f.lower)
-    stays =
-        record {
-          instances = λ j there y e mine lies low. others_at w i x framed.is cells' j (lower_apart j there lies low) ∙ e;
-          places = λ j g e. e;
-          rows = λ j there y e mine lies low. rows_elsewhere j (lower_apart j there lies low);
-        }
+    -- what stands, stands on
+    module _ (on : StandOn (scopes_of tree) w w' lay lay') where
+      abbrev stays : StayBelow sc w w' lay lay' p (length f.lower)
+      stays =
+          record {
+            on = on;
+            instances = λ j there y e mine lies low. others_at w i x framed.is cells' j (lower_apart j there lies low) ∙ e;
+            rows = λ j there y e mine lies low. rows_elsewhere j (lower_apart j there lies low);
+          }
 
-    -- those of other processes are as they were
-    pub alike : (r : ℕ) → r ≢ p → AreAlike w w' lay lay' r
-    alike r other =
-        record {
-          own = λ j y e mine. others_at w i x framed.is cells' j (apart j y e mine) ∙ e;
-          places = λ j g e. e;
-          rows = λ j y e mine. rows_elsewhere j (apart j y e mine);
-        }
-      where
-        apart : (j : ℕ) (y : Instance) → numbered w.instances j ≡ Some y → y.process ≡ r → j ≢ i
-        apart j y e mine same =
-            let here : y ≡ x = some_same (sym e ∙ ap (λ (n : ℕ). numbered w.instances n) same ∙ framed.is) in
-            other (sym mine ∙ ap (λ (z : Instance). z.process) here ∙ framed.own)
+      -- events stay: new cells come after those that there are
+      pub events_stay : EventsStay w w'
+      events_stay = events_beside w w' i (λ j apart. others_at w i x framed.is cells' j apart) here
+        where
+          here : EventsStayIn w w' i
+          here name e has = (
+            sym block_is,
+            (
+              e,
+              ap (λ (o : Option Instance). cell_in ((or_no_instance o).cells) name) (changed_at w i x framed.is cells')
+                  ∙ event_front x.cells new name e (ap (λ (o : Option Instance). cell_in ((or_no_instance o).cells) name) (sym framed.is) ∙ has),
+            ),
+          )
 
-    pub chained : IsChained sc w' lay' i (names_in tree w part) core.registers.display
-    chained up low =
-        s.stands.chained up low
-        ∙ ap (λ (j : ℕ). numbered lay.places j) (same_ancestors w w' (λ j. same_of w i x framed.is cells' (λ (z : Instance). z.parent) refl j) up i)
+      -- those of other processes are as they were
+      pub alike : (r : ℕ) → r ≢ p → LeavesAlone (scopes_of tree) w w' lay lay' r → AreAlike (scopes_of tree) w w' lay lay' r
+      alike r other alone =
+          record {
+            alone = alone;
+            own = λ j y e mine. others_at w i x framed.is cells' j (apart j y e mine) ∙ e;
+            rows = λ j y e mine. rows_elsewhere j (apart j y e mine);
+            events = events_stay;
+          }
+        where
+          apart : (j : ℕ) (y : Instance) → numbered w.instances j ≡ Some y → y.process ≡ r → j ≢ i
+          apart j y e mine same =
+              let here : y ≡ x = some_same (sym e ∙ ap (λ (n : ℕ). numbered w.instances n) same ∙ framed.is) in
+              other (sym mine ∙ ap (λ (z : Instance). z.process) here ∙ framed.own)
 
-    -- ---- the frame, with the words after its cells
+      pub chained : IsChained sc w' lay' i (names_in tree w part) core.registers.display
+      chained up low =
+          s.stands.chained up low
+          ∙ ap (λ (j : ℕ). numbered lay.places j) (same_ancestors w w' (λ j. same_of w i x framed.is cells' (λ (z : Instance). z.parent) refl j) up i)
 
-    pub made_now : AreMade (framed.declared ++ ms) (framed.arrays ++ new) (lay'.rows i) (framed.descriptors ++ descriptors)
-    made_now =
-        subst (λ (rows : List Allotted). AreMade (framed.declared ++ ms) (framed.arrays ++ new) rows (framed.descriptors ++ descriptors)) (sym rows_here)
-        (made_both framed.declared framed.arrays (lay.rows i) framed.descriptors ms new allotted descriptors framed.made added)
+      -- ---- the frame, with the words after its cells
 
-    pub descriptors_many : length descriptors ≡ length ms
-    descriptors_many = (made_many ms new allotted descriptors added).words_many
+      pub made_now : AreMade (framed.declared ++ ms) (framed.arrays ++ new) (lay'.rows i) (framed.descriptors ++ descriptors)
+      made_now =
+          subst (λ (rows : List Allotted). AreMade (framed.declared ++ ms) (framed.arrays ++ new) rows (framed.descriptors ++ descriptors)) (sym rows_here)
+          (made_both framed.declared framed.arrays (lay.rows i) framed.descriptors ms new allotted descriptors framed.made added)
 
-    new_many : length new ≡ length ms
-    new_many = (made_many ms new allotted descriptors added).cells_many
+      pub descriptors_many : length descriptors ≡ length ms
+      descriptors_many = (made_many ms new allotted descriptors added).words_many
 
-    abbrev later : Instance
-    later = changed w i x framed.is cells'
+      new_many : length new ≡ length ms
+      new_many = (made_many ms new allotted descriptors added).cells_many
 
-    -- the parent's frame lies below
-    pub placed_now : IsPlaced sc w' lay' outer later
-    placed_now = again framed.placed
-      where
-        again : IsPlaced sc w lay outer x → IsPlaced sc w' lay' outer later
-        again (outermost none_up alone) = outermost none_up alone
-        again (inside own next complete) =
-            let l : Lies tree code texts w lay p outer x.parent f.lower = lies_around tree code texts w lay p outer f.lower f.mark f.control f.gives s.around x.parent own in
-            let lowest : length l.frame.lower < length f.lower = omega (arith, lies_low tree code texts w lay p outer x.parent f.lower l) in
-            let same : instance_at w x.parent ≡ instance_at w' x.parent =
-            ap (λ (k : ℕ). instance_at w k) (sym l.instance_is)
-            ∙ same_instance tree code texts w w' lay lay' p (length f.lower) stays l.part l.outer l.front l.frame l.around lowest
-            ∙ ap (λ (k : ℕ). instance_at w' k) l.instance_is in
-            inside own (subst (λ (y : Instance). around sc.blocks x.block ≡ y.block ∷ around sc.blocks y.block) same next)
-            (subst (λ (y : Instance). length y.cells ≡ length (simple_cells sc (block_numbered sc.blocks y.block)) + length (made_of (block_numbered sc.blocks y.block).decls)) same complete)
+      abbrev later : Instance
+      later = changed w i x framed.is cells'
 
-    abbrev framed' : Framed sc w' lay' p i outer (length f.lower) f.mark f.control (f.cells ++ descriptors)
-    framed' =
-        record {
-          instance = later;
-          is = changed_at w i x framed.is cells';
-          own = framed.own;
-          known = framed.known;
-          stands = framed.stands;
-          laid = framed.laid;
-          simple = framed.simple;
-          values = framed.values;
-          simple_are = framed.simple_are;
-          formals = λ k t there refers.
-              let g = framed.formals k t there refers in (
-                g.0,
-                g.1,
-                g.2,
-                g.3,
-                denotes_lasts sc w w' lay lay' outer outer (outer_remain tree code texts w w' lay lay' p (length f.lower) stays outer f.lower f.mark f.control f.gives s.around (omega arith)) t.wanted
-                    g.0.cell g.1 g.4,
-              );
-          ats = framed.ats;
-          each_has_place = framed.each_has_place;
-          arrays = framed.arrays ++ new;
-          declared = framed.declared ++ ms;
-          later = all_left_to_make part.rest;
-          order = ordered ∙ sym (append_assoc framed.declared (ms) (all_left_to_make part.rest));
-          descriptors = framed.descriptors ++ descriptors;
-          made = made_now;
-          has = ap (λ (cs : List NamedCell). cs ++ new) framed.has ∙ append_assoc framed.simple framed.arrays (new);
-          cells_is =
-              ap (λ (ws : List Word). ws ++ descriptors) framed.cells_is
-              ∙ append_assoc framed.values (control_words (block_controls sc x.block framed.ats) ++ framed.descriptors) descriptors
-              ∙ ap (λ (ws : List Word). framed.values ++ ws) (append_assoc (control_words (block_controls sc x.block framed.ats)) framed.descriptors descriptors);
-          placed = placed_now;
-          home = framed.home;
-          linked = home_after tree code texts w w' lay lay' p (length f.lower) stays x.parent framed.home framed.linked;
-          df = framed.df;
-          mark_is = framed.mark_is;
-          back = framed.back;
-          control_is = framed.control_is;
-          level_is = framed.level_is;
-        }
+      -- what a parameter stands for, stands
+      pub formals_now : (k : ℕ) (t : Simple) → slice_get (simple_cells sc (block_numbered sc.blocks x.block)) k ≡ Some t → Refers t.wanted →
+          (c : NamedCell) × (word : Word) × (slice_get framed.simple k ≡ Some c) × (slice_get framed.values k ≡ Some word) × Denotes sc w' lay' (IsStanding w') t.wanted c.cell word
+      formals_now k t there refers =
+          let g = framed.formals k t there refers in
+          let among : slice_get cells' k ≡ Some g.0 = get-front x.cells new k g.0 (ap (λ (cs : List NamedCell). slice_get cs k) framed.has ∙ get-front framed.simple framed.arrays k g.0 g.2) in
+          (g.0, g.1, g.2, g.3, denotes_on sc w w' lay lay' on t.wanted g.0.cell g.1 (cell_refers w' on.after i later (changed_at w i x framed.is cells') framed.stands k g.0 among) g.4)
 
-    abbrev pub frame' : (words : List Word) → words ≡ core.below ++ descriptors → Frame tree code texts w' lay' p part' outer words
-    frame' words are =
-        record {
-          lower = f.lower;
-          mark = f.mark;
-          control = f.control;
-          cells = f.cells ++ descriptors;
-          words_are = are ∙ ap (λ (ws : List Word). ws ++ descriptors) f.words_are ∙ append_assoc f.lower (f.mark ∷ f.control ∷ f.cells) descriptors;
-          instance = framed'.instance;
-          is = framed'.is;
-          known = framed'.known;
-          home = framed'.home;
-          df = framed'.df;
-          mark_is = framed'.mark_is;
-          back = framed'.back;
-          control_is = framed'.control_is;
-          level_is = framed'.level_is ∙ runs_at part (level_of (block_numbered sc.blocks framed'.instance.block)) own_frame.owns;
-          gives = f.gives;
-          text = subst (λ (j : ℕ). KeepsToText sc j part'.rest) block_is (keeps.resumed sc ((instance_at w i).block) part.rest done f.text tt);
-          shape = of_own (record { owns = own_frame.owns; framed = framed'; routines = own_frame.routines; items = own_frame.items; making = sym (order.resumed sc ((instance_at w i).block) part.rest done f.text) }) (frame_gives tree code texts w lay p part outer core.below f owns ∙ ap (λ (y : Instance). yields_of (block_numbered sc.blocks y.block).result) (ap or_no_instance framed.is));
-        }
+      abbrev framed' : Framed sc w' lay' p i outer (length f.lower) f.mark f.control (f.cells ++ descriptors)
+      framed' =
+          record {
+            instance = later;
+            is = changed_at w i x framed.is cells';
+            own = framed.own;
+            known = framed.known;
+            stands = framed.stands;
+            laid = framed.laid;
+            simple = framed.simple;
+            values = framed.values;
+            simple_are = framed.simple_are;
+            formals = formals_now;
+            ats = framed.ats;
+            each_has_place = framed.each_has_place;
+            arrays = framed.arrays ++ new;
+            declared = framed.declared ++ ms;
+            later = all_left_to_make part.rest;
+            order = ordered ∙ sym (append_assoc framed.declared (ms) (all_left_to_make part.rest));
+            descriptors = framed.descriptors ++ descriptors;
+            made = made_now;
+            has = ap (λ (cs : List NamedCell). cs ++ new) framed.has ∙ append_assoc framed.simple framed.arrays (new);
+            cells_is =
+                ap (λ (ws : List Word). ws ++ descriptors) framed.cells_is
+                ∙ append_assoc framed.values (control_words (block_controls sc x.block framed.ats) ++ framed.descriptors) descriptors
+                ∙ ap (λ (ws : List Word). framed.values ++ ws) (append_assoc (control_words (block_controls sc x.block framed.ats)) framed.descriptors descriptors);
+            home = framed.home;
+            linked = home_on sc w w' lay lay' on x.parent framed.home framed.linked;
+            df = framed.df;
+            mark_is = framed.mark_is;
+            back = framed.back;
+            control_is = framed.control_is;
+            level_is = framed.level_is;
+          }
 
-    -- the parts around stand as they did
-    pub around' : Around tree code texts w' lay' p outer f.lower f.mark f.control f.gives
-    around' = around_stays tree code texts w w' lay lay' p (length f.lower) stays outer f.lower f.mark f.control f.gives (omega arith) s.around
+      abbrev pub frame' : (words : List Word) → words ≡ core.below ++ descriptors → Frame tree code texts w' lay' p part' outer words
+      frame' words are =
+          record {
+            lower = f.lower;
+            mark = f.mark;
+            control = f.control;
+            cells = f.cells ++ descriptors;
+            words_are = are ∙ ap (λ (ws : List Word). ws ++ descriptors) f.words_are ∙ append_assoc f.lower (f.mark ∷ f.control ∷ f.cells) descriptors;
+            instance = framed'.instance;
+            is = framed'.is;
+            known = framed'.known;
+            home = framed'.home;
+            df = framed'.df;
+            mark_is = framed'.mark_is;
+            back = framed'.back;
+            control_is = framed'.control_is;
+            level_is = framed'.level_is ∙ runs_at part (level_of (block_numbered sc.blocks framed'.instance.block)) own_frame.owns;
+            gives = f.gives;
+            text = subst (λ (j : ℕ). KeepsToText sc j part'.rest) block_is (keeps.resumed sc ((instance_at w i).block) part.rest done f.text tt);
+            shape = of_own (record { owns = own_frame.owns; framed = framed'; routines = own_frame.routines; items = own_frame.items; making = sym (order.resumed sc ((instance_at w i).block) part.rest done f.text) }) (frame_gives tree code texts w lay p part outer core.below f owns ∙ ap (λ (y : Instance). yields_of (block_numbered sc.blocks y.block).result) (ap or_no_instance framed.is));
+          }
 
-    -- ---- weights
+      -- the parts around stand as they did
+      pub around' : Around tree code texts w' lay' p outer f.lower f.mark f.control f.gives
+      around' = around_stays tree code texts w w' lay lay' p (length f.lower) stays outer f.lower f.mark f.control f.gives (omega arith) s.around
 
-    part_heavier : part_weight tree w' part' ≡ part_weight tree w part + length ms
-    part_heavier =
-        ap (λ (t : Bool). 8 + (if t then 0 else length ((instance_at w' i).cells)) + 4 * tokens_around tree ((instance_at w' i).block)) own_frame.owns
-        ∙ ap (λ (j : ℕ). 8 + length ((instance_at w' i).cells) + 4 * tokens_around tree j) (sym block_is)
-        ∙ omega (
-          arith,
-          ap (λ (o : Option Instance). length ((or_no_instance o).cells)) (changed_at w i x framed.is cells'),
-          length-append x.cells (new),
-          new_many,
-          ap (λ (o : Option Instance). length ((or_no_instance o).cells)) framed.is,
-          ap (λ (t : Bool). 8 + (if t then 0 else length ((instance_at w i).cells)) + 4 * tokens_around tree ((instance_at w i).block)) own_frame.owns,
-        )
+      -- ---- weights
 
-    pub heavier : weight tree w' p ≡ weight tree w p + length ms
-    heavier =
-        weight_of tree w' p q' (part' ∷ outer) (numbered_set w.processes p q q' s.at) refl
-        ∙ omega (
-          arith,
-          part_heavier,
-          weight_stays tree code texts w w' lay lay' p (length f.lower) stays outer f.lower f.mark f.control f.gives (omega arith) s.around,
-          weight_of tree w p q (part ∷ outer) s.at s.todo,
-        )
+      part_heavier : part_weight tree w' part' ≡ part_weight tree w part + length ms
+      part_heavier =
+          ap (λ (t : Bool). 8 + (if t then 0 else length ((instance_at w' i).cells)) + 4 * tokens_around tree ((instance_at w' i).block)) own_frame.owns
+          ∙ ap (λ (j : ℕ). 8 + length ((instance_at w' i).cells) + 4 * tokens_around tree j) (sym block_is)
+          ∙ omega (
+            arith,
+            ap (λ (o : Option Instance). length ((or_no_instance o).cells)) (changed_at w i x framed.is cells'),
+            length-append x.cells (new),
+            new_many,
+            ap (λ (o : Option Instance). length ((or_no_instance o).cells)) framed.is,
+            ap (λ (t : Bool). 8 + (if t then 0 else length ((instance_at w i).cells)) + 4 * tokens_around tree ((instance_at w i).block)) own_frame.owns,
+          )
+
+      pub heavier : weight tree w' p ≡ weight tree w p + length ms
+      heavier =
+          weight_of tree w' p q' (part' ∷ outer) (numbered_set w.processes p q q' s.at) refl
+          ∙ omega (
+            arith,
+            part_heavier,
+            weight_stays tree code texts w w' lay lay' p (length f.lower) stays outer f.lower f.mark f.control f.gives (omega arith) s.around,
+            weight_of tree w p q (part ∷ outer) s.at s.todo,
+          )

@@ -3,12 +3,13 @@
 use Rattle.std.proofs.Common.{◌≡◌, ℕ, ◌+◌, List, ◌∷◌, length, Some, None}
 use Rattle.algol_tree.specs.declared.tree.Kind.{Kind}
 use Rattle.algol_tree.specs.declared.tree.Named.{Named}
-use Rattle.algol_tree.specs.Plain.{PProgram}
+use Rattle.algol_tree.specs.Plain.{PProgram, PExpr}
 use Rattle.algol_tree.specs.Scopes.{Scopes, scopes_of}
 use Rattle.algol_meaning.specs.Value as meant
 use Rattle.algol_meaning.specs.Value.{Reference, NameCell, Cell, reference}
 use Rattle.algol_meaning.specs.World.{Part, Process, World, instance_at, cell_at}
 use Rattle.algol_paths.specs.Blocks.{IsSeen}
+use Rattle.b67_word.specs.declared.Place.{Place}
 use Rattle.b67_word.specs.Word.{Word}
 use Rattle.b67_control.specs.Control.{as_sirw, pcw_word}
 use Rattle.b67_ops.specs.declared.Couple.{Couple}
@@ -22,8 +23,10 @@ use Rattle.b67_templates.specs.Programs.{Texts}
 use Rattle.b67_cores.specs.Cores.{Core}
 use Rattle.b67_fitting.specs.Nested.{AreNested}
 use Rattle.b67_rows.proofs.Words.{value_tag, no_sirw, pcw_refers_nothing}
-use Rattle.b67_frames.specs.Arrays.{Layout, IsOwn, LeadsToVariable, IsActual, Denotes, named_from}
-use Rattle.b67_frames.proofs.Linked.{begins_core}
+use Rattle.b67_frames.specs.Arrays.{Layout, LeadsToVariable, IsActual, Denotes, named_from}
+use Rattle.b67_rows.proofs.Touching.{NearCell}
+use Rattle.b67_frames.specs.Frames.{IsInReach}
+use Rattle.b67_scenes.proofs.Finding.{Found, frame_near, place_near}
 use Rattle.b67_scenes.proofs.ActualHomes.{routine_of, ActualHome, actual_home}
 use Rattle.b67_scenes.proofs.CellHomes.{CellHome, cell_home}
 use Rattle.b67_scenes.proofs.NamedVariables.{NamesVariable, names_variable}
@@ -48,7 +51,7 @@ module _ (tree : PProgram) (code : Code) (texts : Texts) (nested : AreNested (sc
     pub home : NameCellHome n kind couple
     pub r : Reference
     pub cell_is : cell_at w (here n) ≡ reference r
-    pub denotes : LeadsToVariable sc w lay (IsOwn (part ∷ outer)) kind r home.word
+    pub denotes : LeadsToVariable sc w lay (IsInReach w (part ∷ outer)) kind r home.word
     pub named : NamesVariable tree code texts nested w lay img p q part outer bound core s r kind home.word denotes
 
   -- it names an actual
@@ -56,44 +59,62 @@ module _ (tree : PProgram) (code : Code) (texts : Texts) (nested : AreNested (sc
     pub home : NameCellHome n kind couple
     pub a : NameCell
     pub cell_is : cell_at w (here n) ≡ meant.named a
-    pub denotes : IsActual sc w lay (IsOwn (part ∷ outer)) a.instance a.actual kind home.word
+    pub denotes : IsActual sc w lay (IsInReach w (part ∷ outer)) a.instance a.actual kind home.word
     pub actual : ActualHome tree code texts nested w lay img p q part outer bound core s a.instance a.actual kind home.word denotes
 
   pub data NameStands (n : Named) (kind : Kind) (couple : Couple) : Type 0 where
     for_variable : NameHome n kind couple → NameStands n kind couple
     for_actual : ActualNamed n kind couple → NameStands n kind couple
 
-  -- the word of the cell refers to another cell, in the process's own stack, and the word there to none
+  -- the word of the cell refers to another cell, which is near, and the word there to none
   pub record LeadsOn (word : Word) : Type 0 where
-    pub at : ℕ
+    pub at : Place
     pub index : ℕ
-    pub refers : as_sirw word ≡ Some (record { stack = p; displacement = at; index = index })
+    pub refers : as_sirw word ≡ Some (record { stack = at.stack; displacement = at.at; index = index })
+    pub near : NearCell p img (record { frame = at; index = index })
     pub reached : Word
-    pub lies : word_at img.stacks (place p (at + index)) ≡ Some reached
+    pub lies : word_at img.stacks (place at.stack (at.at + index)) ≡ Some reached
     pub no_further : as_sirw reached ≡ None
 
-  to_variable : (n : Named) (kind : Kind) (couple : Couple) (h : NameHome n kind couple) → LeadsOn h.home.word
-  to_variable n kind couple h =
+  variable_at : (r : Reference) (kind : Kind) (word : Word) (leads : LeadsToVariable sc w lay (IsInReach w (part ∷ outer)) kind r word) → NamesVariable tree code texts nested w lay img p q part outer bound core s r kind word leads → LeadsOn word
+  variable_at r kind word leads named =
+      let f : Found tree code texts w lay img r.instance = named.home.seen_there.found in
       record {
-        at = length h.named.home.lies.frame.lower;
-        index = 2 + h.named.home.number;
-        refers = h.named.reads;
-        reached = h.named.home.word;
-        lies = begins_core img p core s.has (length h.named.home.lies.frame.lower + (2 + h.named.home.number)) h.named.home.word h.named.home.below_lies;
-        no_further = no_sirw h.named.home.word (value_tag h.named.home.value h.named.home.word h.named.home.word_is);
+        at = place f.number (length f.lies.frame.lower);
+        index = 2 + named.home.number;
+        refers = named.reads;
+        near = (frame_near tree code texts w lay img r.instance f p, place_near tree code texts w lay img r.instance f p (length f.lies.frame.lower + (2 + named.home.number)) named.home.below);
+        reached = named.home.word;
+        lies = named.home.word_lies;
+        no_further = no_sirw named.home.word (value_tag named.home.value named.home.word named.home.word_is);
       }
 
-  to_actual : (n : Named) (kind : Kind) (couple : Couple) (h : ActualNamed n kind couple) → LeadsOn h.home.word
-  to_actual n kind couple h =
-      let control : Word = pcw_word (routine_of sc ((instance_at w h.a.instance).block) h.a.actual h.actual.at) in
+  -- the reference to a variable
+  pub variable_on : (r : Reference) (kind : Kind) (word : Word) → LeadsToVariable (scopes_of tree) w lay (IsInReach w (part ∷ outer)) kind r word → LeadsOn word
+  variable_on r kind word leads = variable_at r kind word leads (names_variable tree code texts nested w lay img p q part outer bound core s r kind word leads)
+
+  actual_at : (i : ℕ) (e : PExpr) (kind : Kind) (word : Word) (denotes : IsActual sc w lay (IsInReach w (part ∷ outer)) i e kind word) → ActualHome tree code texts nested w lay img p q part outer bound core s i e kind word denotes → LeadsOn word
+  actual_at i e kind word denotes actual =
+      let f : Found tree code texts w lay img i = actual.seen_there.found in
       record {
-        at = length h.actual.lies.frame.lower;
-        index = h.denotes.couple.index;
-        refers = h.actual.reads;
-        reached = control;
-        lies = begins_core img p core s.has (length h.actual.lies.frame.lower + h.denotes.couple.index) control h.actual.control_lies;
-        no_further = pcw_refers_nothing (routine_of sc ((instance_at w h.a.instance).block) h.a.actual h.actual.at);
+        at = place f.number (length f.lies.frame.lower);
+        index = denotes.couple.index;
+        refers = actual.reads;
+        near = (frame_near tree code texts w lay img i f p, place_near tree code texts w lay img i f p (length f.lies.frame.lower + denotes.couple.index) actual.below);
+        reached = pcw_word (routine_of sc ((instance_at w i).block) e actual.at);
+        lies = actual.control_lies;
+        no_further = pcw_refers_nothing (routine_of sc ((instance_at w i).block) e actual.at);
       }
+
+  -- .. to the code of an actual
+  pub actual_on : (i : ℕ) (e : PExpr) (kind : Kind) (word : Word) → IsActual (scopes_of tree) w lay (IsInReach w (part ∷ outer)) i e kind word → LeadsOn word
+  actual_on i e kind word denotes = actual_at i e kind word denotes (actual_home tree code texts nested w lay img p q part outer bound core s i e kind word denotes)
+
+  to_variable : (n : Named) (kind : Kind) (couple : Couple) (h : NameHome n kind couple) → LeadsOn h.home.word
+  to_variable n kind couple h = variable_at h.r kind h.home.word h.denotes h.named
+
+  to_actual : (n : Named) (kind : Kind) (couple : Couple) (h : ActualNamed n kind couple) → LeadsOn h.home.word
+  to_actual n kind couple h = actual_at h.a.instance h.a.actual kind h.home.word h.denotes h.actual
 
   module _ (n : Named) (kind : Kind) (couple : Couple) where
     abbrev pub home_of_name : NameStands n kind couple → NameCellHome n kind couple
@@ -105,7 +126,7 @@ module _ (tree : PProgram) (code : Code) (texts : Texts) (nested : AreNested (sc
     leads_on (for_variable h) = to_variable n kind couple h
     leads_on (for_actual h) = to_actual n kind couple h
 
-    of_cell : (h : NameCellHome n kind couple) (c : Cell) → cell_at w (here n) ≡ c → Denotes sc w lay (IsOwn (part ∷ outer)) (wants.by_name kind) c h.word → NameStands n kind couple
+    of_cell : (h : NameCellHome n kind couple) (c : Cell) → cell_at w (here n) ≡ c → Denotes sc w lay (IsInReach w (part ∷ outer)) (wants.by_name kind) c h.word → NameStands n kind couple
     of_cell h (reference r) is denotes =
         for_variable (record {
           home = h;

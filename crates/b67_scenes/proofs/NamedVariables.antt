@@ -1,4 +1,4 @@
--- The word that leads to the cell of a variable in the process's own stack is read as the place of that cell.
+-- The word that leads to the cell of a variable is read as the place of that cell.
 use Rattle.std.proofs.Common.{◌≡◌, sym, ap, ◌∙◌, ℕ, ◌+◌, ◌<◌, ◌≤◌, List, ◌∷◌, length, Some, arith}
 use Rattle.b67_list.specs.Numbered.{numbered}
 use Rattle.algol_tree.specs.declared.tree.Kind.{Kind}
@@ -20,9 +20,10 @@ use Rattle.b67_cores.specs.Cores.{Core}
 use Rattle.b67_faithful.proofs.Contradictions.{some_same}
 use Rattle.b67_fitting.specs.Nested.{AreNested}
 use Rattle.b67_rows.proofs.Numbers.{get_below}
-use Rattle.b67_frames.specs.Arrays.{Layout, LeadsToVariable, IsOwn}
+use Rattle.b67_frames.specs.Arrays.{Layout, LeadsToVariable}
 use Rattle.b67_frames.proofs.FreshCells.{words_long}
-use Rattle.b67_frames.proofs.Lying.{lies_low}
+use Rattle.b67_frames.specs.Frames.{IsInReach}
+use Rattle.b67_scenes.proofs.Finding.{Found, found_laid}
 use Rattle.b67_scenes.proofs.ArrayPlaces.{cell_read, number_within}
 use Rattle.b67_scenes.proofs.Scene.{Scene}
 use Rattle.b67_scenes.proofs.VariableHomes.{VariableHome, variable_home}
@@ -32,38 +33,36 @@ module _ (tree : PProgram) (code : Code) (texts : Texts) (nested : AreNested (sc
   abbrev sc : Scopes
   sc = scopes_of tree
 
-  module _ (r : Reference) (kind : Kind) (word : Word) (leads : LeadsToVariable sc w lay (IsOwn (part ∷ outer)) kind r word) where
+  module _ (r : Reference) (kind : Kind) (word : Word) (leads : LeadsToVariable sc w lay (IsInReach w (part ∷ outer)) kind r word) where
     -- the variable, and that the word names its cell
     pub record NamesVariable : Type 0 where
       pub home : VariableHome tree code texts w lay img p q part outer bound core s r kind leads.found
-      pub word_is : word ≡ cell_word (record { frame = place p (length home.lies.frame.lower); index = 2 + home.number })
-      pub reads : as_sirw word ≡ Some (record { stack = p; displacement = length home.lies.frame.lower; index = 2 + home.number })
+      pub word_is : word ≡ cell_word (record { frame = place home.seen_there.found.number (length home.seen_there.found.lies.frame.lower); index = 2 + home.number })
+      pub reads : as_sirw word ≡ Some (record { stack = home.seen_there.found.number; displacement = length home.seen_there.found.lies.frame.lower; index = 2 + home.number })
 
     names_it : VariableHome tree code texts w lay img p q part outer bound core s r kind leads.found → NamesVariable
     names_it h =
-        let high : ℕ = length h.lies.frame.lower in
-        let frame_is : leads.frame ≡ place p high = some_same (sym leads.laid ∙ ap (λ (j : ℕ). numbered lay.places j) (sym h.lies.instance_is) ∙ h.lies.owned.framed.laid) in
-        let few_words : h.number < length (simple_cells sc (block_numbered sc.blocks h.lies.owned.framed.instance.block)) =
+        let f : Found tree code texts w lay img r.instance = h.seen_there.found in
+        let high : ℕ = length f.lies.frame.lower in
+        let frame_is : leads.frame ≡ place f.number high = some_same (sym leads.laid ∙ found_laid tree code texts w lay img r.instance f) in
+        let few_words : h.number < length (simple_cells sc (block_numbered sc.blocks f.lies.owned.framed.instance.block)) =
         omega (
           arith,
-          get_below h.lies.owned.framed.values h.number h.word h.value_lies,
-          words_long (simple_cells sc (block_numbered sc.blocks h.lies.owned.framed.instance.block)) h.lies.owned.framed.simple h.lies.owned.framed.values h.lies.owned.framed.simple_are,
+          get_below f.lies.owned.framed.values h.number h.word h.value_lies,
+          words_long (simple_cells sc (block_numbered sc.blocks f.lies.owned.framed.instance.block)) f.lies.owned.framed.simple f.lies.owned.framed.values f.lies.owned.framed.simple_are,
         ) in
-        let low : high + 2 + length h.lies.frame.cells ≤ length core.below = lies_low tree code texts w lay p (part ∷ outer) r.instance core.below h.lies in
-        let word_is : word ≡ cell_word (record { frame = place p high; index = 2 + h.number }) =
+        let word_is : word ≡ cell_word (record { frame = place f.number high; index = 2 + h.number }) =
         leads.word_is
-        ∙ ap (λ (f : Place). cell_word (record { frame = f; index = 2 + leads.found.number })) frame_is
-        ∙ ap (λ (k : ℕ). cell_word (record { frame = place p high; index = 2 + k })) h.number_is in
+        ∙ ap (λ (g : Place). cell_word (record { frame = g; index = 2 + leads.found.number })) frame_is
+        ∙ ap (λ (k : ℕ). cell_word (record { frame = place f.number high; index = 2 + k })) h.number_is in
         record {
           home = h;
           word_is = word_is;
           reads =
               ap as_sirw word_is
-              ∙ cell_read (record { frame = place p high; index = 2 + h.number }) (omega (arith, number_within w.processes p q s.at, s.by.few)) (omega (arith, low, s.small))
-              (omega (arith, few_words, (nested.each h.lies.owned.framed.instance.block h.lies.owned.framed.known).few));
+              ∙ cell_read (record { frame = place f.number high; index = 2 + h.number }) (omega (arith, number_within w.processes f.number f.process f.is, s.by.few)) (omega (arith, h.below, f.small))
+              (omega (arith, few_words, (nested.each f.lies.owned.framed.instance.block f.lies.owned.framed.known).few));
         }
 
     pub names_variable : NamesVariable
-    names_variable =
-        names_it
-        (variable_home tree code texts w lay img p q part outer bound core s r kind leads.found leads.own leads.there leads.wanted_is)
+    names_variable = names_it (variable_home tree code texts w lay img p q part outer bound core s r kind leads.found leads.there leads.wanted_is leads.own)

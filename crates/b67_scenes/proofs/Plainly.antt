@@ -1,9 +1,11 @@
 -- A plain operator leaves an image of the same world.
-use Rattle.std.proofs.Common.{◌≡◌, ◌≢◌, ◌⊎◌, inl, inr, refl, sym, ap, ◌∙◌, subst, ℕ, zero, suc, ◌<◌, ◌≤◌, Option, Some, None, Bool, true, false, arith}
+use Rattle.std.proofs.Common.{◌≡◌, ◌≢◌, ◌⊎◌, inl, inr, refl, sym, ap, ◌∙◌, subst, ℕ, zero, suc, ◌+◌, ◌-◌, ◌<◌, ◌≤◌, List, [], ◌∷◌, length, length-append, Option, Some, None, Bool, true, false, arith}
 use Rattle.std.specs.Prelude.{if◌then◌else◌}
 use Rattle.b67_list.specs.Numbered.{numbered}
 use Rattle.algol_tree.specs.Plain.{PProgram}
-use Rattle.algol_meaning.specs.World.{Process, lives, World}
+use Rattle.algol_tree.specs.Scopes.{scopes_of}
+use Rattle.algol_meaning.specs.World.{Part, Process, lives, World}
+use Rattle.b67_word.specs.declared.Place.{Place}
 use Rattle.b67_segment.specs.declared.code.Code.{Code}
 use Rattle.b67_templates.specs.Programs.{Texts}
 use Rattle.b67_store.specs.Store.{stack_at, stack_limit}
@@ -17,10 +19,14 @@ use Rattle.b67_table.specs.Image.{Image, is_live}
 use Rattle.b67_table.specs.Table.{table, raw, plain, by_registers, stack_length}
 use Rattle.b67_table.specs.Runs.{Plains, stay, go}
 use Rattle.b67_cores.specs.Cores.{Core, HasCore, with_core, size, CoreStep, CoreSteps, here, onward}
-use Rattle.b67_cores.specs.Stretches.{StepsArePerformed, StepsComeToLimit, Performed}
+use Rattle.b67_cores.specs.Stretches.{StepsArePerformed, StepsComeToLimit, Performed, Above}
+use Rattle.b67_cores.proofs.Staying.{steps_stay_above}
 use Rattle.b67_faithful.proofs.Contradictions.{true_false, gives_same, none_some, some_same}
 use Rattle.b67_rows.proofs.Numbers.{same_or_not, numbered_beyond}
 use Rattle.b67_frames.specs.Arrays.{Layout}
+use Rattle.b67_scenes.specs.Depending.{CriticalIs, TaskIs}
+use Rattle.b67_scenes.specs.Reaches as reaching
+use Rattle.b67_scenes.specs.Reaches.{ReachesFor}
 use Rattle.b67_scenes.specs.Pictures.{Living, Pictured, living, dead, PicturesBy}
 
 -- one plain operator
@@ -70,12 +76,10 @@ module _ (performed : StepsArePerformed) (tree : PProgram) (code : Code) (texts 
         Pictured tree code texts w lay img q r → Pictured tree code texts w lay (with_core img p b) q r
     kept p b q r keeps (living a s l) =
         living a s (record {
-          independent = l.independent;
-          without_task = l.without_task;
           core = l.core;
           has = keeps l.core l.has;
-          free = l.free;
-          idle = l.idle;
+          critical = l.critical;
+          task = l.task;
           sees = l.sees;
           small = l.small;
           settled = l.settled;
@@ -83,6 +87,7 @@ module _ (performed : StepsArePerformed) (tree : PProgram) (code : Code) (texts 
           count = l.count;
           steps = l.steps;
           frames = l.frames;
+          reaches = l.reaches;
           room = l.room;
           light = l.light;
         })
@@ -103,6 +108,23 @@ pub record Nearer (tree : PProgram) (code : Code) (texts : Texts) (w : World) (l
   pub system : stack_at (with_core a p core).stacks 0 ≡ stack_at a.stacks 0
 
 module _ (performed : StepsArePerformed) (limits : StepsComeToLimit) (tree : PProgram) (code : Code) (texts : Texts) (w : World) (lay : Layout) (a : Image) (p : ℕ) where
+  -- others may look at no less of its innermost frame
+  nearer_reaches : (settled now : Core) (parts : List Part) (c : Core) → (length now.below ≤ length c.below) × (length c.below ≤ length settled.below) → ReachesFor (scopes_of tree) w lay p parts now settled →
+      ReachesFor (scopes_of tree) w lay p parts c settled
+  nearer_reaches settled now [] c far reaches = reaches
+  nearer_reaches settled now (part ∷ outer) c far (reaching.all same) = reaching.all (omega (arith, far.0, far.1, same))
+  nearer_reaches settled now (part ∷ outer) c far (reaching.low at owns laid enough is_low) =
+      reaching.low at owns laid (omega (arith, enough, far.0)) is_low
+  nearer_reaches settled now (part ∷ outer) c far (reaching.none_yet at owns laid enough free) = reaching.none_yet at owns laid (omega (arith, enough, far.0)) free
+
+  above_step : {q : Process} (l : Living tree code texts w lay a p q) (c : Core) (n : ℕ) → CoreStep code l.core c → CoreSteps code l.bound n c l.settled → (length l.core.below ≤ length c.below) × (length c.below ≤ length l.settled.below)
+  above_step l c n step more =
+      let first : Above code l.bound 1 l.core c = steps_stay_above code l.bound 1 l.core c l.has.is (onward (steps_fit l.steps) step (here (steps_fit more))) in
+      let rest : Above code l.bound n c l.settled = steps_stay_above code l.bound n c l.settled step.is more in (
+        omega (arith, ap length first.below, length-append l.core.below first.cells),
+        omega (arith, ap length rest.below, length-append c.below rest.cells),
+      )
+
   -- a step of a process that lives has been made
   pub step_made : (q : Process) → numbered w.processes p ≡ Some q → (l : Living tree code texts w lay a p q) → (c : Core) (n : ℕ) → CoreStep code l.core c → CoreSteps code l.bound n c l.settled → size c ≤ stack_limit →
       Nearer tree code texts w lay a c p q l
@@ -110,12 +132,10 @@ module _ (performed : StepsArePerformed) (limits : StepsComeToLimit) (tree : PPr
       let done = stepped performed code p a l.core c l.has l.small fits step in
       record {
         lives_so = record {
-          independent = l.independent;
-          without_task = l.without_task;
           core = c;
           has = done.0.has;
-          free = done.0.kept.5 ∙ l.free;
-          idle = done.0.kept.4 ∙ l.idle;
+          critical = subst (λ (o : Option Place). CriticalIs lay q.critical o) (sym done.0.kept.5) l.critical;
+          task = subst (λ (o : Option Place). TaskIs (scopes_of tree) w lay q.task o) (sym done.0.kept.4) l.task;
           sees = ap (λ d. place_at d 0) done.0.kept.2 ∙ l.sees;
           small = fits;
           settled = l.settled;
@@ -123,6 +143,7 @@ module _ (performed : StepsArePerformed) (limits : StepsComeToLimit) (tree : PPr
           count = n;
           steps = more;
           frames = l.frames;
+          reaches = nearer_reaches l.settled l.core q.todo c (above_step l c n step more) l.reaches;
           room = l.room;
           light = l.light;
         };

@@ -1,5 +1,5 @@
 -- A process that stands at its action.
-use Rattle.std.proofs.Common.{◌≡◌, refl, sym, ap, ◌∙◌, ℕ, ◌+◌, ◌≤◌, List, [], ◌∷◌, length, Some, None, arith}
+use Rattle.std.proofs.Common.{◌≡◌, refl, sym, ap, ◌∙◌, subst, ℕ, ◌+◌, ◌≤◌, List, [], ◌∷◌, length, Some, arith}
 use Rattle.b67_list.specs.Numbered.{numbered}
 use Rattle.algol_tree.specs.Plain.{PProgram}
 use Rattle.algol_tree.specs.Scopes.{scopes_of}
@@ -19,6 +19,7 @@ use Rattle.b67_faithful.specs.Weight.{weight}
 use Rattle.b67_faithful.proofs.Contradictions.{some_same}
 use Rattle.b67_frames.specs.Arrays.{Layout}
 use Rattle.b67_frames.specs.Frames.{IsNarrow, Stands, Around, Frames}
+use Rattle.b67_scenes.specs.Depending.{CriticalIs, TaskIs}
 use Rattle.b67_scenes.specs.Pictures.{innermost_most, Living, PicturesBy}
 use Rattle.b67_scenes.proofs.Staying.{most_in}
 
@@ -28,11 +29,9 @@ module _ (tree : PProgram) (code : Code) (texts : Texts) (w : World) (lay : Layo
     pub by : PicturesBy tree code texts w lay img
     pub at : numbered w.processes p ≡ Some q
     pub todo : q.todo ≡ part ∷ outer
-    pub independent : q.critical ≡ None
-    pub without_task : q.task ≡ None
     pub has : HasCore img p core
-    pub free : core.registers.critical ≡ None
-    pub idle : core.registers.task ≡ None
+    pub critical : CriticalIs lay q.critical core.registers.critical
+    pub task : TaskIs (scopes_of tree) w lay q.task core.registers.task
     pub sees : place_at core.registers.display 0 ≡ Some (place 0 0)
     pub small : size core ≤ stack_limit
     -- the world is as worlds are
@@ -60,11 +59,9 @@ module _ (tree : PProgram) (code : Code) (texts : Texts) (w : World) (lay : Layo
           by = by;
           at = at;
           todo = todo;
-          independent = l.independent;
-          without_task = l.without_task;
           has = has;
-          free = ap (λ (r : Registers). r.critical) same ∙ l.free;
-          idle = ap (λ (r : Registers). r.task) same ∙ l.idle;
+          critical = subst (λ (r : Registers). CriticalIs lay q.critical r.critical) (sym same) l.critical;
+          task = subst (λ (r : Registers). TaskIs (scopes_of tree) w lay q.task r.task) (sym same) l.task;
           sees = ap (λ (r : Registers). place_at r.display 0) same ∙ l.sees;
           small = omega (arith, has.is.top, l.has.is.top, ap (λ (r : Registers). r.s) same, l.small);
           ok = ok;

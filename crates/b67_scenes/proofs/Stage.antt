@@ -6,7 +6,9 @@ use Rattle.b67_list.specs.Numbered.{numbered, set_numbered}
 use Rattle.b67_num.specs.declared.FaultKind.{FaultKind}
 use Rattle.algol_tree.specs.Plain.{PProgram}
 use Rattle.algol_tree.specs.Scopes.{Scopes, scopes_of}
-use Rattle.algol_meaning.specs.World.{Part, Process, lives, World, process_at, or_no_process}
+use Rattle.algol_meaning.specs.World.{Part, Process, lives, WorldFault, World, process_at, or_no_process}
+use Rattle.algol_standing.specs.Worlds.{IsWhole}
+use Rattle.algol_standing.specs.Fitting.{IsOk}
 use Rattle.algol_meaning.specs.Asks.{ask}
 use Rattle.algol_meaning.specs.Choice.{choice, choice_in, choice_of}
 use Rattle.b67_control.specs.declared.Registers.{Registers}
@@ -25,13 +27,16 @@ use Rattle.b67_faithful.proofs.Contradictions.{some_same}
 use Rattle.b67_faithful.specs.Weight.{weight, parts_weight}
 use Rattle.b67_frames.specs.Arrays.{Layout, ArraysAre}
 use Rattle.b67_frames.specs.Events.{EventsAre}
+use Rattle.b67_frames.proofs.Facts.{HasFacts, facts_of}
+use Rattle.b67_frames.proofs.Knowing.{keeps_same}
 use Rattle.b67_frames.proofs.ArraysKept.{arrays_unchanged}
 use Rattle.b67_frames.proofs.EventsKept.{events_unchanged}
 use Rattle.b67_scenes.specs.Pictures.{failure_of, Living, Pictured, living, PicturesBy}
 use Rattle.b67_faithful.proofs.Choices.{length_set_numbered}
 use Rattle.b67_rows.proofs.Numbers.{same_or_not, numbered_set, numbered_other}
 use Rattle.b67_rows.proofs.StoreRow.{most_is}
-use Rattle.b67_scenes.proofs.Kept.{AreAlike, alike_by, pictured_alike}
+use Rattle.b67_scenes.proofs.Ancestors.{all_laid}
+use Rattle.b67_scenes.proofs.Kept.{LeavesAlone, AreAlike, alike_by, pictured_alike}
 
 -- ---- the table, from the row
 
@@ -114,28 +119,45 @@ module _ (tree : PProgram) (code : Code) (texts : Texts) (w : World) (lay : Layo
   -- .. in which each other process has its core
   pub comes_to : (w' : World) (lay' : Layout) (img' : Image) (q' : Process) → w'.processes ≡ set_numbered w.processes p q' → length lay'.places ≡ length w'.instances → ArraysAre (scopes_of tree) w' lay' img'.rows →
       EventsAre (scopes_of tree) w' lay' img'.events →
-      ((r : ℕ) → r ≢ p → AreAlike w w' lay lay' r) → img'.output ≡ w'.output → w'.fault ≡ w.fault → img'.fault ≡ img.fault → img'.started ≡ img.started → length img'.states ≡ length img.states →
+      ((r : ℕ) → r ≢ p → AreAlike (scopes_of tree) w w' lay lay' r) → img'.output ≡ w'.output → w'.fault ≡ w.fault → img'.fault ≡ img.fault → img'.started ≡ img.started → length img'.states ≡ length img.states →
       ((r : ℕ) → r ≢ p → numbered img'.states r ≡ numbered img.states r) → stack_at img'.stacks 0 ≡ stack_at img.stacks 0 →
       ((r : ℕ) (core : Core) → r ≢ p → HasCore img r core → HasCore img' r core) → Pictured tree code texts w' lay' img' p q' → PicturesBy tree code texts w' lay' img'
   comes_to w' lay' img' q' processes laid arrays events alike output world_fault fault started many states system keeps own =
       comes_by w' lay' img' q' processes laid arrays events output world_fault fault started many system
       (λ r o other before after pictured.
-      pictured_alike tree code texts w w' lay lay' r (alike r other) img img' o (process_is w r o before) (process_is w' r o after) (states r other) (λ core has. keeps r core other has) pictured) own
+      pictured_alike tree code texts w w' lay lay' r (alike r other) img img' o before (process_is w' r o after) (states r other) (λ core has. keeps r core other has) pictured) own
 
   -- it goes on, and stands for what it has still to do
   pub goes_on : (w' : World) (lay' : Layout) (img' : Image) (q' : Process) → w'.processes ≡ set_numbered w.processes p q' → lives q'.state ≡ true → length lay'.places ≡ length w'.instances → ArraysAre (scopes_of tree) w' lay' img'.rows →
       EventsAre (scopes_of tree) w' lay' img'.events →
-      ((r : ℕ) → r ≢ p → AreAlike w w' lay lay' r) → img'.output ≡ w'.output → w'.fault ≡ w.fault → img'.fault ≡ img.fault → img'.started ≡ img.started → img'.states ≡ img.states →
+      ((r : ℕ) → r ≢ p → AreAlike (scopes_of tree) w w' lay lay' r) → img'.output ≡ w'.output → w'.fault ≡ w.fault → img'.fault ≡ img.fault → img'.started ≡ img.started → img'.states ≡ img.states →
       stack_at img'.stacks 0 ≡ stack_at img.stacks 0 → StateIs q'.state (numbered img.states p) → ((r : ℕ) (core : Core) → r ≢ p → HasCore img r core → HasCore img' r core) →
       Living tree code texts w' lay' img' p q' → PicturesBy tree code texts w' lay' img'
   goes_on w' lay' img' q' processes able_is laid arrays events alike output world_fault fault started states system able_p keeps l =
       comes_to w' lay' img' q' processes laid arrays events alike output world_fault fault started (ap length states) (λ r other. ap (λ (ss : List ProcessState). numbered ss r) states) system keeps
       (living able_is (subst (λ (ss : List ProcessState). StateIs q'.state (numbered ss p)) (sym states) able_p) l)
 
+  -- a fault leaves all that stands, and what others may look at
+  untouched : IsOk (scopes_of tree) IsWhole w → (fault : Option WorldFault) (r : ℕ) → LeavesAlone (scopes_of tree) w (record w { fault = fault }) lay lay r
+  untouched ok fault r =
+      let facts : HasFacts w = facts_of (scopes_of tree) w ok in
+      record {
+        laid = all_laid w lay facts by.laid;
+        on = record {
+          before = facts;
+          after = record { nobody = facts.nobody; there = facts.there; stands = facts.stands; parents = facts.parents; cells = facts.cells; on_path = facts.on_path };
+          keeps = λ j st later. keeps_same (scopes_of tree) w (record w { fault = fault }) lay lay j refl refl;
+          places = λ j f is. is;
+          paths = λ a b st later path. path;
+        };
+        depends = λ i o older is newest free. free;
+        lows = λ i x is own stands l. record { instances = l.instances; parts = l.parts; tasks = l.tasks };
+      }
+
   -- a fault changes nothing else
-  pub faulted : (kind : FaultKind) → PicturesBy tree code texts (record w { fault = Some (record { kind = kind; process = p }) }) lay (failed img p kind)
+  pub faulted : IsOk (scopes_of tree) IsWhole w → (kind : FaultKind) → PicturesBy tree code texts (record w { fault = Some (record { kind = kind; process = p }) }) lay (failed img p kind)
   unfolding failed
-  faulted kind =
+  faulted ok kind =
       record {
         laid = by.laid;
         arrays = arrays_unchanged (scopes_of tree) w (record w { fault = Some (record { kind = kind; process = p }) }) lay img.rows refl by.arrays;
@@ -147,6 +169,6 @@ module _ (tree : PProgram) (code : Code) (texts : Texts) (w : World) (lay : Layo
         states = by.states;
         system = by.system;
         each = λ r o e. pictured_alike tree code texts w (record w { fault = Some (record { kind = kind; process = p }) }) lay lay r
-            (alike_by w (record w { fault = Some (record { kind = kind; process = p }) }) lay r refl) img (failed img p kind) o (process_is w r o e) (process_is w r o e) refl
+            (alike_by (scopes_of tree) w (record w { fault = Some (record { kind = kind; process = p }) }) lay r (untouched ok (Some (record { kind = kind; process = p })) r) refl) img (failed img p kind) o e (process_is w r o e) refl
             (λ core has. record { live = has.live; registers = has.registers; own = has.own; stack = has.stack; is = has.is }) (by.each r o e);
       }

@@ -15,6 +15,8 @@ use Rattle.algol_meaning.specs.World as worlds
 use Rattle.algol_meaning.specs.Instances.{fresh_cells}
 use Rattle.algol_meaning.specs.Run.{start}
 use Rattle.algol_meaning.specs.Arrays.{size_of_cells}
+use Rattle.algol_standing.specs.Worlds.{IsStanding, IsWhole}
+use Rattle.algol_standing.specs.Fitting.{IsOk}
 use Rattle.algol_meaning.specs.Value.{ArrayCell, EventCell, event}
 use Rattle.algol_paths.specs.Arrays.{DeclaredArray}
 use Rattle.algol_paths.specs.Laws.{RestsKeepToTheirText, AllIsMadeInOrder}
@@ -50,15 +52,19 @@ use Rattle.b67_fitting.specs.Nested.{AreTold, AreNested}
 use Rattle.b67_rows.proofs.Texted.{block_keeps, block_makes}
 use Rattle.b67_frames.proofs.ControlWords.{block_few, routines_long, controls_many, controls_fit}
 use Rattle.b67_frames.specs.Arrays.{Allotted, Layout, rows_of_cells, HasArray, ArraysAre}
-use Rattle.b67_frames.specs.Frames.{block_controls, controls_count, most_around, CellsAre, IsChained, Framed, outermost, of_own}
+use Rattle.b67_frames.specs.Frames.{block_controls, controls_count, most_around, CellsAre, IsChained, Framed, of_own}
 use Rattle.b67_frames.proofs.ArraysKept.{no_elements, no_rows}
 use Rattle.b67_frames.proofs.Segmenting.{block_small}
+use Rattle.b67_frames.proofs.Facts.{facts_of}
 use Rattle.b67_frames.proofs.Formals.{LeadAll, lead_there}
 use Rattle.b67_frames.proofs.FreshCells.{fresh_are, fresh_lead, none_are, none_lead, simple_many}
 use Rattle.b67_frames.proofs.Zeros.{zero_word, cells_length}
 use Rattle.b67_frames.specs.Events.{HasEvent, EventsAre}
 use Rattle.b67_scenes.specs.Pictures.{Pictured, living, Pictures}
+use Rattle.b67_scenes.specs.Reaches.{none_yet}
+use Rattle.b67_scenes.proofs.Ancestors.{all_laid}
 use Rattle.b67_scenes.proofs.Landing.{Landed, living_of}
+use Rattle.b67_scenes.proofs.Paths.{can_climb}
 use Rattle.b67_word.specs.declared.Place.{Place}
 use Rattle.b67_rows.proofs.Numbers.{get_below}
 
@@ -78,7 +84,8 @@ first_there [] h = absurd (omega (arith, h))
 first_there (s ∷ segments) h = (s, refl)
 
 module _ (tree : PProgram) (code : Code) (names : HasNames tree) (nested : AreNested (scopes_of tree)) (stands : ProgramAt code tree)
-    (fragments : FragmentsArePerformed) (begin : BlocksBegin) (starts : BlocksStart) (keeps : RestsKeepToTheirText) (order : AllIsMadeInOrder) where
+    (fragments : FragmentsArePerformed) (begin : BlocksBegin) (starts : BlocksStart) (keeps : RestsKeepToTheirText) (order : AllIsMadeInOrder)
+    (ok : IsOk (scopes_of tree) IsWhole (start (scopes_of tree))) where
   abbrev sc : Scopes
   sc = scopes_of tree
 
@@ -200,8 +207,8 @@ module _ (tree : PProgram) (code : Code) (names : HasNames tree) (nested : AreNe
   zeros = fresh_are sc block [] [] (none_are sc block no_cells plain)
 
   -- no parameter is an array
-  zeros_lead : LeadAll sc w first_lay [] (simple_cells sc block) (fresh_cells block []) (replicate many zero_word)
-  zeros_lead = fresh_lead sc w first_lay [] block [] [] (none_lead sc w first_lay [] block no_cells plain)
+  zeros_lead : LeadAll sc w first_lay (IsStanding w) (simple_cells sc block) (fresh_cells block []) (replicate many zero_word)
+  zeros_lead = fresh_lead sc w first_lay (IsStanding w) block [] [] (none_lead sc w first_lay (IsStanding w) block no_cells plain)
 
   abbrev framed : Framed sc w first_lay 1 1 [] 0 base_mark (base_control OUTER_LEVEL) cells
   unfolding start
@@ -216,7 +223,7 @@ module _ (tree : PProgram) (code : Code) (names : HasNames tree) (nested : AreNe
         simple = fresh_cells block [];
         values = replicate many zero_word;
         simple_are = zeros;
-        formals = lead_there sc w first_lay [] (simple_cells sc block) (fresh_cells block []) (replicate many zero_word) zeros_lead;
+        formals = lead_there sc w first_lay (IsStanding w) (simple_cells sc block) (fresh_cells block []) (replicate many zero_word) zeros_lead;
         ats = body.ats;
         each_has_place = each_has_place;
         arrays = [];
@@ -227,7 +234,6 @@ module _ (tree : PProgram) (code : Code) (names : HasNames tree) (nested : AreNe
         made = tt;
         has = sym (append-nil (fresh_cells block []));
         cells_is = ap (λ (ws : List Word). replicate many zero_word ++ ws) (sym (append-nil (control_words controls)));
-        placed = outermost refl (ap (λ (o : List Spot). map (number_at sc.blocks) o) nested.outer);
         home = place 0 0;
         linked = refl;
         df = 0;
@@ -259,11 +265,9 @@ module _ (tree : PProgram) (code : Code) (names : HasNames tree) (nested : AreNe
   landed =
       record {
         todo = refl;
-        independent = refl;
-        without_task = refl;
         has = first_has;
-        free = refl;
-        idle = refl;
+        critical = refl;
+        task = refl;
         sees = refl;
         small = omega arith;
         begun = begun.count;
@@ -287,7 +291,7 @@ module _ (tree : PProgram) (code : Code) (names : HasNames tree) (nested : AreNe
           text = block_keeps sc 0 keeps (nested.each 0 nested.some);
           shape = of_own (record { owns = refl; framed = framed; routines = (body.routines, controls_fit text level controls body.cells.0 body.cells.1 body.cells.3); items = (body.start, body.items); making = sym (block_makes sc 0 order (nested.each 0 nested.some)) }) refl;
         };
-        around = (refl, refl, refl, ap yields_of nested.untyped);
+        around = (refl, ap yields_of nested.untyped);
         counted = omega (arith, ap (λ (r : Registers). r.cells) begun.registers, length_cells);
         chained = subst (λ d. IsChained sc w first_lay 1 level d) (sym (ap (λ (r : Registers). r.display) begun.registers)) chained;
         top = ap (λ (r : Registers). place_at r.display level) begun.registers ∙ first_top;
@@ -299,6 +303,7 @@ module _ (tree : PProgram) (code : Code) (names : HasNames tree) (nested : AreNe
         at = begun.at;
         held = omega arith;
         comes = comes;
+        reaches = none_yet 0 refl refl (omega arith) refl;
         room = omega (arith, ap length begun.below, length_cells);
         light = omega (arith, weight_is, many_cells, many_controls, small);
       }
@@ -308,7 +313,7 @@ module _ (tree : PProgram) (code : Code) (names : HasNames tree) (nested : AreNe
   only_process zero q e = none_some e
   only_process (suc zero) q e =
       subst (λ (x : Process). Pictured tree code texts w first_lay first_image 1 x) (some_same e)
-      (living refl tt (living_of tree code texts w first_lay first_image fragments 1 first_process first_part [] bound first_core begun.core landed))
+      (living refl tt (living_of tree code texts w first_lay first_image (can_climb sc w ok) (all_laid w first_lay (facts_of sc w ok) refl) fragments 1 first_process first_part [] bound first_core begun.core landed))
   only_process (suc (suc k)) q e = none_some e
 
   no_array : (i number : ℕ) (declared : DeclaredArray) (cell : ArrayCell) (a : Allotted) → HasArray sc w first_lay i number declared cell a → ⊥

@@ -1,14 +1,15 @@
 -- The frames of a process's parts after a store into a cell of one of them: of a variable, whose word in the stack is another one, or of an
 -- array, whose word stays.
-use Rattle.std.proofs.Common.{◌≡◌, ◌≢◌, ◌⊎◌, inl, inr, refl, sym, ap, ◌∙◌, subst, ℕ, zero, suc, ◌+◌, ◌<◌, ◌≤◌, List, [], ◌∷◌, ◌++◌, length, Option, Some, None, arith, length-append}
-use Rattle.std.specs.Prelude.{slice_get, slice_set, reverse}
+use Rattle.std.proofs.Common.{◌≡◌, ◌≢◌, ◌⊎◌, inl, inr, refl, sym, ap, ◌∙◌, subst, ℕ, zero, suc, ◌+◌, ◌<◌, ◌≤◌, List, [], ◌∷◌, ◌++◌, length, Option, Some, None, false, arith, length-append, Bool, true}
+use Rattle.std.specs.Prelude.{slice_get, slice_set, reverse, if◌then◌else◌}
 use Rattle.b67_list.specs.Numbered.{numbered}
-use Rattle.algol_tree.specs.Blocks.{block_numbered, around}
+use Rattle.algol_tree.specs.Blocks.{block_numbered}
 use Rattle.algol_tree.specs.Cells.{level_of}
 use Rattle.algol_tree.specs.Plain.{PProgram}
 use Rattle.algol_tree.specs.Scopes.{Scopes, scopes_of}
+use Rattle.algol_tree.specs.Sorts.{same_name}
 use Rattle.algol_meaning.specs.Value.{Cell}
-use Rattle.algol_meaning.specs.World.{NamedCell, Instance, Part, World, instance_at, or_no_instance, with_instance, ancestor}
+use Rattle.algol_meaning.specs.World.{NamedCell, Instance, Part, World, instance_at, or_no_instance, with_instance, ancestor, cells_with}
 use Rattle.algol_meaning.specs.Rest.{Answer}
 use Rattle.algol_meaning.specs.Asks.{resume}
 use Rattle.algol_paths.specs.Arrays.{Made}
@@ -28,15 +29,21 @@ use Rattle.b67_faithful.specs.Weight.{parts_weight}
 use Rattle.b67_faithful.proofs.Contradictions.{some_same}
 use Rattle.b67_rows.proofs.Numbers.{same_or_not, numbered_set, numbered_other}
 use Rattle.b67_rows.proofs.StackWords.{length-set}
-use Rattle.b67_frames.specs.Arrays.{Allotted, Layout, AreMade, AreKnown, IsOwn}
-use Rattle.b67_frames.specs.Frames.{CellsAre, block_controls, most_around, IsComplete, IsPlaced, outermost, inside, home_of, Framed, RoutinesStand, ItemsStand, Frame, Waits, Around, Owned, Shape, of_own, of_lent, context_at, text_of, level_at, most_of, run_level}
+use Rattle.b67_frames.specs.Arrays.{Allotted, Layout, AreMade, AreKnown}
+use Rattle.b67_frames.specs.Frames.{CellsAre, block_controls, most_around, IsInReach, home_of, Framed, RoutinesStand, ItemsStand, Frame, Waits, Around, Owned, Shape, of_own, of_lent, context_at, text_of, level_at, most_of, run_level}
 use Rattle.b67_frames.proofs.FreshCells.{words_long}
 use Rattle.b67_frames.proofs.Knowing.{KeepsArrays, Remain, keeps_same, HasReferred, has_reference, has_actual, referred_denoted, denotes_lasts, known_lasts, climbs_all}
 use Rattle.b67_frames.proofs.Variables.{HasNoValue, ReferencesStay}
-use Rattle.b67_frames.proofs.Lying.{below_frame, Lies, lies_low, lies_around, StayBelow, home_after, around_stays, owned_frame, frame_gives, runs_at}
+use Rattle.b67_frames.proofs.Facts.{HasFacts, IsStandingOrNone}
+use Rattle.b67_frames.proofs.Lying.{below_frame, Lies, lies_low, lies_around, StayBelow, around_stays, owned_frame, frame_gives, runs_at}
+use Rattle.b67_frames.proofs.Onward.{StandOn, home_on}
+use Rattle.b67_scenes.proofs.Ancestors.{AreLaid}
 use Rattle.b67_scenes.proofs.Staying.{most_in, IsAsHeavy, same_weight}
 use Rattle.b67_templates.specs.Code.{in_routine}
 use Rattle.algol_meaning.specs.Critical.{is_evaluation}
+use Rattle.algol_standing.specs.Skeleton as skeletons
+use Rattle.algol_standing.specs.Skeleton.{IsIn}
+use Rattle.algol_standing.specs.Worlds.{referred_in_cells, IsStanding, IsOnPath, IsOwn, newest_own}
 
 -- ---- lists
 
@@ -75,6 +82,15 @@ put_second (Some x) first second k n e = set_second first second k n x e
 put_cells : (o : Option Word) (mark control : Word) (cells : List Word) (n : ℕ) → put o (mark ∷ control ∷ cells) (suc (suc n)) ≡ mark ∷ control ∷ put o cells n
 put_cells None mark control cells n = refl
 put_cells (Some x) mark control cells n = refl
+
+-- with another cell under a name there are as many
+pub length_cells : (cells : List NamedCell) (name : List ℕ) (c : Cell) → length (cells_with cells name c) ≡ length cells
+length_cells [] name c = refl
+length_cells (x ∷ cells) name c = by_name (same_name x.name name) (length_cells cells name c)
+  where
+    by_name : (b : Bool) → length (cells_with cells name c) ≡ length cells → length (if b then record x { cell = c } ∷ cells else x ∷ cells_with cells name c) ≡ suc (length cells)
+    by_name true e = refl
+    by_name false e = ap suc e
 
 -- ---- the world after a store in a cell of an instance
 
@@ -138,6 +154,7 @@ pub record ChangedCells (ss : List Simple) (rows : List Allotted) (cells before 
 module _ (tree : PProgram) (code : Code) (texts : Texts) (w : World) (lay : Layout) (p : ℕ) (i : ℕ) (x : Instance) (at : numbered w.instances i ≡ Some x) (with_cells : List NamedCell)
     (high : ℕ) (laid : numbered lay.places i ≡ Some (place p high)) (far k : ℕ) (place_is : k ≡ high + 2 + far) (word : Option Word) (many : length with_cells ≡ length x.cells)
     (short : IsStored word → far < length (simple_cells (scopes_of tree) (block_numbered (scopes_of tree).blocks x.block))) (keeps : KeepsArrays (scopes_of tree) w (stored_world w i x at with_cells) lay lay i)
+    (facts : HasFacts w) (fewer : (r : ℕ) → IsIn (referred_in_cells with_cells) r → IsIn (referred_in_cells x.cells) r)
     (changes : (simple : List NamedCell) (values : List Word) (arrays : List NamedCell) (declared : List Made) (descriptors : List Word) →
     CellsAre (simple_cells (scopes_of tree) (block_numbered (scopes_of tree).blocks x.block)) simple values → AreMade declared arrays (lay.rows i) descriptors → x.cells ≡ simple ++ arrays →
     ChangedCells (simple_cells (scopes_of tree) (block_numbered (scopes_of tree).blocks x.block)) (lay.rows i) with_cells simple values (put word values far) declared descriptors) where
@@ -188,27 +205,115 @@ module _ (tree : PProgram) (code : Code) (texts : Texts) (w : World) (lay : Layo
       let as_many : length ss ≤ length l.frame.cells = frame_cells l.part l.outer (length l.frame.lower) l.frame.mark l.frame.control l.frame.cells l.owned l.instance_is in
       (λ set. omega (arith, lies, height, as_many, short set, place_is), omega (arith, lies, height))
 
-  stays : StayBelow w w' lay lay p high
-  stays =
+  -- ---- who stands
+
+  -- the same instances stand, and the same paths lead from them
+  stand_later : (j : ℕ) → IsStanding w j → IsStanding w' j
+  stand_later j st = record { number = st.number; stack = st.stack; is = st.is; inside = st.inside }
+
+  stand_before : (j : ℕ) → IsStanding w' j → IsStanding w j
+  stand_before j st = record { number = st.number; stack = st.stack; is = st.is; inside = st.inside }
+
+  path_later : (a b : ℕ) → IsOnPath w a b → IsOnPath w' a b
+  path_later a b skeletons.here = skeletons.here
+  path_later a b (skeletons.down {b = c} n path) = skeletons.down (record { number = n.number; stack = n.stack; is = n.is; next = n.next }) (path_later c b path)
+
+  path_before : (a b : ℕ) → IsOnPath w' a b → IsOnPath w a b
+  path_before a b skeletons.here = skeletons.here
+  path_before a b (skeletons.down {b = c} n path) = skeletons.down (record { number = n.number; stack = n.stack; is = n.is; next = n.next }) (path_before c b path)
+
+  -- an instance is still there, of the same block
+  there_later : (j : ℕ) (y : Instance) → numbered w.instances j ≡ Some y → numbered w'.instances j ≡ Some (instance_at w' j)
+  there_later j y e = by_number (same_or_not j i)
+    where
+      itself : (z : Instance) → numbered w'.instances j ≡ Some z → numbered w'.instances j ≡ Some (instance_at w' j)
+      itself z there = there ∙ ap (λ (o : Option Instance). Some (or_no_instance o)) (sym there)
+
+      by_number : (j ≡ i) ⊎ (j ≢ i) → numbered w'.instances j ≡ Some (instance_at w' j)
+      by_number (inl same) = itself (changed w i x at with_cells) (ap (λ (n : ℕ). numbered w'.instances n) same ∙ changed_at w i x at with_cells)
+      by_number (inr apart) = itself y (others_at w i x at with_cells j apart ∙ e)
+
+  stays_there : (j : ℕ) → IsStanding w' j → (y : Instance) × (numbered w'.instances j ≡ Some y) × (y.left ≡ false)
+  stays_there j st =
+      let old = facts.there j (stand_before j st) in
+      (instance_at w' j, there_later j old.0 old.1, sym (same_of w i x at with_cells (λ (y : Instance). y.left) refl j) ∙ ap (λ (o : Option Instance). (or_no_instance o).left) old.1 ∙ old.2)
+
+  stands_there : (j : ℕ) (y : Instance) → numbered w'.instances j ≡ Some y → y.left ≡ false → IsStanding w' j
+  stands_there j y is stands = by_number (same_or_not j i)
+    where
+      by_number : (j ≡ i) ⊎ (j ≢ i) → IsStanding w' j
+      by_number (inl e) =
+          let same : changed w i x at with_cells ≡ y = some_same (sym (changed_at w i x at with_cells) ∙ ap (λ (n : ℕ). numbered w'.instances n) (sym e) ∙ is) in
+          stand_later j (subst (λ (n : ℕ). IsStanding w n) (sym e) (facts.stands i x at (ap (λ (z : Instance). z.left) same ∙ stands)))
+      by_number (inr apart) = stand_later j (facts.stands j y (sym (others_at w i x at with_cells j apart) ∙ is) stands)
+
+  parents_there : (j : ℕ) → IsStanding w' j → IsStandingOrNone w' ((instance_at w' j).parent)
+  parents_there j st = subst (λ (k' : ℕ). IsStandingOrNone w' k') (same_of w i x at with_cells (λ (y : Instance). y.parent) refl j) (later (facts.parents j (stand_before j st)))
+    where
+      later : {n : ℕ} → IsStandingOrNone w n → IsStandingOrNone w' n
+      later {n} (inl none) = inl none
+      later {n} (inr stands) = inr (stand_later n stands)
+
+  cells_there : (j r : ℕ) → IsStanding w' j → IsIn (referred_in_cells ((instance_at w' j).cells)) r → IsStanding w' r
+  cells_there j r st inside = stand_later r (facts.cells j r (stand_before j st) (by_number (same_or_not j i)))
+    where
+      by_number : (j ≡ i) ⊎ (j ≢ i) → IsIn (referred_in_cells ((instance_at w j).cells)) r
+      by_number (inl e) =
+          subst (λ (y : Instance). IsIn (referred_in_cells y.cells) r) (sym (ap (λ (n : ℕ). instance_at w n) e ∙ ap or_no_instance at))
+          (fewer r (subst (λ (y : Instance). IsIn (referred_in_cells y.cells) r) (ap (λ (n : ℕ). instance_at w' n) e ∙ ap or_no_instance (changed_at w i x at with_cells)) inside))
+      by_number (inr apart) = subst (λ (y : Instance). IsIn (referred_in_cells y.cells) r) (ap or_no_instance (others_at w i x at with_cells j apart)) inside
+
+  facts_later : HasFacts w'
+  facts_later =
       record {
-        instances = λ j there y e mine lies lower.
-            others_at w i x at with_cells j (λ (same : j ≡ i). let height : there ≡ high = same_height there high (sym lies ∙ ap (λ (n : ℕ). numbered lay.places n) same ∙ laid) in omega (arith, height, lower)) ∙ e;
-        places = λ j f e. e;
-        rows = λ j there y e mine lies lower. refl;
+        nobody = λ st. facts.nobody (stand_before 0 st);
+        there = stays_there;
+        stands = stands_there;
+        parents = parents_there;
+        cells = cells_there;
+        on_path = λ a b st path. stand_later b (facts.on_path a b (stand_before a st) (path_before a b path));
       }
 
-  placed_so : (outer : List Part) (y z : Instance) → y.parent ≡ z.parent → y.block ≡ z.block → IsPlaced sc w lay outer y → IsPlaced sc w' lay outer z
-  placed_so outer y z parent block (outermost none_up alone) = outermost (sym parent ∙ none_up) (ap (λ (b : ℕ). around sc.blocks b) (sym block) ∙ alone)
-  placed_so outer y z parent block (inside own next made) =
-      inside (subst (λ (j : ℕ). IsOwn outer j) parent own)
-      (ap (λ (b : ℕ). around sc.blocks b) (sym block)
-      ∙ next
-      ∙ ap (λ (b : ℕ). b ∷ around sc.blocks b) (same_of w i x at with_cells (λ (y : Instance). y.block) refl y.parent)
-      ∙ ap (λ (j : ℕ). (instance_at w' j).block ∷ around sc.blocks ((instance_at w' j).block)) parent)
-      (subst (λ (j : ℕ). IsComplete sc w' lay j) parent
-      (sym (same_of w i x at with_cells (λ (y : Instance). length y.cells) many y.parent)
-      ∙ made
-      ∙ same_of w i x at with_cells (λ (y : Instance). length (simple_cells sc (block_numbered sc.blocks y.block)) + length (made_of (block_numbered sc.blocks y.block).decls)) refl y.parent))
+  each_keeps : (j : ℕ) → KeepsArrays sc w w' lay lay j
+  each_keeps j = by_number (same_or_not j i)
+    where
+      by_number : (j ≡ i) ⊎ (j ≢ i) → KeepsArrays sc w w' lay lay j
+      by_number (inl e) = subst (λ (n : ℕ). KeepsArrays sc w w' lay lay n) (sym e) keeps
+      by_number (inr n) = keeps_same sc w w' lay lay j (ap or_no_instance (others_at w i x at with_cells j n)) refl
+
+  -- what stands, stands on
+  pub stored_on : StandOn (scopes_of tree) w (stored_world w i x at with_cells) lay lay
+  stored_on =
+      record {
+        before = facts;
+        after = facts_later;
+        keeps = λ j st later. each_keeps j;
+        places = λ j f e. e;
+        paths = λ a b st later path. path_later a b path;
+      }
+
+  -- .. and what stands later stands on from there
+  pub onward_from : (after : World) → after.instances ≡ (stored_world w i x at with_cells).instances → StandOn (scopes_of tree) w after lay lay → StandOn (scopes_of tree) (stored_world w i x at with_cells) after lay lay
+  onward_from after same on =
+      record {
+        before = facts_later;
+        after = on.after;
+        keeps = λ j st later. keeps_same sc w' after lay lay j (ap (λ (xs : List Instance). or_no_instance (numbered xs j)) same) refl;
+        places = λ j f e. e;
+        paths = λ a b st later path. on.paths a b (stand_before a st) later (path_before a b path);
+      }
+
+  pub laid_from : AreLaid w lay → AreLaid (stored_world w i x at with_cells) lay
+  laid_from laid_there j st = laid_there j (stand_before j st)
+
+  stays : StayBelow sc w w' lay lay p high
+  stays =
+      record {
+        on = stored_on;
+        instances = λ j there y e mine lies lower.
+            others_at w i x at with_cells j (λ (same : j ≡ i). let height : there ≡ high = same_height there high (sym lies ∙ ap (λ (n : ℕ). numbered lay.places n) same ∙ laid) in omega (arith, height, lower)) ∙ e;
+        rows = λ j there y e mine lies lower. refl;
+      }
 
   -- a frame after the store, and the parts around it
   pub record Stored (part : Part) (outer : List Part) (words : List Word) (f : Frame tree code texts w lay p part outer words) : Type 0 where
@@ -226,19 +331,16 @@ module _ (tree : PProgram) (code : Code) (texts : Texts) (w : World) (lay : Layo
 
   -- ---- descriptors and references
 
-  each_keeps : (j : ℕ) → KeepsArrays sc w w' lay lay j
-  each_keeps j = by_number (same_or_not j i)
-    where
-      by_number : (j ≡ i) ⊎ (j ≢ i) → KeepsArrays sc w w' lay lay j
-      by_number (inl e) = subst (λ (n : ℕ). KeepsArrays sc w w' lay lay n) (sym e) keeps
-      by_number (inr n) = keeps_same sc w w' lay lay j (ap or_no_instance (others_at w i x at with_cells j n)) refl
+  reach_remains : (parts : List Part) → Remain sc w w' lay lay (IsInReach w parts) (IsInReach w' parts)
+  reach_remains parts = record { stays = λ j path. path_later (newest_own parts) j path; keeps = λ j own. each_keeps j; places = λ j f own laid. laid }
 
-  all_remain : (parts : List Part) → Remain sc w w' lay lay parts parts
-  all_remain parts = record { owned = λ j own. own; keeps = λ j own. each_keeps j; places = λ j f own laid. laid }
+  stand_remains : Remain sc w w' lay lay (IsStanding w) (IsStanding w')
+  stand_remains = record { stays = stand_later; keeps = λ j own. each_keeps j; places = λ j f own laid. laid }
 
   -- what is known of them holds as it did
-  pub known_stored : (parts : List Part) (j : ℕ) (known : List Known) → AreKnown sc w lay (IsOwn parts) j known → AreKnown sc (stored_world w i x at with_cells) lay (IsOwn parts) j known
-  known_stored parts j = known_lasts sc w w' lay lay parts parts (all_remain parts) j (climbs_all sc w w' lay lay each_keeps j)
+  pub known_stored : (parts : List Part) (j : ℕ) (known : List Known) → AreKnown (scopes_of tree) w lay (IsInReach w parts) j known →
+      AreKnown (scopes_of tree) (stored_world w i x at with_cells) lay (IsInReach (stored_world w i x at with_cells) parts) j known
+  known_stored parts j = known_lasts sc w w' lay lay (IsInReach w parts) (IsInReach w' parts) (reach_remains parts) j (climbs_all sc w w' lay lay each_keeps j)
 
   -- the frame of the instance
   module _ (part : Part) (outer : List Part) (lower : List Word) (m k' : Word) (cells : List Word) (o : OwnedBefore part outer (length lower) m k' cells) (e : part.instance ≡ i) where
@@ -269,8 +371,8 @@ module _ (tree : PProgram) (code : Code) (texts : Texts) (w : World) (lay : Layo
           simple_are = c.simple_are;
           formals = λ n t there refers.
               let g = o.framed.formals n t (ap (λ (y : Instance). slice_get (simple_cells sc (block_numbered sc.blocks y.block)) n) is_x ∙ there) refers in
-              let stay = c.references n g.0 g.1 g.2 g.3 (no_value (referred_denoted sc w lay outer t.wanted g.0.cell g.1 g.4)) in
-              (g.0, g.1, stay.0, stay.1, denotes_lasts sc w w' lay lay outer outer (all_remain outer) t.wanted g.0.cell g.1 g.4);
+              let stay = c.references n g.0 g.1 g.2 g.3 (no_value (referred_denoted sc w lay (IsStanding w) t.wanted g.0.cell g.1 g.4)) in
+              (g.0, g.1, stay.0, stay.1, denotes_lasts sc w w' lay lay (IsStanding w) (IsStanding w') stand_remains t.wanted g.0.cell g.1 g.4);
           ats = o.framed.ats;
           each_has_place = subst (λ (y : Instance). length o.framed.ats ≡ length (actuals_of sc (block_numbered sc.blocks y.block))) is_x o.framed.each_has_place;
           arrays = c.arrays;
@@ -283,9 +385,8 @@ module _ (tree : PProgram) (code : Code) (texts : Texts) (w : World) (lay : Layo
           cells_is =
               ap (λ (ws : List Word). put word ws far) (subst (λ (y : Instance). cells ≡ o.framed.values ++ (control_words (block_controls sc y.block o.framed.ats) ++ o.framed.descriptors)) is_x o.framed.cells_is)
               ∙ put_first word o.framed.values (control_words (block_controls sc x.block o.framed.ats) ++ o.framed.descriptors) far (λ set. omega (arith, short set, frame_values part outer (length lower) m k' cells o e));
-          placed = placed_so outer o.framed.instance (changed w i x at with_cells) (ap (λ (y : Instance). y.parent) is_x) (ap (λ (y : Instance). y.block) is_x) o.framed.placed;
           home = o.framed.home;
-          linked = subst (λ (y : Instance). home_of sc w' lay y.parent ≡ Some o.framed.home) is_x (home_after tree code texts w w' lay lay p high stays o.framed.instance.parent o.framed.home o.framed.linked);
+          linked = subst (λ (y : Instance). home_of sc w' lay y.parent ≡ Some o.framed.home) is_x (home_on sc w w' lay lay stored_on o.framed.instance.parent o.framed.home o.framed.linked);
           df = o.framed.df;
           mark_is = o.framed.mark_is;
           back = o.framed.back;
@@ -309,7 +410,7 @@ module _ (tree : PProgram) (code : Code) (texts : Texts) (w : World) (lay : Layo
         simple_are = o.framed.simple_are;
         formals = λ n t there refers.
             let g = o.framed.formals n t there refers in
-            (g.0, g.1, g.2, g.3, denotes_lasts sc w w' lay lay outer outer (all_remain outer) t.wanted g.0.cell g.1 g.4);
+            (g.0, g.1, g.2, g.3, denotes_lasts sc w w' lay lay (IsStanding w) (IsStanding w') stand_remains t.wanted g.0.cell g.1 g.4);
         ats = o.framed.ats;
         each_has_place = o.framed.each_has_place;
         arrays = o.framed.arrays;
@@ -320,26 +421,14 @@ module _ (tree : PProgram) (code : Code) (texts : Texts) (w : World) (lay : Layo
         made = o.framed.made;
         has = o.framed.has;
         cells_is = o.framed.cells_is;
-        placed = placed_so outer o.framed.instance o.framed.instance refl refl o.framed.placed;
         home = o.framed.home;
-        linked = home_after tree code texts w w' lay lay p high stays o.framed.instance.parent o.framed.home o.framed.linked;
+        linked = home_on sc w w' lay lay stored_on o.framed.instance.parent o.framed.home o.framed.linked;
         df = o.framed.df;
         mark_is = o.framed.mark_is;
         back = o.framed.back;
         control_is = o.framed.control_is;
         level_is = o.framed.level_is;
       }
-
-  -- an instance is still there, of the same block
-  still_there : (j : ℕ) (y : Instance) → numbered w.instances j ≡ Some y → numbered w'.instances j ≡ Some (instance_at w' j)
-  still_there j y e = by_number (same_or_not j i)
-    where
-      itself : (z : Instance) → numbered w'.instances j ≡ Some z → numbered w'.instances j ≡ Some (instance_at w' j)
-      itself z there = there ∙ ap (λ (o : Option Instance). Some (or_no_instance o)) (sym there)
-
-      by_number : (j ≡ i) ⊎ (j ≢ i) → numbered w'.instances j ≡ Some (instance_at w' j)
-      by_number (inl same) = itself (changed w i x at with_cells) (ap (λ (n : ℕ). numbered w'.instances n) same ∙ changed_at w i x at with_cells)
-      by_number (inr apart) = itself y (others_at w i x at with_cells j apart ∙ e)
 
   same_block : (j : ℕ) (y : Instance) → numbered w.instances j ≡ Some y → y.block ≡ (instance_at w' j).block
   same_block j y e = sym (ap (λ (o : Option Instance). (or_no_instance o).block) e) ∙ same_of w i x at with_cells (λ (z : Instance). z.block) refl j
@@ -351,7 +440,7 @@ module _ (tree : PProgram) (code : Code) (texts : Texts) (w : World) (lay : Layo
       let apart : part.instance ≢ i = λ (e : part.instance ≡ i). let height : length lower ≡ high = frame_high part outer (length lower) m k' cells o e in omega (arith, height, above) in
       of_own (record { owns = o.owns; framed = other_framed part outer lower m k' cells o apart; routines = o.routines; items = o.items; making = o.making }) is
   other_shape part outer lower m k' cells home gives above (of_lent l) =
-      of_lent (record { evaluates = l.evaluates; asked = l.asked; expression = l.expression; stands = l.stands; none = l.none; linked = l.linked })
+      of_lent (record { evaluates = l.evaluates; asked = l.asked; expression = l.expression; stands = path_later (newest_own outer) part.instance l.stands; none = l.none; linked = l.linked })
 
   stored_by : (part : Part) (outer : List Part) (words : List Word) (f : Before part outer words) → Around tree code texts w lay p outer f.lower f.mark f.control f.gives →
       (IsOwn outer i → Around tree code texts w' lay p outer (put word f.lower k) f.mark f.control f.gives) → IsOwn (part ∷ outer) i → Stored part outer words f
@@ -408,7 +497,7 @@ module _ (tree : PProgram) (code : Code) (texts : Texts) (w : World) (lay : Layo
           words_are = ap (λ (ws : List Word). put word ws k) f.words_are
               ∙ put_first word f.lower (f.mark ∷ f.control ∷ f.cells) k lies.0;
           instance = instance_at w' part.instance;
-          is = still_there part.instance f.instance f.is;
+          is = there_later part.instance f.instance f.is;
           known = subst (λ (b : ℕ). b < length sc.blocks) (same_block part.instance f.instance f.is) f.known;
           home = f.home;
           df = f.df;

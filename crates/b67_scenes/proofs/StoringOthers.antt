@@ -25,18 +25,25 @@ use Rattle.b67_cores.specs.Stretches.{CoreAt, Above}
 use Rattle.b67_cores.proofs.Staying.{steps_stay_above}
 use Rattle.b67_faithful.proofs.Choices.{length_set_numbered}
 use Rattle.b67_rows.proofs.Numbers.{same_or_not}
-use Rattle.b67_frames.specs.Arrays.{Layout, AreMade, IsOwn, ArraysAre}
+use Rattle.b67_frames.specs.Arrays.{Layout, AreMade, ArraysAre}
 use Rattle.b67_frames.specs.Events.{EventsAre}
 use Rattle.b67_frames.specs.Frames.{CellsAre, most_around, IsChained, Stands, Around, Frames, run_level}
+use Rattle.b67_frames.proofs.Facts.{HasFacts}
 use Rattle.b67_frames.proofs.Knowing.{KeepsArrays}
+use Rattle.b67_frames.proofs.Lying.{StayBelow}
 use Rattle.b67_scenes.specs.Pictures.{innermost_most, Living, Pictured, living, dead, PicturesBy}
-use Rattle.b67_scenes.proofs.Kept.{alike_by, alike_but, pictured_alike}
+use Rattle.b67_scenes.specs.Reaches.{ReachesFor}
+use Rattle.b67_scenes.proofs.Kept.{LeavesAlone, reach_alone, alike_but, pictured_alike}
 use Rattle.b67_scenes.proofs.Stage.{process_is, comes_by}
-use Rattle.b67_scenes.proofs.Staying.{same_weight}
-use Rattle.b67_scenes.proofs.StoringFrames.{IsStored, put, length_put, put_first, changed, stored_world, same_of, same_ancestors, as_heavy, ChangedCells, Stored, known_stored, frame_stored}
+use Rattle.b67_scenes.proofs.Staying.{IsAsHeavy, same_weight, frames_stay}
+use Rattle.b67_scenes.proofs.Tasks.{EventsStay, task_stays, events_kept, events_beside}
+use Rattle.b67_scenes.proofs.StoringFrames.{IsStored, put, length_put, put_first, changed, stored_world, others_at, same_of, same_ancestors, as_heavy, ChangedCells, Stored, known_stored, onward_from, laid_from, frame_stored}
 use Rattle.b67_templates.specs.Code.{in_routine}
 use Rattle.b67_templates.specs.Contexts.{Yields}
 use Rattle.algol_meaning.specs.Critical.{is_evaluation}
+use Rattle.algol_standing.specs.Skeleton.{IsIn}
+use Rattle.algol_standing.specs.Worlds.{referred_in_cells, IsOwn}
+use Rattle.b67_faithful.specs.Weight.{weight, parts_weight}
 use Rattle.b67_control.specs.Display.{place_at}
 use Rattle.b67_scenes.specs.States.{StateIs}
 
@@ -44,6 +51,7 @@ use Rattle.b67_scenes.specs.States.{StateIs}
 module _ (tree : PProgram) (code : Code) (texts : Texts) (w : World) (lay : Layout) (p : ℕ) (i : ℕ) (x : Instance) (at : numbered w.instances i ≡ Some x) (with_cells : List NamedCell)
     (high : ℕ) (laid : numbered lay.places i ≡ Some (place p high)) (far k : ℕ) (place_is : k ≡ high + 2 + far) (word : Option Word) (many : length with_cells ≡ length x.cells)
     (short : IsStored word → far < length (simple_cells (scopes_of tree) (block_numbered (scopes_of tree).blocks x.block))) (keeps : KeepsArrays (scopes_of tree) w (stored_world w i x at with_cells) lay lay i)
+    (facts : HasFacts w) (fewer : (r : ℕ) → IsIn (referred_in_cells with_cells) r → IsIn (referred_in_cells x.cells) r)
     (changes : (simple : List NamedCell) (values : List Word) (arrays : List NamedCell) (declared : List Made) (descriptors : List Word) →
     CellsAre (simple_cells (scopes_of tree) (block_numbered (scopes_of tree).blocks x.block)) simple values → AreMade declared arrays (lay.rows i) descriptors → x.cells ≡ simple ++ arrays →
     ChangedCells (simple_cells (scopes_of tree) (block_numbered (scopes_of tree).blocks x.block)) (lay.rows i) with_cells simple values (put word values far) declared descriptors) where
@@ -53,14 +61,17 @@ module _ (tree : PProgram) (code : Code) (texts : Texts) (w : World) (lay : Layo
   abbrev w' : World
   w' = stored_world w i x at with_cells
 
+  events_stay : EventsStay w w'
+  events_stay = events_beside w w' i (λ j apart. others_at w i x at with_cells j apart) (events_kept sc w w' lay lay i keeps)
+
   -- the core with the word
   abbrev pub stored_core : Core → Core
   stored_core core = over (put word core.below k) core
 
   module _ (part : Part) (outer : List Part) (core : Core) (s : Stands tree code texts w lay p part outer core) (a : Around tree code texts w lay p outer s.frame.lower s.frame.mark s.frame.control s.frame.gives)
       (own : IsOwn (part ∷ outer) i) where
-    g : Stored tree code texts w lay p i x at with_cells high laid far k place_is word many short keeps changes part outer core.below s.frame
-    g = frame_stored tree code texts w lay p i x at with_cells high laid far k place_is word many short keeps changes part outer core.below s.frame a own
+    g : Stored tree code texts w lay p i x at with_cells high laid far k place_is word many short keeps facts fewer changes part outer core.below s.frame
+    g = frame_stored tree code texts w lay p i x at with_cells high laid far k place_is word many short keeps facts fewer changes part outer core.below s.frame a own
 
     block_is : (instance_at w part.instance).block ≡ (instance_at w' part.instance).block
     block_is = same_of w i x at with_cells (λ (y : Instance). y.block) refl part.instance
@@ -101,7 +112,7 @@ module _ (tree : PProgram) (code : Code) (texts : Texts) (w : World) (lay : Layo
           pc = s.pc;
           slots = s.slots;
           held = s.held;
-          held_are = known_stored tree code texts w lay p i x at with_cells high laid far k place_is word many short keeps changes (part ∷ outer) part.instance s.held s.held_are;
+          held_are = known_stored tree code texts w lay p i x at with_cells high laid far k place_is word many short keeps facts fewer changes (part ∷ outer) part.instance s.held s.held_are;
           stands = subst (λ (m : ℕ). StandsFor sc (in_routine g.frame.gives (context_of code texts sc m)) (texts.placed (segment_of sc.blocks m)) (run_level (is_evaluation part.purpose) (level_of (block_numbered sc.blocks m))) (most_around tree m) part.rest s.pc s.slots) block_is
               (subst (λ (y : Yields). StandsFor sc (in_routine y (context_of code texts sc ((instance_at w part.instance).block))) (texts.placed (segment_of sc.blocks ((instance_at w part.instance).block))) level
               (most_around tree ((instance_at w part.instance).block)) part.rest s.pc s.slots) (sym g.gives) s.stands);
@@ -109,86 +120,105 @@ module _ (tree : PProgram) (code : Code) (texts : Texts) (w : World) (lay : Layo
           few = subst (λ (m : ℕ). length s.slots ≤ most_around tree m) block_is s.few;
         }
 
-  -- as many words may lie above its innermost frame
-  most_same : (parts : List Part) → innermost_most tree w parts ≡ innermost_most tree w' parts
-  most_same [] = refl
-  most_same (part ∷ outer) = ap (most_around tree) (same_of w i x at with_cells (λ (y : Instance). y.block) refl part.instance)
-
-  module _ (img : Image) (o : Process) (own : IsOwn o.todo i) (l : Living tree code texts w lay img p o) (low : IsStored word → k < length l.core.below) where
-    above : Above code l.bound l.count l.core l.settled
-    above = steps_stay_above code l.bound l.count l.core l.settled l.has.is l.steps
-
-    below_stored : put word l.settled.below k ≡ put word l.core.below k ++ above.cells
-    below_stored = ap (λ (ws : List Word). put word ws k) above.below ∙ put_first word l.core.below above.cells k low
-
-    -- it goes on as it did
-    steps_stored : CoreSteps code l.bound l.count (stored_core l.core) (stored_core l.settled)
-    steps_stored =
-        subst (λ (ws : List Word). CoreSteps code l.bound l.count (stored_core l.core) (over ws l.settled)) (sym below_stored)
-        (above.same (put word l.core.below k) (length_put word l.core.below k))
-
-    frames_stored : (parts : List Part) → IsOwn parts i → Frames tree code texts w lay p parts l.settled → Frames tree code texts w' lay p parts (stored_core l.settled)
-    unfolding stands_stored g
-    frames_stored [] mine f = absurd f
-    frames_stored (part ∷ outer) mine f = (stands_stored part outer l.settled f.0 f.1 mine, (g part outer l.settled f.0 f.1 mine).around)
-
-    -- in an image in which it has that core it lives
-    pub living_stored : (img' : Image) → HasCore img' p (stored_core l.core) → Living tree code texts (stored_world w i x at with_cells) lay img' p o
-    living_stored img' has =
-        record {
-          independent = l.independent;
-          without_task = l.without_task;
-          core = stored_core l.core;
-          has = has;
-          free = l.free;
-          idle = l.idle;
-          sees = l.sees;
-          small = omega (arith, l.small, length_put word l.core.below k);
-          settled = stored_core l.settled;
-          bound = l.bound;
-          count = l.count;
-          steps = steps_stored;
-          frames = frames_stored o.todo own l.frames;
-          room = omega (arith, l.room, length_put word l.settled.below k, most_same o.todo);
-          light = subst (λ (n : ℕ). l.bound + 3 ≤ n) (sym (same_weight tree w w' (process_at w p).todo (λ j own_part. as_heavy w i x at with_cells many j))) l.light;
-        }
-
-  -- ---- all but the process that stores
-
-  -- Process a stores, and has the state q' after it. The instance is one of process p, whose core has the word; all others have their cores.
-  module _ (a : ℕ) (q' : Process) (img img' : Image) (mine : x.process ≡ p) (owns : (o : Process) → numbered w.processes p ≡ Some o → IsOwn o.todo i)
-      (low : (core : Core) → HasCore img p core → IsStored word → k < length core.below) (holds : (core : Core) → HasCore img p core → HasCore img' p (stored_core core))
-      (stay : (r : ℕ) (core : Core) → r ≢ a → r ≢ p → HasCore img r core → HasCore img' r core) (states : img'.states ≡ img.states) where
+  -- Process a stores, and has the state q' after it.
+  module _ (a : ℕ) (q' : Process) where
     abbrev after : World
     after = with_process w' a q'
 
-    same_state : (r : ℕ) → numbered img'.states r ≡ numbered img.states r
-    same_state r = ap (λ (ss : List ProcessState). numbered ss r) states
+    -- as many words may lie above its innermost frame
+    most_same : (parts : List Part) → innermost_most tree w parts ≡ innermost_most tree after parts
+    most_same [] = refl
+    most_same (part ∷ outer) = ap (most_around tree) (same_of w i x at with_cells (λ (y : Instance). y.block) refl part.instance)
 
-    -- the one whose frame it is
-    owner_stored : (o : Process) → numbered w.processes p ≡ Some o → numbered after.processes p ≡ Some o → Pictured tree code texts w lay img p o → Pictured tree code texts after lay img' p o
-    owner_stored o before now (dead e s) = dead e (same_state p ∙ s)
-    owner_stored o before now (living e s l) =
-        let stored : Living tree code texts w' lay img' p o = living_stored img o (owns o before) l (low l.core l.has) img' (holds l.core l.has) in
-        pictured_alike tree code texts w' after lay lay p (alike_by w' after lay p refl) img' img' o (process_is w p o before) (process_is after p o now) refl (λ core has. has) (living e (subst (λ (x : Option ProcessState). StateIs o.state x) (sym (same_state p)) s) stored)
+    heavy : (j : ℕ) → IsAsHeavy w after j
+    heavy j = let h = as_heavy w i x at with_cells many j in record { block = h.block; cells = h.cells }
 
-    pub others_stored : (r : ℕ) (o : Process) → r ≢ a → numbered w.processes r ≡ Some o → numbered (with_process (stored_world w i x at with_cells) a q').processes r ≡ Some o → Pictured tree code texts w lay img r o →
-        Pictured tree code texts (with_process (stored_world w i x at with_cells) a q') lay img' r o
-    others_stored r o other before now pictured = by_owner (same_or_not r p)
-      where
-        by_owner : (r ≡ p) ⊎ (r ≢ p) → Pictured tree code texts after lay img' r o
-        by_owner (inl e) =
-            subst (λ (n : ℕ). Pictured tree code texts after lay img' n o) (sym e)
-            (owner_stored o (ap (λ (n : ℕ). numbered w.processes n) (sym e) ∙ before) (ap (λ (n : ℕ). numbered after.processes n) (sym e) ∙ now) (subst (λ (n : ℕ). Pictured tree code texts w lay img n o) e pictured))
-        by_owner (inr apart) =
-            pictured_alike tree code texts w after lay lay r (alike_but w after lay r i x (changed w i x at with_cells) at (λ (same : r ≡ x.process). apart (same ∙ mine)) refl) img img' o
-            (process_is w r o before) (process_is after r o now) (same_state r) (λ core has. stay r core other apart has) pictured
+    module _ (alone : LeavesAlone (scopes_of tree) w (with_process (stored_world w i x at with_cells) a q') lay lay p) (img : Image) (o : Process) (before : numbered w.processes p ≡ Some o) (own : IsOwn o.todo i) (l : Living tree code texts w lay img p o)
+        (low : IsStored word → k < length l.core.below) where
+      above : Above code l.bound l.count l.core l.settled
+      above = steps_stay_above code l.bound l.count l.core l.settled l.has.is l.steps
 
-    -- so the image pictures the world after it, where it pictures the process that stores
-    pub stored_pictured : (by : PicturesBy tree code texts w lay img) (q : Process) → numbered w.processes a ≡ Some q → ArraysAre (scopes_of tree) (with_process (stored_world w i x at with_cells) a q') lay img'.rows →
-        EventsAre (scopes_of tree) (with_process (stored_world w i x at with_cells) a q') lay img'.events → img'.output ≡ w.output →
-        img'.fault ≡ img.fault → img'.started ≡ img.started → stack_at img'.stacks 0 ≡ stack_at img.stacks 0 → Pictured tree code texts (with_process (stored_world w i x at with_cells) a q') lay img' a q' →
-        PicturesBy tree code texts (with_process (stored_world w i x at with_cells) a q') lay img'
-    stored_pictured by q at_a arrays events output fault started system own =
-        comes_by tree code texts w lay img by a q at_a after lay img' q' refl (by.laid ∙ sym (length_set_numbered w.instances i (changed w i x at with_cells))) arrays events output refl fault started (ap length states) system
-        others_stored own
+      below_stored : put word l.settled.below k ≡ put word l.core.below k ++ above.cells
+      below_stored = ap (λ (ws : List Word). put word ws k) above.below ∙ put_first word l.core.below above.cells k low
+
+      -- it goes on as it did
+      steps_stored : CoreSteps code l.bound l.count (stored_core l.core) (stored_core l.settled)
+      steps_stored =
+          subst (λ (ws : List Word). CoreSteps code l.bound l.count (stored_core l.core) (over ws l.settled)) (sym below_stored)
+          (above.same (put word l.core.below k) (length_put word l.core.below k))
+
+      stay_on : StayBelow sc w' after lay lay p (length (put word l.settled.below k))
+      stay_on = record { on = onward_from tree code texts w lay p i x at with_cells high laid far k place_is word many short keeps facts fewer changes after refl alone.on; instances = λ j n y e mine there lower. e; rows = λ j n y e mine there lower. refl }
+
+      frames_after : (parts : List Part) → IsOwn parts i → Frames tree code texts w lay p parts l.settled → Frames tree code texts after lay p parts (stored_core l.settled)
+      unfolding stands_stored g
+      frames_after [] mine f = absurd f
+      frames_after (part ∷ outer) mine f =
+          frames_stay tree code texts w' after lay lay p (length (put word l.settled.below k)) stay_on (laid_from tree code texts w lay p i x at with_cells high laid far k place_is word many short keeps facts fewer changes alone.laid) (part ∷ outer) (stored_core l.settled) (omega arith)
+          (stands_stored part outer l.settled f.0 f.1 mine, (g part outer l.settled f.0 f.1 mine).around)
+
+      reaches_after : (parts : List Part) → o.todo ≡ parts → Frames tree code texts w lay p parts l.settled → ReachesFor sc w lay p parts l.core l.settled → ReachesFor sc after lay p parts (stored_core l.core) (stored_core l.settled)
+      reaches_after [] todo f reaches = absurd f
+      reaches_after (part ∷ outer) todo f reaches =
+          reach_alone tree code texts w after lay lay p alone o before part outer todo l.core l.settled (stored_core l.core) (stored_core l.settled) f.0.frame (length_put word l.core.below k) (length_put word l.settled.below k)
+          (same_of w i x at with_cells (λ (y : Instance). y.block) refl part.instance) reaches
+
+      -- in an image in which it has that core it lives
+      pub living_stored : (img' : Image) → HasCore img' p (stored_core l.core) → (process_at (with_process (stored_world w i x at with_cells) a q') p).todo ≡ o.todo →
+          Living tree code texts (with_process (stored_world w i x at with_cells) a q') lay img' p o
+      living_stored img' has now =
+          let weighs : weight tree w p ≡ weight tree after p =
+          ap (λ (x : Process). parts_weight tree w x.todo) (process_is w p o before) ∙ sym (same_weight tree w after o.todo (λ j own_part. heavy j)) ∙ ap (parts_weight tree after) (sym now) in
+          record {
+            core = stored_core l.core;
+            has = has;
+            critical = l.critical;
+            task = task_stays sc w after lay lay events_stay (λ j f there. there) o.task l.core.registers.task l.task;
+            sees = l.sees;
+            small = omega (arith, l.small, length_put word l.core.below k);
+            settled = stored_core l.settled;
+            bound = l.bound;
+            count = l.count;
+            steps = steps_stored;
+            frames = frames_after o.todo own l.frames;
+            reaches = reaches_after o.todo refl l.frames l.reaches;
+            room = omega (arith, l.room, length_put word l.settled.below k, most_same o.todo);
+            light = subst (λ (n : ℕ). l.bound + 3 ≤ n) weighs l.light;
+          }
+
+    -- ---- all but the process that stores
+
+    -- The instance is one of process p, whose core has the word; all others have their cores.
+    module _ (alone : (r : ℕ) → r ≢ a → LeavesAlone (scopes_of tree) w (with_process (stored_world w i x at with_cells) a q') lay lay r) (img img' : Image) (mine : x.process ≡ p)
+        (owns : (o : Process) → numbered w.processes p ≡ Some o → IsOwn o.todo i)
+        (low : (core : Core) → HasCore img p core → IsStored word → k < length core.below) (holds : (core : Core) → HasCore img p core → HasCore img' p (stored_core core))
+        (stay : (r : ℕ) (core : Core) → r ≢ a → r ≢ p → HasCore img r core → HasCore img' r core) (states : (r : ℕ) → r ≢ a → numbered img'.states r ≡ numbered img.states r) where
+      -- the one whose frame it is
+      owner_stored : (o : Process) → p ≢ a → numbered w.processes p ≡ Some o → numbered after.processes p ≡ Some o → Pictured tree code texts w lay img p o → Pictured tree code texts after lay img' p o
+      owner_stored o other before now (dead e s) = dead e (states p other ∙ s)
+      owner_stored o other before now (living e s l) =
+          living e (subst (λ (x : Option ProcessState). StateIs o.state x) (sym (states p other)) s)
+          (living_stored (alone p other) img o before (owns o before) l (low l.core l.has) img' (holds l.core l.has) (ap (λ (q : Process). q.todo) (process_is after p o now)))
+
+      pub others_stored : (r : ℕ) (o : Process) → r ≢ a → numbered w.processes r ≡ Some o → numbered (with_process (stored_world w i x at with_cells) a q').processes r ≡ Some o → Pictured tree code texts w lay img r o →
+          Pictured tree code texts (with_process (stored_world w i x at with_cells) a q') lay img' r o
+      others_stored r o other before now pictured = by_owner (same_or_not r p)
+        where
+          by_owner : (r ≡ p) ⊎ (r ≢ p) → Pictured tree code texts after lay img' r o
+          by_owner (inl e) =
+              subst (λ (n : ℕ). Pictured tree code texts after lay img' n o) (sym e)
+              (owner_stored o (λ (same : p ≡ a). other (e ∙ same)) (ap (λ (n : ℕ). numbered w.processes n) (sym e) ∙ before) (ap (λ (n : ℕ). numbered after.processes n) (sym e) ∙ now)
+              (subst (λ (n : ℕ). Pictured tree code texts w lay img n o) e pictured))
+          by_owner (inr apart) =
+              pictured_alike tree code texts w after lay lay r
+              (alike_but (scopes_of tree) w after lay r i x (changed w i x at with_cells) (alone r other) at (λ (same : r ≡ x.process). apart (same ∙ mine)) refl events_stay) img img' o
+              before (process_is after r o now) (states r other) (λ core has. stay r core other apart has) pictured
+
+      -- so the image pictures the world after it, where it pictures the process that stores
+      pub stored_pictured : (by : PicturesBy tree code texts w lay img) (q : Process) → numbered w.processes a ≡ Some q → ArraysAre (scopes_of tree) (with_process (stored_world w i x at with_cells) a q') lay img'.rows →
+          EventsAre (scopes_of tree) (with_process (stored_world w i x at with_cells) a q') lay img'.events → img'.output ≡ w.output →
+          img'.fault ≡ img.fault → img'.started ≡ img.started → length img'.states ≡ length img.states → stack_at img'.stacks 0 ≡ stack_at img.stacks 0 → Pictured tree code texts (with_process (stored_world w i x at with_cells) a q') lay img' a q' →
+          PicturesBy tree code texts (with_process (stored_world w i x at with_cells) a q') lay img'
+      stored_pictured by q at_a arrays events output fault started many_states system own =
+          comes_by tree code texts w lay img by a q at_a after lay img' q' refl (by.laid ∙ sym (length_set_numbered w.instances i (changed w i x at with_cells))) arrays events output refl fault started many_states system
+          others_stored own

@@ -5,6 +5,7 @@ use Rattle.b67_list.specs.Numbered.{numbered}
 use Rattle.algol_tree.specs.Plain.{PProgram}
 use Rattle.algol_tree.specs.Scopes.{Scopes, scopes_of, use_of}
 use Rattle.algol_meaning.specs.World.{Part, World, ancestor}
+use Rattle.algol_standing.specs.Worlds.{IsStanding, newest_own}
 use Rattle.b67_word.specs.declared.Place.{Place}
 use Rattle.b67_word.specs.Word.{Word}
 use Rattle.b67_control.specs.Display.{place_at}
@@ -18,18 +19,20 @@ use Rattle.b67_standing.specs.Stepping.{Held, Stuffable, of_array, of_variable, 
 use Rattle.b67_cores.specs.Cores.{Core}
 use Rattle.b67_cores.specs.Slots.{Known}
 use Rattle.b67_cores.specs.Stretches.{Sees, IsStuffed, AreStuffed}
-use Rattle.b67_frames.specs.Arrays.{Layout, an_array_named, an_event_named, a_variable_named, HeldIs, AreKnown, IsOwn}
-use Rattle.b67_frames.specs.Frames.{IsChained, Frame, Around}
-use Rattle.b67_frames.proofs.Lying.{Lies, lies_frame, own_parent, part_own}
+use Rattle.b67_frames.specs.Arrays.{Layout, an_array_named, an_event_named, a_variable_named, HeldIs, AreKnown}
+use Rattle.b67_frames.specs.Frames.{IsInReach, IsChained, Frame, Around}
+use Rattle.b67_frames.proofs.Lying.{part_stands}
+use Rattle.b67_scenes.proofs.Ancestors.{AreLaid}
+use Rattle.b67_scenes.proofs.Paths.{on_further, CanClimb, part_in_reach}
 use Rattle.b67_scenes.proofs.Staying.{names_in, context_in}
 
 -- what is known of each is so of both
-pub known_both : (sc : Scopes) (w : World) (lay : Layout) (parts : List Part) (i : ℕ) (added known : List Known) → AreKnown sc w lay (IsOwn parts) i added → AreKnown sc w lay (IsOwn parts) i known →
-    AreKnown sc w lay (IsOwn parts) i (added ++ known)
-known_both sc w lay parts i [] known more are = are
-known_both sc w lay parts i (x ∷ added) known more are = (more.0, known_both sc w lay parts i added known more.1 are)
+pub known_both : (sc : Scopes) (w : World) (lay : Layout) (Stand : ℕ → Type 0) (i : ℕ) (added known : List Known) → AreKnown sc w lay Stand i added → AreKnown sc w lay Stand i known →
+    AreKnown sc w lay Stand i (added ++ known)
+known_both sc w lay Stand i [] known more are = are
+known_both sc w lay Stand i (x ∷ added) known more are = (more.0, known_both sc w lay Stand i added known more.1 are)
 
-module _ (tree : PProgram) (code : Code) (texts : Texts) (w : World) (lay : Layout) (p : ℕ) (part : Part) (outer : List Part) (words : List Word) (f : Frame tree code texts w lay p part outer words)
+module _ (tree : PProgram) (code : Code) (texts : Texts) (w : World) (climb : CanClimb (scopes_of tree) w) (lay : Layout) (laid : AreLaid w lay) (p : ℕ) (part : Part) (outer : List Part) (words : List Word) (f : Frame tree code texts w lay p part outer words)
     (a : Around tree code texts w lay p outer f.lower f.mark f.control f.gives) (core : Core)
     (chained : IsChained (scopes_of tree) w lay part.instance (names_in tree w part) core.registers.display) where
   abbrev sc : Scopes
@@ -38,31 +41,34 @@ module _ (tree : PProgram) (code : Code) (texts : Texts) (w : World) (lay : Layo
   abbrev level : ℕ
   level = names_in tree w part
 
-  -- the display names a frame at each level
+  stands : IsStanding w part.instance
+  stands = part_stands tree code texts w lay p climb.facts part outer words f a
+
+  -- its static parents are in reach, and the display names a frame at the level of each
+  in_reach : (up : ℕ) → up + OUTER_LEVEL ≤ level → IsInReach w (part ∷ outer) (ancestor w up part.instance)
+  in_reach up near =
+      on_further w (newest_own (part ∷ outer)) part.instance (ancestor w up part.instance) (part_in_reach tree code texts w lay p part outer words f) (climb.up part.instance up stands near)
+
   pub sees : Sees (names_in tree w part) core
   sees l low high =
       let up : ℕ = level - l in
       let near : up + OUTER_LEVEL ≤ level = omega (arith, low, high) in
-      let lies : Lies tree code texts w lay p (part ∷ outer) (ancestor w up part.instance) words =
-      lies_frame tree code texts w lay p part outer words f a (ancestor w up part.instance) (own_parent tree code texts w lay p part outer words f a up near) in
+      let there : IsStanding w (ancestor w up part.instance) = climb.facts.on_path part.instance (ancestor w up part.instance) stands (climb.up part.instance up stands near) in
       let here : l ≡ level - up = omega (arith, high) in
       subst (λ (o : Option Place). IsSome o)
-      (sym (ap (place_at core.registers.display) here
-      ∙ chained up near
-      ∙ ap (numbered lay.places) (sym lies.instance_is)
-      ∙ lies.owned.framed.laid)) refl
+      (sym (ap (place_at core.registers.display) here ∙ chained up near ∙ (laid (ancestor w up part.instance) there).1)) refl
 
   abbrev context : Context
   context = context_in tree code texts w part f.gives
 
   named_stuffed : (held : Held) (couple : Couple) (word : Word) (frame : Place) → Stuffable sc context held couple → place_at core.registers.display couple.level ≡ Some frame →
-      word ≡ cell_word (record { frame = frame; index = couple.index }) → HeldIs sc w lay (IsOwn (part ∷ outer)) part.instance held word
+      word ≡ cell_word (record { frame = frame; index = couple.index }) → HeldIs sc w lay (IsInReach w (part ∷ outer)) part.instance held word
   named_stuffed held couple word frame (of_array n d c is) shown word_is =
       let up : ℕ = (use_of sc n).up in
       let near : up + OUTER_LEVEL ≤ level = omega (arith, is.made.level_is, is.made.outer) in
       let up_level : level - up ≡ c.level = omega (arith, is.made.level_is) in
       record {
-        own = own_parent tree code texts w lay p part outer words f a up near;
+        own = in_reach up near;
         level = level;
         couple = c;
         names = an_array_named d is;
@@ -75,7 +81,7 @@ module _ (tree : PProgram) (code : Code) (texts : Texts) (w : World) (lay : Layo
       let near : up + OUTER_LEVEL ≤ level = omega (arith, is.made.level_is, is.made.outer) in
       let up_level : level - up ≡ c.level = omega (arith, is.made.level_is) in
       record {
-        own = own_parent tree code texts w lay p part outer words f a up near;
+        own = in_reach up near;
         level = level;
         couple = c;
         names = an_event_named is;
@@ -88,7 +94,7 @@ module _ (tree : PProgram) (code : Code) (texts : Texts) (w : World) (lay : Layo
       let near : up + OUTER_LEVEL ≤ level = omega (arith, is.level_is, outer_level) in
       let up_level : level - up ≡ c.level = omega (arith, is.level_is) in
       record {
-        own = own_parent tree code texts w lay p part outer words f a up near;
+        own = in_reach up near;
         level = level;
         couple = c;
         names = a_variable_named kind is;
@@ -100,7 +106,7 @@ module _ (tree : PProgram) (code : Code) (texts : Texts) (w : World) (lay : Layo
       let near : 0 + OUTER_LEVEL ≤ level = omega (arith, is.level_is, is.outer) in
       let own_level : level - 0 ≡ c.level = omega (arith, is.level_is) in
       record {
-        own = part_own tree code texts w lay p part outer words f;
+        own = part_in_reach tree code texts w lay p part outer words f;
         level = level;
         couple = c;
         stands = is;
@@ -109,11 +115,11 @@ module _ (tree : PProgram) (code : Code) (texts : Texts) (w : World) (lay : Layo
         word_is = word_is;
       }
 
-  one_stuffed : (x : Known) → IsStuffed sc context core x → HeldIs sc w lay (IsOwn (part ∷ outer)) part.instance x.held x.word
+  one_stuffed : (x : Known) → IsStuffed sc context core x → HeldIs sc w lay (IsInReach w (part ∷ outer)) part.instance x.held x.word
   one_stuffed x s =
-      subst (λ (h : Held). HeldIs sc w lay (IsOwn (part ∷ outer)) part.instance h x.word) (sym s.held_is) (named_stuffed s.held s.couple x.word s.frame s.stuffable s.shown s.word_is)
+      subst (λ (h : Held). HeldIs sc w lay (IsInReach w (part ∷ outer)) part.instance h x.word) (sym s.held_is) (named_stuffed s.held s.couple x.word s.frame s.stuffable s.shown s.word_is)
 
   -- all of them are known
-  pub stuffed_known : (known : List Known) → AreStuffed (scopes_of tree) (context_in tree code texts w part f.gives) core known → AreKnown (scopes_of tree) w lay (IsOwn (part ∷ outer)) part.instance known
+  pub stuffed_known : (known : List Known) → AreStuffed (scopes_of tree) (context_in tree code texts w part f.gives) core known → AreKnown (scopes_of tree) w lay (IsInReach w (part ∷ outer)) part.instance known
   stuffed_known [] are = tt
   stuffed_known (x ∷ known) are = (one_stuffed x are.0, stuffed_known known are.1)

@@ -1,11 +1,11 @@
 -- Where a process finds what an action reads: the operand in the cell of a variable or a result, and the control word of a procedure.
 use Rattle.algol_meaning.specs.Critical.{is_evaluation}
-use Rattle.std.proofs.Common.{◌≡◌, refl, sym, ap, ◌∙◌, subst, ℕ, suc, ◌+◌, ◌-◌, ◌≤◌, List, [], ◌∷◌, ◌++◌, length, Option, Some, None, false, arith, lit<}
+use Rattle.std.proofs.Common.{◌≡◌, refl, sym, ap, ◌∙◌, subst, ℕ, suc, ◌+◌, ◌-◌, ◌≤◌, List, [], ◌∷◌, ◌++◌, length, Option, Some, None, false, arith, lit<, ◌<◌}
 use Rattle.std.specs.Prelude.{slice_get, reverse}
 use Rattle.b67_list.specs.Numbered.{numbered}
 use Rattle.algol_tree.specs.declared.tree.Kind.{Kind}
 use Rattle.algol_tree.specs.declared.tree.Named.{Named}
-use Rattle.algol_tree.specs.Blocks.{Block, block_numbered, number_at, around}
+use Rattle.algol_tree.specs.Blocks.{Block, block_numbered, number_at}
 use Rattle.algol_tree.specs.Cells.{level_of}
 use Rattle.algol_tree.specs.Plain.{PProgram}
 use Rattle.algol_tree.specs.Scopes.{Scopes, scopes_of, use_of}
@@ -18,14 +18,13 @@ use Rattle.b67_control.specs.declared.Pcw.{Pcw}
 use Rattle.b67_control.specs.Control.{Fits_pcw, as_pcw, as_sirw, pcw_word}
 use Rattle.b67_control.proofs.ControlLaws.{as_pcw-pcw_word, as_sirw-other}
 use Rattle.b67_ops.specs.declared.Couple.{Couple}
-use Rattle.b67_ops.specs.declared.TheConstants.{OUTER_LEVEL}
 use Rattle.b67_segment.specs.declared.code.Code.{Code}
 use Rattle.b67_store.specs.Store.{words_of, word_at}
 use Rattle.b67_table.specs.Chains.{place}
 use Rattle.b67_table.specs.Image.{Image}
 use Rattle.b67_table.specs.Private.{display_at}
 use Rattle.b67_templates.specs.Cells as wants
-use Rattle.b67_templates.specs.Cells.{Simple, result_of, variables, parameter_cells, simple_cells, procedures, IsVariable, IsProcedure}
+use Rattle.b67_templates.specs.Cells.{Simple, result_of, variables, parameter_cells, simple_cells, procedures, made_base, IsVariable, IsProcedure}
 use Rattle.b67_templates.specs.Fragments.{code_at}
 use Rattle.b67_templates.specs.Programs.{Texts}
 use Rattle.b67_cores.specs.Cores.{Core}
@@ -39,10 +38,12 @@ use Rattle.b67_rows.proofs.Parents.{length_around}
 use Rattle.b67_rows.proofs.Touching.{NearCell, own_cell}
 use Rattle.b67_rows.proofs.Words.{value_tag}
 use Rattle.b67_frames.specs.Arrays.{Layout}
-use Rattle.b67_frames.specs.Frames.{CellsAre, Owned}
+use Rattle.b67_frames.specs.Frames.{CellsAre, block_controls, Framed, Owned}
 use Rattle.b67_frames.proofs.FreshCells.{cells_joined}
-use Rattle.b67_frames.proofs.Lying.{Lies, lies_in, IsParent, parents_in, part_own, owned_frame}
-use Rattle.b67_frames.specs.Frames.{block_controls}
+use Rattle.b67_frames.proofs.Lying.{owned_frame}
+use Rattle.b67_scenes.proofs.Finding.{Found, frame_near, place_near}
+use Rattle.b67_scenes.proofs.Led.{named_parent, named_seen, named_shown}
+use Rattle.b67_scenes.proofs.Sights.{Seen, cell_below, cell_lies}
 use Rattle.b67_frames.proofs.ControlWords.{get_control}
 use Rattle.b67_frames.proofs.TouchingWords.{pcw_kind}
 use Rattle.b67_frames.proofs.Variables.{Holds_value, value_of_cell}
@@ -120,10 +121,6 @@ module _ (tree : PProgram) (code : Code) (texts : Texts) (nested : AreNested (sc
     pub lies : word_at img.stacks (place home.stack (home.at + couple.index)) ≡ Some word
     pub is : Is word
 
-  -- one of the own stack is near
-  near_own : (n index : ℕ) → NearCell p img (record { frame = place p n; index = index })
-  near_own n index = own_cell p img (record { frame = place p n; index = index }) refl
-
   -- what lies below the floor lies in the stack
   pub below_there : (n : ℕ) (x : Word) → slice_get core.below n ≡ Some x → word_at img.stacks (place p n) ≡ Some x
   below_there n x e =
@@ -132,14 +129,18 @@ module _ (tree : PProgram) (code : Code) (texts : Texts) (nested : AreNested (sc
       ∙ get-front core.below (reverse core.words) n x e
 
   pub variable_there : (n : Named) (kind : Kind) (couple : Couple) → IsSeen sc block n → IsVariable sc level n kind couple → Names couple IsOperand
-  variable_there n kind couple seen v =
-      let h : Home tree code texts w lay img p q part outer bound core s n kind couple = home tree code texts w lay img p q part outer bound core s n kind couple seen v in
+  variable_there n kind couple seen_it v =
+      let h : Home tree code texts w lay img p q part outer bound core s n kind couple = home tree code texts w lay img p q part outer bound core s n kind couple seen_it v in
+      let f : Found tree code texts w lay img (ancestor w ((use_of sc n).up) part.instance) = h.at.seen_there.found in
       record {
-        home = place p (length h.at.lies.frame.lower);
+        home = place f.number (length f.lies.frame.lower);
         shown = h.shown;
-        near = near_own (length h.at.lies.frame.lower) couple.index;
+        near = (
+          frame_near tree code texts w lay img (ancestor w ((use_of sc n).up) part.instance) f p,
+          place_near tree code texts w lay img (ancestor w ((use_of sc n).up) part.instance) f p (length f.lies.frame.lower + couple.index) (omega (arith, h.at.below, h.index)),
+        );
         word = h.at.word;
-        lies = below_there (length h.at.lies.frame.lower + couple.index) h.at.word h.below_lies;
+        lies = h.lies;
         is = value_tag h.at.value h.at.word h.at.word_is;
       }
 
@@ -178,7 +179,7 @@ module _ (tree : PProgram) (code : Code) (texts : Texts) (nested : AreNested (sc
     result_there =
         record {
           home = place p (length s.stands.frame.lower);
-          near = near_own (length s.stands.frame.lower) couple.index;
+          near = own_cell p img (record { frame = place p (length s.stands.frame.lower); index = couple.index }) refl;
           shown = ap (λ (k : ℕ). display_at core.registers k) (level_is ∙ sym s.stands.there.level_is) ∙ shown_frame tree code texts w lay img p q part outer bound core s;
           word = first.word;
           lies = below_there (length s.stands.frame.lower + couple.index) first.word result_lies;
@@ -187,19 +188,16 @@ module _ (tree : PProgram) (code : Code) (texts : Texts) (nested : AreNested (sc
 
   -- ---- the control word of a procedure
 
-  module _ (n : Named) (callee : ℕ) (couple : Couple) (seen : IsSeen sc block n) (c : IsProcedure sc level n callee couple) where
-    abbrev up : ℕ
-    up = (use_of sc n).up
-
+  module _ (n : Named) (callee : ℕ) (couple : Couple) (is_seen : IsSeen sc block n) (c : IsProcedure sc level n callee couple) where
     abbrev home_at : ℕ
-    home_at = ancestor w up part.instance
+    home_at = ancestor w ((use_of sc n).up) part.instance
 
-    low : up + OUTER_LEVEL ≤ level
-    low = omega (arith, length_around sc.blocks block, get_below (block ∷ around sc.blocks block) up ((use_of sc n).block) seen)
+    module _ (h : Seen tree code texts w lay img p q part outer bound core s home_at) where
+      abbrev framed_there : Framed sc w lay h.found.number h.found.lies.part.instance h.found.lies.outer (length h.found.lies.frame.lower) h.found.lies.frame.mark h.found.lies.frame.control h.found.lies.frame.cells
+      framed_there = h.found.lies.owned.framed
 
-    module _ (parent : IsParent tree code texts w lay p (part ∷ outer) part.instance up ((use_of sc n).block)) (l : Lies tree code texts w lay p (part ∷ outer) home_at core.below) where
       abbrev here : Instance
-      here = l.owned.framed.instance
+      here = framed_there.instance
 
       abbrev declaring : Block
       declaring = block_numbered sc.blocks here.block
@@ -213,14 +211,17 @@ module _ (tree : PProgram) (code : Code) (texts : Texts) (nested : AreNested (sc
       abbrev control : Pcw
       control = code_at segment 0 (level_of declaring + 1)
 
+      instance_here : instance_at w home_at ≡ here
+      instance_here = ap (instance_at w) (sym h.found.lies.instance_is) ∙ ap or_no_instance framed_there.is
+
       block_here : here.block ≡ (use_of sc n).block
-      block_here = sym (ap (λ (x : Instance). x.block) (ap (instance_at w) (sym l.instance_is) ∙ ap or_no_instance l.owned.framed.is)) ∙ parent.block
+      block_here = sym (ap (λ (x : Instance). x.block) instance_here) ∙ (named_parent tree code texts w lay img p q part outer bound core s n is_seen).block
 
       declared_there : slice_get (procedures declaring.decls) c.number ≡ Some c.declared
       declared_there = ap (λ (j : ℕ). slice_get (procedures ((block_numbered sc.blocks j).decls)) c.number) block_here ∙ c.there
 
       is_declared : IsDeclared sc here.block c.declared
-      is_declared = (nested.each here.block l.owned.framed.known).procedure c.number c.declared declared_there
+      is_declared = (nested.each here.block framed_there.known).procedure c.number c.declared declared_there
 
       -- a control word can hold its segment and its level
       fits : Fits_pcw control
@@ -232,43 +233,45 @@ module _ (tree : PProgram) (code : Code) (texts : Texts) (nested : AreNested (sc
           (omega (arith, procedure_segment sc.blocks called is_declared.procedure, few), (lit< tt, (lit< tt, (omega (arith, further, deep), (lit< tt, tt)))))
 
       abbrev controls_there : List Word
-      controls_there = control_words (block_controls sc here.block l.owned.framed.ats)
+      controls_there = control_words (block_controls sc here.block framed_there.ats)
 
-      cells_lie : slice_get l.frame.cells (length (simple_cells sc declaring) + c.number) ≡ Some (pcw_word control)
+      abbrev cell_number : ℕ
+      cell_number = length (simple_cells sc declaring) + c.number
+
+      cells_lie : slice_get h.found.lies.frame.cells cell_number ≡ Some (pcw_word control)
       cells_lie =
-          ap (λ (ws : List Word). slice_get ws (length (simple_cells sc declaring) + c.number)) l.owned.framed.cells_is
-          ∙ get-behind l.owned.framed.values (controls_there ++ l.owned.framed.descriptors) c.number (length (simple_cells sc declaring) + c.number)
-          (omega (arith, words_many (simple_cells sc declaring) l.owned.framed.simple l.owned.framed.values l.owned.framed.simple_are))
-          ∙ get-front controls_there l.owned.framed.descriptors c.number (pcw_word control)
-          (get_control sc here.block l.owned.framed.ats c.number segment
+          ap (λ (ws : List Word). slice_get ws cell_number) framed_there.cells_is
+          ∙ get-behind framed_there.values (controls_there ++ framed_there.descriptors) c.number cell_number
+          (omega (arith, words_many (simple_cells sc declaring) framed_there.simple framed_there.values framed_there.simple_are))
+          ∙ get-front controls_there framed_there.descriptors c.number (pcw_word control)
+          (get_control sc here.block framed_there.ats c.number segment
           (get_mapped (λ (m : Named). segment_of sc.blocks (number_at sc.blocks m.spot)) (procedures declaring.decls) c.number c.declared declared_there))
 
-      far : length l.frame.lower + couple.index ≡ length l.frame.lower + suc (suc (length (simple_cells sc declaring) + c.number))
-      far = omega (arith, c.index_is, ap (λ (j : ℕ). length (simple_cells sc (block_numbered sc.blocks j))) block_here)
+      index_is : couple.index ≡ 2 + cell_number
+      index_is = omega (arith, c.index_is, ap (λ (j : ℕ). length (simple_cells sc (block_numbered sc.blocks j))) block_here)
 
-      below_lies : slice_get core.below (length l.frame.lower + couple.index) ≡ Some (pcw_word control)
-      below_lies =
-          ap (λ (ws : List Word). slice_get ws (length l.frame.lower + couple.index)) l.words_are
-          ∙ get-front l.front l.rest (length l.frame.lower + couple.index) (pcw_word control)
-          (ap (λ (ws : List Word). slice_get ws (length l.frame.lower + couple.index)) l.frame.words_are
-          ∙ get-behind l.frame.lower (l.frame.mark ∷ l.frame.control ∷ l.frame.cells) (suc (suc (length (simple_cells sc declaring) + c.number))) (length l.frame.lower + couple.index) far
-          ∙ cells_lie)
-
-      level_up : couple.level ≡ level - up
-      level_up = omega (arith, c.level_is)
+      below : length h.found.lies.frame.lower + (2 + cell_number) < length h.found.core.below
+      below =
+          cell_below tree code texts w lay img p q part outer bound core s home_at h cell_number (get_below h.found.lies.frame.cells cell_number (pcw_word control) cells_lie)
+          (omega (
+            arith,
+            get_below (procedures declaring.decls) c.number c.declared declared_there,
+            ap (λ (x : Instance). made_base sc (block_numbered sc.blocks x.block)) instance_here,
+          ))
 
       entry_there : Names couple IsEntry
       entry_there =
           record {
-            home = place p (length l.frame.lower);
-            near = near_own (length l.frame.lower) couple.index;
-            shown =
-                ap (λ (k : ℕ). display_at core.registers k) level_up
-                ∙ s.stands.chained up low
-                ∙ ap (λ (k : ℕ). numbered lay.places k) (sym l.instance_is)
-                ∙ l.owned.framed.laid;
+            home = place h.found.number (length h.found.lies.frame.lower);
+            near = (
+              frame_near tree code texts w lay img home_at h.found p,
+              place_near tree code texts w lay img home_at h.found p (length h.found.lies.frame.lower + couple.index) (omega (arith, below, index_is)),
+            );
+            shown = named_shown tree code texts w lay img p q part outer bound core s n is_seen couple.level c.level_is h;
             word = pcw_word control;
-            lies = below_there (length l.frame.lower + couple.index) (pcw_word control) below_lies;
+            lies =
+                ap (λ (k : ℕ). word_at img.stacks (place h.found.number (length h.found.lies.frame.lower + k))) index_is
+                ∙ cell_lies tree code texts w lay img p q part outer bound core s home_at h cell_number (pcw_word control) cells_lie below;
             is =
                 record {
                   control = control;
@@ -279,7 +282,4 @@ module _ (tree : PProgram) (code : Code) (texts : Texts) (nested : AreNested (sc
           }
 
     pub procedure_there : Names couple IsEntry
-    procedure_there =
-        let parent : IsParent tree code texts w lay p (part ∷ outer) part.instance up ((use_of sc n).block) =
-        parents_in tree code texts w lay p part outer core s.stands s.around part.instance (part_own tree code texts w lay p part outer core.below s.stands.frame) up ((use_of sc n).block) seen in
-        entry_there parent (lies_in tree code texts w lay p part outer core s.stands s.around home_at parent.own)
+    procedure_there = entry_there (named_seen tree code texts w lay img p q part outer bound core s n is_seen)

@@ -7,6 +7,7 @@ use Rattle.algol_tree.specs.Scopes.{Scopes, scopes_of}
 use Rattle.algol_meaning.specs.Asks.{Ask, asks_happened, acts, makes_event, ask}
 use Rattle.algol_meaning.specs.World.{Part, Process, World, followed}
 use Rattle.algol_tree.specs.declared.tree.EventAct.{EventAct}
+use Rattle.b67_word.specs.declared.Place.{Place}
 use Rattle.b67_word.specs.Word.{Word}
 use Rattle.b67_control.specs.declared.Registers.{Registers}
 use Rattle.b67_control.specs.declared.Sirw.{Sirw}
@@ -37,7 +38,7 @@ use Rattle.b67_fitting.specs.Nested.{AreNested}
 use Rattle.b67_rows.proofs.AskedElements.{array_asked}
 use Rattle.b67_rows.proofs.Rows.{words_are}
 use Rattle.b67_rows.proofs.Slotted.{Top, top_slot}
-use Rattle.b67_rows.proofs.Touching.{NearCell, own_cell, system_cell, NamesNear}
+use Rattle.b67_rows.proofs.Touching.{NearCell, system_cell, NamesNear}
 use Rattle.b67_rows.proofs.TouchingNames.{one_word, one_cell, entry_names_above}
 use Rattle.b67_rows.proofs.TouchingOperators.{StandsNear}
 use Rattle.b67_rows.proofs.Words.{event_refers_nothing, reference_read}
@@ -45,7 +46,7 @@ use Rattle.b67_frames.specs.Arrays.{Layout, named_from}
 use Rattle.b67_frames.proofs.EventRows.{FindsEvent, directly, by_reference}
 use Rattle.b67_frames.proofs.TouchingCalls.{above_others, call_names, lies_there, no_further, under_top}
 use Rattle.b67_frames.proofs.TouchingWords.{numbers_small}
-use Rattle.b67_scenes.proofs.EventHomes.{cell_there, EventHome, event_home}
+use Rattle.b67_scenes.proofs.EventHomes.{IsNearWay, cell_there, EventHome, event_home}
 use Rattle.b67_scenes.proofs.Scene.{Scene}
 use Rattle.b67_scenes.proofs.Staying.{text_in, level_in, context_in, most_in}
 use Rattle.b67_scenes.proofs.TouchingScene.{by_names}
@@ -57,7 +58,7 @@ module _ (p : ℕ) (img : Image) (r : Registers) (word : Word) (only : (n : ℕ)
     (w : Word) (lies : word_at img.stacks (place r.stack (r.f + 1)) ≡ Some w) (name : Intrinsic) (reads : as_irw w ≡ Some (record { level = 0; index = number_of name }))
     (near : NearCell p img (record { frame = place 0 0; index = number_of name })) (there : word_at img.stacks (place 0 (0 + number_of name)) ≡ Some (intrinsic_pcw (number_of name)))
     (shown : place_at r.display 0 ≡ Some (place 0 0)) where
-  module _ (c : Cell) (own : c.frame.stack ≡ p) where
+  module _ (c : Cell) where
     named : (A : Cell → Type 0) → ((d : Cell) → cell_of r word ≡ Some d → A d) → ((b : Cell) (v : Word) (s : Sirw) → A b → word_at img.stacks (cell_place b) ≡ Some v → as_sirw v ≡ Some s → A (sirw_cell s)) →
         ((d : Cell) → A d → NearCell p img d) → NamesNear p img (ops.Plain kinds.Entr) r
     named A first further near_above =
@@ -65,30 +66,30 @@ module _ (p : ℕ) (img : Image) (r : Registers) (word : Word) (only : (n : ℕ)
         (λ n u d after above e. first d (ap (cell_of r) (sym (only n u after above)) ∙ e)) further near_above
 
     -- the cell of a parameter, or that of the event
-    abbrev IsOnWay : ℕ → ℕ → Cell → Type 0
-    IsOnWay at index d = (d ≡ record { frame = place p at; index = index }) ⊎ (d ≡ c)
+    abbrev IsOnWay : Place → ℕ → Cell → Type 0
+    IsOnWay at index d = (d ≡ record { frame = at; index = index }) ⊎ (d ≡ c)
 
     -- the word of the event leads no further
     ends : (v : Word) (s : Sirw) → word_at img.stacks (cell_place c) ≡ Some (event_word (record {})) → word_at img.stacks (cell_place c) ≡ Some v → as_sirw v ≡ Some s → ⊥
     ends v s e f is = none_some (sym event_refers_nothing ∙ ap as_sirw (one_word p img r (cell_place c) (event_word (record {})) v e f) ∙ is)
 
-    pub event_names : FindsEvent img p r word c → NamesNear p img (ops.Plain kinds.Entr) r
-    event_names (directly level names shows event_lies) =
+    pub event_names : (way : FindsEvent img p r word c) → IsNearWay p img r way → NamesNear p img (ops.Plain kinds.Entr) r
+    event_names (directly level names shows event_lies) near =
         named (λ (d : Cell). d ≡ c) (λ d e. one_cell p img r word (record { level = level; index = c.index }) c.frame names shows d e)
         (λ b v s same at is. absurd (ends v s event_lies (subst (λ (d : Cell). word_at img.stacks (cell_place d) ≡ Some v) same at) is))
-        (λ d same. subst (NearCell p img) (sym same) (own_cell p img c own))
-    event_names (by_reference level index at first names shows lies_first refers event_lies) =
-        named (IsOnWay at index) (λ d e. inl (one_cell p img r word (record { level = level; index = index }) (place p at) names shows d e)) on_way way_near
+        (λ d same. subst (NearCell p img) (sym same) near)
+    event_names (by_reference level index at first names shows lies_first refers event_lies) near =
+        named (IsOnWay at index) (λ d e. inl (one_cell p img r word (record { level = level; index = index }) at names shows d e)) on_way way_near
       where
         on_way : (b : Cell) (v : Word) (s : Sirw) → IsOnWay at index b → word_at img.stacks (cell_place b) ≡ Some v → as_sirw v ≡ Some s → IsOnWay at index (sirw_cell s)
         on_way b v s (inl same) lies_there is =
-            let first_is : first ≡ v = one_word p img r (place p (at + index)) first v lies_first (subst (λ (d : Cell). word_at img.stacks (cell_place d) ≡ Some v) same lies_there) in
+            let first_is : first ≡ v = one_word p img r (place at.stack (at.at + index)) first v lies_first (subst (λ (d : Cell). word_at img.stacks (cell_place d) ≡ Some v) same lies_there) in
             inr (ap sirw_cell (some_same (sym is ∙ ap as_sirw (sym first_is) ∙ refers)))
         on_way b v s (inr same) lies_there is = absurd (ends v s event_lies (subst (λ (d : Cell). word_at img.stacks (cell_place d) ≡ Some v) same lies_there) is)
 
         way_near : (d : Cell) → IsOnWay at index d → NearCell p img d
-        way_near d (inl same) = subst (NearCell p img) (sym same) (own_cell p img (record { frame = place p at; index = index }) refl)
-        way_near d (inr same) = subst (NearCell p img) (sym same) (own_cell p img c own)
+        way_near d (inl same) = subst (NearCell p img) (sym same) near.0
+        way_near d (inr same) = subst (NearCell p img) (sym same) near.1
 
 -- ---- where a process stands at it
 
@@ -131,8 +132,8 @@ module _ (tree : PProgram) (code : Code) (texts : Texts) (nested : AreNested (sc
         i.word (under_top img p core s.has (t.word ∷ []) i.word i.words_below whole (core.registers.f + 1) (omega (arith, f, many))) name
         (ap as_irw i.slot_is ∙ reference_read (couple_of_intrinsic name) (lit< tt) (numbers_small name)) (system_cell p img (record { frame = place 0 0; index = number_of name }) refl)
         (ap (λ (o : Option (List Word)). slice_get (words_or o) (0 + number_of name)) s.by.system ∙ lies_there name) s.sees
-        (cell_there tree code texts nested w lay img p q part outer bound core s h.lies h.number) refl
-        (h.reaches t.word (ap as_irw t.slot_is ∙ reference_read found.couple h.fits.0 h.fits.1)))
+        (cell_there tree code texts nested w lay img p q part outer bound core s h.lies h.number)
+        (h.reaches t.word (ap as_irw t.slot_is ∙ reference_read found.couple h.fits.0 h.fits.1)) (h.near t.word (ap as_irw t.slot_is ∙ reference_read found.couple h.fits.0 h.fits.1)))
 
   pub happened_near : (n : Named) → ask part.rest ≡ asks_happened n → At (asks_happened n) → StandsNear code p img core.registers
   happened_near n asks a = acting_near Happened n (ap array_asked asks) a.0 a.1 a.2

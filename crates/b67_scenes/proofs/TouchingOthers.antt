@@ -1,10 +1,10 @@
--- The processes of a picture: each has its own stack and depends on no other, and the marks below its floor lead to frames below floors.
-use Rattle.std.proofs.Common.{◌≡◌, refl, sym, ap, ◌∙◌, ℕ, ◌+◌, ◌<◌, ◌≤◌, List, [], ◌∷◌, length, Option, Some, None, arith}
+-- The processes of a picture: each has its own stack, and the marks below its floor lead to frames below floors.
+use Rattle.std.proofs.Common.{◌≡◌, refl, sym, ap, ◌∙◌, ℕ, ◌+◌, ◌<◌, ◌≤◌, List, [], ◌∷◌, length, Option, Some, None, true, arith}
 use Rattle.std.specs.Prelude.{slice_get, reverse}
 use Rattle.b67_list.specs.Numbered.{numbered}
 use Rattle.algol_tree.specs.Plain.{PProgram}
 use Rattle.algol_tree.specs.Scopes.{scopes_of}
-use Rattle.algol_meaning.specs.World.{Process, Part, World}
+use Rattle.algol_meaning.specs.World.{Process, Part, lives, World}
 use Rattle.b67_word.specs.declared.Place.{Place}
 use Rattle.b67_word.specs.Word.{Word}
 use Rattle.b67_control.specs.declared.Registers.{Registers}
@@ -31,6 +31,11 @@ use Rattle.b67_rows.proofs.StackWords.{get-front}
 use Rattle.b67_rows.proofs.Touching.{below_floor, FrameAt, system_frame}
 use Rattle.b67_frames.specs.Arrays.{Layout}
 use Rattle.b67_frames.specs.Frames.{Stands, Around, Frames}
+use Rattle.algol_standing.specs.Worlds.{IsWhole}
+use Rattle.algol_standing.specs.Fitting.{IsOk}
+use Rattle.b67_frames.proofs.Facts.{facts_of}
+use Rattle.b67_scenes.proofs.Finding.{standing_near}
+use Rattle.b67_scenes.proofs.Worlds.{placed_of}
 use Rattle.b67_frames.proofs.TouchingWords.{LinksTo, AllLead, lead_at, below_leads}
 use Rattle.b67_scenes.specs.Pictures.{Living, Pictured, living, dead, PicturesBy}
 
@@ -40,38 +45,33 @@ module _ (tree : PProgram) (code : Code) (texts : Texts) (w : World) (lay : Layo
   pub record LivesThere (q : ℕ) (r : Registers) : Type 0 where
     pub process : Process
     pub is : numbered w.processes q ≡ Some process
+    pub alive : lives process.state ≡ true
     pub living_is : Living tree code texts w lay img q process
     pub has : r ≡ living_is.core.registers
 
   pub lives_there : (q : ℕ) (r : Registers) → Lives img q r → LivesThere q r
-  lives_there q r lives = by_number (numbered w.processes q) refl
+  lives_there q r there = by_number (numbered w.processes q) refl
     where
       by_picture : (o : Process) → numbered w.processes q ≡ Some o → Pictured tree code texts w lay img q o → LivesThere q r
-      by_picture o e (living able_is able_q l) = record { process = o; is = e; living_is = l; has = some_same (sym lives.is ∙ l.has.registers) }
-      by_picture o e (dead ended_is ended_q) = true_false lives.live (ap is_live ended_q)
+      by_picture o e (living able_is able_q l) = record { process = o; is = e; alive = able_is; living_is = l; has = some_same (sym there.is ∙ l.has.registers) }
+      by_picture o e (dead ended_is ended_q) = true_false there.live (ap is_live ended_q)
 
       by_number : (o : Option Process) → numbered w.processes q ≡ o → LivesThere q r
       by_number (Some o) e = by_picture o e (by.each q o e)
-      by_number None e = true_false lives.live (ap is_live (numbered_beyond w.processes img.states q by.states e))
+      by_number None e = true_false there.live (ap is_live (numbered_beyond w.processes img.states q by.states e))
 
   pub own_stacks : HaveOwnStacks img
-  own_stacks q r lives =
-      let l : LivesThere q r = lives_there q r lives in
+  own_stacks q r alive =
+      let l : LivesThere q r = lives_there q r alive in
       (ap (λ (o : Registers). o.stack) l.has ∙ l.living_is.has.own, omega (arith, numbered_within w.processes q l.process l.is, by.started))
-
-  -- it depends on no other
-  pub depends_not : (q : ℕ) (r : Registers) → Lives img q r → r.critical ≡ None
-  depends_not q r lives =
-      let l : LivesThere q r = lives_there q r lives in
-      ap (λ (o : Registers). o.critical) l.has ∙ l.living_is.free
 
   -- ---- below its floor, as near to process p
 
-  module _ (nested : AreNested (scopes_of tree)) (p q : ℕ) (o : Process) (l : Living tree code texts w lay img q o) where
+  module _ (nested : AreNested (scopes_of tree)) (ok : IsOk (scopes_of tree) IsWhole w) (p q : ℕ) (o : Process) (l : Living tree code texts w lay img q o) where
     there : Lives img q l.core.registers
     there = record { live = l.has.live; is = l.has.registers }
 
-    frames_near : (n : ℕ) → n + 2 ≤ floor l.core.registers → FrameAt p img q n
+    pub frames_near : (n : ℕ) → n + 2 ≤ floor l.core.registers → FrameAt p img q n
     frames_near n low = (below_floor l.core.registers there (omega (arith, low)), below_floor l.core.registers there (omega (arith, low)))
 
     -- its words there are those that it has where it settles
@@ -96,13 +96,13 @@ module _ (tree : PProgram) (code : Code) (texts : Texts) (w : World) (lay : Layo
           ∙ ap (λ (n : ℕ). at_or (place_at l.settled.registers.display n)) (sym kept.1)
           ∙ settled_frame
 
-      ends_low : length s.frame.lower + 2 ≤ floor l.core.registers
+      pub ends_low : length s.frame.lower + 2 ≤ floor l.core.registers
       ends_low = omega (arith, own_frame)
 
       lower_lead : AllLead (FrameAt p img) (system_frame p img) l.settled.below
       lower_lead =
-          below_leads tree code texts nested w lay q (FrameAt p img) (system_frame p img) (floor l.core.registers) frames_near part outer l.settled s a
-          (omega (arith, ends_low, l.has.is.bottom, l.small)) (omega (arith, ends_low))
+          below_leads tree code texts nested w lay q (facts_of (scopes_of tree) w ok) (placed_of tree code texts w lay img by ok) (FrameAt p img) (system_frame p img)
+          (λ i g st laid. standing_near tree code texts w lay img by ok p i st g laid) part outer l.settled s a (omega (arith, ends_low, l.has.is.bottom, l.small))
 
     -- the marks there lead to near frames
     pub lower_links : (n : ℕ) (x : Word) → n < floor l.core.registers → word_at img.stacks (place q n) ≡ Some x → LinksTo (FrameAt p img) x

@@ -1,6 +1,6 @@
 -- A process that stands at its action: near are the frames to which marks and its display lead.
 use Rattle.algol_meaning.specs.Critical.{is_evaluation}
-use Rattle.std.proofs.Common.{◌≡◌, ◌⊎◌, inl, inr, refl, sym, ap, ◌∙◌, ℕ, ◌+◌, ◌-◌, ◌<◌, ◌≤◌, List, ◌∷◌, length, Some, None, Ok, arith}
+use Rattle.std.proofs.Common.{◌≡◌, ◌⊎◌, inl, inr, refl, sym, ap, ◌∙◌, ℕ, ◌+◌, ◌-◌, ◌<◌, ◌≤◌, List, ◌∷◌, length, Some, Ok, arith}
 use Rattle.std.specs.Prelude.{slice_get}
 use Rattle.b67_list.specs.Numbered.{numbered}
 use Rattle.algol_tree.specs.Blocks.{around}
@@ -33,12 +33,19 @@ use Rattle.b67_rows.proofs.Rows.{words_are}
 use Rattle.b67_rows.proofs.Touching.{Near, own_stack, system, below_floor, NearFrame, FrameAt, system_frame, own_frame, IsNear, NamesNear}
 use Rattle.b67_rows.proofs.TouchingOperators.{StandsNear, privately, acting}
 use Rattle.b67_frames.specs.Arrays.{Layout}
-use Rattle.b67_frames.proofs.Lying.{Lies, lies_in, parents_in, part_own, runs_near}
+use Rattle.b67_frames.proofs.Facts.{facts_of}
+use Rattle.b67_frames.proofs.Lying.{runs_near}
+use Rattle.b67_scenes.proofs.Finding.{standing_near}
+use Rattle.b67_scenes.proofs.Led.{part_there}
+use Rattle.b67_scenes.proofs.Paths.{path_stands, up_path}
+use Rattle.b67_scenes.proofs.Worlds.{placed_of}
+use Rattle.algol_standing.specs.Worlds.{IsStanding}
 use Rattle.b67_frames.proofs.TouchingWords.{AllLead, lead_at, system_leads, core_leads}
+use Rattle.b67_scenes.proofs.CriticalNear.{critical_near}
 use Rattle.b67_scenes.proofs.Homes.{operator_there}
 use Rattle.b67_scenes.proofs.Scene.{Scene, shown_frame}
 use Rattle.b67_scenes.proofs.Staying.{text_in, level_in, names_in}
-use Rattle.b67_scenes.proofs.TouchingOthers.{LivesThere, lives_there, depends_not, lower_links}
+use Rattle.b67_scenes.proofs.TouchingOthers.{LivesThere, lives_there, lower_links}
 
 module _ (tree : PProgram) (code : Code) (texts : Texts) (nested : AreNested (scopes_of tree)) (w : World) (lay : Layout) (img : Image)
     (p : ℕ) (q : Process) (part : Part) (outer : List Part) (bound : ℕ) (core : Core) (s : Scene tree code texts w lay img p q part outer bound core) where
@@ -65,18 +72,12 @@ module _ (tree : PProgram) (code : Code) (texts : Texts) (nested : AreNested (sc
     back : l ≤ named_level → named_level - (named_level - l) ≡ l
     back within = omega (arith, within)
 
-    by_parent : l ≤ named_level → Lies tree code texts w lay p (part ∷ outer) (ancestor w (named_level - l) part.instance) core.below → NearFrame p img f
-    by_parent within k =
-        let named : numbered lay.places (ancestor w (named_level - l) part.instance) ≡ Some (place p (length k.frame.lower)) = ap (numbered lay.places) (sym k.instance_is) ∙ k.owned.framed.laid in
-        let shown : display_at core.registers l ≡ Some (place p (length k.frame.lower)) = ap (λ (n : ℕ). display_at core.registers n) (sym (back within)) ∙ s.stands.chained (named_level - l) (far within) ∙ named in
-        own_frame p img f (ap (λ (y : Place). y.stack) (some_same (sym e ∙ shown)))
-
     names_near : l ≤ named_level → NearFrame p img f
     names_near within =
-        let there = get_within (block ∷ around sc.blocks block) (named_level - l) (omega (arith, far within, length_around sc.blocks block)) in
-        by_parent within
-        (lies_in tree code texts w lay p part outer core s.stands s.around (ancestor w (named_level - l) part.instance)
-        (parents_in tree code texts w lay p part outer core s.stands s.around part.instance (part_own tree code texts w lay p part outer core.below s.stands.frame) (named_level - l) there.0 there.1).own)
+        let up : ℕ = named_level - l in
+        let st : IsStanding w part.instance = part_there tree code texts w lay img p q part outer bound core s in
+        standing_near tree code texts w lay img s.by s.ok p (ancestor w up part.instance) (path_stands sc w s.ok part.instance (ancestor w up part.instance) st (up_path sc w s.ok part.instance up st (far within))) f
+        (sym (s.stands.chained up (far within)) ∙ ap (λ (n : ℕ). display_at core.registers n) (back within) ∙ e)
 
     -- one level further in it is the part's own
     shown_near : NearFrame p img f
@@ -93,7 +94,7 @@ module _ (tree : PProgram) (code : Code) (texts : Texts) (nested : AreNested (sc
   -- the marks of near stacks lead to near frames
   own_leads : AllLead (FrameAt p img) (system_frame p img) (stack_of core)
   own_leads =
-      core_leads tree code texts nested w lay p (FrameAt p img) (system_frame p img) (length s.stands.frame.lower) (λ n low. own_frame p img (place p n) refl) part outer core s.stands s.around s.small (omega arith)
+      core_leads tree code texts nested w lay p (facts_of sc w s.ok) (placed_of tree code texts w lay img s.by s.ok) (FrameAt p img) (system_frame p img) (λ i g st laid. standing_near tree code texts w lay img s.by s.ok p i st g laid) part outer core s.stands s.around s.small
 
   links_near : (x : Place) (v : Word) (m : Mscw) → Near p img x → word_at img.stacks x ≡ Some v → as_mscw v ≡ Some m → NearFrame p img (link_of m)
   links_near x v m (own_stack own) e is =
@@ -104,13 +105,15 @@ module _ (tree : PProgram) (code : Code) (texts : Texts) (nested : AreNested (sc
       (lead_at (FrameAt p img) (system_frame p img) system_stack x.at v (system_leads (FrameAt p img) (system_frame p img)) (sym (ap (λ (ws : List Word). slice_get ws x.at) words) ∙ e)).link m is
   links_near x v m (below_floor r lives low) e is =
       let t : LivesThere tree code texts w lay img s.by x.stack r = lives_there tree code texts w lay img s.by x.stack r lives in
-      (lower_links tree code texts w lay img s.by nested p x.stack t.process t.living_is x.at v (omega (arith, low, ap floor t.has)) e).link m is
+      (lower_links tree code texts w lay img s.by nested s.ok p x.stack t.process t.living_is x.at v (omega (arith, low, ap floor t.has)) e).link m is
 
-  -- no process of a near stack depends on another
-  none_depends : (f : Place) → Near p img f → critical_of img.regs f.stack ≡ None
-  none_depends f (own_stack own) = ap (critical_of img.regs) own ∙ ap critical_in s.has.registers ∙ s.free
-  none_depends f (system none) = ap (critical_of img.regs) none
-  none_depends f (below_floor r lives low) = ap critical_in lives.is ∙ depends_not tree code texts w lay img s.by f.stack r lives
+  -- the critical place of a process of a near stack is near
+  depends_near : (f c : Place) → Near p img f → critical_of img.regs f.stack ≡ Some c → NearFrame p img c
+  depends_near f c (own_stack own) e =
+      critical_near tree code texts nested w lay img s.by s.ok p p core.registers (record { live = s.has.live; is = s.has.registers }) c
+      (sym (ap (critical_of img.regs) own ∙ ap critical_in s.has.registers) ∙ e)
+  depends_near f c (system none) e = none_some (sym (ap (critical_of img.regs) none) ∙ e)
+  depends_near f c (below_floor r lives low) e = critical_near tree code texts nested w lay img s.by s.ok p f.stack r lives c (sym (ap critical_in lives.is) ∙ e)
 
   pub is_near : IsNear p img core.registers
   is_near =
@@ -118,7 +121,7 @@ module _ (tree : PProgram) (code : Code) (texts : Texts) (nested : AreNested (sc
         own = s.has.own;
         links = links_near;
         shows = shown_near;
-        depends = λ f c k e. none_some (sym (none_depends f k) ∙ e);
+        depends = depends_near;
       }
 
   pub stands_at : (op : Operator) (next : ℕ) → Has text level s.stands.pc op next → operator_at code core.registers ≡ Ok (op, next)

@@ -1,5 +1,5 @@
--- Where a process finds the variable to whose cell a reference leads: in the frame of one of its parts.
-use Rattle.std.proofs.Common.{◌≡◌, sym, ap, ◌∙◌, subst, ℕ, suc, ◌+◌, List, ◌∷◌, length, Some, arith}
+-- Where a process finds the variable to whose cell a reference leads: in the frame of an instance in reach, in whatever stack.
+use Rattle.std.proofs.Common.{◌≡◌, sym, ap, ◌∙◌, subst, ℕ, suc, ◌+◌, List, ◌∷◌, length, Some, arith, ◌<◌}
 use Rattle.std.specs.Prelude.{slice_get}
 use Rattle.algol_tree.specs.declared.tree.Kind.{Kind}
 use Rattle.algol_tree.specs.Blocks.{block_numbered}
@@ -9,6 +9,8 @@ use Rattle.algol_meaning.specs.Value.{Value, Reference, simple}
 use Rattle.algol_meaning.specs.World.{NamedCell, Instance, Part, Process, World, instance_at, or_no_instance, cell_at, cell_in}
 use Rattle.b67_word.specs.Word.{Word}
 use Rattle.b67_segment.specs.declared.code.Code.{Code}
+use Rattle.b67_store.specs.Store.{word_at}
+use Rattle.b67_table.specs.Chains.{place}
 use Rattle.b67_table.specs.Image.{Image}
 use Rattle.b67_templates.specs.Fragments.{HasKind}
 use Rattle.b67_templates.specs.Cells as wants
@@ -16,24 +18,28 @@ use Rattle.b67_templates.specs.Cells.{Simple, Found, found_from, simple_cells, W
 use Rattle.b67_templates.specs.Programs.{Texts}
 use Rattle.b67_cores.specs.Cores.{Core}
 use Rattle.b67_cores.specs.Slots.{ValueIs}
-use Rattle.b67_rows.proofs.StackWords.{get-front, get-behind}
-use Rattle.b67_frames.specs.Arrays.{Layout, IsOwn}
-use Rattle.b67_frames.specs.Frames.{CellIs}
-use Rattle.b67_frames.proofs.Lying.{Lies, lies_in}
+use Rattle.b67_rows.proofs.Numbers.{get_below}
+use Rattle.b67_rows.proofs.StackWords.{get-front}
+use Rattle.b67_frames.specs.Arrays.{Layout}
+use Rattle.b67_frames.specs.Frames.{CellIs, IsInReach, Framed}
+use Rattle.b67_frames.proofs.FreshCells.{words_long}
 use Rattle.b67_frames.proofs.Variables.{Cell_of, variable_cell, cell_front, Holds_value, value_of_cell}
 use Rattle.b67_scenes.proofs.Scene.{Scene}
+use Rattle.b67_scenes.proofs.Sights.{Seen, seen, cell_below, cell_lies as seen_word}
 
 module _ (tree : PProgram) (code : Code) (texts : Texts) (w : World) (lay : Layout) (img : Image)
     (p : ℕ) (q : Process) (part : Part) (outer : List Part) (bound : ℕ) (core : Core) (s : Scene tree code texts w lay img p q part outer bound core) where
   abbrev sc : Scopes
   sc = scopes_of tree
 
-  -- the cell is the first of that name in its block, holds a value, and has the value's word
+  abbrev SeenThere : ℕ → Type 0
+  SeenThere i = Seen tree code texts w lay img p q part outer bound core s i
+
+  -- the cell is the first of that name in its block, holds a value, and has the value's word, which lies below the floor of its process
   pub record VariableHome (r : Reference) (kind : Kind) (found : Found) : Type 0 where
-    pub own : IsOwn (part ∷ outer) r.instance
-    pub lies : Lies tree code texts w lay p (part ∷ outer) r.instance core.below
-    pub instance_is : instance_at w r.instance ≡ lies.owned.framed.instance
-    pub there : found_from 0 (simple_cells sc (block_numbered sc.blocks lies.owned.framed.instance.block)) r.name ≡ Some found
+    pub seen_there : Seen tree code texts w lay img p q part outer bound core s r.instance
+    pub instance_is : instance_at w r.instance ≡ seen_there.found.lies.owned.framed.instance
+    pub there : found_from 0 (simple_cells sc (block_numbered sc.blocks seen_there.found.lies.owned.framed.instance.block)) r.name ≡ Some found
     pub wanted_is : found.cell.wanted ≡ wants.value kind
     pub number : ℕ
     pub number_is : found.number ≡ number
@@ -42,18 +48,22 @@ module _ (tree : PProgram) (code : Code) (texts : Texts) (w : World) (lay : Layo
     pub fits : HasKind kind value
     pub word : Word
     pub word_is : ValueIs value word
-    pub value_lies : slice_get lies.owned.framed.values number ≡ Some word
-    pub cell_lies : slice_get lies.frame.cells number ≡ Some word
-    pub below_lies : slice_get core.below (length lies.frame.lower + (2 + number)) ≡ Some word
+    pub value_lies : slice_get seen_there.found.lies.owned.framed.values number ≡ Some word
+    pub cell_lies : slice_get seen_there.found.lies.frame.cells number ≡ Some word
+    pub below : length seen_there.found.lies.frame.lower + (2 + number) < length seen_there.found.core.below
+    pub word_lies : word_at img.stacks (place seen_there.found.number (length seen_there.found.lies.frame.lower + (2 + number))) ≡ Some word
 
-  module _ (r : Reference) (kind : Kind) (found : Found) (own : IsOwn (part ∷ outer) r.instance)
+  module _ (r : Reference) (kind : Kind) (found : Found)
       (there : found_from 0 (simple_cells sc (block_numbered sc.blocks ((instance_at w r.instance).block))) r.name ≡ Some found) (wanted_is : found.cell.wanted ≡ wants.value kind) where
-    module _ (l : Lies tree code texts w lay p (part ∷ outer) r.instance core.below) where
+    module _ (h : SeenThere r.instance) where
+      abbrev framed_there : Framed sc w lay h.found.number h.found.lies.part.instance h.found.lies.outer (length h.found.lies.frame.lower) h.found.lies.frame.mark h.found.lies.frame.control h.found.lies.frame.cells
+      framed_there = h.found.lies.owned.framed
+
       abbrev here : Instance
-      here = l.owned.framed.instance
+      here = framed_there.instance
 
       instance_here : instance_at w r.instance ≡ here
-      instance_here = ap (instance_at w) (sym l.instance_is) ∙ ap or_no_instance l.owned.framed.is
+      instance_here = ap (instance_at w) (sym h.found.lies.instance_is) ∙ ap or_no_instance framed_there.is
 
       abbrev ss : List Simple
       ss = simple_cells sc (block_numbered sc.blocks here.block)
@@ -62,10 +72,10 @@ module _ (tree : PProgram) (code : Code) (texts : Texts) (w : World) (lay : Layo
       there_here = ap (λ (x : Instance). found_from 0 (simple_cells sc (block_numbered sc.blocks x.block)) r.name) (sym instance_here) ∙ there
 
       abbrev first_cells : List NamedCell
-      first_cells = l.owned.framed.simple
+      first_cells = framed_there.simple
 
-      c : Cell_of found 0 r.name first_cells l.owned.framed.values
-      c = variable_cell ss first_cells l.owned.framed.values 0 r.name found l.owned.framed.simple_are there_here
+      c : Cell_of found 0 r.name first_cells framed_there.values
+      c = variable_cell ss first_cells framed_there.values 0 r.name found framed_there.simple_are there_here
 
       held : Holds_value kind (cell_in first_cells r.name) c.word
       held = value_of_cell kind (cell_in first_cells r.name) c.word (subst (λ (o : Wanted). CellIs o (cell_in first_cells r.name) c.word) wanted_is c.is)
@@ -73,21 +83,27 @@ module _ (tree : PProgram) (code : Code) (texts : Texts) (w : World) (lay : Layo
       -- it lies before the arrays
       cell_here : cell_in here.cells r.name ≡ cell_in first_cells r.name
       cell_here =
-          ap (λ (cells : List NamedCell). cell_in cells r.name) l.owned.framed.has
-          ∙ cell_front ss first_cells l.owned.framed.arrays l.owned.framed.values 0 r.name found l.owned.framed.simple_are there_here
+          ap (λ (cells : List NamedCell). cell_in cells r.name) framed_there.has
+          ∙ cell_front ss first_cells framed_there.arrays framed_there.values 0 r.name found framed_there.simple_are there_here
 
       -- the values lie before the control words
-      cells_lie : slice_get l.frame.cells c.far ≡ Some c.word
-      cells_lie = ap (λ (ws : List Word). slice_get ws c.far) l.owned.framed.cells_is ∙ get-front l.owned.framed.values _ c.far c.word c.lies
+      cells_lie : slice_get h.found.lies.frame.cells c.far ≡ Some c.word
+      cells_lie = ap (λ (ws : List Word). slice_get ws c.far) framed_there.cells_is ∙ get-front framed_there.values _ c.far c.word c.lies
 
-      far : length l.frame.lower + (2 + c.far) ≡ length l.frame.lower + suc (suc c.far)
-      far = omega arith
+      low : length h.found.lies.frame.lower + (2 + c.far) < length h.found.core.below
+      low =
+          cell_below tree code texts w lay img p q part outer bound core s r.instance h c.far (get_below h.found.lies.frame.cells c.far c.word cells_lie)
+          (omega (
+            arith,
+            get_below framed_there.values c.far c.word c.lies,
+            words_long ss first_cells framed_there.values framed_there.simple_are,
+            ap (λ (x : Instance). length (simple_cells sc (block_numbered sc.blocks x.block))) instance_here,
+          ))
 
       home_there : VariableHome r kind found
       home_there =
           record {
-            own = own;
-            lies = l;
+            seen_there = h;
             instance_is = instance_here;
             there = there_here;
             wanted_is = wanted_is;
@@ -100,13 +116,9 @@ module _ (tree : PProgram) (code : Code) (texts : Texts) (w : World) (lay : Layo
             word_is = held.word;
             value_lies = c.lies;
             cell_lies = cells_lie;
-            below_lies =
-                ap (λ (ws : List Word). slice_get ws (length l.frame.lower + (2 + c.far))) l.words_are
-                ∙ get-front l.front l.rest (length l.frame.lower + (2 + c.far)) c.word
-                (ap (λ (ws : List Word). slice_get ws (length l.frame.lower + (2 + c.far))) l.frame.words_are
-                ∙ get-behind l.frame.lower (l.frame.mark ∷ l.frame.control ∷ l.frame.cells) (suc (suc c.far)) (length l.frame.lower + (2 + c.far)) far
-                ∙ cells_lie);
+            below = low;
+            word_lies = seen_word tree code texts w lay img p q part outer bound core s r.instance h c.far c.word cells_lie low;
           }
 
-    pub variable_home : VariableHome r kind found
-    variable_home = home_there (lies_in tree code texts w lay p part outer core s.stands s.around r.instance own)
+    pub variable_home : IsInReach w (part ∷ outer) r.instance → VariableHome r kind found
+    variable_home path = home_there (seen tree code texts w lay img p q part outer bound core s r.instance path)

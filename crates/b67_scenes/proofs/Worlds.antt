@@ -4,15 +4,18 @@ use Rattle.std.specs.Prelude.{if◌then◌else◌, slice_get}
 use Rattle.b67_list.specs.Numbered.{numbered}
 use Rattle.algol_tree.specs.Plain.{PProgram}
 use Rattle.algol_tree.specs.Scopes.{Scopes, scopes_of}
-use Rattle.algol_meaning.specs.World.{Instance, Process, Part, State, lives, World, instance_at}
+use Rattle.algol_meaning.specs.World.{Instance, Process, Part, State, lives, World, instance_at, or_no_instance}
 use Rattle.algol_meaning.specs.Critical.{is_evaluation, own_instances}
 use Rattle.algol_paths.specs.Arrays.{all_to_make}
 use Rattle.algol_paths.specs.Blocks.{IsSeenAround}
 use Rattle.algol_paths.specs.Texts.{InRest}
 use Rattle.algol_standing.specs.Skeleton.{IsIn, Stack}
-use Rattle.algol_standing.specs.Worlds.{IsAmong, IsNoBlock, IsStanding, IsWhole, skeleton, stack_of}
+use Rattle.algol_standing.specs.Worlds as worlds
+use Rattle.algol_standing.specs.Worlds.{IsAmong, IsNoBlock, IsOwn, IsStanding, IsWhole, skeleton, stack_of}
 use Rattle.algol_standing.specs.Fitting.{IsOk}
 use Rattle.algol_standing.proofs.Pairs.{map_back, stack_forth}
+use Rattle.algol_standing.proofs.Seen.{there as there_is, parent_path}
+use Rattle.algol_standing.proofs.Standing.{stands_path}
 use Rattle.b67_word.specs.declared.Place.{Place}
 use Rattle.b67_word.specs.Word.{Word}
 use Rattle.b67_segment.specs.declared.code.Code.{Code}
@@ -23,8 +26,9 @@ use Rattle.b67_templates.specs.Programs.{Texts}
 use Rattle.b67_cores.specs.Cores.{Core}
 use Rattle.b67_faithful.proofs.Contradictions.{some_same, true_false}
 use Rattle.b67_rows.proofs.Numbers.{same_or_not}
-use Rattle.b67_frames.specs.Arrays.{Layout, IsOwn}
-use Rattle.b67_frames.specs.Frames.{IsComplete, IsNarrow, Frame, Around, Frames, Owned}
+use Rattle.b67_frames.specs.Arrays.{Layout}
+use Rattle.b67_frames.specs.Frames as frames
+use Rattle.b67_frames.specs.Frames.{IsComplete, IsNarrow, IsPlaced, ArePlaced, Frame, Around, Frames, Owned}
 use Rattle.b67_frames.proofs.Completing.{complete_of}
 use Rattle.b67_frames.proofs.EventsLow.{IsElsewhere}
 use Rattle.b67_frames.proofs.Lying.{owned_frame, Lies, lies_in}
@@ -42,7 +46,7 @@ none_own (x ∷ parts) part none among owns = by (is_evaluation x.purpose) refl 
     by true e none (inl same) later = true_false e (ap (λ (y : Part). is_evaluation y.purpose) same ∙ owns)
 
 -- an own instance is one of a part
-own_listed : (parts : List Part) (j : ℕ) → IsIn (own_instances parts) j → IsOwn parts j
+pub own_listed : (parts : List Part) (j : ℕ) → IsIn (own_instances parts) j → IsOwn parts j
 own_listed [] j inside = absurd inside
 own_listed (part ∷ parts) j inside = by (is_evaluation part.purpose) refl inside (own_listed parts j)
   where
@@ -100,6 +104,17 @@ module _ (tree : PProgram) (code : Code) (texts : Texts) (w : World) (lay : Layo
             absurd (none_own h.process.todo h.part
             (ok.sound.skeleton_ok.ended h.number (stack_of h.process) (stack_forth w h.number h.process h.is) (ap (λ (x : State). lives x) ended_is)) h.among h.owns)
 
+    -- the instances that stand have the parents that their blocks ask for
+    pub placed_of : ArePlaced (scopes_of tree) w lay
+    placed_of i st =
+        let x = there_is sc IsWhole w ok.sound i st in
+        subst (λ (y : Instance). IsPlaced sc w lay y) (sym (ap or_no_instance x.1)) (by_placed x.0 x.1 (ok.sound.instances i x.0 x.1).placed)
+      where
+        by_placed : (x : Instance) → numbered w.instances i ≡ Some x → worlds.IsPlaced sc w x → IsPlaced sc w lay x
+        by_placed x is (worlds.outermost none alone) = frames.outermost none alone
+        by_placed x is (worlds.inside one next) =
+            frames.inside (stands_path (skeleton w) ok.sound.skeleton_ok i x.parent st (parent_path sc IsWhole w ok.sound i x st is one)) next (whole_complete x.parent ((ok.sound.instances i x is).whole st one))
+
     pub narrow_of : (p : ℕ) (q : Process) → numbered w.processes p ≡ Some q → (part : Part) (outer : List Part) → q.todo ≡ part ∷ outer → IsNarrow sc w lay part
     narrow_of p q at part outer todo evaluates =
         by_world (((ok.sound.processes p q at).parts part (subst (λ (parts : List Part). IsAmong parts part) (sym todo) (inl refl))).narrow evaluates)
@@ -117,7 +132,7 @@ module _ (tree : PProgram) (code : Code) (texts : Texts) (w : World) (lay : Layo
       pub is : numbered w.processes number ≡ Some process
       pub inside : IsIn (own_instances process.todo) j
 
-    in_stack : (j : ℕ) → IsStanding w j → IsInStack j
+    pub in_stack : (j : ℕ) → IsStanding w j → IsInStack j
     in_stack j st = by_number st.number st.is
       where
         by_number : (n : ℕ) → slice_get (skeleton w).stacks n ≡ Some st.stack → IsInStack j
@@ -127,7 +142,7 @@ module _ (tree : PProgram) (code : Code) (texts : Texts) (w : World) (lay : Layo
             record { number = suc k; process = back.0; is = back.1; inside = subst (λ (x : Stack). IsIn x.own j) back.2 st.inside }
 
     -- its frame lies in that
-    frame_there : (j : ℕ) (h : IsInStack j) → (at : ℕ) × (numbered lay.places j ≡ Some (place h.number at))
+    pub frame_there : (j : ℕ) (h : IsInStack j) → (at : ℕ) × (numbered lay.places j ≡ Some (place h.number at))
     frame_there j h = by_picture (by.each h.number h.process h.is)
       where
         by_frames : (parts : List Part) (core : Core) → Frames tree code texts w lay h.number parts core → IsOwn parts j → (at : ℕ) × (numbered lay.places j ≡ Some (place h.number at))

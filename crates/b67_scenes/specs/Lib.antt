@@ -1,2 +1,4 @@
 pub mod Pictures
 pub mod States
+pub mod Depending
+pub mod Reaches

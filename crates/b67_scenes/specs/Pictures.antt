@@ -18,6 +18,8 @@ use Rattle.b67_faithful.specs.Weight.{weight}
 use Rattle.b67_frames.specs.Arrays.{Layout, ArraysAre}
 use Rattle.b67_frames.specs.Events.{EventsAre}
 use Rattle.b67_frames.specs.Frames.{most_around, Frames}
+use Rattle.b67_scenes.specs.Reaches.{ReachesFor}
+use Rattle.b67_scenes.specs.Depending.{CriticalIs, TaskIs}
 use Rattle.b67_scenes.specs.States.{StateIs}
 
 -- the fault that ended a world, as one of an image
@@ -31,15 +33,13 @@ innermost_most tree w [] = 0
 innermost_most tree w (part ∷ outer) = most_around tree ((instance_at w part.instance).block)
 
 module _ (tree : PProgram) (code : Code) (texts : Texts) (w : World) (lay : Layout) (img : Image) where
-  -- A process that lives comes by private operators only to where its core stands for its parts. It depends on no instance, and has
-  -- no task: that comes with PROCESS.
+  -- A process that lives comes by private operators only to where its core stands for its parts.
   pub record Living (p : ℕ) (q : Process) : Type 0 where
-    pub independent : q.critical ≡ None
-    pub without_task : q.task ≡ None
     pub core : Core
     pub has : HasCore img p core
-    pub free : core.registers.critical ≡ None
-    pub idle : core.registers.task ≡ None
+    -- where the frame of its critical instance lies, and the event of its task
+    pub critical : CriticalIs lay q.critical core.registers.critical
+    pub task : TaskIs (scopes_of tree) w lay q.task core.registers.task
     -- level 0 of its display is the system's stack
     pub sees : place_at core.registers.display 0 ≡ Some (place 0 0)
     -- its stack is no longer than a stack may be
@@ -49,6 +49,8 @@ module _ (tree : PProgram) (code : Code) (texts : Texts) (w : World) (lay : Layo
     pub count : ℕ
     pub steps : CoreSteps code bound count core settled
     pub frames : Frames tree code texts w lay p q.todo settled
+    -- on its way there it has all of its innermost frame that others may look at
+    pub reaches : ReachesFor (scopes_of tree) w lay p q.todo core settled
     pub room : length settled.below + innermost_most tree w q.todo ≤ bound
     pub light : bound + 3 ≤ weight tree w p
 

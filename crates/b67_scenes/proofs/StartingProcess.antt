@@ -1,0 +1,136 @@
+-- The picture with a process more, which begins with an instance of its own: the process that has started it goes on, and all others are pictured as
+-- they were.
+use Rattle.std.proofs.Common.{◌≡◌, ◌≢◌, ◌⊎◌, inl, inr, refl, sym, ap, ◌∙◌, subst, ℕ, ◌+◌, ◌<◌, ◌≤◌, List, [], ◌∷◌, ◌++◌, length, Option, Some, true, arith, length-append}
+use Rattle.b67_list.specs.Numbered.{numbered, set_numbered}
+use Rattle.algol_tree.specs.Plain.{PProgram}
+use Rattle.algol_tree.specs.Scopes.{Scopes, scopes_of}
+use Rattle.algol_meaning.specs.World.{Instance, Process, able, lives, World}
+use Rattle.b67_word.specs.Word.{Word}
+use Rattle.b67_control.specs.declared.Registers.{Registers}
+use Rattle.b67_segment.specs.declared.code.Code.{Code}
+use Rattle.b67_templates.specs.Programs.{Texts}
+use Rattle.b67_store.specs.Store.{stack_at}
+use Rattle.b67_table.specs.declared.ProcessState.{ProcessState}
+use Rattle.b67_table.specs.declared.ProcessState.TheVariants.{Able}
+use Rattle.b67_table.specs.Chains.{place}
+use Rattle.b67_table.specs.Image.{Image}
+use Rattle.b67_table.specs.Limits.{most_processes}
+use Rattle.b67_cores.specs.Cores.{Core, HasCore}
+use Rattle.b67_faithful.proofs.Contradictions.{some_same}
+use Rattle.b67_faithful.proofs.Choices.{length_set_numbered}
+use Rattle.b67_frames.specs.Arrays.{Layout, ArraysAre}
+use Rattle.b67_frames.specs.Events.{EventsAre}
+use Rattle.b67_frames.proofs.ArraysKept.{rows_but, rows_other}
+use Rattle.b67_rows.proofs.Begun.{with_process, begun_state, others_stay, other_state, system_kept}
+use Rattle.b67_rows.proofs.Growing.{numbered_last, numbered_before, numbered_earlier, numbered_low}
+use Rattle.b67_rows.proofs.Numbers.{same_or_not, numbered_set, numbered_other}
+use Rattle.b67_scenes.specs.Pictures.{Living, Pictured, living, PicturesBy}
+use Rattle.b67_scenes.specs.States.{StateIs}
+use Rattle.b67_scenes.proofs.Kept.{LeavesAlone, AreAlike, pictured_alike}
+use Rattle.b67_scenes.proofs.Tasks.{events_before}
+use Rattle.b67_scenes.proofs.Stage.{process_is}
+
+-- the world with an instance and a process more, where the one that starts it goes on
+abbrev pub started_world : World → ℕ → Process → Instance → Process → World
+started_world w p q made new = record w { instances = w.instances ++ made ∷ []; processes = set_numbered w.processes p q ++ new ∷ [] }
+
+-- the instance has its frame at the bottom of the new stack, and has no rows
+abbrev pub started_layout : World → Layout → Layout
+started_layout w lay = record { places = lay.places ++ place (length w.processes + 1) 0 ∷ []; rows = rows_but lay.rows (length w.instances + 1) [] }
+
+-- what was there keeps its rows
+pub rows_before : (w : World) (lay : Layout) (i : ℕ) (x : Instance) → numbered w.instances i ≡ Some x → rows_but lay.rows (length w.instances + 1) [] i ≡ lay.rows i
+rows_before w lay i x e =
+    rows_other lay.rows (length w.instances + 1) [] i (λ (same : i ≡ length w.instances + 1). let low : i ≤ length w.instances = numbered_low w.instances i x e in omega (arith, same, low))
+
+-- the instances of others are the same
+pub others_alike : (sc : Scopes) (w : World) (lay : Layout) (p : ℕ) (q : Process) (made : Instance) (new : Process) (k : ℕ) → LeavesAlone sc w (started_world w p q made new) lay (started_layout w lay) k →
+    AreAlike sc w (started_world w p q made new) lay (started_layout w lay) k
+others_alike sc w lay p q made new k alone =
+    record {
+      alone = alone;
+      own = λ i x e own. numbered_before w.instances (made ∷ []) i x e;
+      rows = λ i x e own. rows_before w lay i x e;
+      events = events_before w (started_world w p q made new) (λ i x e. numbered_before w.instances (made ∷ []) i x e);
+    }
+
+-- In the image in which the one has gone on, all else is as it was, and each process has its registers.
+pub record HasGoneOn (w : World) (img onward : Image) (p : ℕ) : Type 0 where
+  pub output : onward.output ≡ w.output
+  pub fault : onward.fault ≡ img.fault
+  pub started : onward.started ≡ img.started
+  pub states : onward.states ≡ img.states
+  pub system : stack_at onward.stacks 0 ≡ stack_at img.stacks 0
+  pub many : length onward.regs ≡ length onward.states
+  pub others : (k : ℕ) (core : Core) → k ≢ p → HasCore img k core → HasCore onward k core
+
+module _ (tree : PProgram) (code : Code) (texts : Texts) (w : World) (lay : Layout) (img : Image) (by : PicturesBy tree code texts w lay img) (p : ℕ) (q q' : Process) (at : numbered w.processes p ≡ Some q)
+    (made : Instance) (new : Process) (onward : Image) (r : Registers) (words : List Word) (number : r.stack ≡ length w.processes + 1) (room : length w.processes < most_processes) where
+  abbrev w' : World
+  w' = started_world w p q' made new
+
+  abbrev lay' : Layout
+  lay' = started_layout w lay
+
+  abbrev img' : Image
+  img' = with_process onward r words
+
+  module _ (gone : HasGoneOn w img onward p) where
+    as_many : length (set_numbered w.processes p q') ≡ length w.processes
+    as_many = length_set_numbered w.processes p q'
+
+    states_many : length onward.states ≡ length w.processes
+    states_many = ap length gone.states ∙ by.states
+
+    next : r.stack ≡ length onward.states + 1
+    next = omega (arith, number, states_many)
+
+    new_state : numbered img'.states (length w.processes + 1) ≡ Some Able
+    new_state = ap (λ (n : ℕ). numbered img'.states n) (sym number) ∙ begun_state onward r words next gone.many
+
+    same_state : (k : ℕ) → k ≢ length w.processes + 1 → numbered img'.states k ≡ numbered img.states k
+    same_state k old =
+        other_state onward r words next gone.many k (λ same. old (same ∙ number)) ∙ ap (λ (ss : List ProcessState). numbered ss k) gone.states
+
+    -- the new one is able, and both live in the image in which it was begun
+    pub starts_by : new.state ≡ able → lives q'.state ≡ true → StateIs q'.state (numbered img.states p) → ((k : ℕ) → k ≢ p → LeavesAlone (scopes_of tree) w (started_world w p q' made new) lay (started_layout w lay) k) →
+        ArraysAre (scopes_of tree) (started_world w p q' made new) (started_layout w lay) onward.rows → EventsAre (scopes_of tree) (started_world w p q' made new) (started_layout w lay) onward.events →
+        Living tree code texts (started_world w p q' made new) (started_layout w lay) (with_process onward r words) p q' →
+        Living tree code texts (started_world w p q' made new) (started_layout w lay) (with_process onward r words) (length w.processes + 1) new →
+        PicturesBy tree code texts (started_world w p q' made new) (started_layout w lay) (with_process onward r words)
+    starts_by able_is alive state_is alone arrays events starter begun =
+        record {
+          laid = omega (arith, length-append lay.places (place (length w.processes + 1) 0 ∷ []), length-append w.instances (made ∷ []), by.laid);
+          arrays = arrays;
+          events = events;
+          output = gone.output;
+          fault = gone.fault ∙ by.fault;
+          started = omega (arith, gone.started, by.started, as_many, length-append (set_numbered w.processes p q') (new ∷ []));
+          few = omega (arith, as_many, length-append (set_numbered w.processes p q') (new ∷ []), room);
+          states = omega (arith, states_many, as_many, length-append onward.states (Able ∷ []), length-append (set_numbered w.processes p q') (new ∷ []));
+          system = system_kept onward r words next gone.many ∙ gone.system ∙ by.system;
+          each = λ k o e. by_number k o e (same_or_not k (length w.processes + 1)) (same_or_not k p);
+        }
+      where
+        old_p : p ≢ length w.processes + 1
+        old_p same = let low : p ≤ length w.processes = numbered_low w.processes p q at in omega (arith, same, low)
+
+        pictured_new : Pictured tree code texts w' lay' img' (length w.processes + 1) new
+        pictured_new = living (ap lives able_is) (subst (λ (s : Option ProcessState). StateIs new.state s) (sym new_state) (subst (λ s. StateIs s (Some Able)) (sym able_is) tt)) begun
+
+        pictured_starter : Pictured tree code texts w' lay' img' p q'
+        pictured_starter = living alive (subst (λ (s : Option ProcessState). StateIs q'.state s) (sym (same_state p old_p)) state_is) starter
+
+        by_number : (k : ℕ) (o : Process) → numbered w'.processes k ≡ Some o → (k ≡ length w.processes + 1) ⊎ (k ≢ length w.processes + 1) → (k ≡ p) ⊎ (k ≢ p) → Pictured tree code texts w' lay' img' k o
+        by_number k o e (inl last) mine =
+            let is : new ≡ o = some_same (sym (numbered_last (set_numbered w.processes p q') new k (omega (arith, last, as_many))) ∙ e) in
+            subst (λ (x : Process). Pictured tree code texts w' lay' img' k x) is (subst (λ (n : ℕ). Pictured tree code texts w' lay' img' n new) (sym last) pictured_new)
+        by_number k o e (inr old) (inl mine) =
+            let there : numbered (set_numbered w.processes p q') k ≡ Some o = numbered_earlier (set_numbered w.processes p q') new k o (λ same. old (omega (arith, same, as_many))) e in
+            let is : q' ≡ o = some_same (sym (numbered_set w.processes p q q' at) ∙ ap (λ (n : ℕ). numbered (set_numbered w.processes p q') n) (sym mine) ∙ there) in
+            subst (λ (x : Process). Pictured tree code texts w' lay' img' k x) is (subst (λ (n : ℕ). Pictured tree code texts w' lay' img' n q') (sym mine) pictured_starter)
+        by_number k o e (inr old) (inr other) =
+            let there : numbered (set_numbered w.processes p q') k ≡ Some o = numbered_earlier (set_numbered w.processes p q') new k o (λ same. old (omega (arith, same, as_many))) e in
+            let before : numbered w.processes k ≡ Some o = sym (numbered_other w.processes p k q' (λ (same : p ≡ k). other (sym same))) ∙ there in
+            pictured_alike tree code texts w w' lay lay' k (others_alike (scopes_of tree) w lay p q' made new k (alone k other)) img img' o before (process_is w' k o e) (same_state k old)
+            (λ core has. others_stay onward r words next gone.many k core (gone.others k core other has)) (by.each k o before)
