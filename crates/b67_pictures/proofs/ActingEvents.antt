@@ -15,7 +15,7 @@ use Rattle.algol_meaning.specs.Choice.{Choice, choice, choice_of, goes, goes_rel
 use Rattle.algol_meaning.specs.Events.{event_at, set_event, released, liberated_by}
 use Rattle.algol_meaning.specs.Rest.{Answer, done}
 use Rattle.algol_meaning.specs.Value.{Reference, EventCell, event}
-use Rattle.algol_meaning.specs.World.{Process, Part, State, waits_for, procures, is_able, lives, World, event_in, cell_at, followed, process_at, or_no_process, with_process, set_all_able}
+use Rattle.algol_meaning.specs.World.{Process, Part, State, waits_for, procures, is_able, lives, World, event_in, cell_at, cells_with, followed, process_at, with_process, set_all_able}
 use Rattle.algol_paths.specs.Laws.{RestsKeepToTheirText, AllIsMadeInOrder}
 use Rattle.algol_standing.specs.Worlds.{IsStanding, IsListed, AreListed}
 use Rattle.b67_word.specs.declared.Place.{Place}
@@ -61,17 +61,21 @@ use Rattle.b67_rows.proofs.Unmade.{makes, unmade}
 use Rattle.b67_frames.specs.Arrays.{Layout, named_from}
 use Rattle.b67_frames.specs.Events.{event_there}
 use Rattle.b67_frames.proofs.EventRows.{acted_releases, acted_raw}
+use Rattle.b67_frames.proofs.Facts.{facts_of}
 use Rattle.b67_scenes.specs.Pictures.{Pictures, PicturesBy}
 use Rattle.b67_scenes.specs.States.{StateIs}
 use Rattle.b67_scenes.proofs.EventHomes.{cell_there}
-use Rattle.b67_scenes.proofs.Freeing.{LivesIn, all_freed, freed_beside}
+use Rattle.b67_scenes.proofs.Freeing.{LivesIn, lives_waiting, all_freed, freed_beside}
 use Rattle.b67_scenes.proofs.Homes.{operator_there}
+use Rattle.b67_scenes.proofs.Led.{reached_stands}
 use Rattle.b67_scenes.proofs.Scene.{Scene}
-use Rattle.b67_scenes.proofs.Stage.{state_there, process_is, choice_is, gives_within}
+use Rattle.b67_scenes.proofs.Stage.{state_there, choice_is, gives_within}
+use Rattle.b67_scenes.proofs.StoringFrames.{stored_world}
 use Rattle.b67_scenes.proofs.Staying.{text_in, level_in, context_in, most_in}
-use Rattle.b67_pictures.specs.Acting.{Does, gave}
+use Rattle.b67_pictures.specs.Acting.{MayAct, Does, gave}
+use Rattle.b67_pictures.proofs.Alone.{IsAfter, after_choice, after_states, freed_states, freed_instances}
 use Rattle.b67_pictures.proofs.AskingEvents.{OnEvent, on_event as on_event_there, open_as, is_open_there, world_has}
-use Rattle.b67_pictures.proofs.EventChanging.{event_world, event_pictured}
+use Rattle.b67_pictures.proofs.EventChanging.{instance_there, event_world, event_pictured}
 use Rattle.b67_pictures.proofs.InFrame.{does_in_frame}
 
 -- an event that a process acts on, whatever it does with it
@@ -193,31 +197,45 @@ module _ (tree : PProgram) (code : Code) (texts : Texts) (nested : AreNested (sc
       abbrev before : World
       before = with_process (set_event w r later) p (gone_on state)
 
-      before_is : PicturesBy tree code texts before lay (record (with_core img p new) { events = with_event at change img.events; states = states })
-      before_is =
-          subst (λ (u : World). PicturesBy tree code texts (with_process u p (gone_on state)) lay (record (with_core img p new) { events = with_event at change img.events; states = states }))
-          (sym
-          (event_world tree code texts nested fragments keeps order w lay img p q part outer bound core s (unmade part.rest (ap makes asks)) r o.home.own o.home.lies o.home.number o.home.found later change stays becomes state lives_now states
-          many_states state_is states_are o.call.others o.call.calls.m.df next below o.call.few above comes smaller))
-          (event_pictured tree code texts nested fragments keeps order w lay img p q part outer bound core s (unmade part.rest (ap makes asks)) r o.home.own o.home.lies o.home.number o.home.found later change stays becomes state lives_now states
-          many_states state_is states_are o.call.others o.call.calls.m.df next below o.call.few above comes smaller)
-
       alive_before : (IsListed ps p → ⊥) → (k : ℕ) → IsListed ps k → LivesIn before k
       alive_before none k listed =
           let h : LivesIn w k = alive k listed in
           record { process = h.process; is = numbered_other w.processes p k (gone_on state) (λ (same : p ≡ k). none (subst (IsListed ps) (sym same) listed)) ∙ h.is; alive = h.alive }
 
-      pictured : is_able ((process_at w p).state) ≡ true → PicturesBy tree code texts (with_process (set_all_able (set_event w r later) ps) p (gone_on state)) lay after
-      pictured able_now =
-          subst (λ (u : World). PicturesBy tree code texts u lay after) (freed_beside ps (set_event w r later) p (gone_on state) (apart able_now))
-          (all_freed tree code texts lay ps before (record (with_core img p new) { events = with_event at change img.events; states = states }) before_is (alive_before (apart able_now)))
+      -- what the choice leaves of the world, and so before the others are released
+      after_all : MayAct sc w p → IsAfter sc w (with_process (set_all_able (set_event w r later) ps) p (gone_on state)) p
+      after_all may =
+          after_choice sc w (with_process (set_all_able (set_event w r later) ps) p (gone_on state)) p q (facts_of sc w s.ok) may s.at (ap (λ (c : Choice). c.world) chosen)
+
+      after_before : MayAct sc w p → IsAfter sc w before p
+      after_before may =
+          after_states sc w (set_all_able before ps) before p
+          (subst (λ (u : World). IsAfter sc w u p) (sym (freed_beside ps (set_event w r later) p (gone_on state) (apart may.able))) (after_all may))
+          (sym (freed_instances ps before)) (freed_states ps before (alive_before (apart may.able)))
+
+      before_is : MayAct sc w p → PicturesBy tree code texts before lay (record (with_core img p new) { events = with_event at change img.events; states = states })
+      before_is may =
+          subst (λ (u : World). PicturesBy tree code texts (with_process u p (gone_on state)) lay (record (with_core img p new) { events = with_event at change img.events; states = states })) (sym world_is)
+          (event_pictured tree code texts nested fragments keeps order w lay img p q part outer bound core s able_is (unmade part.rest (ap makes asks)) r o.home.lies o.home.number o.home.found later change stays becomes state lives_now states
+          many_states state_is states_are o.call.others o.call.calls.m.df next below o.call.few above comes smaller
+          (subst (λ (u : World). IsAfter sc w (with_process u p (gone_on state)) p) world_is (after_before may)))
+        where
+          world_is : set_event w r later ≡ stored_world w r.instance o.home.lies.found.lies.owned.framed.instance (instance_there tree code texts w lay img p q part outer bound core s r o.home.lies)
+              (cells_with o.home.lies.found.lies.owned.framed.instance.cells r.name (event later))
+          world_is = event_world tree code texts w lay img p q part outer bound core s r o.home.lies later
+
+      pictured : MayAct sc w p → PicturesBy tree code texts (with_process (set_all_able (set_event w r later) ps) p (gone_on state)) lay after
+      pictured may =
+          subst (λ (u : World). PicturesBy tree code texts u lay after) (freed_beside ps (set_event w r later) p (gone_on state) (apart may.able))
+          (all_freed tree code texts lay ps before (record (with_core img p new) { events = with_event at change img.events; states = states }) (after_before may).climb.facts (before_is may)
+          (alive_before (apart may.able)))
 
       event_acts : IsActed
       event_acts =
           record {
             does = gave after not_plain table_is
                 (action_is code img p core s.has (ops.Plain kinds.Entr) next there (outcomes.gives after) table_is ∙ ap as_action o.call.action ∙ letters ∙ ap (λ (c : Choice). Some c.action) (sym chosen))
-                (λ able_now. subst (λ (c : Choice). Pictures tree code texts c.world after) (sym chosen) (lay, pictured able_now));
+                (λ may. subst (λ (c : Choice). Pictures tree code texts c.world after) (sym chosen) (lay, pictured may));
             frees = frees_so act act_is after table_is (record { action = action; world = with_process (set_all_able (set_event w r later) ps) p (gone_on state); released = ps; started = None }) chosen freed_now;
           }
 
@@ -247,21 +265,12 @@ module _ (tree : PProgram) (code : Code) (texts : Texts) (nested : AreNested (sc
     -- ---- who stands in the lists
 
     standing : IsStanding w r.instance
-    standing =
-        subst (λ (j : ℕ). IsStanding w j) o.home.lies.instance_is
-        ((s.ok.sound.instances o.home.lies.part.instance o.home.lies.owned.framed.instance o.home.lies.owned.framed.is).left.0 o.home.lies.owned.framed.stands)
+    standing = reached_stands tree code texts w lay img p q part outer bound core s r.instance o.home.own
 
     listed : AreListed w r e
     listed = s.ok.sound.listed r e standing means
 
-    -- who waits lives, and is not able
-    alive_waiting : (k : ℕ) (state : State) → (process_at w k).state ≡ state → lives state ≡ true → LivesIn w k
-    alive_waiting k state is alive = found (numbered w.processes k) refl
-      where
-        found : (y : Option Process) → numbered w.processes k ≡ y → LivesIn w k
-        found (Some z) there_is = record { process = z; is = there_is; alive = ap lives (sym (ap (λ (y : Process). y.state) (process_is w k z there_is)) ∙ is) ∙ alive }
-        found None gone = true_false alive (ap lives (sym is ∙ ap (λ (y : Option Process). (or_no_process y).state) gone))
-
+    -- who waits is not able
     waiter_apart : is_able ((process_at w p).state) ≡ true → IsListed e.waiters p → ⊥
     waiter_apart able_now is = true_false able_now (ap is_able (listed.waiters p is))
 
@@ -365,7 +374,7 @@ module _ (tree : PProgram) (code : Code) (texts : Texts) (nested : AreNested (sc
         event_acts liberate (ap (λ (z : EventAct). row_of_intrinsic (intrinsic_for z)) is) actions.Liberate (ap (λ (z : EventAct). as_action (Some (letter_of (intrinsic_for z)))) is)
         (record e { procurers = ms }) served (λ z. refl) (ap (λ (zs : List ℕ). event_there at (record e { procurers = drop 1 zs })) first) q.state able_is img.states refl able_p (λ k other. refl) (m ∷ [])
         (λ more. ap (λ (zs : List ℕ). changed p more (record img { events = with_event at (passed_on zs) img.events; states = able_again (take 1 zs) img.states })) (procurers_there ∙ first))
-        (chosen_liberate is ∙ ap liberate_choice first) (λ k only. alive_waiting k (procures r) (listed.procurers k (in_list k only)) refl) (λ able_now only. procurer_apart able_now (in_list p only))
+        (chosen_liberate is ∙ ap liberate_choice first) (λ k only. lives_waiting w k (procures r) (listed.procurers k (in_list k only)) refl) (λ able_now only. procurer_apart able_now (in_list p only))
         (λ more quiet. ap (λ (zs : List ℕ). take 1 (procurers_at at img.events) ++ zs) (quiet _) ∙ append-nil (take 1 (procurers_at at img.events)) ∙ ap (λ (zs : List ℕ). take 1 zs) (procurers_there ∙ first))
       where
         in_list : (k : ℕ) → IsListed (m ∷ []) k → IsListed e.procurers k
@@ -379,7 +388,7 @@ module _ (tree : PProgram) (code : Code) (texts : Texts) (nested : AreNested (sc
         (chosen_as
         ∙ ap (λ (z : EventAct). acted sc w p q part outer z r) is
         ∙ ap (λ (z : EventCell). goes_releasing sc w p q part outer actions.Cause (released w r (record z { happened = true; waiters = [] }) z.waiters)) event_is)
-        (λ k stands. alive_waiting k (waits_for r) (listed.waiters k stands) refl) waiter_apart
+        (λ k stands. lives_waiting w k (waits_for r) (listed.waiters k stands) refl) waiter_apart
         (λ more quiet. ap (λ (zs : List ℕ). waiters_at at img.events ++ zs) (quiet _) ∙ append-nil (waiters_at at img.events) ∙ waiters_there)
     by_act acts.Reset is = event_acts reset (ap (λ (z : EventAct). row_of_intrinsic (intrinsic_for z)) is) actions.Reset (ap (λ (z : EventAct). as_action (Some (letter_of (intrinsic_for z)))) is)
         (record e { happened = false }) cleared (λ z. refl) refl q.state able_is img.states refl able_p (λ m other. refl) [] (λ more. refl)

@@ -100,7 +100,7 @@ module _ (tree : PProgram) (code : Code) (texts : Texts) (nested : AreNested (sc
     pub open_as : kernel.event_at (cell_place (cell_there tree code texts nested w lay img p q part outer bound core s o.home.lies o.home.number)) img.events
         ≡ Some (event_there (cell_place (cell_there tree code texts nested w lay img p q part outer bound core s o.home.lies o.home.number)) o.home.found.cell)
     open_as =
-        s.by.events.are_open o.home.lies.part.instance o.home.number o.home.found.cell _
+        s.by.events.are_open o.home.lies.found.lies.part.instance o.home.number o.home.found.cell _
         (has_there tree code texts nested w lay img p q part outer bound core s o.home.lies target.name o.home.number o.home.found)
 
     pub is_open_there : is_open (cell_place (cell_there tree code texts nested w lay img p q part outer bound core s o.home.lies o.home.number)) img.events ≡ true
@@ -109,8 +109,8 @@ module _ (tree : PProgram) (code : Code) (texts : Texts) (nested : AreNested (sc
     -- what the world has there
     pub world_has : cell_at w (followed w (named_from (scopes_of tree) w lay part.instance n)) ≡ event o.home.found.cell
     world_has =
-        ap (λ (j : ℕ). cell_in ((instance_at w j).cells) target.name) (sym o.home.lies.instance_is)
-        ∙ ap (λ (x : Option Instance). cell_in ((or_no_instance x).cells) target.name) o.home.lies.owned.framed.is
+        ap (λ (j : ℕ). cell_in ((instance_at w j).cells) target.name) (sym o.home.lies.found.lies.instance_is)
+        ∙ ap (λ (x : Option Instance). cell_in ((or_no_instance x).cells) target.name) o.home.lies.found.lies.owned.framed.is
         ∙ o.home.found.means
 
 -- ---- the action

@@ -30,6 +30,7 @@ use Rattle.b67_segment.specs.Operators.{Placed}
 use Rattle.b67_segment.specs.Syllables.{Spells}
 use Rattle.b67_segment.specs.declared.code.Code.{Code}
 use Rattle.b67_scenes.specs.States.{StateIs}
+use Rattle.b67_word.specs.declared.Place.{Place}
 use Rattle.b67_table.specs.Chains.{place}
 use Rattle.b67_table.specs.Image.{Image}
 use Rattle.b67_table.specs.Private.{frame, display_at}
@@ -54,7 +55,7 @@ use Rattle.b67_faithful.specs.Weight.{tokens_around}
 use Rattle.b67_fitting.specs.Nested.{LiesNested}
 use Rattle.b67_rows.proofs.AskedEntries.{blocks_seen, block_unmade}
 use Rattle.b67_frames.specs.Arrays.{Layout}
-use Rattle.b67_frames.specs.Frames.{block_controls, controls_count, most_around, IsComplete, Owned, run_level}
+use Rattle.b67_frames.specs.Frames.{IsInReach, block_controls, controls_count, most_around, IsComplete, Owned, run_level}
 use Rattle.b67_frames.proofs.ControlWords.{controls_fit}
 use Rattle.b67_frames.proofs.Completing.{complete_of}
 use Rattle.b67_pictures.specs.Acting.{Does}
@@ -67,7 +68,7 @@ use Rattle.b67_rows.proofs.Segmented.{inner_segment}
 use Rattle.b67_rows.proofs.StoreRow.{most_is}
 use Rattle.b67_rows.proofs.Unmade.{makes, unmade}
 use Rattle.b67_frames.proofs.FreshCells.{none_given, none_are, none_lead}
-use Rattle.b67_frames.proofs.Linked.{Linked, begins_core, own_linked, linked_low, level_around}
+use Rattle.b67_frames.proofs.Linked.{Linked, level_around}
 use Rattle.b67_scenes.proofs.Entries.{Calls}
 use Rattle.b67_scenes.proofs.Scene.{Scene, shown_frame}
 use Rattle.b67_scenes.proofs.Stage.{choice_is}
@@ -75,7 +76,12 @@ use Rattle.b67_scenes.proofs.Staying.{text_in, level_in, context_in, most_in, na
 use Rattle.b67_pictures.proofs.FrameEntering.{AreCells, Body, GoesOnBehind, entering}
 use Rattle.b67_table.specs.Look.{seen}
 use Rattle.b67_table.specs.References.{cell_of}
-use Rattle.b67_frames.proofs.Lying.{part_own, owned_frame, asks_as_own, runs_at}
+use Rattle.b67_frames.proofs.Lying.{owned_frame, asks_as_own, runs_at}
+use Rattle.b67_scenes.proofs.Led.{part_there}
+use Rattle.b67_scenes.proofs.Paths.{part_in_reach}
+use Rattle.b67_pictures.proofs.ParentPlaces.{standing_linked, linked_few, linked_low}
+use Rattle.b67_faithful.proofs.Contradictions.{some_same}
+use Rattle.algol_standing.specs.Worlds.{IsStanding}
 
 module _ (tree : PProgram) (code : Code) (texts : Texts) (nested : LiesNested tree) (short : IsShort tree code)
     (fragments : FragmentsArePerformed) (begins_so : BlocksBegin) (starts : InnerBlocksStart) (follow : InnerBlocksFollow) (keeps : RestsKeepToTheirText) (order : AllIsMadeInOrder)
@@ -149,17 +155,22 @@ module _ (tree : PProgram) (code : Code) (texts : Texts) (nested : LiesNested tr
   c_is : c ≡ code_at (segment_of sc.blocks j) at.begin (level_of b)
   c_is = ap (λ (k : ℕ). code_at k at.begin (level + 1)) (sym same_segment) ∙ ap (code_at (segment_of sc.blocks j) at.begin) (sym level_new)
 
-  linked : Linked sc w lay img.stacks p part.instance
-  linked = own_linked tree code texts w lay p img.stacks part outer core s.stands s.around (begins_core img p core s.has) part.instance (part_own tree code texts w lay p part outer core.below s.stands.frame)
+  here_stands : IsStanding w part.instance
+  here_stands = part_there tree code texts w lay img p q part outer bound core s
 
-  home_there : level_below core.registers (level + 1) ≡ Some (place p linked.at)
+  linked : Linked sc w lay img.stacks part.instance
+  linked = standing_linked tree code texts w lay img s.by s.ok part.instance here_stands
+
+  home_is : linked.at ≡ place p (length s.stands.frame.lower)
+  home_is = some_same (sym linked.laid ∙ own_frame.framed.laid)
+
+  home_there : level_below core.registers (level + 1) ≡ Some linked.at
   home_there =
       let less : level + 1 - 1 ≡ core.registers.ll = omega (arith, s.stands.there.level_is) in
       ap (λ (t : Bool). if t then display_at core.registers (level + 1 - 1) else None) (most_is 1 (level + 1) (omega arith))
       ∙ ap (λ (n : ℕ). display_at core.registers n) less
       ∙ shown_frame tree code texts w lay img p q part outer bound core s
-      ∙ sym own_frame.framed.laid
-      ∙ linked.laid
+      ∙ ap (λ (g : Place). Some g) (sym home_is)
 
   abbrev HasControl : Word → Type 0
   HasControl x = SlotIs sc s.stands.held level (frame core.registers) (length core.below) (mark ∷ a.1) (control c) x
@@ -184,19 +195,20 @@ module _ (tree : PProgram) (code : Code) (texts : Texts) (nested : LiesNested tr
         given_few = omega arith;
         marks = refl;
         stands = at.stands;
-        own_parent = part_own tree code texts w lay p part outer core.below s.stands.frame;
+        in_reach = part_in_reach tree code texts w lay p part outer core.below s.stands.frame;
         complete = complete;
         known = is_inner.known;
         around_is = is_inner.around_is;
         linked = linked;
-        low = linked_low tree code texts w lay p img.stacks part outer core s.stands s.around part.instance (part_own tree code texts w lay p part outer core.below s.stands.frame) linked;
+        few = linked_few tree code texts w lay img s.by s.ok part.instance here_stands linked;
+        low = linked_low tree code texts w lay img s.by s.ok part.instance here_stands linked;
         segment = s.stands.there.segment;
         there = ap (λ (k : ℕ). slice_get code.segments k) (same_segment ∙ sym s.stands.segment_is) ∙ s.stands.there.there;
         spells = subst (λ (k : ℕ). Spells (texts.placed k) s.stands.there.segment) (sym same_segment) s.stands.there.spells;
-        leads = λ m x is. subst (λ (y : Pcw). Leads code img core a.0 x m y (place p linked.at)) c_is
-            (block_leads code img core a.0 x m c (place p linked.at) (no_irw x is) (no_sirw x is) (ap as_pcw is ∙ as_pcw-pcw_word c at.fits) home_there);
+        leads = λ m x is. subst (λ (y : Pcw). Leads code img core a.0 x m y linked.at) c_is
+            (block_leads code img core a.0 x m c linked.at (no_irw x is) (no_sirw x is) (ap as_pcw is ∙ as_pcw-pcw_word c at.fits) home_there);
         calls = λ x is. subst (λ (y : Pcw). seen img.stacks (called_by x (cell_of core.registers x)) ≡ Ok y) c_is
-            (block_calls code img core a.0 x (record { entered = false; stack = 0; displacement = 0; df = 0 }) c (place p linked.at) (no_irw x is) (no_sirw x is) (ap as_pcw is ∙ as_pcw-pcw_word c at.fits));
+            (block_calls code img core a.0 x (record { entered = false; stack = 0; displacement = 0; df = 0 }) c linked.at (no_irw x is) (no_sirw x is) (ap as_pcw is ∙ as_pcw-pcw_word c at.fits));
       }
 
   -- ---- its code
@@ -302,7 +314,7 @@ module _ (tree : PProgram) (code : Code) (texts : Texts) (nested : LiesNested tr
   AreCellsThere given ws = AreCells tree code texts nested short fragments begins_so keeps order w lay img p q part outer bound core s able_is able_p j given ws
 
   none_there : (ws : List Word) → ActualsAre sc s.stands.held (level_in tree w part) (frame core.registers) (length core.below) [] [] ws → AreCellsThere [] ws
-  none_there [] are = record { cells = none_are sc b no_cells is_inner.parameters; lead = none_lead sc w lay (part ∷ outer) b no_cells is_inner.parameters }
+  none_there [] are = record { cells = none_are sc b no_cells is_inner.parameters; lead = none_lead sc w lay (IsInReach w (part ∷ outer)) b no_cells is_inner.parameters }
   none_there (x ∷ ws) are = absurd are
 
   pub entering_block : Does tree code texts w img p

@@ -94,7 +94,7 @@ module _ (tree : PProgram) (code : Code) (texts : Texts) where
       lives q.state ≡ true → StateIs q.state (numbered img.states p) → ask part.rest ≡ k → GoesOnFrom w lay img p q part outer bound core s k
 
   -- a line, the choice of a statement, the entry of a block or of a procedure, what is done with arrays and events, the leaving of a block, of a
-  -- procedure, or of an evaluation, the end, GO TO
+  -- procedure, or of an evaluation, the end, GO TO, the start of a process
   pub record OthersAreDone : Type 0 where
     pub writing : (phrases : List PhraseText) (vs : List Value) → IsDone (writes phrases vs)
     pub selecting : (v : Value) (ss : PStmts) → IsDone (selects v ss)
@@ -112,6 +112,7 @@ module _ (tree : PProgram) (code : Code) (texts : Texts) where
     pub returning : (v : Value) → IsDone (leaves (value v))
     pub placing : (x : Place) → IsDone (leaves (place x))
     pub going : (n : Named) → IsDone (goes_to n)
+    pub starting : (n : Named) (gs : List Given) (task : Option Named) → IsDone (starts n gs task)
 
   module _ (lies : LiesNested tree) (actuals : ActualsAreEntered tree code texts) (fragments : FragmentsArePerformed) (keeps : RestsKeepToTheirText) (order : AllIsMadeInOrder) (rests : RestsGoOn) (others : OthersAreDone) (w : World) (lay : Layout) (img : Image)
       (p : ℕ) (q : Process) (part : Part) (outer : List Part) (bound : ℕ) (core : Core) (s : Scene tree code texts w lay img p q part outer bound core) (able_is : lives q.state ≡ true) (able_p : StateIs q.state (numbered img.states p)) where
@@ -172,7 +173,7 @@ module _ (tree : PProgram) (code : Code) (texts : Texts) where
     by_ask (reads_result name) e a answered waits returns =
         reading_result tree code texts lies.nested fragments keeps order w lay img p q part outer bound core s able_is able_p name e a answered
     by_ask (goes_to n) e a answered waits returns = others.going n w lay img p q part outer bound core s able_is able_p e a answered waits returns
-    by_ask (starts n gs task) e a answered waits returns = absurd a
+    by_ask (starts n gs task) e a answered waits returns = others.starting n gs task w lay img p q part outer bound core s able_is able_p e a answered waits returns
     by_ask (acts x n) e a answered waits returns = others.acting x n w lay img p q part outer bound core s able_is able_p e a answered waits returns
     by_ask (makes_arrays kind ns pairs vs) e a answered waits returns = others.making kind ns pairs vs w lay img p q part outer bound core s able_is able_p e a answered waits returns
     by_ask (makes_event n) e a answered waits returns = others.making_event n w lay img p q part outer bound core s able_is able_p e a answered waits returns

@@ -116,7 +116,7 @@ module _ (tree : PProgram) (code : Code) (texts : Texts) (nested : AreNested (sc
     outside e =
         failed_by InvalidIndex (fault_not_plain code img p core s.has (ops.Plain kinds.Nxlv) next there InvalidIndex table_is) table_is
         (action_is code img p core s.has (ops.Plain kinds.Nxlv) next there (outcomes.faults InvalidIndex) table_is ∙ ap (λ (c : Choice). Some c.action) (sym fails_so))
-        (subst (λ (c : Choice). Pictures tree code texts c.world (failed img p InvalidIndex)) (sym fails_so) (lay, faulted tree code texts w lay img s.by p q s.at InvalidIndex))
+        (subst (λ (c : Choice). Pictures tree code texts c.world (failed img p InvalidIndex)) (sym fails_so) (lay, faulted tree code texts w lay img s.by p q s.at s.ok InvalidIndex))
       where
         table_is : table code img p ≡ outcomes.faults InvalidIndex
         table_is =

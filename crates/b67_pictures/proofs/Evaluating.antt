@@ -63,11 +63,11 @@ use Rattle.b67_rows.proofs.Words.{pcw_refers_nothing}
 use Rattle.b67_frames.specs.Arrays.{Layout}
 use Rattle.b67_frames.specs.Frames.{most_around}
 use Rattle.b67_frames.proofs.Expressions.{evaluated_is, located_is}
-use Rattle.b67_frames.proofs.Linked.{begins_core}
 use Rattle.b67_frames.proofs.Segmenting.{ActualsHaveRoom}
 use Rattle.b67_scenes.proofs.ActualEntries as entries
 use Rattle.b67_scenes.proofs.ActualEntries.{Takes}
 use Rattle.b67_scenes.proofs.ActualHomes.{routine_of, same_place}
+use Rattle.b67_scenes.proofs.Finding.{Found}
 use Rattle.b67_scenes.proofs.Homes.{operator_there}
 use Rattle.b67_scenes.proofs.NameHomes.{ActualNamed}
 use Rattle.b67_scenes.proofs.Scene.{Scene}
@@ -118,11 +118,14 @@ module _ (tree : PProgram) (code : Code) (texts : Texts) (nested : LiesNested tr
   abbrev block : ℕ
   block = (instance_at w h.a.instance).block
 
-  here : numbered w.instances h.a.instance ≡ Some h.actual.lies.owned.framed.instance
-  here = ap (numbered w.instances) (sym h.actual.lies.instance_is) ∙ h.actual.lies.owned.framed.is
+  abbrev found_there : Found tree code texts w lay img h.a.instance
+  found_there = h.actual.seen_there.found
+
+  here : numbered w.instances h.a.instance ≡ Some found_there.lies.owned.framed.instance
+  here = ap (numbered w.instances) (sym found_there.lies.instance_is) ∙ found_there.lies.owned.framed.is
 
   known : block < length sc.blocks
-  known = subst (λ (x : Instance). x.block < length sc.blocks) (sym (ap or_no_instance here)) h.actual.lies.owned.framed.known
+  known = subst (λ (x : Instance). x.block < length sc.blocks) (sym (ap or_no_instance here)) found_there.lies.owned.framed.known
 
   is_seen : InExpr (IsSeen sc block) h.a.actual
   is_seen = actual_seen sc block (nested.nested.each block known) h.denotes.level h.a.actual kind h.denotes.couple h.denotes.stands
@@ -135,18 +138,15 @@ module _ (tree : PProgram) (code : Code) (texts : Texts) (nested : LiesNested tr
   control = routine_of sc block h.a.actual h.actual.at
 
   abbrev pub from : cells.Cell
-  from = record { frame = place p h.home.at; index = couple.index }
+  from = record { frame = h.home.at; index = couple.index }
 
   abbrev pub to : cells.Cell
-  to = record { frame = place p (length h.actual.lies.frame.lower); index = h.denotes.couple.index }
-
-  control_lies : word_at img.stacks (place p (length h.actual.lies.frame.lower + h.denotes.couple.index)) ≡ Some (pcw_word control)
-  control_lies = begins_core img p core s.has (length h.actual.lies.frame.lower + h.denotes.couple.index) (pcw_word control) h.actual.control_lies
+  to = record { frame = place h.actual.seen_there.found.number (length h.actual.seen_there.found.lies.frame.lower); index = h.denotes.couple.index }
 
   pub control_reached : Reaches img.stacks from (pcw_word control) to
   control_reached =
-      reached_through img.stacks from h.home.word (record { stack = p; displacement = length h.actual.lies.frame.lower; index = h.denotes.couple.index }) (pcw_word control) h.home.lies h.actual.reads
-      control_lies (pcw_refers_nothing control)
+      reached_through img.stacks from h.home.word (record { stack = found_there.number; displacement = length found_there.lies.frame.lower; index = h.denotes.couple.index }) (pcw_word control) h.home.lies h.actual.reads
+      h.actual.control_lies (pcw_refers_nothing control)
 
   pub control_read : as_pcw (pcw_word control) ≡ Some control
   control_read = as_pcw-pcw_word control h.actual.fits

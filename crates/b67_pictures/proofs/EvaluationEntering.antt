@@ -17,6 +17,7 @@ use Rattle.algol_meaning.specs.World.{Instance, Process, Part, Purpose, lives, W
 use Rattle.algol_paths.specs.Arrays.{all_to_make, all_left_to_make}
 use Rattle.algol_paths.specs.Laws.{KeepsToText, RestsKeepToTheirText, AllIsMadeInOrder}
 use Rattle.algol_paths.specs.Segments.{segment_of}
+use Rattle.algol_standing.specs.Worlds.{newest_own}
 use Rattle.b67_word.specs.declared.Place.{Place}
 use Rattle.b67_word.specs.Word.{Word}
 use Rattle.b67_control.specs.declared.Rcw.{Rcw}
@@ -53,26 +54,32 @@ use Rattle.b67_rows.proofs.Displays.{shown, shown_below}
 use Rattle.b67_rows.proofs.EntryRow.{lower_of}
 use Rattle.b67_rows.proofs.Numbers.{numbered_set, most_or_more}
 use Rattle.b67_rows.proofs.Spelled.{HaveTexts}
-use Rattle.b67_frames.specs.Arrays.{Layout, IsActual, IsOwn, AreKnown}
-use Rattle.b67_frames.specs.Frames.{most_around, run_level, IsChained, Frame, Waits, Around, of_lent}
+use Rattle.b67_frames.specs.Arrays.{Layout, IsActual, AreKnown}
+use Rattle.b67_frames.specs.Frames.{IsInReach, most_around, run_level, IsChained, Frame, Waits, Around, of_lent}
 use Rattle.b67_frames.specs.Lent.{IsAsked, IsOfExpression, Lent}
 use Rattle.b67_frames.proofs.ArraysKept.{arrays_unchanged}
 use Rattle.b67_frames.proofs.Expressions.{expression_resumed}
-use Rattle.b67_frames.proofs.Knowing.{known_of}
+use Rattle.b67_frames.proofs.Facts.{HasFacts, facts_of}
+use Rattle.b67_frames.proofs.Knowing.{keeps_same}
 use Rattle.b67_frames.proofs.Linked.{Linked}
-use Rattle.b67_frames.proofs.Lying.{StayBelow, shape_on}
+use Rattle.b67_frames.proofs.Lying.{StayBelow, shape_on, top_still}
+use Rattle.b67_frames.proofs.Onward.{StandOn, StandsStill, path_still}
 use Rattle.b67_frames.proofs.EventsKept.{events_unchanged}
 use Rattle.b67_scenes.specs.Pictures.{Living, Pictures, PicturesBy}
+use Rattle.b67_scenes.specs.Reaches as reaching
 use Rattle.b67_scenes.proofs.ActualEntries as entries
 use Rattle.b67_scenes.proofs.ActualEntries.{Takes}
 use Rattle.b67_scenes.proofs.ActualHomes.{ActualHome}
-use Rattle.b67_scenes.proofs.Ancestors.{same_place}
+use Rattle.b67_scenes.proofs.Ancestors.{AreLaid, all_laid, same_place}
+use Rattle.b67_scenes.proofs.Finding.{Found, found_laid}
 use Rattle.b67_scenes.proofs.Kept.{alike_by}
 use Rattle.b67_scenes.proofs.Landing.{steps_none, living_of}
 use Rattle.b67_scenes.proofs.Scene.{Scene}
+use Rattle.b67_scenes.proofs.Tasks.{task_stays, events_same}
 use Rattle.b67_scenes.proofs.Stage.{gives_within, limit_beyond, goes_on, weight_of}
-use Rattle.b67_scenes.proofs.Staying.{text_in, level_in, context_in, most_in, FrameStill, frame_still, still_low, parts_weigh}
+use Rattle.b67_scenes.proofs.Staying.{text_in, level_in, context_in, most_in, FrameStill, frame_still, still_low, parts_weigh, known_stays}
 use Rattle.b67_pictures.specs.Acting.{Does, gave, stopped}
+use Rattle.b67_pictures.proofs.Alone.{IsAfter, after_choice, dependent_but, stands_on, leaves_alone}
 use Rattle.b67_pictures.proofs.FrameEntering.{around_of}
 
 -- a selector is one word, or none
@@ -130,7 +137,7 @@ module _ (tree : PProgram) (code : Code) (texts : Texts) (nested : LiesNested tr
     pub few : length waiting + 1 ≤ most_in tree w part
 
   module _ (next : ℕ) (taken more : List Word) (waiting : List Slot) (t : Takes tree code texts nested short stand w lay img p q part outer bound core s next taken more waiting)
-      (i : ℕ) (e : PExpr) (kind : Kind) (word : Word) (is : IsActual sc w lay (IsOwn (part ∷ outer)) i e kind word)
+      (i : ℕ) (e : PExpr) (kind : Kind) (word : Word) (is : IsActual sc w lay (IsInReach w (part ∷ outer)) i e kind word)
       (h : ActualHome tree code texts nested.nested w lay img p q part outer bound core s i e kind word is)
       (purpose : Purpose) (gives : Yields) (selector : Bool) (rest : Rest) (evaluation : Evaluation tree code texts w i e h.at purpose gives selector rest) (behind : Awaits next waiting gives) where
     -- the block in whose text the actual stands, the level of its names, and that at which its code runs
@@ -160,23 +167,15 @@ module _ (tree : PProgram) (code : Code) (texts : Texts) (nested : LiesNested tr
     abbrev w' : World
     w' = evaluating_world sc w p q part outer inner
 
-    abbrev limit : ℕ
-    limit = length core.below
-
-    stay : StayBelow w w' lay lay p limit
-    stay = record { instances = λ k f x there own laid low. there; places = λ k f there. there; rows = λ k f x there own laid low. refl }
-
-    all_low : length core.below ≤ limit
-    all_low = omega arith
-
     own_low : length s.stands.frame.lower + 2 + length s.stands.frame.cells ≡ length core.below
     own_low = entries.own_low tree code texts nested short stand w lay img p q part outer bound core s next taken more waiting t i e kind word is h
 
-    still : FrameStill tree code texts w w' lay lay p limit stay part outer core.below s.stands.frame.cells s.stands.frame.gives
-    still = frame_still tree code texts w w' lay lay p limit stay part outer core.below s.stands.frame s.around (omega (arith, own_low))
+    -- where the instance's frame lies
+    abbrev found_there : Found tree code texts w lay img i
+    found_there = h.seen_there.found
 
-    same_lower : length s.stands.frame.lower ≡ length still.frame.lower
-    same_lower = sym (still_low tree code texts w w' lay lay p limit stay part outer core.below s.stands.frame still)
+    facts : HasFacts w
+    facts = facts_of sc w s.ok
 
     -- ---- the core in the frame
 
@@ -187,9 +186,9 @@ module _ (tree : PProgram) (code : Code) (texts : Texts) (nested : LiesNested tr
     df = at - core.registers.f
 
     abbrev home : Place
-    home = place p (length h.lies.frame.lower)
+    home = place h.seen_there.found.number (length h.seen_there.found.lies.frame.lower)
 
-    abbrev l : Linked sc w lay img.stacks p i
+    abbrev l : Linked sc w lay img.stacks i
     l = entries.l tree code texts nested short stand w lay img p q part outer bound core s next taken more waiting t i e kind word is h
 
     abbrev frames : List Place
@@ -249,208 +248,242 @@ module _ (tree : PProgram) (code : Code) (texts : Texts) (nested : LiesNested tr
     has_here : HasCore (with_core img p new) p new
     has_here = has_now img p core new s.has refl new_core
 
-    -- ---- weights
+    -- ---- the world after it
 
-    weight_before : weight tree w p ≡ parts_weight tree w' (part' ∷ outer)
-    weight_before = weight_of tree w p q (part ∷ outer) s.at s.todo ∙ sym (parts_weigh tree code texts w w' lay lay p limit stay part outer core s.stands s.around all_low)
+    module _ (after_it : IsAfter sc w w' p) where
+      abbrev limit : ℕ
+      limit = length core.below
 
-    inner_weight : part_weight tree w' inner ≡ 8 + 4 * tokens_around tree block
-    inner_weight = ap (λ (b : Bool). 8 + (if b then 0 else length ((instance_at w i).cells)) + 4 * tokens_around tree block) evaluation.evaluates ∙ omega arith
+      own_below : length s.stands.frame.lower < limit
+      own_below = omega (arith, own_low)
 
-    light' : bound' + 3 ≤ weight tree w' p
-    light' =
-        omega (
-          arith,
-          weight_of tree w' p q' (inner ∷ part' ∷ outer) (numbered_set w.processes p q q' s.at) refl,
-          inner_weight,
-          weight_before,
-          s.light,
-          s.room,
-          behind.few,
-          at_is,
-        )
+      on : StandOn sc w w' lay lay
+      on = stands_on sc w w' lay lay p facts after_it (λ j st later. keeps_same sc w w' lay lay j refl refl) (λ j g there. there)
 
-    -- ---- its display
+      stay : StayBelow sc w w' lay lay p limit
+      stay = record { on = on; instances = λ k f x there own laid low. there; rows = λ k f x there own laid low. refl }
 
-    -- the frames down the links are those of the instance and of its static parents
-    each_frame : (up : ℕ) → up < length frames → slice_get frames up ≡ numbered lay.places (ancestor w up i)
-    each_frame zero low = sym (ap (numbered lay.places) (sym h.lies.instance_is) ∙ h.lies.owned.framed.laid)
-    each_frame (suc up) low =
-        l.each up (omega (arith, low))
-        ∙ ap (λ (o : Option Instance). numbered lay.places (ancestor w up ((or_no_instance o).parent))) (sym l.is)
+      all_low : length core.below ≤ limit
+      all_low = omega arith
 
-    chained_now : IsChained sc w' lay i names (shown (place p at) frames)
-    chained_now up low =
-        shown_below (place p at) frames up (names - up) (omega (arith, level_is, low)) (omega (arith, low))
-        ∙ each_frame up (omega (arith, level_is, low))
-        ∙ sym (same_place tree code texts w w' lay lay p limit stay part outer core s.stands s.around all_low i is.own up low)
+      laid_all : AreLaid w lay
+      laid_all = all_laid w lay facts s.by.laid
 
-    -- ---- its frame, where the stack is no longer than a stack may be
+      still : FrameStill tree code texts w w' lay lay p limit stay part outer core.below s.stands.frame.cells s.stands.frame.gives
+      still = frame_still tree code texts w w' lay lay p limit stay part outer core.below s.stands.frame s.around own_below
 
-    module _ (small : size new ≤ stack_limit) where
-      low_at : at < stack_limit
-      low_at = omega (arith, small, new_long)
+      same_lower : length s.stands.frame.lower ≡ length still.frame.lower
+      same_lower = sym (still_low tree code texts w w' lay lay p limit stay part outer core.below s.stands.frame still)
 
-      there : numbered w.instances i ≡ Some (instance_at w i)
-      there =
-          let here : numbered w.instances i ≡ Some h.lies.owned.framed.instance = ap (numbered w.instances) (sym h.lies.instance_is) ∙ h.lies.owned.framed.is in
-          here ∙ ap (λ (x : Instance). Some x) (sym (ap or_no_instance here))
+      -- what is in reach stands before and after, and stays in reach
+      top_there : StandsStill sc w w' lay lay (newest_own (part ∷ outer))
+      top_there = top_still tree code texts w w' lay lay p limit stay part outer core.below s.stands.frame s.around own_below
 
-      known_block : block < length sc.blocks
-      known_block =
-          let here : numbered w.instances i ≡ Some h.lies.owned.framed.instance = ap (numbered w.instances) (sym h.lies.instance_is) ∙ h.lies.owned.framed.is in
-          subst (λ (x : Instance). x.block < length sc.blocks) (sym (ap or_no_instance here)) h.lies.owned.framed.known
+      still_there : StandsStill sc w w' lay lay i
+      still_there = path_still sc w w' lay lay on (newest_own (part ∷ outer)) i top_there is.own
 
-      mark_reads : as_mscw mark ≡ Some (record { entered = true; stack = p; displacement = length h.lies.frame.lower; df = df })
-      mark_reads = entries.mark_reads tree code texts nested short stand w lay img p q part outer bound core s next taken more waiting t i e kind word is h low_at
+      still_reached : IsInReach w' (part' ∷ outer) i
+      still_reached = after_it.paths (newest_own (part ∷ outer)) i top_there.0 top_there.1 is.own
 
-      abbrev back : Rcw
-      back = entries.back tree code texts nested short stand w lay img p q part outer bound core s next taken more waiting t i e kind word is h
+      -- ---- weights
 
-      control_reads : as_rcw control ≡ Some back
-      control_reads = entries.control_reads tree code texts nested short stand w lay img p q part outer bound core s next taken more waiting t i e kind word is h
+      weight_before : weight tree w p ≡ parts_weight tree w' (part' ∷ outer)
+      weight_before = weight_of tree w p q (part ∷ outer) s.at s.todo ∙ sym (parts_weigh tree code texts w w' lay lay p limit stay laid_all part outer core s.stands s.around all_low)
 
-      lent : Lent lay (IsOwn (part' ∷ outer)) inner [] home gives
-      lent =
-          record {
-            evaluates = evaluation.evaluates;
-            asked = evaluation.asked;
-            expression = evaluation.expression;
-            stands = is.own;
-            none = refl;
-            linked = ap (numbered lay.places) (sym h.lies.instance_is) ∙ h.lies.owned.framed.laid;
-          }
+      inner_weight : part_weight tree w' inner ≡ 8 + 4 * tokens_around tree block
+      inner_weight = ap (λ (b : Bool). 8 + (if b then 0 else length ((instance_at w i).cells)) + 4 * tokens_around tree block) evaluation.evaluates ∙ omega arith
 
-      abbrev frame_in : Frame tree code texts w' lay p inner (part' ∷ outer) new.below
-      frame_in =
-          record {
-            lower = lower;
-            mark = mark;
-            control = control;
-            cells = [];
-            words_are = refl;
-            instance = instance_at w i;
-            is = there;
-            known = known_block;
-            home = home;
-            df = df;
-            mark_is = mark_reads;
-            back = back;
-            control_is = control_reads;
-            level_is = sym (ap (λ (b : Bool). run_level b names) evaluation.evaluates);
-            text = evaluation.text;
-            gives = gives;
-            shape = of_lent lent;
-          }
+      light' : bound' + 3 ≤ weight tree w' p
+      light' =
+          omega (
+            arith,
+            weight_of tree w' p q' (inner ∷ part' ∷ outer) (numbered_set w.processes p q q' s.at) refl,
+            inner_weight,
+            weight_before,
+            s.light,
+            s.room,
+            behind.few,
+            at_is,
+          )
 
-      abbrev frame_around : Frame tree code texts w' lay p part' outer core.below
-      frame_around =
-          record {
-            lower = still.frame.lower;
-            mark = still.frame.mark;
-            control = still.frame.control;
-            cells = still.frame.cells;
-            words_are = still.frame.words_are;
-            instance = still.frame.instance;
-            is = still.frame.is;
-            known = still.frame.known;
-            home = still.frame.home;
-            df = still.frame.df;
-            mark_is = still.frame.mark_is;
-            back = still.frame.back;
-            control_is = still.frame.control_is;
-            level_is = still.frame.level_is;
-            gives = still.frame.gives;
-            text = keeps.resumed sc ((instance_at w part.instance).block) part.rest entered s.stands.frame.text tt;
-            shape = shape_on tree code texts w' lay p part outer (length still.frame.lower) still.frame.mark still.frame.control still.frame.cells still.frame.home still.frame.gives part'.rest
-                (sym behind.unmade ∙ sym (order.resumed sc ((instance_at w part.instance).block) part.rest entered s.stands.frame.text)) (expression_resumed sc part.rest entered) still.frame.shape;
-          }
+      -- ---- its display
 
-      -- ---- what waits
+      -- the frames down the links are those of the instance and of its static parents
+      each_frame : (up : ℕ) → up < length frames → slice_get frames up ≡ numbered lay.places (ancestor w up i)
+      each_frame zero low = sym (found_laid tree code texts w lay img i found_there)
+      each_frame (suc up) low = l.each up (omega (arith, low))
 
-      returns_now : (a : Answer) → Gives gives a →
-          ComesTo sc (context_in tree code texts w' part' still.frame.gives) (text_in tree texts w' part') (level_in tree w' part') (most_in tree w' part') (resume sc part'.rest a) next (pushed gives a waiting)
-      returns_now =
-          subst (λ (y : Yields). (a : Answer) → Gives gives a →
-          ComesTo sc (context_in tree code texts w part y) (text_in tree texts w part) (level_in tree w part) (most_in tree w part) (resume sc part'.rest a) next (pushed gives a waiting)) (sym still.gives_are) behind.returns
+      chained_now : IsChained sc w' lay i names (shown (place p at) frames)
+      chained_now up low =
+          shown_below (place p at) frames up (names - up) (omega (arith, level_is, low)) (omega (arith, low))
+          ∙ each_frame up (omega (arith, level_is, low))
+          ∙ sym (same_place sc w w' lay lay on laid_all i still_there up)
 
-      words_now : SlotsAre sc s.stands.held (level_in tree w' part') (length still.frame.lower) (length core.below) waiting more
-      words_now =
-          subst (λ (k : ℕ). SlotsAre sc s.stands.held (level_in tree w part) k (length core.below) waiting more)
-          (entries.own_is tree code texts nested short stand w lay img p q part outer bound core s next taken more waiting t i e kind word is h ∙ same_lower) t.are
+      -- ---- its frame, where the stack is no longer than a stack may be
 
-      known_now : AreKnown sc w' lay (IsOwn (part' ∷ outer)) part.instance s.stands.held
-      known_now = known_of sc w w' lay (part ∷ outer) (part' ∷ outer) refl (λ m own. own) part.instance s.stands.held s.stands.held_are
+      module _ (small : size new ≤ stack_limit) where
+        low_at : at < stack_limit
+        low_at = omega (arith, small, new_long)
 
-      abbrev waits_now : Waits tree code texts w' lay p part' outer lower mark control gives
-      waits_now =
-          record {
-            below = core.below;
-            words = more;
-            lower_is = refl;
-            frame = frame_around;
-            waits = behind.waits;
-            pc = next;
-            slots = waiting;
-            returns = returns_now;
-            few = behind.few;
-            held = s.stands.held;
-            held_are = known_now;
-            words_are = words_now;
-            home = home;
-            df = df;
-            mark_is = mark_reads;
-            far = ap (λ (k : ℕ). df + newest k (length core.below) waiting) (sym same_lower) ∙ entries.far tree code texts nested short stand w lay img p q part outer bound core s next taken more waiting t i e kind word is h;
-            back = back;
-            control_is = control_reads;
-            segment_is = s.stands.segment_is;
-            place_is = omega arith;
-            level_is = s.stands.there.level_is;
-            cells_are = s.stands.counted ∙ sym (ap length still.cells_are);
-            light = omega (arith, s.room, s.light, weight_before);
-          }
+        there : numbered w.instances i ≡ Some (instance_at w i)
+        there =
+            let here : numbered w.instances i ≡ Some found_there.lies.owned.framed.instance = ap (numbered w.instances) (sym found_there.lies.instance_is) ∙ found_there.lies.owned.framed.is in
+            here ∙ ap (λ (x : Instance). Some x) (sym (ap or_no_instance here))
 
-      around_inner : Around tree code texts w' lay p (part' ∷ outer) lower mark control gives
-      around_inner = (waits_now, still.around)
+        known_block : block < length sc.blocks
+        known_block =
+            let here : numbered w.instances i ≡ Some found_there.lies.owned.framed.instance = ap (numbered w.instances) (sym found_there.lies.instance_is) ∙ found_there.lies.owned.framed.is in
+            subst (λ (x : Instance). x.block < length sc.blocks) (sym (ap or_no_instance here)) found_there.lies.owned.framed.known
 
-      -- ---- the evaluation goes on
+        mark_reads : as_mscw mark ≡ Some (record { entered = true; stack = found_there.number; displacement = length found_there.lies.frame.lower; df = df })
+        mark_reads = entries.mark_reads tree code texts nested short stand w lay img p q part outer bound core s next taken more waiting t i e kind word is h low_at
 
-      living_now : Living tree code texts w' lay (with_core img p new) p q'
-      living_now =
-          living_of tree code texts w' lay (with_core img p new) fragments p q' inner (part' ∷ outer) bound' new new (record {
-            todo = refl;
-            independent = s.independent;
-            without_task = s.without_task;
-            has = has_here;
-            free = s.free;
-            idle = s.idle;
-            sees = refl;
-            small = small;
-            begun = 0;
-            begins = steps_none sc [] code ps inner_level (most_around tree block) bound' h.at (selected (has_place e) selector) new core_at few_there room_there;
-            frame = frame_in;
-            around = around_inner;
-            counted = refl;
-            chained = chained_now;
-            top = ap (λ (x : Bool). place_at (shown (place p at) frames) (run_level x names)) evaluation.evaluates
-                ∙ entries.shown_here tree code texts nested short stand w lay img p q part outer bound core s next taken more waiting t i e kind word is h;
-            segment_is = refl;
-            pc = h.at;
-            slots = selected (has_place e) selector;
-            known = [];
-            known_are = tt;
-            at = subst (λ (x : Bool). CoreAt sc [] code ps (run_level x names) h.at (selected (has_place e) selector) new) (sym evaluation.evaluates) core_at;
-            held = few_there;
-            comes = subst (λ (x : Bool). ComesTo sc (in_routine gives (context_of code texts sc block)) ps (run_level x names) (most_around tree block) rest h.at (selected (has_place e) selector)) (sym evaluation.evaluates)
-                evaluation.comes;
-            room = room_there;
-            light = light';
-          })
+        abbrev back : Rcw
+        back = entries.back tree code texts nested short stand w lay img p q part outer bound core s next taken more waiting t i e kind word is h
 
-      pictured : PicturesBy tree code texts w' lay (with_core img p new)
-      pictured =
-          goes_on tree code texts w lay img s.by p q s.at w' lay (with_core img p new) q' refl able_is s.by.laid (arrays_unchanged sc w w' lay img.rows refl s.by.arrays)
-          (events_unchanged sc w w' lay img.events refl s.by.events) (λ r other. alike_by w w' lay r refl) s.by.output refl refl refl refl (system_stays img p core new s.has refl q w s.at) able_p (others_have img p core new s.has refl) living_now
+        control_reads : as_rcw control ≡ Some back
+        control_reads = entries.control_reads tree code texts nested short stand w lay img p q part outer bound core s next taken more waiting t i e kind word is h
+
+        lent : Lent lay (IsInReach w' (part' ∷ outer)) inner [] home gives
+        lent =
+            record {
+              evaluates = evaluation.evaluates;
+              asked = evaluation.asked;
+              expression = evaluation.expression;
+              stands = still_reached;
+              none = refl;
+              linked = found_laid tree code texts w lay img i found_there;
+            }
+
+        abbrev frame_in : Frame tree code texts w' lay p inner (part' ∷ outer) new.below
+        frame_in =
+            record {
+              lower = lower;
+              mark = mark;
+              control = control;
+              cells = [];
+              words_are = refl;
+              instance = instance_at w i;
+              is = there;
+              known = known_block;
+              home = home;
+              df = df;
+              mark_is = mark_reads;
+              back = back;
+              control_is = control_reads;
+              level_is = sym (ap (λ (b : Bool). run_level b names) evaluation.evaluates);
+              text = evaluation.text;
+              gives = gives;
+              shape = of_lent lent;
+            }
+
+        abbrev frame_around : Frame tree code texts w' lay p part' outer core.below
+        frame_around =
+            record {
+              lower = still.frame.lower;
+              mark = still.frame.mark;
+              control = still.frame.control;
+              cells = still.frame.cells;
+              words_are = still.frame.words_are;
+              instance = still.frame.instance;
+              is = still.frame.is;
+              known = still.frame.known;
+              home = still.frame.home;
+              df = still.frame.df;
+              mark_is = still.frame.mark_is;
+              back = still.frame.back;
+              control_is = still.frame.control_is;
+              level_is = still.frame.level_is;
+              gives = still.frame.gives;
+              text = keeps.resumed sc ((instance_at w part.instance).block) part.rest entered s.stands.frame.text tt;
+              shape = shape_on tree code texts w' lay p part outer (length still.frame.lower) still.frame.mark still.frame.control still.frame.cells still.frame.home still.frame.gives part'.rest
+                  (sym behind.unmade ∙ sym (order.resumed sc ((instance_at w part.instance).block) part.rest entered s.stands.frame.text)) (expression_resumed sc part.rest entered) still.frame.shape;
+            }
+
+        -- ---- what waits
+
+        returns_now : (a : Answer) → Gives gives a →
+            ComesTo sc (context_in tree code texts w' part' still.frame.gives) (text_in tree texts w' part') (level_in tree w' part') (most_in tree w' part') (resume sc part'.rest a) next (pushed gives a waiting)
+        returns_now =
+            subst (λ (y : Yields). (a : Answer) → Gives gives a →
+            ComesTo sc (context_in tree code texts w part y) (text_in tree texts w part) (level_in tree w part) (most_in tree w part) (resume sc part'.rest a) next (pushed gives a waiting)) (sym still.gives_are) behind.returns
+
+        words_now : SlotsAre sc s.stands.held (level_in tree w' part') (length still.frame.lower) (length core.below) waiting more
+        words_now =
+            subst (λ (k : ℕ). SlotsAre sc s.stands.held (level_in tree w part) k (length core.below) waiting more)
+            (entries.own_is tree code texts nested short stand w lay img p q part outer bound core s next taken more waiting t i e kind word is h ∙ same_lower) t.are
+
+        known_now : AreKnown sc w' lay (IsInReach w' (part' ∷ outer)) part.instance s.stands.held
+        known_now = known_stays tree code texts w w' lay lay p limit stay laid_all part outer core s.stands s.around all_low s.stands.held s.stands.held_are
+
+        abbrev waits_now : Waits tree code texts w' lay p part' outer lower mark control gives
+        waits_now =
+            record {
+              below = core.below;
+              words = more;
+              lower_is = refl;
+              frame = frame_around;
+              waits = behind.waits;
+              pc = next;
+              slots = waiting;
+              returns = returns_now;
+              few = behind.few;
+              held = s.stands.held;
+              held_are = known_now;
+              words_are = words_now;
+              home = home;
+              df = df;
+              mark_is = mark_reads;
+              far = ap (λ (k : ℕ). df + newest k (length core.below) waiting) (sym same_lower) ∙ entries.far tree code texts nested short stand w lay img p q part outer bound core s next taken more waiting t i e kind word is h;
+              back = back;
+              control_is = control_reads;
+              segment_is = s.stands.segment_is;
+              place_is = omega arith;
+              level_is = s.stands.there.level_is;
+              cells_are = s.stands.counted ∙ sym (ap length still.cells_are);
+              light = omega (arith, s.room, s.light, weight_before);
+            }
+
+        around_inner : Around tree code texts w' lay p (part' ∷ outer) lower mark control gives
+        around_inner = (waits_now, still.around)
+
+        -- ---- the evaluation goes on
+
+        living_now : Living tree code texts w' lay (with_core img p new) p q'
+        living_now =
+            living_of tree code texts w' lay (with_core img p new) after_it.climb (all_laid w' lay after_it.climb.facts s.by.laid) fragments p q' inner (part' ∷ outer) bound' new new (record {
+              todo = refl;
+              has = has_here;
+              critical = s.critical;
+              task = task_stays sc w w' lay lay (λ j. events_same w w' j refl) (λ j f laid. laid) q.task core.registers.task s.task;
+              sees = refl;
+              small = small;
+              begun = 0;
+              begins = steps_none sc [] code ps inner_level (most_around tree block) bound' h.at (selected (has_place e) selector) new core_at few_there room_there;
+              frame = frame_in;
+              around = around_inner;
+              counted = refl;
+              chained = chained_now;
+              top = ap (λ (x : Bool). place_at (shown (place p at) frames) (run_level x names)) evaluation.evaluates
+                  ∙ entries.shown_here tree code texts nested short stand w lay img p q part outer bound core s next taken more waiting t i e kind word is h;
+              segment_is = refl;
+              pc = h.at;
+              slots = selected (has_place e) selector;
+              known = [];
+              known_are = tt;
+              at = subst (λ (x : Bool). CoreAt sc [] code ps (run_level x names) h.at (selected (has_place e) selector) new) (sym evaluation.evaluates) core_at;
+              held = few_there;
+              comes = subst (λ (x : Bool). ComesTo sc (in_routine gives (context_of code texts sc block)) ps (run_level x names) (most_around tree block) rest h.at (selected (has_place e) selector)) (sym evaluation.evaluates)
+                  evaluation.comes;
+              reaches = reaching.all refl;
+              room = room_there;
+              light = light';
+            })
+
+        pub pictured : PicturesBy tree code texts w' lay (with_core img p new)
+        pictured =
+            goes_on tree code texts w lay img s.by p q s.at w' lay (with_core img p new) q' refl able_is s.by.laid (arrays_unchanged sc w w' lay img.rows refl s.by.arrays)
+            (events_unchanged sc w w' lay img.events refl s.by.events) (λ r other. alike_by sc w w' lay r (leaves_alone sc w w' lay lay p facts after_it (λ j st later. keeps_same sc w w' lay lay j refl refl) (λ j g there. there) laid_all (dependent_but w.processes p q q' s.at refl (λ e. e)) r other) refl) s.by.output refl refl refl refl (system_stays img p core new s.has refl q w s.at) able_p (others_have img p core new s.has refl) living_now
 
     -- where the operator enters the code of the actual, and the choice is the entry, the operator does it
     pub entering_evaluation : plain code img p ≡ false → raw code img p ≡ effects.gives (with_core img p new) → choice sc w p ≡ record { action = Enter; world = w'; released = []; started = None } →
@@ -461,6 +494,6 @@ module _ (tree : PProgram) (code : Code) (texts : Texts) (nested : LiesNested tr
         by_size (inl small) =
             let table_is : table code img p ≡ outcomes.gives (with_core img p new) = gives_within code img (with_core img p new) p new.registers raw_is has_here.registers small in
             gave (with_core img p new) not_plain table_is (acts table_is ∙ ap (λ (x : Choice). Some x.action) (sym chosen))
-            (λ able_now. subst (λ (x : Choice). Pictures tree code texts x.world (with_core img p new)) (sym chosen) (lay, pictured (omega (arith, small, new_core.top))))
+            (λ may. subst (λ (x : Choice). Pictures tree code texts x.world (with_core img p new)) (sym chosen) (lay, pictured (after_choice sc w w' p q facts may s.at (ap (λ (x : Choice). x.world) chosen)) (omega (arith, small, new_core.top))))
         by_size (inr long) =
             stopped not_plain (limit_beyond code img (with_core img p new) p new.registers raw_is has_here.registers long) (omega (arith, long, top_is, one_selector (has_place e) selector, at_is, behind.few, s.room, s.light))

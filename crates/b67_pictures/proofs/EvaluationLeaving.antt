@@ -30,7 +30,12 @@ use Rattle.b67_table.specs.Arrays.{as_indexed}
 use Rattle.b67_table.specs.Chains.{place}
 use Rattle.b67_table.specs.Effect.{gives}
 use Rattle.b67_table.specs.Image.{Image, with_rows}
-use Rattle.b67_table.specs.Linkage.{arrays_closed}
+use Rattle.b67_table.specs.Linkage.{arrays_closed, is_critical}
+use Rattle.b67_table.specs.Questions.{live_criticals}
+use Rattle.b67_events.specs.Events.{same_place}
+use Rattle.std.specs.List.{list_any}
+use Rattle.b67_scenes.proofs.Dependents.{evaluations_are_free}
+use Rattle.b67_pictures.proofs.Blocked.{or_false}
 use Rattle.b67_table.specs.Outcome as outcomes
 use Rattle.b67_table.specs.Private.{frame}
 use Rattle.b67_table.specs.Program.{Change, changed}
@@ -54,23 +59,28 @@ use Rattle.b67_rows.proofs.Rows.{action_not_plain}
 use Rattle.b67_rows.proofs.Slotted.{Top, top_slot}
 use Rattle.b67_rows.proofs.Spelled.{HaveTexts}
 use Rattle.b67_rows.proofs.Words.{value_tag}
-use Rattle.b67_frames.specs.Arrays.{Layout, ArraysAre, AreKnown, HeldIs, IsOwn}
-use Rattle.b67_frames.specs.Frames.{Waits}
+use Rattle.b67_frames.specs.Arrays.{Layout, ArraysAre, AreKnown, HeldIs}
+use Rattle.b67_frames.specs.Frames.{IsInReach, Waits}
 use Rattle.b67_frames.specs.Lent.{Lent}
 use Rattle.b67_frames.proofs.ArraysKept.{arrays_unchanged}
-use Rattle.b67_frames.proofs.Knowing.{known_is, known_of}
+use Rattle.b67_frames.proofs.Knowing.{KeepsArrays, known_is, keeps_same, known_of}
+use Rattle.b67_frames.proofs.Facts.{HasFacts, facts_of}
+use Rattle.b67_frames.proofs.Lying.{StayBelow}
 use Rattle.b67_frames.specs.Events.{EventsAre, HasEvent}
 use Rattle.b67_frames.proofs.EventsLow.{IsElsewhere, event_outside}
 use Rattle.b67_scenes.specs.Pictures.{Living, Pictures, PicturesBy}
 use Rattle.b67_scenes.proofs.ElementHomes.{element_home}
 use Rattle.b67_scenes.proofs.Homes.{operator_there}
-use Rattle.b67_scenes.proofs.Kept.{alike_by, stay_below}
+use Rattle.b67_scenes.proofs.Ancestors.{all_laid}
+use Rattle.b67_scenes.proofs.Kept.{AreAlike, alike_by}
 use Rattle.b67_scenes.proofs.NamedVariables.{names_variable}
 use Rattle.b67_scenes.proofs.Scene.{Scene}
 use Rattle.b67_scenes.proofs.Stage.{choice_is, gives_within, goes_on}
 use Rattle.b67_scenes.proofs.Staying.{text_in, level_in, context_in, most_in}
 use Rattle.b67_scenes.proofs.Worlds.{held_of}
+use Rattle.algol_standing.specs.Worlds.{IsStanding, IsOnPath, IsOwn, newest_own}
 use Rattle.b67_pictures.specs.Acting.{Does, gave}
+use Rattle.b67_pictures.proofs.Alone.{IsAfter, dependent_but, after_choice, stands_on, leaves_alone}
 use Rattle.b67_pictures.proofs.LeavingWords as leaving
 use Rattle.b67_pictures.proofs.LeavingWords.{IsGiven, value_given, place_given, known_given, leaves_so, rows_are, low, shown_home}
 use Rattle.b67_pictures.proofs.PartAround as around
@@ -100,7 +110,7 @@ element_given x d reads = ap (λ (o : Option Descriptor). x.tag == 0 || is_some 
 module _ (tree : PProgram) (code : Code) (texts : Texts) (nested : AreNested (scopes_of tree)) (w : World) (lay : Layout) (img : Image)
     (p : ℕ) (q : Process) (part : Part) (outer : List Part) (bound : ℕ) (core : Core) (s : Scene tree code texts w lay img p q part outer bound core) where
   -- the word of a place that was found may be given back
-  pub place_word_given : (x : rests.Place) (kind : Kind) (word : Word) → IsFound x → HeldIs (scopes_of tree) w lay (IsOwn (part ∷ outer)) part.instance (held_at x kind) word → is_result word ≡ true
+  pub place_word_given : (x : rests.Place) (kind : Kind) (word : Word) → IsFound x → HeldIs (scopes_of tree) w lay (IsInReach w (part ∷ outer)) part.instance (held_at x kind) word → is_result word ≡ true
   place_word_given (rests.own n) kind word found h = absurd found
   place_word_given (rests.there r) kind word found h = reference_given word _ (names_variable tree code texts nested w lay img p q part outer bound core s r kind word h).reads
   place_word_given (rests.element_of r ks) kind word found h = element_given word _ (element_home tree code texts w lay img p q part outer bound core s r ks kind word h).reads
@@ -117,7 +127,7 @@ place_moved sc w lay Stand i j (rests.element_of r ks) kind word found h = h
 module _ (tree : PProgram) (code : Code) (texts : Texts) (stand : HaveTexts tree code texts) (fragments : FragmentsArePerformed) (keeps : RestsKeepToTheirText) (order : AllIsMadeInOrder)
     (w : World) (lay : Layout) (img : Image) (p : ℕ) (q : Process) (part next : Part) (parts : List Part) (bound : ℕ) (core : Core)
     (s : Scene tree code texts w lay img p q part (next ∷ parts) bound core) (able_is : lives q.state ≡ true) (able_p : StateIs q.state (numbered img.states p))
-    (lent : Lent lay (IsOwn (next ∷ parts)) part s.stands.frame.cells s.stands.frame.home s.stands.frame.gives) where
+    (lent : Lent lay (IsInReach w (next ∷ parts)) part s.stands.frame.cells s.stands.frame.home s.stands.frame.gives) where
   abbrev sc : Scopes
   sc = scopes_of tree
 
@@ -133,6 +143,14 @@ module _ (tree : PProgram) (code : Code) (texts : Texts) (stand : HaveTexts tree
   abbrev display : List (Option Place)
   display = leaving.display tree code texts w lay img p q part next parts bound core s
 
+  -- no process depends on the frame of an evaluation
+  frame_free : is_critical core.registers.stack (length (s.around.0.below ++ reverse s.around.0.words) ∷ []) (live_criticals img.states img.regs) ≡ false
+  frame_free =
+      ap (λ (n : ℕ). is_critical n (length (u.below ++ reverse u.words) ∷ []) (live_criticals img.states img.regs)) s.has.own
+      ∙ ap (λ (ws : List Word). is_critical p (length ws ∷ []) (live_criticals img.states img.regs)) (sym u.lower_is)
+      ∙ or_false (list_any (same_place (place p (length s.stands.frame.lower))) (live_criticals img.states img.regs))
+      ∙ evaluations_are_free tree code texts w lay img s.by s.ok p q s.at part (next ∷ parts) s.todo core.below s.stands.frame s.around lent.evaluates
+
   -- it has no cells, so no rows are closed
   pub none_closed : (m : ℕ) (change : Change) → changed m (arrays_closed s.stands.frame.cells change) img ≡ changed m change (with_rows img img.rows)
   none_closed m change = ap (λ (cells : List Word). changed m (arrays_closed cells change) img) lent.none
@@ -141,7 +159,7 @@ module _ (tree : PProgram) (code : Code) (texts : Texts) (stand : HaveTexts tree
   e = leaves_so tree code texts w lay img p q part next parts bound core s img.rows none_closed
 
   module _ (r : Answer) (given : Option Word) (g : IsGiven s.stands.frame.gives r given) (gives_it : Gives s.stands.frame.gives r)
-      (known_there : AreKnown (scopes_of tree) w lay (IsOwn (next ∷ parts)) next.instance (known_given s.stands.frame.gives r given)) where
+      (known_there : AreKnown (scopes_of tree) w lay (IsInReach w (next ∷ parts)) next.instance (known_given s.stands.frame.gives r given)) where
     abbrev q' : Process
     q' = around.q' tree code texts stand fragments keeps order w lay img p q part next parts bound core s r given g gives_it known_there
 
@@ -151,6 +169,27 @@ module _ (tree : PProgram) (code : Code) (texts : Texts) (stand : HaveTexts tree
     -- the world but for the parts
     abbrev w' : World
     w' = with_process w p q'
+
+    facts : HasFacts w
+    facts = facts_of sc w s.ok
+
+    abbrev IsLater : Type 0
+    IsLater = IsAfter sc w w' p
+
+    keeps_all : (j : ℕ) → IsStanding w j → IsStanding w' j → KeepsArrays sc w w' lay lay j
+    keeps_all j st later = keeps_same sc w w' lay lay j refl refl
+
+    alike : IsLater → (m : ℕ) → m ≢ p → AreAlike sc w w' lay lay m
+    alike after_it m other =
+        alike_by sc w w' lay m (leaves_alone sc w w' lay lay p facts after_it keeps_all (λ j x there. there) (all_laid w lay facts s.by.laid) (dependent_but w.processes p q q' s.at refl (λ alive. alive)) m other) refl
+
+    stay : IsLater → StayBelow sc w w' lay lay p f
+    stay after_it =
+        record {
+          on = stands_on sc w w' lay lay p facts after_it keeps_all (λ j x there. there);
+          instances = λ j at x there own laid low. there;
+          rows = λ j at x there own laid low. refl;
+        }
 
     same_up : (up j : ℕ) → ancestor w' up j ≡ ancestor w up j
     same_up zero j = refl
@@ -176,10 +215,10 @@ module _ (tree : PProgram) (code : Code) (texts : Texts) (stand : HaveTexts tree
           let h : HasCore (with_core img p new) m other = others_have img p core new s.has refl m other apart has in
           record { live = h.live; registers = h.registers; own = h.own; stack = h.stack; is = h.is }
 
-      here : Living tree code texts w' lay now p q'
-      here =
-          living_now tree code texts stand fragments keeps order w lay img p q part next parts bound core s r given g gives_it known_there w' (numbered_set w.processes p q q' s.at)
-          (stay_below tree code texts w w' lay lay p (alike_by w w' lay p refl) f) (λ j. record { block = refl; parent = refl; cells = refl }) same_up now has_here
+      here : IsLater → Living tree code texts w' lay now p q'
+      here after_it =
+          living_now tree code texts stand fragments keeps order w lay img p q part next parts bound core s r given g gives_it known_there w' after_it.climb s.by.laid (numbered_set w.processes p q q' s.at)
+          (stay after_it) (λ j. record { block = refl; parent = refl; cells = refl }) same_up now has_here
 
       -- the frame has no cells, so no event lies there
       events_now : EventsAre sc w' lay now.events
@@ -219,11 +258,11 @@ module _ (tree : PProgram) (code : Code) (texts : Texts) (stand : HaveTexts tree
               ∙ event_outside tree code texts w lay p (next ∷ parts) s.stands.frame.lower s.stands.frame.mark s.stands.frame.control s.stands.frame.gives s.around j
               (in_outer j (subst (λ (ps : List Part). IsOwn ps j ⊎ IsElsewhere lay p j) s.todo (held_of tree code texts w lay img s.by s.ok p q s.at j h.instance h.is h.stands))) number e at h
 
-      pictured : PicturesBy tree code texts w' lay now
-      pictured =
+      pictured : IsLater → PicturesBy tree code texts w' lay now
+      pictured after_it =
           goes_on tree code texts w lay img s.by p q s.at w' lay now q' refl able_is s.by.laid
           (subst (λ (rows : Rows). ArraysAre sc w' lay rows) (sym (rows_are tree code texts w lay img p q part next parts bound core s img.rows none_closed)) (arrays_unchanged sc w w' lay img.rows refl s.by.arrays))
-          events_now (λ m other. alike_by w w' lay m refl) s.by.output refl refl refl refl (system_stays img p core new s.has refl q w s.at) able_p others here
+          events_now (alike after_it) s.by.output refl refl refl refl (system_stays img p core new s.has refl q w s.at) able_p others (here after_it)
 
       chosen : ask part.rest ≡ leaves r → choice sc w p ≡ record { action = Leave; world = w'; released = []; started = None }
       chosen asks =
@@ -237,7 +276,7 @@ module _ (tree : PProgram) (code : Code) (texts : Texts) (stand : HaveTexts tree
       leaving_evaluation : ask part.rest ≡ leaves r → raw code img p ≡ gives now → plain code img p ≡ false → (table code img p ≡ outcomes.gives now → operator_action code img p ≡ Some Leave) → Does tree code texts w img p
       leaving_evaluation asks raw_is not_plain acts =
           gave now not_plain table_is (acts table_is ∙ ap (λ (c : Choice). Some c.action) (sym (chosen asks)))
-          (λ able_now. subst (λ (c : Choice). Pictures tree code texts c.world now) (sym (chosen asks)) (lay, pictured))
+          (λ may. subst (λ (c : Choice). Pictures tree code texts c.world now) (sym (chosen asks)) (lay, pictured (after_choice sc w w' p q facts may s.at (ap (λ (c : Choice). c.world) (chosen asks)))))
         where
           table_is : table code img p ≡ outcomes.gives now
           table_is =
@@ -248,11 +287,12 @@ module _ (tree : PProgram) (code : Code) (texts : Texts) (stand : HaveTexts tree
 
   module _ (r : Answer) (asks : ask part.rest ≡ leaves r) (over : ℕ) (returns : operator_at code core.registers ≡ Ok (ops.Plain kinds.Retn, over)) (x : Word) (rest : List Word) (on_top : core.words ≡ x ∷ rest) (result : is_result x ≡ true)
       (g : IsGiven s.stands.frame.gives r (Some x)) (gives_it : Gives s.stands.frame.gives r)
-      (known_there : AreKnown (scopes_of tree) w lay (IsOwn (next ∷ parts)) next.instance (known_given s.stands.frame.gives r (Some x))) where
+      (known_there : AreKnown (scopes_of tree) w lay (IsInReach w (next ∷ parts)) next.instance (known_given s.stands.frame.gives r (Some x))) where
     returned : Does tree code texts w img p
     returned =
         leaving_evaluation r (Some x) g gives_it known_there over asks
-        (return_raw code img p core s.has over returns u.below u.words s.stands.frame.mark s.stands.frame.control s.stands.frame.cells b display e x rest on_top result)
+        (return_raw code img p core s.has over returns u.below u.words s.stands.frame.mark s.stands.frame.control s.stands.frame.cells b display e x rest on_top result
+        frame_free)
         (action_not_plain code img p core s.has (ops.Plain kinds.Retn) over returns
         (return_class code img p core s.has over returns u.below u.words s.stands.frame.mark s.stands.frame.control s.stands.frame.cells b display e x rest on_top result))
         (return_action code img p core s.has over returns u.below u.words s.stands.frame.mark s.stands.frame.control s.stands.frame.cells b display e x rest on_top result)
@@ -270,7 +310,7 @@ module _ (tree : PProgram) (code : Code) (texts : Texts) (stand : HaveTexts tree
         value_on_top.word value_on_top.words_below value_on_top.is (operand_given value_on_top.word (value_tag v value_on_top.word value_on_top.slot_is))
         (subst (λ (y : Yields). IsGiven y (value v) (Some value_on_top.word)) (sym a.2) (value_given a.0 v value_on_top.word value_on_top.slot_is))
         (subst (λ (y : Yields). Gives y (value v)) (sym a.2) a.3)
-        (subst (λ (y : Yields). AreKnown sc w lay (IsOwn (next ∷ parts)) next.instance (known_given y (value v) (Some value_on_top.word))) (sym a.2) tt)
+        (subst (λ (y : Yields). AreKnown sc w lay (IsInReach w (next ∷ parts)) next.instance (known_given y (value v) (Some value_on_top.word))) (sym a.2) tt)
 
   -- with a place
   module _ (nested : AreNested (scopes_of tree)) (x : rests.Place) (asks : ask part.rest ≡ leaves (rests.place x))
@@ -278,19 +318,18 @@ module _ (tree : PProgram) (code : Code) (texts : Texts) (stand : HaveTexts tree
     place_on_top : Top sc s.stands.held (level_in tree w part) (frame core.registers) (length core.below) (descriptor (held_at x a.0)) [] core.words
     place_on_top = top_slot sc s.stands.held (level_in tree w part) (frame core.registers) (length core.below) s.stands.slots (descriptor (held_at x a.0)) [] core.words s.stands.there.words_are a.5
 
-    here_is : HeldIs sc w lay (IsOwn (part ∷ next ∷ parts)) part.instance (held_at x a.0) place_on_top.word
-    here_is = known_is sc w lay (part ∷ next ∷ parts) part.instance s.stands.held s.stands.held_are (held_at x a.0) place_on_top.word place_on_top.slot_is
+    here_is : HeldIs sc w lay (IsInReach w (part ∷ next ∷ parts)) part.instance (held_at x a.0) place_on_top.word
+    here_is = known_is sc w lay (IsInReach w (part ∷ next ∷ parts)) part.instance s.stands.held s.stands.held_are (held_at x a.0) place_on_top.word place_on_top.slot_is
 
-    -- what stands for something, stands for that of a part around
-    others_own : (j : ℕ) → IsOwn (part ∷ next ∷ parts) j → IsOwn (next ∷ parts) j
-    others_own j (inl same) = true_false lent.evaluates same.0
-    others_own j (inr own) = own
+    -- what stands for something, stands for what is in reach of a part around
+    around_reached : (j : ℕ) → IsInReach w (part ∷ next ∷ parts) j → IsInReach w (next ∷ parts) j
+    around_reached j path = subst (λ (b : Bool). IsOnPath w (if b then newest_own (next ∷ parts) else part.instance) j) lent.evaluates path
 
     abbrev one : Known
     one = record { held = held_at x a.0; word = place_on_top.word }
 
-    around_is : HeldIs sc w lay (IsOwn (next ∷ parts)) part.instance (held_at x a.0) place_on_top.word
-    around_is = (known_of sc w w lay (part ∷ next ∷ parts) (next ∷ parts) refl others_own part.instance (one ∷ []) (here_is, tt)).0
+    around_is : HeldIs sc w lay (IsInReach w (next ∷ parts)) part.instance (held_at x a.0) place_on_top.word
+    around_is = (known_of sc w w lay (IsInReach w (part ∷ next ∷ parts)) (IsInReach w (next ∷ parts)) refl around_reached part.instance (one ∷ []) (here_is, tt)).0
 
     pub left_place : Does tree code texts w img p
     left_place =
@@ -300,5 +339,5 @@ module _ (tree : PProgram) (code : Code) (texts : Texts) (stand : HaveTexts tree
         (place_word_given tree code texts nested w lay img p q part (next ∷ parts) bound core s x a.0 place_on_top.word a.3 here_is)
         (subst (λ (y : Yields). IsGiven y (rests.place x) (Some place_on_top.word)) (sym a.2) (place_given a.0 x place_on_top.word a.3))
         (subst (λ (y : Yields). Gives y (rests.place x)) (sym a.2) a.3)
-        (subst (λ (y : Yields). AreKnown sc w lay (IsOwn (next ∷ parts)) next.instance (known_given y (rests.place x) (Some place_on_top.word))) (sym a.2)
-        (place_moved sc w lay (IsOwn (next ∷ parts)) part.instance next.instance x a.0 place_on_top.word a.3 around_is, tt))
+        (subst (λ (y : Yields). AreKnown sc w lay (IsInReach w (next ∷ parts)) next.instance (known_given y (rests.place x) (Some place_on_top.word))) (sym a.2)
+        (place_moved sc w lay (IsInReach w (next ∷ parts)) part.instance next.instance x a.0 place_on_top.word a.3 around_is, tt))

@@ -79,4 +79,4 @@ module _ (tree : PProgram) (code : Code) (texts : Texts) (w : World) (lay : Layo
   failing =
       failed_by (fault_of fault) (fault_not_plain code img p core s.has (ops.Plain (operator_for a.0)) a.3 there (fault_of fault) table_is) table_is
       (action_is code img p core s.has (ops.Plain (operator_for a.0)) a.3 there (outcomes.faults (fault_of fault)) table_is ∙ ap (λ (c : Choice). Some c.action) (sym chosen))
-      (subst (λ (c : Choice). Pictures tree code texts c.world (failed img p (fault_of fault))) (sym chosen) (lay, faulted tree code texts w lay img s.by p q s.at (fault_of fault)))
+      (subst (λ (c : Choice). Pictures tree code texts c.world (failed img p (fault_of fault))) (sym chosen) (lay, faulted tree code texts w lay img s.by p q s.at s.ok (fault_of fault)))

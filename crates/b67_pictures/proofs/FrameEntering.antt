@@ -1,7 +1,8 @@
 -- A frame is entered: the instance of a block or a procedure has it above the words of the part around, which waits.
 use Rattle.b67_control.specs.Display.{place_at}
 use Rattle.std.proofs.Common.{◌≡◌, ◌≢◌, refl, sym, ap, ◌∙◌, subst, ℕ, zero, suc, ◌+◌, ◌*◌, ◌≤◌, ◌<◌, List, [], ◌∷◌, ◌++◌, length, Option, Some, None, Bool, false, arith, append_assoc, append-nil, length-append, true}
-use Rattle.std.specs.Prelude.{if◌then◌else◌, replicate, reverse, slice_get}
+use Rattle.std.specs.Prelude.{if◌then◌else◌, ◌&&◌, ◌||◌, ◌==◌, replicate, reverse, slice_get}
+use Rattle.std.proofs.lemmas.Bool.Decides.{nat_tests}
 use Rattle.std.proofs.lemmas.List.{length-reverse}
 use Rattle.b67_list.specs.Numbered.{numbered}
 use Rattle.algol_tree.specs.Plain.{PProgram}
@@ -10,7 +11,7 @@ use Rattle.algol_tree.specs.Cells.{level_of}
 use Rattle.algol_tree.specs.Scopes.{Scopes, scopes_of}
 use Rattle.algol_meaning.specs.Rest.{Answer, Given, entered}
 use Rattle.algol_meaning.specs.World.{Instance, Process, Purpose, Part, lives, World, instance_at, or_no_instance, ancestor, with_process}
-use Rattle.algol_meaning.specs.Critical.{is_evaluation}
+use Rattle.algol_meaning.specs.Critical.{is_this, is_evaluation, some_depends}
 use Rattle.algol_meaning.specs.Instances as instances
 use Rattle.algol_meaning.specs.Instances.{fresh_cells}
 use Rattle.algol_meaning.specs.Value.{Cell}
@@ -21,6 +22,7 @@ use Rattle.algol_meaning.specs.Choice.{Choice, choice}
 use Rattle.algol_paths.specs.Arrays.{all_to_make, all_left_to_make}
 use Rattle.algol_paths.specs.Laws.{KeepsToText, RestsKeepToTheirText, AllIsMadeInOrder}
 use Rattle.algol_paths.specs.Segments.{segment_of}
+use Rattle.algol_standing.specs.Worlds.{IsStanding, newest_own}
 use Rattle.b67_word.specs.declared.Place.{Place}
 use Rattle.b67_word.specs.Word.{Word}
 use Rattle.b67_control.specs.declared.Pcw.{Pcw}
@@ -59,28 +61,34 @@ use Rattle.b67_rows.proofs.Numbers.{numbered_set}
 use Rattle.b67_rows.proofs.Segmented.{length_mapped}
 use Rattle.b67_rows.proofs.StackWords.{length-stack}
 use Rattle.b67_rows.proofs.Texted.{block_keeps, block_makes}
-use Rattle.b67_frames.specs.Arrays.{Allotted, Layout, AreMade, AreKnown, IsOwn}
-use Rattle.b67_frames.specs.Frames.{block_controls, controls_count, most_around, CellsAre, IsChained, IsComplete, home_of, inside, Framed, RoutinesStand, ItemsStand, Frame, Waits, Around, of_own, run_level}
+use Rattle.b67_frames.specs.Arrays.{Allotted, Layout, AreMade, AreKnown}
+use Rattle.b67_frames.specs.Frames.{IsInReach, block_controls, controls_count, most_around, CellsAre, IsChained, home_of, Framed, RoutinesStand, ItemsStand, Frame, Waits, Around, of_own, run_level}
 use Rattle.b67_frames.proofs.ArraysKept.{rows_but, rows_there, rows_other, no_elements, no_rows, arrays_joined}
 use Rattle.b67_frames.proofs.ControlWords.{block_few, routines_long, controls_many}
 use Rattle.b67_frames.proofs.Expressions.{expression_resumed}
 use Rattle.b67_frames.proofs.Formals.{LeadAll, lead_there}
 use Rattle.b67_frames.proofs.FreshCells.{fresh_are, fresh_lead, simple_many, words_long}
-use Rattle.b67_frames.proofs.Knowing.{denotes_lasts, known_of}
-use Rattle.b67_frames.proofs.Linked.{all_each, level_around, shown_chained}
-use Rattle.b67_frames.proofs.Lying.{StayBelow, part_own, shape_on, runs_at}
+use Rattle.b67_frames.proofs.Knowing.{KeepsArrays, Remain, denotes_lasts, keeps_same}
+use Rattle.b67_frames.proofs.Linked.{all_each, shown_chained}
+use Rattle.b67_frames.proofs.Lying.{StayBelow, shape_on, runs_at, top_still, frame_remains}
+use Rattle.b67_frames.proofs.Onward.{StandOn}
+use Rattle.b67_frames.proofs.Facts.{HasFacts, facts_of}
 use Rattle.b67_frames.proofs.Zeros.{zero_word, cells_length}
 use Rattle.b67_frames.proofs.EventsKept.{events_joined}
 use Rattle.b67_scenes.specs.Pictures.{Living, Pictures, PicturesBy}
-use Rattle.b67_scenes.proofs.Ancestors.{same_place}
+use Rattle.b67_scenes.specs.Reaches as reaching
+use Rattle.b67_scenes.proofs.Ancestors.{AreLaid, all_laid, same_place}
 use Rattle.b67_scenes.proofs.Entries as entries
 use Rattle.b67_scenes.proofs.Entries.{Calls}
 use Rattle.b67_scenes.proofs.Kept.{AreAlike}
 use Rattle.b67_scenes.proofs.Landing.{living_of}
+use Rattle.b67_scenes.proofs.Led.{reached_stands}
 use Rattle.b67_scenes.proofs.Scene.{Scene}
+use Rattle.b67_scenes.proofs.Tasks.{PlacesStay, EventsStay, critical_stays, task_stays, events_before}
 use Rattle.b67_scenes.proofs.Stage.{gives_within, goes_on, weight_of}
-use Rattle.b67_scenes.proofs.Staying.{text_in, level_in, context_in, most_in, FrameStill, frame_still, still_low, same_instance, parts_remain, known_stays, parts_weigh, names_in}
+use Rattle.b67_scenes.proofs.Staying.{text_in, level_in, context_in, most_in, FrameStill, frame_still, still_low, known_stays, parts_weigh, names_in}
 use Rattle.b67_pictures.specs.Acting.{Does, gave}
+use Rattle.b67_pictures.proofs.Alone.{IsAfter, AreAsDependent, dependent_but, free_still, after_choice, stands_on, leaves_alone}
 
 -- the new instance of a block or a procedure, and its part
 abbrev pub new_instance : Scopes → ℕ → ℕ → ℕ → List Cell → Instance
@@ -91,6 +99,25 @@ inner_of sc w j purpose = record { instance = length w.instances + 1; purpose = 
 
 abbrev pub around_of : Scopes → Part → Part
 around_of sc part = record part { rest = resume sc part.rest entered }
+
+-- on an instance that is not there nobody depends
+pub fresh_free : (qs : List Process) (n : ℕ) → ((k : ℕ) (o : Process) (c : ℕ) → slice_get qs k ≡ Some o → o.critical ≡ Some c → c < n) → some_depends qs n ≡ false
+fresh_free [] n low = refl
+fresh_free (o ∷ qs) n low =
+    ap (λ (b : Bool). (lives o.state && b) || some_depends qs n) (not_this o.critical (λ c e. low zero o c refl e))
+    ∙ ap (λ (b : Bool). b || some_depends qs n) (none_both (lives o.state))
+    ∙ fresh_free qs n (λ k x c e critical. low (suc k) x c e critical)
+  where
+    none_both : (b : Bool) → (b && false) ≡ false
+    none_both true = refl
+    none_both false = refl
+
+    apart : (c : ℕ) → c < n → (c == n) ≡ false
+    apart c h = grind (arith, nat_tests)
+
+    not_this : (x : Option ℕ) → ((c : ℕ) → x ≡ Some c → c < n) → is_this x n ≡ false
+    not_this None under = refl
+    not_this (Some c) under = apart c (under c refl)
 
 -- the world in which they are made
 abbrev pub entered_world : Scopes → World → ℕ → Process → Part → List Part → ℕ → ℕ → List Cell → Purpose → World
@@ -110,7 +137,7 @@ module _ (tree : PProgram) (code : Code) (texts : Texts) (nested : LiesNested tr
   -- These cells of the block's parameters have the words of the actuals, and those of arrays lead to arrays.
   pub record AreCells (j : ℕ) (given : List Cell) (ws : List Word) : Type 0 where
     pub cells : CellsAre (parameter_cells sc (block_numbered sc.blocks j)) (instances.parameter_cells (block_numbered sc.blocks j).parameters given) ws
-    pub lead : LeadAll sc w lay (part ∷ outer) (parameter_cells sc (block_numbered sc.blocks j)) (instances.parameter_cells (block_numbered sc.blocks j).parameters given) ws
+    pub lead : LeadAll sc w lay (IsInReach w (part ∷ outer)) (parameter_cells sc (block_numbered sc.blocks j)) (instances.parameter_cells (block_numbered sc.blocks j).parameters given) ws
 
   -- The code of the block: its cells, and what it has to do, for which its segment has the room.
   pub record Body (j begin : ℕ) : Type 0 where
@@ -198,8 +225,8 @@ module _ (tree : PProgram) (code : Code) (texts : Texts) (nested : LiesNested tr
     cells_are : CellsAre (simple_cells sc b) (fresh_cells b given) (taken ++ zeros)
     cells_are = fresh_are sc b given taken given_there.cells
 
-    cells_lead : LeadAll sc w lay (part ∷ outer) (simple_cells sc b) (fresh_cells b given) (taken ++ zeros)
-    cells_lead = fresh_lead sc w lay (part ∷ outer) b given taken given_there.lead
+    cells_lead : LeadAll sc w lay (IsInReach w (part ∷ outer)) (simple_cells sc b) (fresh_cells b given) (taken ++ zeros)
+    cells_lead = fresh_lead sc w lay (IsInReach w (part ∷ outer)) b given taken given_there.lead
 
     cells_many : length cells ≡ length taken + (many + length controls)
     cells_many =
@@ -250,41 +277,45 @@ module _ (tree : PProgram) (code : Code) (texts : Texts) (nested : LiesNested tr
     rows_before : (k : ℕ) (x : Instance) → numbered w.instances k ≡ Some x → lay'.rows k ≡ lay.rows k
     rows_before k x e = rows_other lay.rows n [] k (λ (same : k ≡ n). let low : k ≤ length w.instances = numbered_low w.instances k x e in omega (arith, same, low))
 
-    alike : (r : ℕ) → r ≢ p → AreAlike w w' lay lay' r
-    alike r other =
-        record {
-          own = λ k x e own. numbered_before w.instances (made ∷ []) k x e;
-          places = λ k x e. numbered_before lay.places (place p at ∷ []) k x e;
-          rows = λ k x e own. rows_before k x e;
-        }
+    places_stay : PlacesStay lay lay'
+    places_stay k x e = numbered_before lay.places (place p at ∷ []) k x e
+
+    events_stay : EventsStay w w'
+    events_stay = events_before w w' (λ k x e. numbered_before w.instances (made ∷ []) k x e)
+
+    dependent : AreAsDependent w.processes w'.processes
+    dependent = dependent_but w.processes p q q' s.at refl (λ e. e)
+
+    -- nobody depends on the new instance
+    nobody_yet : some_depends w'.processes n ≡ false
+    nobody_yet =
+        free_still w.processes w'.processes n dependent
+        (fresh_free w.processes n (λ m o c is critical. omega (arith, s.ok.sound.criticals (suc m) c o is critical)))
+
+    as_many : length lay'.places ≡ length w'.instances
+    as_many = omega (arith, length-append lay.places (place p at ∷ []), length-append w.instances (made ∷ []), s.by.laid)
+
+    facts : HasFacts w
+    facts = facts_of sc w s.ok
+
+    laid_before : AreLaid w lay
+    laid_before = all_laid w lay facts s.by.laid
+
+    -- who is there stays as it is
+    stays_there : (k : ℕ) (x : Instance) → numbered w.instances k ≡ Some x → instance_at w k ≡ instance_at w' k
+    stays_there k x e = ap or_no_instance e ∙ sym (ap or_no_instance (numbered_before w.instances (made ∷ []) k x e))
+
+    each_keeps : (k : ℕ) → IsStanding w k → IsStanding w' k → KeepsArrays sc w w' lay lay' k
+    each_keeps k st later = let x = facts.there k st in keeps_same sc w w' lay lay' k (sym (stays_there k x.0 x.1)) (rows_before k x.0 x.1)
+
+    parent_stands : IsStanding w h
+    parent_stands = reached_stands tree code texts w lay img p q part outer bound core s h e.in_reach
+
+    here : instance_at w i ≡ instance_at w' i
+    here = stays_there i s.stands.frame.instance s.stands.frame.is
 
     abbrev limit : ℕ
     limit = length core.below
-
-    abbrev stay : StayBelow w w' lay lay' p limit
-    stay =
-        record {
-          instances = λ k f x e own laid under. numbered_before w.instances (made ∷ []) k x e;
-          places = λ k x e. numbered_before lay.places (place p at ∷ []) k x e;
-          rows = λ k f x e own laid under. rows_before k x e;
-        }
-
-    all_low : length core.below ≤ limit
-    all_low = omega arith
-
-    still : FrameStill tree code texts w w' lay lay' p limit stay part outer core.below s.stands.frame.cells s.stands.frame.gives
-    still =
-        frame_still tree code texts w w' lay lay' p limit stay part outer core.below s.stands.frame s.around
-        (omega (arith, entries.own_low tree code texts nested short w lay img p q part outer bound core s wanted gs slot next waiting h j begin e))
-
-    here : instance_at w i ≡ instance_at w' i
-    here = sym (same_instance tree code texts w w' lay lay' p limit stay part outer core s.stands s.around all_low i (part_own tree code texts w lay p part outer core.below s.stands.frame))
-
-    parent_here : instance_at w h ≡ instance_at w' h
-    parent_here = sym (same_instance tree code texts w w' lay lay' p limit stay part outer core s.stands s.around all_low h e.own_parent)
-
-    same_lower : length s.stands.frame.lower ≡ length still.frame.lower
-    same_lower = sym (still_low tree code texts w w' lay lay' p limit stay part outer core.below s.stands.frame still)
 
     -- ---- the core in the frame
 
@@ -295,7 +326,7 @@ module _ (tree : PProgram) (code : Code) (texts : Texts) (nested : LiesNested tr
     df = entries.df tree code texts nested short w lay img p q part outer bound core s wanted gs slot next waiting h j begin e
 
     abbrev home : Place
-    home = place p e.linked.at
+    home = e.linked.at
 
     abbrev frames : List Place
     frames = home ∷ e.linked.more
@@ -332,266 +363,298 @@ module _ (tree : PProgram) (code : Code) (texts : Texts) (nested : LiesNested tr
         begins sc [] (context_of code texts sc j) code ps inner_level bound' many controls begin body.ready body.start new body.over body.cells_at
         (entries.core_at tree code texts nested short w lay img p q part outer bound core s wanted gs slot next waiting h j begin e) (omega (arith, few_cells, as_given)) (omega (arith, new_long))
 
-    -- ---- its frame
-
-    home_there : home_of sc w' lay' h ≡ Some home
-    home_there = by_number h (stay.places h home e.linked.laid)
-      where
-        by_number : (k : ℕ) → numbered lay'.places k ≡ Some home → home_of sc w' lay' k ≡ Some home
-        by_number zero e = none_some e
-        by_number (suc k) e = e
-
-    around_now : around sc.blocks j ≡ (instance_at w' h).block ∷ around sc.blocks (instance_at w' h).block
-    around_now = subst (λ (x : Instance). around sc.blocks j ≡ x.block ∷ around sc.blocks x.block) parent_here e.around_is
-
-    complete_now : IsComplete sc w' lay' h
-    complete_now =
-        subst (λ (x : Instance). length x.cells ≡ length (simple_cells sc (block_numbered sc.blocks x.block)) + length (made_of (block_numbered sc.blocks x.block).decls)) parent_here e.complete
-
-    abbrev framed : Framed sc w' lay' p n (part' ∷ outer) (length lower) mark control cells
-    framed =
-        record {
-          instance = made;
-          is = made_there;
-          own = refl;
-          known = e.known;
-          laid = made_laid;
-          stands = refl;
-          simple = fresh_cells b given;
-          values = taken ++ zeros;
-          simple_are = cells_are;
-          formals = λ k t there refers.
-              let g = lead_there sc w lay (part ∷ outer) (simple_cells sc b) (fresh_cells b given) (taken ++ zeros) cells_lead k t there refers in (
-                g.0,
-                g.1,
-                g.2,
-                g.3,
-                denotes_lasts sc w w' lay lay' (part ∷ outer) (part' ∷ outer)
-                    (parts_remain tree code texts w w' lay lay' p limit stay part outer core s.stands s.around all_low (part' ∷ outer) (λ m own. own)) t.wanted g.0.cell g.1 g.4,
-              );
-          ats = body.ats;
-          each_has_place = each_has_place;
-          arrays = [];
-          declared = [];
-          later = made_of b.decls;
-          order = refl;
-          descriptors = [];
-          made = subst (λ (as' : List Allotted). AreMade [] [] as' []) (sym (rows_there lay.rows n [] n refl)) tt;
-          has = sym (append-nil (fresh_cells b given));
-          cells_is = ap (λ (ws : List Word). (taken ++ zeros) ++ ws) (sym (append-nil (control_words controls)));
-          placed = inside e.own_parent around_now complete_now;
-          home = home;
-          linked = home_there;
-          df = df;
-          mark_is = entries.mark_reads tree code texts nested short w lay img p q part outer bound core s wanted gs slot next waiting h j begin e;
-          back = entries.back tree code texts nested short w lay img p q part outer bound core s wanted gs slot next waiting h j begin e;
-          control_is = entries.control_reads tree code texts nested short w lay img p q part outer bound core s wanted gs slot next waiting h j begin e;
-          level_is = refl;
-        }
-
-    text_in_block : KeepsToText sc j inner.rest
-    text_in_block = block_keeps sc j keeps is_text
-
-    abbrev frame_in : Frame tree code texts w' lay' p inner (part' ∷ outer) g.core.below
-    frame_in =
-        record {
-          lower = lower;
-          mark = mark;
-          control = control;
-          cells = cells;
-          words_are = g.below ∙ append_assoc lower (mark ∷ control ∷ taken) (zeros ++ control_words controls)
-              ∙ ap (λ (ws : List Word). lower ++ mark ∷ control ∷ ws) (sym (append_assoc taken zeros (control_words controls)));
-          instance = framed.instance;
-          is = framed.is;
-          known = framed.known;
-          home = framed.home;
-          df = framed.df;
-          mark_is = framed.mark_is;
-          back = framed.back;
-          control_is = framed.control_is;
-          level_is = framed.level_is ∙ runs_at inner inner_level owns;
-          gives = yields_of b.result;
-          text = subst (λ (k : ℕ). KeepsToText sc k inner.rest) (sym block_in) text_in_block;
-          shape = of_own (record { owns = owns; framed = framed; routines = body.routines; items = body.items; making = sym (block_makes sc j order is_text) }) refl;
-        }
-
-    abbrev frame_around : Frame tree code texts w' lay' p part' outer core.below
-    frame_around =
-        record {
-          lower = still.frame.lower;
-          mark = still.frame.mark;
-          control = still.frame.control;
-          cells = still.frame.cells;
-          words_are = still.frame.words_are;
-          instance = still.frame.instance;
-          is = still.frame.is;
-          known = still.frame.known;
-          home = still.frame.home;
-          df = still.frame.df;
-          mark_is = still.frame.mark_is;
-          back = still.frame.back;
-          control_is = still.frame.control_is;
-          level_is = still.frame.level_is;
-          gives = still.frame.gives;
-          text = keeps.resumed sc ((instance_at w' i).block) part.rest entered still.frame.text tt;
-          shape = shape_on tree code texts w' lay' p part outer (length still.frame.lower) still.frame.mark still.frame.control still.frame.cells still.frame.home still.frame.gives part'.rest (sym behind.unmade ∙ sym (order.resumed sc ((instance_at w' i).block) part.rest entered still.frame.text)) (expression_resumed sc part.rest entered) still.frame.shape;
-        }
-
-    -- ---- what waits
-
-    returns_now : (a : Answer) → Gives (yields_of b.result) a →
-        ComesTo sc (context_in tree code texts w' part' still.frame.gives) (text_in tree texts w' part') (level_in tree w' part') (most_in tree w' part') (resume sc part'.rest a) next (pushed (yields_of b.result) a waiting)
-    returns_now =
-        subst (λ (x : Instance). (a : Answer) → Gives (yields_of b.result) a →
-        ComesTo sc (in_routine still.frame.gives (context_of code texts sc x.block)) (texts.placed (segment_of sc.blocks x.block)) (run_level (is_evaluation part.purpose) (level_of (block_numbered sc.blocks x.block))) (most_around tree x.block) (resume sc part'.rest a) next
-        (pushed (yields_of b.result) a waiting)) here
-        (subst (λ (y : Yields). (a : Answer) → Gives (yields_of b.result) a →
-        ComesTo sc (context_in tree code texts w part y) (text_in tree texts w part) (level_in tree w part) (most_in tree w part) (resume sc part'.rest a) next (pushed (yields_of b.result) a waiting)) (sym still.gives_are) behind.returns)
-
-    words_now : SlotsAre sc s.stands.held (level_in tree w' part') (length still.frame.lower) (length core.below) waiting more
-    words_now =
-        subst (λ (x : Instance). SlotsAre sc s.stands.held (run_level (is_evaluation part.purpose) (level_of (block_numbered sc.blocks x.block))) (length still.frame.lower) (length core.below) waiting more) here
-        (subst (λ (k : ℕ). SlotsAre sc s.stands.held level k (length core.below) waiting more)
-        (entries.own_is tree code texts nested short w lay img p q part outer bound core s wanted gs slot next waiting h j begin e ∙ same_lower)
-        (entries.second tree code texts nested short w lay img p q part outer bound core s wanted gs slot next waiting h j begin e).are)
-
-    known_now : AreKnown sc w' lay' (IsOwn (part' ∷ outer)) i s.stands.held
-    known_now =
-        known_of sc w' w' lay' (part ∷ outer) (part' ∷ outer) refl (λ m own. own) i s.stands.held
-        (known_stays tree code texts w w' lay lay' p limit stay part outer core s.stands s.around all_low s.stands.held s.stands.held_are)
-
-    weight_before : weight tree w p ≡ parts_weight tree w' (part' ∷ outer)
-    weight_before =
-        weight_of tree w p q (part ∷ outer) s.at s.todo
-        ∙ sym (parts_weigh tree code texts w w' lay lay' p limit stay part outer core s.stands s.around all_low)
-
-    few_waiting : length waiting + 2 ≤ most_in tree w part
-    few_waiting =
-        omega (arith, ap length e.lies, (entries.given tree code texts nested short w lay img p q part outer bound core s wanted gs slot next waiting h j begin e).slots_many, s.stands.few)
-
-    abbrev waits_now : Waits tree code texts w' lay' p part' outer lower mark control (yields_of b.result)
-    waits_now =
-        record {
-          below = core.below;
-          words = more;
-          lower_is = refl;
-          frame = frame_around;
-          waits = behind.waits;
-          pc = next;
-          slots = waiting;
-          returns = returns_now;
-          few = subst (λ (x : Instance). length waiting + 1 ≤ most_around tree x.block) here (omega (arith, few_waiting));
-          held = s.stands.held;
-          held_are = known_now;
-          words_are = words_now;
-          home = home;
-          df = df;
-          mark_is = entries.mark_reads tree code texts nested short w lay img p q part outer bound core s wanted gs slot next waiting h j begin e;
-          far = ap (λ (k : ℕ). df + newest k (length core.below) waiting) (sym same_lower) ∙ entries.far tree code texts nested short w lay img p q part outer bound core s wanted gs slot next waiting h j begin e;
-          back = entries.back tree code texts nested short w lay img p q part outer bound core s wanted gs slot next waiting h j begin e;
-          control_is = entries.control_reads tree code texts nested short w lay img p q part outer bound core s wanted gs slot next waiting h j begin e;
-          segment_is = s.stands.segment_is ∙ ap (λ (x : Instance). segment_of sc.blocks x.block) here;
-          place_is = omega arith;
-          level_is = s.stands.there.level_is ∙ ap (λ (x : Instance). run_level (is_evaluation part.purpose) (level_of (block_numbered sc.blocks x.block))) here;
-          cells_are = s.stands.counted ∙ sym (ap length still.cells_are);
-          light = subst (λ (x : Instance). length core.below + most_around tree x.block + 3 ≤ parts_weight tree w' (part' ∷ outer)) here (omega (arith, s.room, s.light, weight_before));
-        }
-
-    around_inner : Around tree code texts w' lay' p (part' ∷ outer) lower mark control (yields_of b.result)
-    around_inner = (waits_now, still.around)
-
-    -- ---- the new part goes on
-
-    cells_in : length ((instance_at w' n).cells) ≡ length taken + many
-    cells_in =
-        ap (λ (o : Option Instance). length ((or_no_instance o).cells)) made_there
-        ∙ cells_length (simple_cells sc b) (fresh_cells b given) (taken ++ zeros) cells_are
-        ∙ all_many
-
-    more_few : length more + 2 ≤ most_in tree w part
-    more_few = omega (arith, entries.as_many tree code texts nested short w lay img p q part outer bound core s wanted gs slot next waiting h j begin e, few_waiting)
-
-    inner_weight : part_weight tree w' inner ≡ 8 + (length taken + many) + 4 * tokens_around tree j
-    inner_weight =
-        ap (λ (t : Bool). 8 + (if t then 0 else length ((instance_at w' n).cells)) + 4 * tokens_around tree ((instance_at w' n).block)) owns
-        ∙ ap (λ (k : ℕ). 8 + k + 4 * tokens_around tree ((instance_at w' n).block)) cells_in
-        ∙ ap (λ (k : ℕ). 8 + (length taken + many) + 4 * tokens_around tree k) block_in
-
-    light' : bound' + 3 ≤ weight tree w' p
-    light' =
-        omega (
-          arith,
-          weight_of tree w' p q' (inner ∷ part' ∷ outer) (numbered_set w.processes p q q' s.at) refl,
-          inner_weight,
-          weight_before,
-          body.small,
-          controls_are_many,
-          s.light,
-          s.room,
-          more_few,
-          more_long,
-        )
-
-    each_now : (up : ℕ) → up < length frames → slice_get frames up ≡ numbered lay'.places (ancestor w' up ((instance_at w' n).parent))
-    each_now up under =
-        all_each sc w lay img.stacks p h e.linked up under
-        ∙ sym (same_place tree code texts w w' lay lay' p limit stay part outer core s.stands s.around all_low h e.own_parent up high)
-        ∙ ap (λ (o : Option Instance). numbered lay'.places (ancestor w' up ((or_no_instance o).parent))) (sym made_there)
-      where
-        high : up + OUTER_LEVEL ≤ level_of (block_numbered sc.blocks ((instance_at w h).block))
-        high = omega (arith, under, level_is, level_around sc.blocks j, ap length e.around_is, level_around sc.blocks ((instance_at w h).block))
-
     has_here : HasCore (with_core img p new) p new
     has_here = has_now img p core new s.has refl new_core
 
-    new_small : size new ≤ stack_limit
-    new_small = omega (arith, new_long, entries.room tree code texts nested short w lay img p q part outer bound core s wanted gs slot next waiting h j begin e, more_long, as_given)
+    -- ---- what stands on
 
-    cells_counted : length arguments + (many + length controls) ≡ length cells
-    cells_counted = omega (arith, cells_many, as_given)
+    module _ (after_it : IsAfter (scopes_of tree) w (entered_world (scopes_of tree) w p q part outer h j given purpose) p) where
+      on : StandOn sc w w' lay lay'
+      on = stands_on sc w w' lay lay' p facts after_it each_keeps places_stay
 
-    living_now : Living tree code texts w' lay' (with_core img p new) p q'
-    living_now =
-        living_of tree code texts w' lay' (with_core img p new) fragments p q' inner (part' ∷ outer) bound' new g.core (record {
-          todo = refl;
-          independent = s.independent;
-          without_task = s.without_task;
-          has = has_here;
-          free = s.free;
-          idle = s.idle;
-          sees = refl;
-          small = new_small;
-          begun = g.count;
-          begins = g.steps;
-          frame = frame_in;
-          around = around_inner;
-          counted = ap (λ (r : Registers). r.cells) g.registers ∙ cells_counted;
-          chained = subst (λ (d : List (Option Place)). IsChained sc w' lay' n (names_in tree w' inner) d) (sym (ap (λ (r : Registers). r.display) g.registers))
-              (shown_chained sc w' lay' n (names_in tree w' inner) (place p at) frames made_laid (ap (λ (k : ℕ). level_of (block_numbered sc.blocks k)) block_in ∙ level_is) each_now);
-          top = ap (λ (r : Registers). place_at r.display (level_in tree w' inner)) g.registers
-              ∙ ap (place_at new.registers.display) (sym (runs_at inner (names_in tree w' inner) owns) ∙ ap (λ (k : ℕ). level_of (block_numbered sc.blocks k)) block_in)
-              ∙ entries.shown_here tree code texts nested short w lay img p q part outer bound core s wanted gs slot next waiting h j begin e;
-          segment_is = ap (λ (r : Registers). r.segment) g.registers ∙ ap (segment_of sc.blocks) (sym block_in);
-          pc = body.start;
-          slots = [];
-          known = [];
-          known_are = tt;
-          at = subst (λ (x : Bool). CoreAt sc [] code (text_in tree texts w' inner) (run_level x (names_in tree w' inner)) body.start [] g.core) (sym owns)
-              (subst (λ (k : ℕ). CoreAt sc [] code (texts.placed (segment_of sc.blocks k)) (level_of (block_numbered sc.blocks k)) body.start [] g.core) (sym block_in) g.at);
-          held = omega arith;
-          comes = subst (λ (x : Bool). ComesTo sc (context_in tree code texts w' inner (yields_of b.result)) (text_in tree texts w' inner) (run_level x (names_in tree w' inner)) (most_in tree w' inner) inner.rest body.start []) (sym owns)
-              (subst (λ (k : ℕ). ComesTo sc (in_routine (yields_of b.result) (context_of code texts sc k)) (texts.placed (segment_of sc.blocks k)) (level_of (block_numbered sc.blocks k)) (most_around tree k) inner.rest body.start []) (sym block_in) body.comes);
-          room = subst (λ (k : ℕ). length g.core.below + most_around tree k ≤ bound') (sym block_in) (omega (arith, ap length frame_in.words_are, length-append lower (mark ∷ control ∷ cells), cells_many));
-          light = light';
-        })
+      alike : (r : ℕ) → r ≢ p → AreAlike sc w w' lay lay' r
+      alike r other =
+          record {
+            alone = leaves_alone sc w w' lay lay' p facts after_it each_keeps places_stay laid_before dependent r other;
+            own = λ k x e own. numbered_before w.instances (made ∷ []) k x e;
+            rows = λ k x e own. rows_before k x e;
+            events = events_stay;
+          }
 
-    pictured : PicturesBy tree code texts w' lay' (with_core img p new)
-    pictured =
-        goes_on tree code texts w lay img s.by p q s.at w' lay' (with_core img p new) q' refl able_is (omega (arith, length-append lay.places (place p at ∷ []), length-append w.instances (made ∷ []), s.by.laid))
-        (arrays_joined sc w w' lay lay' made refl (no_elements (simple_cells sc b) (fresh_cells b given) (taken ++ zeros) cells_are) (no_rows (simple_cells sc b) (fresh_cells b given) (taken ++ zeros) cells_are) (λ k. refl)
-        img.rows s.by.arrays)
-        (events_joined sc w w' lay lay' made refl (cells_length (simple_cells sc b) (fresh_cells b given) (taken ++ zeros) cells_are)
-        (λ k f other laid. numbered_earlier lay.places (place p at) k f (λ (e : k ≡ length lay.places + 1). other (omega (arith, e, s.by.laid))) laid) img.events s.by.events) alike s.by.output refl refl refl refl (system_stays img p core new s.has refl q w s.at) able_p (others_have img p core new s.has refl) living_now
+      abbrev stay : StayBelow sc w w' lay lay' p limit
+      stay =
+          record {
+            on = on;
+            instances = λ k f x e own laid under. numbered_before w.instances (made ∷ []) k x e;
+            rows = λ k f x e own laid under. rows_before k x e;
+          }
+
+      all_low : length core.below ≤ limit
+      all_low = omega arith
+
+      still : FrameStill tree code texts w w' lay lay' p limit stay part outer core.below s.stands.frame.cells s.stands.frame.gives
+      still =
+          frame_still tree code texts w w' lay lay' p limit stay part outer core.below s.stands.frame s.around
+          (omega (arith, entries.own_low tree code texts nested short w lay img p q part outer bound core s wanted gs slot next waiting h j begin e))
+
+      same_lower : length s.stands.frame.lower ≡ length still.frame.lower
+      same_lower = sym (still_low tree code texts w w' lay lay' p limit stay part outer core.below s.stands.frame still)
+
+      -- ---- its frame
+
+      home_there : home_of sc w' lay' h ≡ Some home
+      home_there = by_number h (places_stay h home e.linked.laid)
+        where
+          by_number : (k : ℕ) → numbered lay'.places k ≡ Some home → home_of sc w' lay' k ≡ Some home
+          by_number zero e = none_some e
+          by_number (suc k) e = e
+
+      frame_lies : length s.stands.frame.lower < limit
+      frame_lies = omega (arith, entries.own_low tree code texts nested short w lay img p q part outer bound core s wanted gs slot next waiting h j begin e)
+
+      -- what is in reach stands after it
+      reached_later : (k : ℕ) → IsInReach w (part ∷ outer) k → IsStanding w' k
+      reached_later k path =
+          let top : IsStanding w (newest_own (part ∷ outer)) × IsStanding w' (newest_own (part ∷ outer)) = top_still tree code texts w w' lay lay' p limit stay part outer core.below s.stands.frame s.around frame_lies in
+          after_it.climb.facts.on_path (newest_own (part ∷ outer)) k top.1 (on.paths (newest_own (part ∷ outer)) k top.0 top.1 path)
+
+      reach_later : Remain sc w w' lay lay' (IsInReach w (part ∷ outer)) (IsStanding w')
+      reach_later =
+          let r : Remain sc w w' lay lay' (IsInReach w (part ∷ outer)) (IsInReach w' (part ∷ outer)) = frame_remains tree code texts w w' lay lay' p limit stay part outer core.below s.stands.frame s.around frame_lies in
+          record { stays = reached_later; keeps = r.keeps; places = r.places }
+
+      abbrev framed : Framed sc w' lay' p n (part' ∷ outer) (length lower) mark control cells
+      framed =
+          record {
+            instance = made;
+            is = made_there;
+            own = refl;
+            known = e.known;
+            laid = made_laid;
+            stands = refl;
+            simple = fresh_cells b given;
+            values = taken ++ zeros;
+            simple_are = cells_are;
+            formals = λ k t there refers.
+                let g = lead_there sc w lay (IsInReach w (part ∷ outer)) (simple_cells sc b) (fresh_cells b given) (taken ++ zeros) cells_lead k t there refers in
+                (g.0, g.1, g.2, g.3, denotes_lasts sc w w' lay lay' (IsInReach w (part ∷ outer)) (IsStanding w') reach_later t.wanted g.0.cell g.1 g.4);
+            ats = body.ats;
+            each_has_place = each_has_place;
+            arrays = [];
+            declared = [];
+            later = made_of b.decls;
+            order = refl;
+            descriptors = [];
+            made = subst (λ (as' : List Allotted). AreMade [] [] as' []) (sym (rows_there lay.rows n [] n refl)) tt;
+            has = sym (append-nil (fresh_cells b given));
+            cells_is = ap (λ (ws : List Word). (taken ++ zeros) ++ ws) (sym (append-nil (control_words controls)));
+            home = home;
+            linked = home_there;
+            df = df;
+            mark_is = entries.mark_reads tree code texts nested short w lay img p q part outer bound core s wanted gs slot next waiting h j begin e;
+            back = entries.back tree code texts nested short w lay img p q part outer bound core s wanted gs slot next waiting h j begin e;
+            control_is = entries.control_reads tree code texts nested short w lay img p q part outer bound core s wanted gs slot next waiting h j begin e;
+            level_is = refl;
+          }
+
+      text_in_block : KeepsToText sc j inner.rest
+      text_in_block = block_keeps sc j keeps is_text
+
+      abbrev frame_in : Frame tree code texts w' lay' p inner (part' ∷ outer) g.core.below
+      frame_in =
+          record {
+            lower = lower;
+            mark = mark;
+            control = control;
+            cells = cells;
+            words_are = g.below ∙ append_assoc lower (mark ∷ control ∷ taken) (zeros ++ control_words controls)
+                ∙ ap (λ (ws : List Word). lower ++ mark ∷ control ∷ ws) (sym (append_assoc taken zeros (control_words controls)));
+            instance = framed.instance;
+            is = framed.is;
+            known = framed.known;
+            home = framed.home;
+            df = framed.df;
+            mark_is = framed.mark_is;
+            back = framed.back;
+            control_is = framed.control_is;
+            level_is = framed.level_is ∙ runs_at inner inner_level owns;
+            gives = yields_of b.result;
+            text = subst (λ (k : ℕ). KeepsToText sc k inner.rest) (sym block_in) text_in_block;
+            shape = of_own (record { owns = owns; framed = framed; routines = body.routines; items = body.items; making = sym (block_makes sc j order is_text) }) refl;
+          }
+
+      abbrev frame_around : Frame tree code texts w' lay' p part' outer core.below
+      frame_around =
+          record {
+            lower = still.frame.lower;
+            mark = still.frame.mark;
+            control = still.frame.control;
+            cells = still.frame.cells;
+            words_are = still.frame.words_are;
+            instance = still.frame.instance;
+            is = still.frame.is;
+            known = still.frame.known;
+            home = still.frame.home;
+            df = still.frame.df;
+            mark_is = still.frame.mark_is;
+            back = still.frame.back;
+            control_is = still.frame.control_is;
+            level_is = still.frame.level_is;
+            gives = still.frame.gives;
+            text = keeps.resumed sc ((instance_at w' i).block) part.rest entered still.frame.text tt;
+            shape = shape_on tree code texts w' lay' p part outer (length still.frame.lower) still.frame.mark still.frame.control still.frame.cells still.frame.home still.frame.gives part'.rest (sym behind.unmade ∙ sym (order.resumed sc ((instance_at w' i).block) part.rest entered still.frame.text)) (expression_resumed sc part.rest entered) still.frame.shape;
+          }
+
+      -- ---- what waits
+
+      returns_now : (a : Answer) → Gives (yields_of b.result) a →
+          ComesTo sc (context_in tree code texts w' part' still.frame.gives) (text_in tree texts w' part') (level_in tree w' part') (most_in tree w' part') (resume sc part'.rest a) next (pushed (yields_of b.result) a waiting)
+      returns_now =
+          subst (λ (x : Instance). (a : Answer) → Gives (yields_of b.result) a →
+          ComesTo sc (in_routine still.frame.gives (context_of code texts sc x.block)) (texts.placed (segment_of sc.blocks x.block)) (run_level (is_evaluation part.purpose) (level_of (block_numbered sc.blocks x.block))) (most_around tree x.block) (resume sc part'.rest a) next
+          (pushed (yields_of b.result) a waiting)) here
+          (subst (λ (y : Yields). (a : Answer) → Gives (yields_of b.result) a →
+          ComesTo sc (context_in tree code texts w part y) (text_in tree texts w part) (level_in tree w part) (most_in tree w part) (resume sc part'.rest a) next (pushed (yields_of b.result) a waiting)) (sym still.gives_are) behind.returns)
+
+      words_now : SlotsAre sc s.stands.held (level_in tree w' part') (length still.frame.lower) (length core.below) waiting more
+      words_now =
+          subst (λ (x : Instance). SlotsAre sc s.stands.held (run_level (is_evaluation part.purpose) (level_of (block_numbered sc.blocks x.block))) (length still.frame.lower) (length core.below) waiting more) here
+          (subst (λ (k : ℕ). SlotsAre sc s.stands.held level k (length core.below) waiting more)
+          (entries.own_is tree code texts nested short w lay img p q part outer bound core s wanted gs slot next waiting h j begin e ∙ same_lower)
+          (entries.second tree code texts nested short w lay img p q part outer bound core s wanted gs slot next waiting h j begin e).are)
+
+      known_now : AreKnown sc w' lay' (IsInReach w' (part' ∷ outer)) i s.stands.held
+      known_now = known_stays tree code texts w w' lay lay' p limit stay laid_before part outer core s.stands s.around all_low s.stands.held s.stands.held_are
+
+      weight_before : weight tree w p ≡ parts_weight tree w' (part' ∷ outer)
+      weight_before =
+          weight_of tree w p q (part ∷ outer) s.at s.todo
+          ∙ sym (parts_weigh tree code texts w w' lay lay' p limit stay laid_before part outer core s.stands s.around all_low)
+
+      few_waiting : length waiting + 2 ≤ most_in tree w part
+      few_waiting =
+          omega (arith, ap length e.lies, (entries.given tree code texts nested short w lay img p q part outer bound core s wanted gs slot next waiting h j begin e).slots_many, s.stands.few)
+
+      abbrev waits_now : Waits tree code texts w' lay' p part' outer lower mark control (yields_of b.result)
+      waits_now =
+          record {
+            below = core.below;
+            words = more;
+            lower_is = refl;
+            frame = frame_around;
+            waits = behind.waits;
+            pc = next;
+            slots = waiting;
+            returns = returns_now;
+            few = subst (λ (x : Instance). length waiting + 1 ≤ most_around tree x.block) here (omega (arith, few_waiting));
+            held = s.stands.held;
+            held_are = known_now;
+            words_are = words_now;
+            home = home;
+            df = df;
+            mark_is = entries.mark_reads tree code texts nested short w lay img p q part outer bound core s wanted gs slot next waiting h j begin e;
+            far = ap (λ (k : ℕ). df + newest k (length core.below) waiting) (sym same_lower) ∙ entries.far tree code texts nested short w lay img p q part outer bound core s wanted gs slot next waiting h j begin e;
+            back = entries.back tree code texts nested short w lay img p q part outer bound core s wanted gs slot next waiting h j begin e;
+            control_is = entries.control_reads tree code texts nested short w lay img p q part outer bound core s wanted gs slot next waiting h j begin e;
+            segment_is = s.stands.segment_is ∙ ap (λ (x : Instance). segment_of sc.blocks x.block) here;
+            place_is = omega arith;
+            level_is = s.stands.there.level_is ∙ ap (λ (x : Instance). run_level (is_evaluation part.purpose) (level_of (block_numbered sc.blocks x.block))) here;
+            cells_are = s.stands.counted ∙ sym (ap length still.cells_are);
+            light = subst (λ (x : Instance). length core.below + most_around tree x.block + 3 ≤ parts_weight tree w' (part' ∷ outer)) here (omega (arith, s.room, s.light, weight_before));
+          }
+
+      around_inner : Around tree code texts w' lay' p (part' ∷ outer) lower mark control (yields_of b.result)
+      around_inner = (waits_now, still.around)
+
+      -- ---- the new part goes on
+
+      cells_in : length ((instance_at w' n).cells) ≡ length taken + many
+      cells_in =
+          ap (λ (o : Option Instance). length ((or_no_instance o).cells)) made_there
+          ∙ cells_length (simple_cells sc b) (fresh_cells b given) (taken ++ zeros) cells_are
+          ∙ all_many
+
+      more_few : length more + 2 ≤ most_in tree w part
+      more_few = omega (arith, entries.as_many tree code texts nested short w lay img p q part outer bound core s wanted gs slot next waiting h j begin e, few_waiting)
+
+      inner_weight : part_weight tree w' inner ≡ 8 + (length taken + many) + 4 * tokens_around tree j
+      inner_weight =
+          ap (λ (t : Bool). 8 + (if t then 0 else length ((instance_at w' n).cells)) + 4 * tokens_around tree ((instance_at w' n).block)) owns
+          ∙ ap (λ (k : ℕ). 8 + k + 4 * tokens_around tree ((instance_at w' n).block)) cells_in
+          ∙ ap (λ (k : ℕ). 8 + (length taken + many) + 4 * tokens_around tree k) block_in
+
+      light' : bound' + 3 ≤ weight tree w' p
+      light' =
+          omega (
+            arith,
+            weight_of tree w' p q' (inner ∷ part' ∷ outer) (numbered_set w.processes p q q' s.at) refl,
+            inner_weight,
+            weight_before,
+            body.small,
+            controls_are_many,
+            s.light,
+            s.room,
+            more_few,
+            more_long,
+          )
+
+      -- the parent stands on
+      parent_still : IsStanding w h × IsStanding w' h
+      parent_still = (parent_stands, reached_later h e.in_reach)
+
+      each_now : (up : ℕ) → up < length frames → slice_get frames up ≡ numbered lay'.places (ancestor w' up ((instance_at w' n).parent))
+      each_now up under =
+          all_each sc w lay img.stacks h e.linked up under
+          ∙ sym (same_place sc w w' lay lay' on laid_before h parent_still up)
+          ∙ ap (λ (o : Option Instance). numbered lay'.places (ancestor w' up ((or_no_instance o).parent))) (sym made_there)
+
+      new_small : size new ≤ stack_limit
+      new_small = omega (arith, new_long, entries.room tree code texts nested short w lay img p q part outer bound core s wanted gs slot next waiting h j begin e, more_long, as_given)
+
+      cells_counted : length arguments + (many + length controls) ≡ length cells
+      cells_counted = omega (arith, cells_many, as_given)
+
+      living_now : Living tree code texts w' lay' (with_core img p new) p q'
+      living_now =
+          living_of tree code texts w' lay' (with_core img p new) after_it.climb (all_laid w' lay' after_it.climb.facts as_many) fragments p q' inner (part' ∷ outer) bound' new g.core (record {
+            todo = refl;
+            has = has_here;
+            critical = critical_stays lay lay' places_stay q.critical core.registers.critical s.critical;
+            task = task_stays sc w w' lay lay' events_stay places_stay q.task core.registers.task s.task;
+            sees = refl;
+            small = new_small;
+            begun = g.count;
+            begins = g.steps;
+            frame = frame_in;
+            around = around_inner;
+            counted = ap (λ (r : Registers). r.cells) g.registers ∙ cells_counted;
+            chained = subst (λ (d : List (Option Place)). IsChained sc w' lay' n (names_in tree w' inner) d) (sym (ap (λ (r : Registers). r.display) g.registers))
+                (shown_chained sc w' lay' n (names_in tree w' inner) (place p at) frames made_laid (ap (λ (k : ℕ). level_of (block_numbered sc.blocks k)) block_in ∙ level_is) each_now);
+            top = ap (λ (r : Registers). place_at r.display (level_in tree w' inner)) g.registers
+                ∙ ap (place_at new.registers.display) (sym (runs_at inner (names_in tree w' inner) owns) ∙ ap (λ (k : ℕ). level_of (block_numbered sc.blocks k)) block_in)
+                ∙ entries.shown_here tree code texts nested short w lay img p q part outer bound core s wanted gs slot next waiting h j begin e;
+            segment_is = ap (λ (r : Registers). r.segment) g.registers ∙ ap (segment_of sc.blocks) (sym block_in);
+            pc = body.start;
+            slots = [];
+            known = [];
+            known_are = tt;
+            at = subst (λ (x : Bool). CoreAt sc [] code (text_in tree texts w' inner) (run_level x (names_in tree w' inner)) body.start [] g.core) (sym owns)
+                (subst (λ (k : ℕ). CoreAt sc [] code (texts.placed (segment_of sc.blocks k)) (level_of (block_numbered sc.blocks k)) body.start [] g.core) (sym block_in) g.at);
+            held = omega arith;
+            comes = subst (λ (x : Bool). ComesTo sc (context_in tree code texts w' inner (yields_of b.result)) (text_in tree texts w' inner) (run_level x (names_in tree w' inner)) (most_in tree w' inner) inner.rest body.start []) (sym owns)
+                (subst (λ (k : ℕ). ComesTo sc (in_routine (yields_of b.result) (context_of code texts sc k)) (texts.placed (segment_of sc.blocks k)) (level_of (block_numbered sc.blocks k)) (most_around tree k) inner.rest body.start []) (sym block_in) body.comes);
+            reaches = reaching.none_yet at owns made_laid (omega (arith, new_long)) nobody_yet;
+            room = subst (λ (k : ℕ). length g.core.below + most_around tree k ≤ bound') (sym block_in) (omega (arith, ap length frame_in.words_are, length-append lower (mark ∷ control ∷ cells), cells_many));
+            light = light';
+          })
+
+      pictured : PicturesBy tree code texts w' lay' (with_core img p new)
+      pictured =
+          goes_on tree code texts w lay img s.by p q s.at w' lay' (with_core img p new) q' refl able_is as_many
+          (arrays_joined sc w w' lay lay' made refl (no_elements (simple_cells sc b) (fresh_cells b given) (taken ++ zeros) cells_are) (no_rows (simple_cells sc b) (fresh_cells b given) (taken ++ zeros) cells_are) (λ k. refl)
+          img.rows s.by.arrays)
+          (events_joined sc w w' lay lay' made refl (cells_length (simple_cells sc b) (fresh_cells b given) (taken ++ zeros) cells_are)
+          (λ k f other laid. numbered_earlier lay.places (place p at) k f (λ (e : k ≡ length lay.places + 1). other (omega (arith, e, s.by.laid))) laid) img.events s.by.events) alike s.by.output refl refl refl refl (system_stays img p core new s.has refl q w s.at) able_p (others_have img p core new s.has refl) living_now
 
     table_is : table code img p ≡ outcomes.gives (with_core img p new)
     table_is =
@@ -603,4 +666,5 @@ module _ (tree : PProgram) (code : Code) (texts : Texts) (nested : LiesNested tr
     entering chosen =
         gave (with_core img p new) (entries.entry_not_plain tree code texts nested short w lay img p q part outer bound core s wanted gs slot next waiting h j begin e) table_is
         (entries.entry_action tree code texts nested short w lay img p q part outer bound core s wanted gs slot next waiting h j begin e table_is ∙ ap (λ (x : Choice). Some x.action) (sym chosen))
-        (λ able_now. subst (λ (x : Choice). Pictures tree code texts x.world (with_core img p new)) (sym chosen) (lay', pictured))
+        (λ may. subst (λ (x : Choice). Pictures tree code texts x.world (with_core img p new)) (sym chosen)
+        (lay', pictured (after_choice sc w w' p q facts may s.at (ap (λ (x : Choice). x.world) chosen))))

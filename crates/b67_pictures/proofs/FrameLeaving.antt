@@ -34,22 +34,28 @@ use Rattle.b67_faithful.proofs.Choices.{length_set_numbered}
 use Rattle.b67_rows.proofs.Cored.{has_now, others_have, system_stays}
 use Rattle.b67_rows.proofs.LeaveRow.{Leaves, after, outer_is}
 use Rattle.b67_rows.proofs.Numbers.{numbered_set}
-use Rattle.b67_rows.proofs.Parting.{parted, same_but, same_ancestors, others_stay}
+use Rattle.b67_rows.proofs.Parting.{IsSameBut, parted, same_but, same_ancestors, others_stay}
 use Rattle.b67_rows.proofs.Spelled.{HaveTexts}
-use Rattle.b67_frames.specs.Arrays.{Layout, ArraysAre, AreKnown, IsOwn}
-use Rattle.b67_frames.specs.Frames.{Waits, Owned}
+use Rattle.b67_frames.specs.Arrays.{Layout, ArraysAre, AreKnown}
+use Rattle.b67_frames.specs.Frames.{IsInReach, Waits, Owned}
 use Rattle.b67_frames.proofs.ArraysKept.{arrays_unchanged}
 use Rattle.b67_frames.proofs.Closing.{IsClosed, FramesClose}
+use Rattle.b67_frames.proofs.Facts.{HasFacts, facts_of}
+use Rattle.b67_frames.proofs.Knowing.{KeepsArrays}
 use Rattle.b67_frames.proofs.Lying.{StayBelow, owned_frame}
 use Rattle.b67_frames.specs.Events.{EventsAre}
 use Rattle.b67_frames.proofs.EventsLow.{IsElsewhere, event_outside}
 use Rattle.b67_scenes.specs.Pictures.{Living, Pictures, PicturesBy}
-use Rattle.b67_scenes.proofs.Independent.{none_dependent}
+use Rattle.b67_scenes.proofs.Ancestors.{all_laid}
 use Rattle.b67_scenes.proofs.Kept.{AreAlike, alike_but}
 use Rattle.b67_scenes.proofs.Scene.{Scene}
 use Rattle.b67_scenes.proofs.Stage.{choice_is, gives_within, goes_on}
+use Rattle.b67_scenes.proofs.Tasks as tasks
 use Rattle.b67_scenes.proofs.Worlds.{held_of}
+use Rattle.algol_standing.specs.Worlds.{IsStanding, IsOwn}
 use Rattle.b67_pictures.specs.Acting.{Does, gave}
+use Rattle.b67_pictures.proofs.Alone.{IsAfter, dependent_but, after_choice, stands_on, leaves_alone}
+use Rattle.b67_pictures.proofs.LeftInstances.{keeps_left}
 use Rattle.b67_pictures.proofs.LeavingWords as leaving
 use Rattle.b67_pictures.proofs.LeavingWords.{IsGiven, known_given, leaves_so, rows_are, low, shown_home}
 use Rattle.b67_pictures.proofs.PartAround as around
@@ -93,7 +99,7 @@ module _ (tree : PProgram) (code : Code) (texts : Texts) (stand : HaveTexts tree
   own_is = own_frame.framed.is
 
   module _ (r : Answer) (given : Option Word) (g : IsGiven s.stands.frame.gives r given) (gives_it : Gives s.stands.frame.gives r)
-      (known_there : AreKnown (scopes_of tree) w lay (IsOwn (next ∷ parts)) next.instance (known_given s.stands.frame.gives r given)) where
+      (known_there : AreKnown (scopes_of tree) w lay (IsInReach w (next ∷ parts)) next.instance (known_given s.stands.frame.gives r given)) where
     abbrev q' : Process
     q' = around.q' tree code texts stand fragments keeps order w lay img p q part next parts bound core s r given g gives_it known_there
 
@@ -105,16 +111,32 @@ module _ (tree : PProgram) (code : Code) (texts : Texts) (stand : HaveTexts tree
     abbrev w' : World
     w' = parted w p q' i own_frame.framed.instance own_is
 
-    alike : (m : ℕ) → m ≢ p → AreAlike w w' lay lay m
-    alike m other =
-        alike_but w w' lay m i own_frame.framed.instance (record (instance_at w i) { left = true }) own_is
-        (λ (x : m ≡ own_frame.framed.instance.process). other (x ∙ own_frame.framed.own)) refl
+    as_many : length lay.places ≡ length w'.instances
+    as_many = s.by.laid ∙ sym (length_set_numbered w.instances i (record (instance_at w i) { left = true }))
 
-    stay : StayBelow w w' lay lay p f
-    stay =
+    facts : HasFacts w
+    facts = facts_of sc w s.ok
+
+    same_now : (j : ℕ) → IsSameBut (instance_at w' j) (instance_at w j)
+    same_now j = same_but w p q' i own_frame.framed.instance own_is j
+
+    abbrev IsLater : Type 0
+    IsLater = IsAfter sc w w' p
+
+    keeps_all : (j : ℕ) → IsStanding w j → IsStanding w' j → KeepsArrays sc w w' lay lay j
+    keeps_all j st later = keeps_left sc w w' lay j (same_now j)
+
+    alike : IsLater → (m : ℕ) → m ≢ p → AreAlike sc w w' lay lay m
+    alike after_it m other =
+        alike_but sc w w' lay m i own_frame.framed.instance (record (instance_at w i) { left = true })
+        (leaves_alone sc w w' lay lay p facts after_it keeps_all (λ j x there. there) (all_laid w lay facts s.by.laid) (dependent_but w.processes p q q' s.at refl (λ alive. alive)) m other) own_is
+        (λ (x : m ≡ own_frame.framed.instance.process). other (x ∙ own_frame.framed.own)) refl (tasks.events_left w w' same_now)
+
+    stay : IsLater → StayBelow sc w w' lay lay p f
+    stay after_it =
         record {
+          on = stands_on sc w w' lay lay p facts after_it keeps_all (λ j x there. there);
           instances = λ j at x there own laid under. others_stay w p q' i own_frame.framed.instance own_is j (λ (same : i ≡ j). lower j at laid under same) ∙ there;
-          places = λ j x there. there;
           rows = λ j at x there own laid under. refl;
         }
       where
@@ -145,10 +167,10 @@ module _ (tree : PProgram) (code : Code) (texts : Texts) (stand : HaveTexts tree
           let h : HasCore (with_core img p new) m other = others_have img p core new s.has refl m other apart has in
           record { live = h.live; registers = h.registers; own = h.own; stack = h.stack; is = h.is }
 
-      here : Living tree code texts w' lay now p q'
-      here =
-          living_now tree code texts stand fragments keeps order w lay img p q part next parts bound core s r given g gives_it known_there w' (numbered_set w.processes p q q' s.at) stay
-          (λ j. same_but w p q' i own_frame.framed.instance own_is j) (λ up j. same_ancestors w p q' i own_frame.framed.instance own_is up j) now has_here
+      here : IsLater → Living tree code texts w' lay now p q'
+      here after_it =
+          living_now tree code texts stand fragments keeps order w lay img p q part next parts bound core s r given g gives_it known_there w' after_it.climb as_many (numbered_set w.processes p q q' s.at) (stay after_it)
+          same_now (λ up j. same_ancestors w p q' i own_frame.framed.instance own_is up j) now has_here
 
       -- the events of the instance are closed, and no others
       events_now : EventsAre sc w' lay now.events
@@ -168,27 +190,27 @@ module _ (tree : PProgram) (code : Code) (texts : Texts) (stand : HaveTexts tree
           in_outer j other (inl own) = inl (without j other own)
           in_outer j other (inr elsewhere) = inr elsewhere
 
-      pictured : PicturesBy tree code texts w' lay now
-      pictured =
-          goes_on tree code texts w lay img s.by p q s.at w' lay now q' refl able_is (s.by.laid ∙ sym (length_set_numbered w.instances i (record (instance_at w i) { left = true })))
-          (subst (λ (rows : Rows). ArraysAre sc w' lay rows) (sym (rows_are tree code texts w lay img p q part next parts bound core s shut.rows shut.changes)) (arrays_unchanged sc (leave w (i ∷ [])) w' lay shut.rows refl shut.are)) events_now alike
-          s.by.output refl refl refl refl (system_stays img p core new s.has refl q w s.at) able_p others here
+      pictured : IsLater → PicturesBy tree code texts w' lay now
+      pictured after_it =
+          goes_on tree code texts w lay img s.by p q s.at w' lay now q' refl able_is as_many
+          (subst (λ (rows : Rows). ArraysAre sc w' lay rows) (sym (rows_are tree code texts w lay img p q part next parts bound core s shut.rows shut.changes)) (arrays_unchanged sc (leave w (i ∷ [])) w' lay shut.rows refl shut.are)) events_now (alike after_it)
+          s.by.output refl refl refl refl (system_stays img p core new s.has refl q w s.at) able_p others (here after_it)
 
-      chosen : ask part.rest ≡ leaves r → choice sc w p ≡ record { action = Leave; world = w'; released = []; started = None }
-      chosen asks =
+      chosen : some_depends w.processes i ≡ false → ask part.rest ≡ leaves r → choice sc w p ≡ record { action = Leave; world = w'; released = []; started = None }
+      chosen free asks =
           choice_is sc w p q part (next ∷ parts) s.at s.todo
           ∙ ap (λ (k : Ask). choice_of sc w p q part (next ∷ parts) k) asks
           ∙ ap
           (λ (t : Bool). if t then left_with sc w p q part (next ∷ parts) w r (next ∷ parts) else if some_depends w.processes i then fails sc w p q part (next ∷ parts) fault.CriticalBlockExit
           else left_or_ended sc w p q part (next ∷ parts) r (next ∷ parts)) owns
-          ∙ ap (λ (t : Bool). if t then fails sc w p q part (next ∷ parts) fault.CriticalBlockExit else left_or_ended sc w p q part (next ∷ parts) r (next ∷ parts))
-          (none_dependent tree code texts w lay img s.by i)
+          ∙ ap (λ (t : Bool). if t then fails sc w p q part (next ∷ parts) fault.CriticalBlockExit else left_or_ended sc w p q part (next ∷ parts) r (next ∷ parts)) free
 
-      -- an operator that leaves the frame with that does it
-      pub leaving_frame : ask part.rest ≡ leaves r → raw code img p ≡ gives now → plain code img p ≡ false → (table code img p ≡ outcomes.gives now → operator_action code img p ≡ Some Leave) → Does tree code texts w img p
-      leaving_frame asks raw_is not_plain acts =
-          gave now not_plain table_is (acts table_is ∙ ap (λ (c : Choice). Some c.action) (sym (chosen asks)))
-          (λ able_now. subst (λ (c : Choice). Pictures tree code texts c.world now) (sym (chosen asks)) (lay, pictured))
+      -- an operator that leaves the frame with that does it, where no process depends on the instance
+      pub leaving_frame : some_depends w.processes i ≡ false → ask part.rest ≡ leaves r → raw code img p ≡ gives now → plain code img p ≡ false → (table code img p ≡ outcomes.gives now → operator_action code img p ≡ Some Leave) → Does tree code texts w img p
+      leaving_frame free asks raw_is not_plain acts =
+          gave now not_plain table_is (acts table_is ∙ ap (λ (c : Choice). Some c.action) (sym (chosen free asks)))
+          (λ may. subst (λ (c : Choice). Pictures tree code texts c.world now) (sym (chosen free asks))
+          (lay, pictured (after_choice sc w w' p q facts may s.at (ap (λ (c : Choice). c.world) (chosen free asks)))))
         where
           table_is : table code img p ≡ outcomes.gives now
           table_is =

@@ -33,20 +33,27 @@ use Rattle.b67_cores.specs.Stretches.{CoreAt, FragmentsArePerformed}
 use Rattle.b67_cores.proofs.Moving.{slots_length}
 use Rattle.b67_rows.proofs.Cored.{has_now, others_have, system_stays}
 use Rattle.b67_rows.proofs.Numbers.{numbered_set, most_or_more}
-use Rattle.b67_frames.specs.Arrays.{Layout, AreKnown, IsOwn}
-use Rattle.b67_frames.specs.Frames.{IsChained, Frame}
+use Rattle.b67_frames.specs.Arrays.{Layout, AreKnown}
+use Rattle.b67_frames.specs.Frames.{IsInReach, IsChained, Frame}
 use Rattle.b67_frames.proofs.ArraysKept.{arrays_unchanged}
 use Rattle.b67_frames.proofs.EventsKept.{events_unchanged}
 use Rattle.b67_frames.proofs.Expressions.{expression_resumed}
-use Rattle.b67_frames.proofs.Knowing.{known_of}
+use Rattle.b67_frames.proofs.Facts.{HasFacts, facts_of}
+use Rattle.b67_frames.proofs.Knowing.{keeps_same}
 use Rattle.b67_frames.proofs.Lying.{StayBelow, shape_on}
+use Rattle.b67_frames.proofs.Onward.{StandOn}
 use Rattle.b67_scenes.specs.Pictures.{Pictures, PicturesBy}
+use Rattle.b67_scenes.specs.Reaches as reaching
+use Rattle.b67_scenes.proofs.Ancestors.{AreLaid, all_laid}
 use Rattle.b67_scenes.proofs.Kept.{alike_by}
 use Rattle.b67_scenes.proofs.Landing.{steps_none, living_of}
 use Rattle.b67_scenes.proofs.Scene.{Scene}
+use Rattle.b67_scenes.specs.Depending.{CriticalIs, TaskIs}
+use Rattle.b67_scenes.proofs.Tasks.{task_stays, events_same}
 use Rattle.b67_scenes.proofs.Stage.{gives_within, limit_beyond, goes_on, weight_of}
-use Rattle.b67_scenes.proofs.Staying.{text_in, level_in, context_in, most_in, FrameStill, frame_still, frame_low, chained_stays, top_stays, parts_weigh, names_in}
-use Rattle.b67_pictures.specs.Acting.{Does, gave, stopped}
+use Rattle.b67_scenes.proofs.Staying.{text_in, level_in, context_in, most_in, FrameStill, frame_still, frame_low, chained_stays, top_stays, parts_weigh, known_stays, names_in}
+use Rattle.b67_pictures.specs.Acting.{MayAct, Does, gave, stopped}
+use Rattle.b67_pictures.proofs.Alone.{IsAfter, after_choice, dependent_but, stands_on, leaves_alone}
 use Rattle.b67_templates.specs.Contexts.{Yields}
 
 -- the registers but for S, F and the place
@@ -57,7 +64,7 @@ module _ (tree : PProgram) (code : Code) (texts : Texts) (fragments : FragmentsA
     (p : ℕ) (q : Process) (part : Part) (outer : List Part) (bound : ℕ) (core : Core) (s : Scene tree code texts w lay img p q part outer bound core) (able_is : lives q.state ≡ true) (able_p : StateIs q.state (numbered img.states p))
     (unmade : all_left_to_make part.rest ≡ all_to_make part.rest)
     (a : Answer) (nameless : InAnswer (IsSeen (scopes_of tree) ((instance_at w part.instance).block)) a) (out : List (List ℕ)) (new : Core) (below : new.below ≡ core.below) (frame_is : SameFrame core.registers new.registers)
-    (known : List Known) (known_are : AreKnown (scopes_of tree) w lay (IsOwn (part ∷ outer)) part.instance known)
+    (known : List Known) (known_are : AreKnown (scopes_of tree) w lay (IsInReach w (part ∷ outer)) part.instance known)
     (pc : ℕ) (slots : List Slot) (there : CoreAt (scopes_of tree) known code (text_in tree texts w part) (level_in tree w part) pc slots new) (few : length slots ≤ most_in tree w part)
     (comes : ComesTo (scopes_of tree) (context_in tree code texts w part s.stands.frame.gives) (text_in tree texts w part) (level_in tree w part) (most_in tree w part) (resume (scopes_of tree) part.rest a) pc slots) where
   abbrev pub part' : Part
@@ -82,47 +89,6 @@ module _ (tree : PProgram) (code : Code) (texts : Texts) (fragments : FragmentsA
   others r other apart has =
       let h = others_have img p core new s.has same_stack r other apart has in record { live = h.live; registers = h.registers; own = h.own; stack = h.stack; is = h.is }
 
-  -- no instance changes
-  abbrev stay : StayBelow w w' lay lay p (length core.below)
-  stay = record { instances = λ i at x e own laid low. e; places = λ i f e. e; rows = λ i at x e own laid low. refl }
-
-  all_low : length core.below ≤ length core.below
-  all_low = omega arith
-
-  still : FrameStill tree code texts w w' lay lay p (length core.below) stay part outer core.below s.stands.frame.cells s.stands.frame.gives
-  still =
-      frame_still tree code texts w w' lay lay p (length core.below) stay part outer core.below s.stands.frame s.around
-      (omega (arith, frame_low tree code texts w lay p part outer core.below s.stands.frame))
-
-  abbrev frame' : Frame tree code texts w' lay p part' outer new.below
-  frame' =
-      record {
-        lower = still.frame.lower;
-        mark = still.frame.mark;
-        control = still.frame.control;
-        cells = still.frame.cells;
-        words_are = below ∙ still.frame.words_are;
-        instance = still.frame.instance;
-        is = still.frame.is;
-        known = still.frame.known;
-        home = still.frame.home;
-        df = still.frame.df;
-        mark_is = still.frame.mark_is;
-        back = still.frame.back;
-        control_is = still.frame.control_is;
-        level_is = still.frame.level_is;
-        gives = still.frame.gives;
-        text = keeps.resumed (scopes_of tree) ((instance_at w part.instance).block) part.rest a s.stands.frame.text nameless;
-        shape = shape_on tree code texts w' lay p part outer (length still.frame.lower) still.frame.mark still.frame.control still.frame.cells still.frame.home still.frame.gives part'.rest (sym unmade ∙ sym (order.resumed (scopes_of tree) ((instance_at w part.instance).block) part.rest a s.stands.frame.text)) (expression_resumed (scopes_of tree) part.rest a) still.frame.shape;
-      }
-
-  light' : bound + 3 ≤ weight tree w' p
-  light' =
-      subst (λ (n : ℕ). bound + 3 ≤ n)
-      (weight_of tree w p q (part ∷ outer) s.at s.todo
-      ∙ sym (parts_weigh tree code texts w w' lay lay p (length core.below) stay part outer core s.stands s.around all_low)
-      ∙ sym (weight_of tree w' p q' (part' ∷ outer) (numbered_set w.processes p q q' s.at) refl)) s.light
-
   room' : length new.below + most_in tree w part ≤ bound
   room' = omega (arith, s.room, ap length below)
 
@@ -130,48 +96,105 @@ module _ (tree : PProgram) (code : Code) (texts : Texts) (fragments : FragmentsA
   pub top_is : new.registers.s ≡ length new.below + length slots
   top_is = omega (arith, there.is.top, slots_length (scopes_of tree) known (level_in tree w part) (frame new.registers) (length new.below) slots new.words there.words_are)
 
-  pub in_frame : size new ≤ stack_limit → PicturesBy tree code texts w' lay after
-  in_frame small =
-      goes_on tree code texts w lay img s.by p q s.at w' lay after q' refl able_is s.by.laid (arrays_unchanged (scopes_of tree) w w' lay img.rows refl s.by.arrays) (events_unchanged (scopes_of tree) w w' lay img.events refl s.by.events) (λ r other. alike_by w w' lay r refl) refl refl refl refl refl
-      (system_stays img p core new s.has same_stack q w s.at) able_p others
-      (living_of tree code texts w' lay after fragments p q' part' outer bound new new (record {
-        todo = refl;
-        independent = s.independent;
-        without_task = s.without_task;
-        has = has_here;
-        free = ap (λ (r : Registers). r.critical) frame_is.is ∙ s.free;
-        idle = ap (λ (r : Registers). r.task) frame_is.is ∙ s.idle;
-        sees = ap (λ (r : Registers). place_at r.display 0) frame_is.is ∙ s.sees;
-        small = small;
-        begun = 0;
-        begins = steps_none (scopes_of tree) known code (text_in tree texts w part) (level_in tree w part) (most_in tree w part) bound pc slots new there few room';
-        frame = frame';
-        around = still.around;
-        counted = ap (λ (r : Registers). r.cells) frame_is.is ∙ s.stands.counted ∙ sym (ap length still.cells_are);
-        chained = subst (λ d. IsChained (scopes_of tree) w' lay part.instance (names_in tree w part) d) (sym (ap (λ (r : Registers). r.display) frame_is.is))
-            (chained_stays tree code texts w w' lay lay p (length core.below) stay part outer core s.stands s.around all_low core.registers.display s.stands.chained);
-        top = ap (λ (r : Registers). place_at r.display (level_in tree w part)) frame_is.is
-            ∙ top_stays tree code texts w w' lay lay p (length core.below) stay part outer core s.stands s.around all_low still;
-        segment_is = ap (λ (r : Registers). r.segment) frame_is.is ∙ s.stands.segment_is;
-        pc = pc;
-        slots = slots;
-        known = known;
-        known_are = known_of (scopes_of tree) w w' lay (part ∷ outer) (part' ∷ outer) refl (λ j own. own) part.instance known known_are;
-        at = there;
-        held = few;
-        comes = subst (λ (y : Yields). ComesTo (scopes_of tree) (context_in tree code texts w' part' y) (text_in tree texts w' part') (level_in tree w' part') (most_in tree w' part') part'.rest pc slots) (sym still.gives_are) comes;
-        room = room';
-        light = light';
-      }))
+  -- ---- the world after it
+
+  module _ (after_it : IsAfter (scopes_of tree) w w' p) where
+    facts : HasFacts w
+    facts = facts_of (scopes_of tree) w s.ok
+
+    laid : AreLaid w lay
+    laid = all_laid w lay facts s.by.laid
+
+    -- no instance changes
+    on : StandOn (scopes_of tree) w w' lay lay
+    on = stands_on (scopes_of tree) w w' lay lay p facts after_it (λ j st later. keeps_same (scopes_of tree) w w' lay lay j refl refl) (λ j f there. there)
+
+    abbrev stay : StayBelow (scopes_of tree) w w' lay lay p (length core.below)
+    stay = record { on = on; instances = λ i at x e own laid low. e; rows = λ i at x e own laid low. refl }
+
+    all_low : length core.below ≤ length core.below
+    all_low = omega arith
+
+    still : FrameStill tree code texts w w' lay lay p (length core.below) stay part outer core.below s.stands.frame.cells s.stands.frame.gives
+    still =
+        frame_still tree code texts w w' lay lay p (length core.below) stay part outer core.below s.stands.frame s.around
+        (omega (arith, frame_low tree code texts w lay p part outer core.below s.stands.frame))
+
+    abbrev frame' : Frame tree code texts w' lay p part' outer new.below
+    frame' =
+        record {
+          lower = still.frame.lower;
+          mark = still.frame.mark;
+          control = still.frame.control;
+          cells = still.frame.cells;
+          words_are = below ∙ still.frame.words_are;
+          instance = still.frame.instance;
+          is = still.frame.is;
+          known = still.frame.known;
+          home = still.frame.home;
+          df = still.frame.df;
+          mark_is = still.frame.mark_is;
+          back = still.frame.back;
+          control_is = still.frame.control_is;
+          level_is = still.frame.level_is;
+          gives = still.frame.gives;
+          text = keeps.resumed (scopes_of tree) ((instance_at w part.instance).block) part.rest a s.stands.frame.text nameless;
+          shape = shape_on tree code texts w' lay p part outer (length still.frame.lower) still.frame.mark still.frame.control still.frame.cells still.frame.home still.frame.gives part'.rest (sym unmade ∙ sym (order.resumed (scopes_of tree) ((instance_at w part.instance).block) part.rest a s.stands.frame.text)) (expression_resumed (scopes_of tree) part.rest a) still.frame.shape;
+        }
+
+    light' : bound + 3 ≤ weight tree w' p
+    light' =
+        subst (λ (n : ℕ). bound + 3 ≤ n)
+        (weight_of tree w p q (part ∷ outer) s.at s.todo
+        ∙ sym (parts_weigh tree code texts w w' lay lay p (length core.below) stay laid part outer core s.stands s.around all_low)
+        ∙ sym (weight_of tree w' p q' (part' ∷ outer) (numbered_set w.processes p q q' s.at) refl)) s.light
+
+    pub in_frame : size new ≤ stack_limit → PicturesBy tree code texts w' lay after
+    in_frame small =
+        goes_on tree code texts w lay img s.by p q s.at w' lay after q' refl able_is s.by.laid (arrays_unchanged (scopes_of tree) w w' lay img.rows refl s.by.arrays) (events_unchanged (scopes_of tree) w w' lay img.events refl s.by.events) (λ r other. alike_by (scopes_of tree) w w' lay r (leaves_alone (scopes_of tree) w w' lay lay p facts after_it (λ j st later. keeps_same (scopes_of tree) w w' lay lay j refl refl) (λ j f there. there) laid (dependent_but w.processes p q q' s.at refl (λ e. e)) r other) refl) refl refl refl refl refl
+        (system_stays img p core new s.has same_stack q w s.at) able_p others
+        (living_of tree code texts w' lay after after_it.climb (all_laid w' lay after_it.climb.facts s.by.laid) fragments p q' part' outer bound new new (record {
+          todo = refl;
+          has = has_here;
+          critical = subst (λ (r : Registers). CriticalIs lay q.critical r.critical) (sym frame_is.is) s.critical;
+          task = subst (λ (r : Registers). TaskIs (scopes_of tree) w' lay q.task r.task) (sym frame_is.is)
+              (task_stays (scopes_of tree) w w' lay lay (λ j. events_same w w' j refl) (λ j f laid. laid) q.task core.registers.task s.task);
+          sees = ap (λ (r : Registers). place_at r.display 0) frame_is.is ∙ s.sees;
+          small = small;
+          begun = 0;
+          begins = steps_none (scopes_of tree) known code (text_in tree texts w part) (level_in tree w part) (most_in tree w part) bound pc slots new there few room';
+          frame = frame';
+          around = still.around;
+          counted = ap (λ (r : Registers). r.cells) frame_is.is ∙ s.stands.counted ∙ sym (ap length still.cells_are);
+          chained = subst (λ d. IsChained (scopes_of tree) w' lay part.instance (names_in tree w part) d) (sym (ap (λ (r : Registers). r.display) frame_is.is))
+              (chained_stays tree code texts w w' lay lay p (length core.below) stay laid part outer core s.stands s.around all_low core.registers.display s.stands.chained);
+          top = ap (λ (r : Registers). place_at r.display (level_in tree w part)) frame_is.is
+              ∙ top_stays tree code texts w w' lay lay p (length core.below) stay laid part outer core s.stands s.around all_low still;
+          segment_is = ap (λ (r : Registers). r.segment) frame_is.is ∙ s.stands.segment_is;
+          pc = pc;
+          slots = slots;
+          known = known;
+          known_are = known_stays tree code texts w w' lay lay p (length core.below) stay laid part outer core s.stands s.around all_low known known_are;
+          at = there;
+          held = few;
+          comes = subst (λ (y : Yields). ComesTo (scopes_of tree) (context_in tree code texts w' part' y) (text_in tree texts w' part') (level_in tree w' part') (most_in tree w' part') part'.rest pc slots) (sym still.gives_are) comes;
+          reaches = reaching.all refl;
+          room = room';
+          light = light';
+        }))
 
   pub does_in_frame : (action : Action) → plain code img p ≡ false → raw code img p ≡ effects.gives after → choice (scopes_of tree) w p ≡ record { action = action; world = w'; released = []; started = None } →
       (table code img p ≡ outcomes.gives after → operator_action code img p ≡ Some action) → Does tree code texts w img p
   does_in_frame action not_plain raw_is chosen acts = by_size (most_or_more new.registers.s stack_limit)
     where
+      after_so : MayAct (scopes_of tree) w p → IsAfter (scopes_of tree) w w' p
+      after_so may =
+          after_choice (scopes_of tree) w w' p q (facts_of (scopes_of tree) w s.ok) may s.at (ap (λ (c : Choice). c.world) chosen)
+
       by_size : (new.registers.s ≤ stack_limit) ⊎ (stack_limit < new.registers.s) → Does tree code texts w img p
       by_size (inl small) =
           let table_is : table code img p ≡ outcomes.gives after = gives_within code img after p new.registers raw_is has_here.registers small in
           gave after not_plain table_is (acts table_is ∙ ap (λ (c : Choice). Some c.action) (sym chosen))
-          (λ able_now. subst (λ (c : Choice). Pictures tree code texts c.world after) (sym chosen) (lay, in_frame (omega (arith, small, there.is.top))))
+          (λ may. subst (λ (c : Choice). Pictures tree code texts c.world after) (sym chosen) (lay, in_frame (after_so may) (omega (arith, small, there.is.top))))
       by_size (inr long) =
           stopped not_plain (limit_beyond code img after p new.registers raw_is has_here.registers long) (omega (arith, long, top_is, few, room', s.light))

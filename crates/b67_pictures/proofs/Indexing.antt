@@ -49,7 +49,8 @@ use Rattle.b67_rows.proofs.IndexRows.{with_one, index_gives, index_faults, index
 use Rattle.b67_rows.proofs.Described.{whole_array}
 use Rattle.b67_rows.proofs.Rows.{action_not_plain, fault_not_plain, action_is}
 use Rattle.b67_rows.proofs.Unmade.{makes, unmade}
-use Rattle.b67_frames.specs.Arrays.{Layout, row_length, HoldElements, row_copy, element_copy, IsRow, IsElement, HeldIs, IsOwn}
+use Rattle.b67_frames.specs.Arrays.{Layout, row_length, HoldElements, row_copy, element_copy, IsRow, IsElement, HeldIs}
+use Rattle.b67_frames.specs.Frames.{IsInReach}
 use Rattle.b67_frames.proofs.ElementRows.{array_read, RowFound, row_found}
 use Rattle.b67_frames.proofs.Subscripts.{index_below}
 use Rattle.b67_scenes.specs.Pictures.{Pictures}
@@ -110,7 +111,7 @@ module _ (tree : PProgram) (code : Code) (texts : Texts) (nested : AreNested (sc
     index_fails e raw_is =
         failed_by InvalidIndex (fault_not_plain code img p core s.has op next there InvalidIndex table_is) table_is
         (action_is code img p core s.has op next there (outcomes.faults InvalidIndex) table_is ∙ ap (λ (c : Choice). Some c.action) (sym fails_so))
-        (subst (λ (c : Choice). Pictures tree code texts c.world (failed img p InvalidIndex)) (sym fails_so) (lay, faulted tree code texts w lay img s.by p q s.at InvalidIndex))
+        (subst (λ (c : Choice). Pictures tree code texts c.world (failed img p InvalidIndex)) (sym fails_so) (lay, faulted tree code texts w lay img s.by p q s.at s.ok InvalidIndex))
       where
         table_is : table code img p ≡ outcomes.faults InvalidIndex
         table_is = faults_so code img p InvalidIndex raw_is
@@ -120,7 +121,7 @@ module _ (tree : PProgram) (code : Code) (texts : Texts) (nested : AreNested (sc
 
     -- one within them: the word of a descriptor comes in place of the two
     module _ (mother : Bool) (moved_subscript : ℤ) (d : Descriptor) (below : List Slot) (f : Finds tree code texts nested w lay img p q part outer bound core s mother moved_subscript d below)
-        (k : ℕ) (e : subscript_place ((use_of sc n).sort) h.cell ks z ≡ Some k) (held : Held) (word : Word) (held_is : HeldIs sc w lay (IsOwn (part ∷ outer)) part.instance held word)
+        (k : ℕ) (e : subscript_place ((use_of sc n).sort) h.cell ks z ≡ Some k) (held : Held) (word : Word) (held_is : HeldIs sc w lay (IsInReach w (part ∷ outer)) part.instance held word)
         (comes : ComesTo sc (context_in tree code texts w part s.stands.frame.gives) text level (most_in tree w part) (resume sc part.rest (place (element_of home (ks ++ k ∷ [])))) next (descriptor held ∷ below))
         (class_is : class_at op core.registers.place ≡ classes.Action) (raw_is : raw code img p ≡ effects.gives (with_core img p (with_one core word f.words next)))
         (acts : (after : Image) → as_action (letter_by (outcomes.gives after) (operator_letter op img core.registers)) ≡ Some Index) where
@@ -184,7 +185,7 @@ module _ (tree : PProgram) (code : Code) (texts : Texts) (nested : AreNested (sc
           let under : k < size_of l.first = index_below l.moved_subscript (size_of l.first) k e in
           let f : RowFound sc w lay img.rows h.array.kind h.cell h.allotted row_holds l.second l.mother k =
           row_found sc w lay img.rows h.array.kind h.cell h.allotted row_holds l.first l.second l.mother k l.bounds l.mother_is l.many under in
-          let held_is : IsRow sc w lay (IsOwn (part ∷ outer)) part.instance n (ks ++ k ∷ []) (row_copy sc w lay (size_of l.second) f.number) =
+          let held_is : IsRow sc w lay (IsInReach w (part ∷ outer)) part.instance n (ks ++ k ∷ []) (row_copy sc w lay (size_of l.second) f.number) =
           record {
             home = home;
             home_is = refl;
@@ -241,7 +242,7 @@ module _ (tree : PProgram) (code : Code) (texts : Texts) (nested : AreNested (sc
           (index_raw code img p core s.has next element_there
           ∙ index_faults img p core s.has l.finds.first l.finds.second l.finds.words l.finds.top l.moved_subscript last_array l.finds.is_whole l.finds.array_is next e)
       of_element_at (Some k) e =
-          let held_is : IsElement sc w lay (IsOwn (part ∷ outer)) home (ks ++ k ∷ []) kind (element_copy sc w lay k l.number) =
+          let held_is : IsElement sc w lay (IsInReach w (part ∷ outer)) home (ks ++ k ∷ []) kind (element_copy sc w lay k l.number) =
           record {
             own = h.own;
             declared = h.array;

@@ -39,8 +39,13 @@ use Rattle.b67_frames.proofs.Completing.{complete_of}
 use Rattle.b67_frames.proofs.LabelRoom.{label_room}
 use Rattle.b67_frames.proofs.Levels.{level_up}
 use Rattle.b67_frames.proofs.Linked.{begins_core}
-use Rattle.b67_frames.proofs.Lying.{IsParent, parents_in, part_own, owned_frame, asks_as_own}
+use Rattle.b67_frames.proofs.Lying.{owned_frame, asks_as_own}
 use Rattle.b67_frames.proofs.NamedArrays.{up_complete}
+use Rattle.b67_frames.proofs.StaticParents.{IsParent}
+use Rattle.algol_standing.specs.Worlds.{IsStanding, IsOwn}
+use Rattle.b67_scenes.proofs.Finding.{Found}
+use Rattle.b67_scenes.proofs.Led.{named_parent, named_seen, named_shown, scene_placed, part_there}
+use Rattle.b67_scenes.proofs.Sights.{Seen}
 use Rattle.b67_scenes.proofs.JumpCut.{Way, way}
 use Rattle.b67_scenes.proofs.Scene.{Scene}
 use Rattle.b67_scenes.proofs.Stage.{weight_of}
@@ -95,8 +100,18 @@ module _ (tree : PProgram) (code : Code) (texts : Texts) (lies : LiesNested tree
   pub own_part : is_evaluation part.purpose ≡ false
   own_part = asks_as_own tree code texts w lay p part outer core.below s.stands.frame (goes_to n) asks (λ e. e)
 
-  parent : IsParent tree code texts w lay p (part ∷ outer) part.instance up u
-  parent = parents_in tree code texts w lay p part outer core s.stands s.around part.instance (part_own tree code texts w lay p part outer core.below s.stands.frame) up u seen_there
+  parent : IsParent sc w lay part.instance up u
+  parent = named_parent tree code texts w lay img p q part outer bound core s n seen_there
+
+  pub label_stands : IsStanding w (ancestor w ((use_of (scopes_of tree) n).up) part.instance)
+  label_stands = parent.stands
+
+  -- its frame, in whatever stack
+  pub label_seen : Seen tree code texts w lay img p q part outer bound core s (ancestor w ((use_of (scopes_of tree) n).up) part.instance)
+  label_seen = named_seen tree code texts w lay img p q part outer bound core s n seen_there
+
+  abbrev found : Found tree code texts w lay img (ancestor w ((use_of (scopes_of tree) n).up) part.instance)
+  found = label_seen.found
 
   abbrev own_frame : Owned tree code texts w lay p part outer (length s.stands.frame.lower) s.stands.frame.mark s.stands.frame.control s.stands.frame.cells
   own_frame = owned_frame tree code texts w lay p part outer core.below s.stands.frame own_part
@@ -104,32 +119,16 @@ module _ (tree : PProgram) (code : Code) (texts : Texts) (lies : LiesNested tree
   -- it has made all: it is the part's own, which goes to a label, or lies around
   pub complete : IsComplete (scopes_of tree) w lay (ancestor w ((use_of (scopes_of tree) n).up) part.instance)
   complete =
-      up_complete tree code texts w lay p part outer core.below s.stands.frame s.around up
+      up_complete sc w lay part.instance up
       (inl (complete_of sc w lay p part.instance outer (length s.stands.frame.lower) s.stands.frame.mark s.stands.frame.control s.stands.frame.cells own_frame.framed
       (own_frame.making ∙ goes_unmade n part.rest asks)))
       parent.complete
 
-  -- ---- its frame
-
-  pub way_there : Way tree code texts closing w lay p (ancestor w ((use_of (scopes_of tree) n).up) part.instance) img.stacks (stack_of core) part outer core.below s.stands.frame
-  way_there =
-      way tree code texts closing w lay p i img.stacks (stack_of core) outer part core.below s.stands.frame s.around parent.own (begins_core img p core s.has) (omega (arith, s.small)) (reverse core.words) refl
-      (omega (arith, s.room, s.light, weight_of tree w p q (part ∷ outer) s.at s.todo))
-
-  abbrev pub at : ℕ
-  at = length way_there.frame.lower
-
-  abbrev pub owned : Owned tree code texts w lay p way_there.target way_there.parts (length way_there.frame.lower) way_there.frame.mark way_there.frame.control way_there.frame.cells
-  owned = owned_frame tree code texts w lay p way_there.target way_there.parts way_there.front way_there.frame way_there.owns
-
-  pub instance_there : owned.framed.instance ≡ instance_at w (ancestor w ((use_of (scopes_of tree) n).up) part.instance)
-  instance_there = sym (ap or_no_instance owned.framed.is) ∙ ap (instance_at w) way_there.instance_is
-
-  laid_there : numbered lay.places i ≡ Some (place p at)
-  laid_there = ap (numbered lay.places) (sym way_there.instance_is) ∙ owned.framed.laid
+  instance_found : found.lies.owned.framed.instance ≡ instance_at w (ancestor w ((use_of (scopes_of tree) n).up) part.instance)
+  instance_found = sym (ap or_no_instance found.lies.owned.framed.is) ∙ ap (instance_at w) found.lies.instance_is
 
   pub known : (instance_at w (ancestor w ((use_of (scopes_of tree) n).up) part.instance)).block < length (scopes_of tree).blocks
-  known = subst (λ (x : Instance). x.block < length sc.blocks) instance_there owned.framed.known
+  known = subst (λ (x : Instance). x.block < length sc.blocks) instance_found found.lies.owned.framed.known
 
   -- ---- its level
 
@@ -144,14 +143,11 @@ module _ (tree : PProgram) (code : Code) (texts : Texts) (lies : LiesNested tree
       omega (
         arith,
         level_told,
-        level_up tree code texts w lay p part outer core.below s.stands.frame s.around up part.instance (part_own tree code texts w lay p part outer core.below s.stands.frame) high,
+        level_up sc w lay (scene_placed tree code texts w lay img p q part outer bound core s) up part.instance (part_there tree code texts w lay img p q part outer bound core s) high,
       )
 
-  level_back : told.target ≡ names - up
-  level_back = omega (arith, level_told)
-
-  pub shown_there : display_at core.registers told.target ≡ Some (place p (length way_there.frame.lower))
-  shown_there = ap (display_at core.registers) level_back ∙ s.stands.chained up high ∙ laid_there
+  pub shown_at : display_at core.registers told.target ≡ Some (place label_seen.found.number (length label_seen.found.lies.frame.lower))
+  shown_at = named_shown tree code texts w lay img p q part outer bound core s n seen_there told.target level_told label_seen
 
   -- ---- the branch for the label
 
@@ -174,16 +170,44 @@ module _ (tree : PProgram) (code : Code) (texts : Texts) (lies : LiesNested tree
       (segment_short code.segments (segment_of sc.blocks j) text.segment (recursion_from_All (λ (o : Segment). length o.words ≤ segment_limit) code.segments short) text.there) in
       omega (arith, told.label.entry_is, within)
 
-  -- ---- the statements after it
+  -- ---- where it is one of the process's own
 
-  items_there : ItemsStand tree code texts j
-  items_there = subst (λ (x : Instance). ItemsStand tree code texts x.block) instance_there owned.items
+  module _ (own : IsOwn (part ∷ outer) (ancestor w ((use_of (scopes_of tree) n).up) part.instance)) where
+    -- ---- its frame
 
-  room : stmts_depth b.stmts + 1 ≤ most_around tree j
-  room = label_room tree named lies.nested j known n.name label_there.label label_there.stands
+    pub way_there : Way tree code texts closing w lay p (ancestor w ((use_of (scopes_of tree) n).up) part.instance) img.stacks (stack_of core) part outer core.below s.stands.frame
+    way_there =
+        way tree code texts closing w lay p i img.stacks (stack_of core) outer part core.below s.stands.frame s.around own (begins_core img p core s.has) (omega (arith, s.small)) (reverse core.words) refl
+        (omega (arith, s.room, s.light, weight_of tree w p q (part ∷ outer) s.at s.todo))
 
-  pub comes_there : ComesTo (scopes_of tree) (context_of code texts (scopes_of tree) j) (texts.placed (segment_of (scopes_of tree).blocks j)) (level_of (block_numbered (scopes_of tree).blocks j)) (most_around tree j)
-      (settle_items (scopes_of tree) (items_from (block_numbered (scopes_of tree).blocks j) n.name)) told.entry []
-  comes_there =
-      subst (λ (k : ℕ). ComesTo sc (context_of code texts sc j) (texts.placed (segment_of sc.blocks j)) (level_of b) (most_around tree j) (settle_items sc (items_from b n.name)) k []) (sym told.label.entry_is)
-      (jump sc (context_of code texts sc j) (texts.placed (segment_of sc.blocks j)) (level_of b) (most_around tree j) b n.name told.label.number items_there.0 items_there.1 label_there (omega (arith, room)) (omega (arith, room)))
+    abbrev pub at : ℕ
+    at = length way_there.frame.lower
+
+    abbrev pub owned : Owned tree code texts w lay p way_there.target way_there.parts (length way_there.frame.lower) way_there.frame.mark way_there.frame.control way_there.frame.cells
+    owned = owned_frame tree code texts w lay p way_there.target way_there.parts way_there.front way_there.frame way_there.owns
+
+    pub instance_there : owned.framed.instance ≡ instance_at w (ancestor w ((use_of (scopes_of tree) n).up) part.instance)
+    instance_there = sym (ap or_no_instance owned.framed.is) ∙ ap (instance_at w) way_there.instance_is
+
+    laid_there : numbered lay.places i ≡ Some (place p at)
+    laid_there = ap (numbered lay.places) (sym way_there.instance_is) ∙ owned.framed.laid
+
+    level_back : told.target ≡ names - up
+    level_back = omega (arith, level_told)
+
+    pub shown_there : display_at core.registers told.target ≡ Some (place p (length way_there.frame.lower))
+    shown_there = ap (display_at core.registers) level_back ∙ s.stands.chained up high ∙ laid_there
+
+    -- ---- the statements after it
+
+    items_there : ItemsStand tree code texts j
+    items_there = subst (λ (x : Instance). ItemsStand tree code texts x.block) instance_there owned.items
+
+    room : stmts_depth b.stmts + 1 ≤ most_around tree j
+    room = label_room tree named lies.nested j known n.name label_there.label label_there.stands
+
+    pub comes_there : ComesTo (scopes_of tree) (context_of code texts (scopes_of tree) j) (texts.placed (segment_of (scopes_of tree).blocks j)) (level_of (block_numbered (scopes_of tree).blocks j)) (most_around tree j)
+        (settle_items (scopes_of tree) (items_from (block_numbered (scopes_of tree).blocks j) n.name)) told.entry []
+    comes_there =
+        subst (λ (k : ℕ). ComesTo sc (context_of code texts sc j) (texts.placed (segment_of sc.blocks j)) (level_of b) (most_around tree j) (settle_items sc (items_from b n.name)) k []) (sym told.label.entry_is)
+        (jump sc (context_of code texts sc j) (texts.placed (segment_of sc.blocks j)) (level_of b) (most_around tree j) b n.name told.label.number items_there.0 items_there.1 label_there (omega (arith, room)) (omega (arith, room)))

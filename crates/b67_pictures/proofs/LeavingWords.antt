@@ -34,9 +34,12 @@ use Rattle.b67_rows.proofs.LeaveRow.{Leaves, given_words}
 use Rattle.b67_frames.specs.Arrays.{Layout}
 use Rattle.b67_frames.specs.Frames.{Waits}
 use Rattle.b67_frames.proofs.Hanging.{Hangs, hangs}
-use Rattle.b67_frames.proofs.Linked.{Begins_with, begins_core}
+use Rattle.b67_frames.proofs.Linked.{Linked, Begins_with, begins_core}
+use Rattle.b67_frames.proofs.Facts.{facts_of}
+use Rattle.b67_frames.proofs.Lying.{part_stands}
+use Rattle.algol_standing.specs.Worlds.{IsStanding}
+use Rattle.b67_pictures.proofs.ParentPlaces.{standing_linked}
 use Rattle.b67_scenes.proofs.FrameBelow as under
-use Rattle.b67_scenes.proofs.Independent.{none_critical}
 use Rattle.b67_scenes.proofs.Scene.{Scene, frame_is}
 use Rattle.b67_scenes.proofs.Staying.{level_in, most_in}
 use Rattle.b67_pictures.proofs.Indexing.{more_known}
@@ -102,9 +105,15 @@ module _ (tree : PProgram) (code : Code) (texts : Texts) (w : World) (lay : Layo
 
   -- ---- the frames
 
+  pub next_stands : IsStanding w next.instance
+  next_stands = part_stands tree code texts w lay p (facts_of sc w s.ok) next parts u.below u.frame s.around.1
+
+  pub next_linked : Linked sc w lay img.stacks next.instance
+  next_linked = standing_linked tree code texts w lay img s.by s.ok next.instance next_stands
+
   -- that of the part around, which may be lent
-  pub hung : Hangs tree code texts w lay p img.stacks next parts u.below u.frame s.around.1 begins_below
-  hung = hangs tree code texts w lay p img.stacks next parts u.below u.frame s.around.1 begins_below
+  pub hung : Hangs tree code texts w lay p img.stacks next parts u.below u.frame begins_below next_linked
+  hung = hangs tree code texts w lay p img.stacks next parts u.below u.frame begins_below next_linked
 
   abbrev pub b : Below
   b = record { mark = newest home (length u.below) u.slots; frame = home; control = u.back }
@@ -137,7 +146,6 @@ module _ (tree : PProgram) (code : Code) (texts : Texts) (w : World) (lay : Layo
           closed = closed;
           left_to = subst (λ (n : ℕ). seen img.stacks (left_to (place n f')) ≡ Ok b) (sym s.has.own) (subst (λ (n : ℕ). seen img.stacks (left_to (place p n)) ≡ Ok b) same_f left_there);
           rebuilt = subst (λ (n : ℕ). seen img.stacks (rebuilt (place n home) u.back.caller_level) ≡ Ok display) (sym s.has.own) rebuilt_there;
-          free = none_critical tree code texts w lay img s.by;
         }
 
     pub rows_are : leaves_so.rows ≡ rows

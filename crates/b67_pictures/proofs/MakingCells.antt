@@ -8,13 +8,15 @@ use Rattle.algol_tree.specs.Plain.{PProgram}
 use Rattle.algol_tree.specs.Scopes.{Scopes, scopes_of}
 use Rattle.algol_meaning.specs.Critical.{is_evaluation}
 use Rattle.algol_meaning.specs.Rest.{done}
-use Rattle.algol_meaning.specs.World.{NamedCell, Process, Part, lives, World, instance_at}
+use Rattle.algol_meaning.specs.World.{NamedCell, Process, Part, lives, World, instance_at, or_no_instance, Instance}
 use Rattle.algol_meaning.specs.Actions.{Action}
 use Rattle.algol_meaning.specs.Asks.{resume}
 use Rattle.algol_meaning.specs.Choice.{Choice, choice}
 use Rattle.algol_paths.specs.Arrays.{Made, all_to_make, all_left_to_make}
 use Rattle.algol_paths.specs.Laws.{RestsKeepToTheirText, AllIsMadeInOrder}
 use Rattle.algol_paths.specs.Segments.{segment_of}
+use Rattle.algol_standing.specs.Worlds.{IsStanding, IsAmong}
+use Rattle.algol_standing.specs.Lows.{IsLow, IsMaking}
 use Rattle.b67_word.specs.declared.Place.{Place}
 use Rattle.b67_word.specs.Word.{Word}
 use Rattle.b67_control.specs.Display.{place_at}
@@ -32,6 +34,8 @@ use Rattle.b67_table.specs.Limits.{most_cells}
 use Rattle.b67_table.specs.Outcome as outcomes
 use Rattle.b67_table.specs.Private.{frame}
 use Rattle.b67_table.specs.Table.{table, raw, plain, operator_at}
+use Rattle.b67_table.specs.Chains.{place}
+use Rattle.b67_templates.specs.Cells.{made_base}
 use Rattle.b67_templates.specs.Code.{in_routine}
 use Rattle.b67_templates.specs.Fragments.{Has}
 use Rattle.b67_templates.specs.Programs.{Texts, context_of}
@@ -47,22 +51,35 @@ use Rattle.b67_faithful.proofs.Choices.{length_set_numbered}
 use Rattle.b67_fitting.specs.Nested.{AreNested}
 use Rattle.b67_rows.proofs.Cored.{has_now, others_have, system_stays}
 use Rattle.b67_rows.proofs.IntrinsicRows.{enter_class}
-use Rattle.b67_rows.proofs.Numbers.{most_or_more}
+use Rattle.b67_rows.proofs.Numbers.{same_or_not, most_or_more}
 use Rattle.b67_rows.proofs.Rows.{action_not_plain, action_is}
 use Rattle.b67_frames.specs.Arrays.{Allotted, Layout, AreMade, ArraysAre}
 use Rattle.b67_frames.specs.Events.{EventsAre}
-use Rattle.b67_frames.specs.Frames.{most_around, IsChained, Frame, run_level}
+use Rattle.b67_frames.specs.Frames.{most_around, IsChained, Frame, Owned, run_level}
+use Rattle.b67_frames.proofs.Completing.{made_many}
+use Rattle.b67_frames.proofs.Facts.{HasFacts, facts_of}
+use Rattle.b67_frames.proofs.Knowing.{KeepsArrays, keeps_same}
+use Rattle.b67_frames.proofs.Lying.{below_frame}
 use Rattle.b67_frames.proofs.MakingRow.{with_descriptors}
+use Rattle.b67_frames.proofs.Onward.{StandOn}
 use Rattle.b67_scenes.specs.Pictures.{Living, Pictures, PicturesBy}
+use Rattle.b67_scenes.specs.Reaches as reaching
+use Rattle.b67_scenes.specs.Reaches.{words_from_entry}
 use Rattle.b67_scenes.specs.States.{StateIs}
+use Rattle.b67_scenes.proofs.Ancestors.{all_laid}
 use Rattle.b67_scenes.proofs.Calling.{IsEntered}
 use Rattle.b67_scenes.proofs.Homes.{operator_there}
+use Rattle.b67_scenes.proofs.Kept.{AreAlike}
 use Rattle.b67_scenes.proofs.Landing.{living_of}
 use Rattle.b67_scenes.proofs.MakingFrame as frames
 use Rattle.b67_scenes.proofs.Scene.{Scene}
+use Rattle.b67_scenes.proofs.StoringFrames.{changed_at, others_at}
+use Rattle.b67_scenes.proofs.Tasks.{task_stays}
 use Rattle.b67_scenes.proofs.Stage.{gives_within, limit_beyond, goes_on}
 use Rattle.b67_scenes.proofs.Staying.{text_in, level_in, context_in, most_in, names_in}
-use Rattle.b67_pictures.specs.Acting.{Does, gave, stopped}
+use Rattle.b67_pictures.specs.Acting.{MayAct, Does, gave, stopped}
+use Rattle.b67_pictures.proofs.Alone.{IsAfter, dependent_but, after_choice, stands_on, leaves_alone}
+use Rattle.b67_pictures.proofs.GrownCells.{made_no_reference, keeps_grown}
 
 pub none_left : (sc : Scopes) (known : List Known) (level home base : ℕ) (ws : List Word) → SlotsAre sc known level home base [] ws → ws ≡ []
 none_left sc known level home base [] are = refl
@@ -74,7 +91,7 @@ module _ (tree : PProgram) (code : Code) (texts : Texts) (nested : AreNested (sc
     (name : Intrinsic) (slots : List Slot) (lies : s.stands.slots ≡ slots) (arguments : List Word) (c : IsEntered tree code texts w lay img p q part outer bound core s name slots [] lies arguments)
     (made next : ℕ) (stands : Has (text_in tree texts w part) (level_in tree w part) s.stands.pc (ops.Plain kinds.Entr) made) (push : Has (text_in tree texts w part) (level_in tree w part) made (ops.Plain kinds.Push) next)
     (comes : ComesTo (scopes_of tree) (context_in tree code texts w part s.stands.frame.gives) (text_in tree texts w part) (level_in tree w part) (most_in tree w part) (resume (scopes_of tree) part.rest done) next [])
-    (some_room : length ms ≤ most_in tree w part) (rows : Rows) (events : List Event) where
+    (some : 1 ≤ length ms) (some_room : length ms ≤ most_in tree w part) (rows : Rows) (events : List Event) where
   abbrev sc : Scopes
   sc = scopes_of tree
 
@@ -110,7 +127,7 @@ module _ (tree : PProgram) (code : Code) (texts : Texts) (nested : AreNested (sc
   floor_is = omega (arith, c.calls.called.mark_at, ap length none)
 
   descriptors_many : length descriptors ≡ n
-  descriptors_many = frames.descriptors_many tree code texts nested keeps order w lay img p q part outer bound core s owns ms makes new_cells allotted descriptors added
+  descriptors_many = (made_many ms new_cells allotted descriptors added).words_many
 
   block_is : (instance_at w part.instance).block ≡ (instance_at w' part.instance).block
   block_is = frames.block_is tree code texts nested keeps order w lay img p q part outer bound core s owns ms makes new_cells allotted descriptors added
@@ -173,59 +190,127 @@ module _ (tree : PProgram) (code : Code) (texts : Texts) (nested : AreNested (sc
   below_is : g.core.below ≡ core.below ++ descriptors
   below_is = g.below ∙ ap (λ (ws : List Word). core.below ++ ws) (reverse-reverse descriptors)
 
-  abbrev frame' : Frame tree code texts w' lay' p part' outer g.core.below
-  frame' = frames.frame' tree code texts nested keeps order w lay img p q part outer bound core s owns ms makes new_cells allotted descriptors added g.core.below below_is
-
-  heavier : weight tree w' p ≡ weight tree w p + n
-  heavier = frames.heavier tree code texts nested keeps order w lay img p q part outer bound core s owns ms makes new_cells allotted descriptors added
-
   below_long : length g.core.below ≡ length core.below + n
   below_long = omega (arith, ap length below_is, length-append core.below descriptors, descriptors_many)
 
-  -- ---- the picture
+  -- ---- the world after it
 
-  living_now : size new ≤ stack_limit → Living tree code texts w' lay' after p q'
-  living_now small =
-      living_of tree code texts w' lay' after fragments p q' part' outer bound' new g.core (record {
-        todo = refl;
-        independent = s.independent;
-        without_task = s.without_task;
-        has = has_here;
-        free = s.free;
-        idle = s.idle;
-        sees = s.sees;
-        small = small;
-        begun = 1;
-        begins = g.steps;
-        frame = frame';
-        around = frames.around' tree code texts nested keeps order w lay img p q part outer bound core s owns ms makes new_cells allotted descriptors added;
-        counted = omega (arith, ap (λ (r : Registers). r.cells) g.registers, words_many, s.stands.counted, length-append s.stands.frame.cells descriptors, descriptors_many);
-        chained = subst (λ (d : List (Option Place)). IsChained sc w' lay' part.instance (names_in tree w' part') d) (sym (ap (λ (r : Registers). r.display) g.registers))
-            (subst (λ (j : ℕ). IsChained sc w' lay' part.instance (level_of (block_numbered sc.blocks j)) core.registers.display) block_is
-            (frames.chained tree code texts nested keeps order w lay img p q part outer bound core s owns ms makes new_cells allotted descriptors added));
-        top = ap (λ (r : Registers). place_at r.display (level_in tree w' part')) g.registers
-            ∙ ap (λ (j : ℕ). place_at core.registers.display (run_level (is_evaluation part.purpose) (level_of (block_numbered sc.blocks j)))) (sym block_is) ∙ s.stands.top;
-        segment_is = ap (λ (r : Registers). r.segment) g.registers ∙ s.stands.segment_is ∙ ap (λ (j : ℕ). segment_of sc.blocks j) block_is;
-        pc = next;
-        slots = [];
-        known = [];
-        known_are = tt;
-        at = subst (λ (j : ℕ). CoreAt sc [] code (texts.placed (segment_of sc.blocks j)) (run_level (is_evaluation part.purpose) (level_of (block_numbered sc.blocks j))) next [] g.core) block_is g.at;
-        held = omega arith;
-        comes = subst (λ (j : ℕ). ComesTo sc (in_routine s.stands.frame.gives (context_of code texts sc j)) (texts.placed (segment_of sc.blocks j)) (run_level (is_evaluation part.purpose) (level_of (block_numbered sc.blocks j))) (most_around tree j) (resume sc part.rest done) next []) block_is comes;
-        room = subst (λ (j : ℕ). length g.core.below + most_around tree j ≤ bound') block_is (omega (arith, s.room, below_long));
-        light = omega (arith, s.light, heavier);
-      })
+  abbrev own_frame : Owned tree code texts w lay p part outer (length s.stands.frame.lower) s.stands.frame.mark s.stands.frame.control s.stands.frame.cells
+  own_frame = frames.own_frame tree code texts nested keeps order w lay img p q part outer bound core s owns ms makes
+
+  facts : HasFacts w
+  facts = facts_of sc w s.ok
+
+  as_many : length lay'.places ≡ length w'.instances
+  as_many = s.by.laid ∙ sym (length_set_numbered w.instances part.instance _)
+
+  grown_at : instance_at w' part.instance ≡ record (instance_at w part.instance) { cells = (instance_at w part.instance).cells ++ new_cells }
+  grown_at =
+      ap or_no_instance (changed_at w part.instance own_frame.framed.instance own_frame.framed.is (own_frame.framed.instance.cells ++ new_cells))
+      ∙ ap (λ (o : Option Instance). record (or_no_instance o) { cells = (or_no_instance o).cells ++ new_cells }) (sym own_frame.framed.is)
+
+  each_keeps : (j : ℕ) → IsStanding w j → IsStanding w' j → KeepsArrays sc w w' lay lay' j
+  each_keeps j st later = by_number (same_or_not j part.instance)
+    where
+      by_number : (j ≡ part.instance) ⊎ (j ≢ part.instance) → KeepsArrays sc w w' lay lay' j
+      by_number (inl e) =
+          subst (λ (k : ℕ). KeepsArrays sc w w' lay lay' k) (sym e)
+          (keeps_grown sc w w' lay lay' part.instance new_cells allotted grown_at (frames.rows_here tree code texts nested keeps order w lay img p q part outer bound core s owns ms makes new_cells allotted descriptors added)
+          (made_no_reference ms new_cells allotted descriptors added))
+      by_number (inr apart) =
+          keeps_same sc w w' lay lay' j (ap or_no_instance (others_at w part.instance own_frame.framed.instance own_frame.framed.is (own_frame.framed.instance.cells ++ new_cells) j apart))
+          (frames.rows_elsewhere tree code texts nested keeps order w lay img p q part outer bound core s owns ms makes new_cells allotted descriptors added j apart)
+
+  -- all that lies below what is made lies below the floor
+  below_made : length s.stands.frame.lower + words_from_entry sc w' lay' part.instance ≤ length core.below
+  below_made =
+      omega (
+        arith,
+        ap (λ (k : ℕ). made_base sc (block_numbered sc.blocks k)) (sym block_is),
+        ap (λ (o : Option Instance). made_base sc (block_numbered sc.blocks ((or_no_instance o).block))) own_frame.framed.is,
+        frames.cells_many tree code texts nested keeps order w lay img p q part outer bound core s owns ms makes,
+        below_frame core.below s.stands.frame.lower s.stands.frame.mark s.stands.frame.control s.stands.frame.cells s.stands.frame.words_are,
+      )
+
+  module _ (after_it : IsAfter (scopes_of tree) w w' p) (low_now : IsLow (scopes_of tree) w' part.instance) where
+    on : StandOn sc w w' lay lay'
+    on = stands_on sc w w' lay lay' p facts after_it each_keeps (λ j f there. there)
+
+    alike : (m : ℕ) → m ≢ p → AreAlike sc w w' lay lay' m
+    alike m other =
+        frames.alike tree code texts nested keeps order w lay img p q part outer bound core s owns ms makes new_cells allotted descriptors added on m other
+        (leaves_alone sc w w' lay lay' p facts after_it each_keeps (λ j f there. there) (all_laid w lay facts s.by.laid) (dependent_but w.processes p q q' s.at refl (λ alive. alive)) m other)
+
+    abbrev frame' : Frame tree code texts w' lay' p part' outer g.core.below
+    frame' = frames.frame' tree code texts nested keeps order w lay img p q part outer bound core s owns ms makes new_cells allotted descriptors added on g.core.below below_is
+
+    heavier : weight tree w' p ≡ weight tree w p + n
+    heavier = frames.heavier tree code texts nested keeps order w lay img p q part outer bound core s owns ms makes new_cells allotted descriptors added on
+
+    living_now : size new ≤ stack_limit → Living tree code texts w' lay' after p q'
+    living_now small =
+        living_of tree code texts w' lay' after after_it.climb (all_laid w' lay' after_it.climb.facts as_many) fragments p q' part' outer bound' new g.core (record {
+          todo = refl;
+          has = has_here;
+          critical = s.critical;
+          task = task_stays sc w w' lay lay' (frames.events_stay tree code texts nested keeps order w lay img p q part outer bound core s owns ms makes new_cells allotted descriptors added on) (λ j f laid. laid) q.task
+              core.registers.task s.task;
+          sees = s.sees;
+          small = small;
+          begun = 1;
+          begins = g.steps;
+          frame = frame';
+          around = frames.around' tree code texts nested keeps order w lay img p q part outer bound core s owns ms makes new_cells allotted descriptors added on;
+          counted = omega (arith, ap (λ (r : Registers). r.cells) g.registers, words_many, s.stands.counted, length-append s.stands.frame.cells descriptors, descriptors_many);
+          chained = subst (λ (d : List (Option Place)). IsChained sc w' lay' part.instance (names_in tree w' part') d) (sym (ap (λ (r : Registers). r.display) g.registers))
+              (subst (λ (j : ℕ). IsChained sc w' lay' part.instance (level_of (block_numbered sc.blocks j)) core.registers.display) block_is
+              (frames.chained tree code texts nested keeps order w lay img p q part outer bound core s owns ms makes new_cells allotted descriptors added on));
+          top = ap (λ (r : Registers). place_at r.display (level_in tree w' part')) g.registers
+              ∙ ap (λ (j : ℕ). place_at core.registers.display (run_level (is_evaluation part.purpose) (level_of (block_numbered sc.blocks j)))) (sym block_is) ∙ s.stands.top;
+          segment_is = ap (λ (r : Registers). r.segment) g.registers ∙ s.stands.segment_is ∙ ap (λ (j : ℕ). segment_of sc.blocks j) block_is;
+          pc = next;
+          slots = [];
+          known = [];
+          known_are = tt;
+          at = subst (λ (j : ℕ). CoreAt sc [] code (texts.placed (segment_of sc.blocks j)) (run_level (is_evaluation part.purpose) (level_of (block_numbered sc.blocks j))) next [] g.core) block_is g.at;
+          held = omega arith;
+          comes = subst (λ (j : ℕ). ComesTo sc (in_routine s.stands.frame.gives (context_of code texts sc j)) (texts.placed (segment_of sc.blocks j)) (run_level (is_evaluation part.purpose) (level_of (block_numbered sc.blocks j))) (most_around tree j) (resume sc part.rest done) next []) block_is comes;
+          reaches = reaching.low (length s.stands.frame.lower) owns own_frame.framed.laid below_made low_now;
+          room = subst (λ (j : ℕ). length g.core.below + most_around tree j ≤ bound') block_is (omega (arith, s.room, below_long));
+          light = omega (arith, s.light, heavier);
+        })
 
   -- where the rows and events are those of the world after it, an operator that leaves that does it
   module _ (arrays_now : ArraysAre (scopes_of tree) w' lay' rows) (events_now : EventsAre (scopes_of tree) w' lay' events) (action : Action) (acts : as_action (Some (letter_of name)) ≡ Some action)
       (raw_is : raw code img p ≡ effects.gives (with_core (record img { rows = rows; events = events }) p (with_descriptors core descriptors c.calls.m.df made)))
       (chosen : choice (scopes_of tree) w p ≡ record { action = action; world = w'; released = []; started = None }) where
-    pictured : size new ≤ stack_limit → PicturesBy tree code texts w' lay' after
-    pictured small =
-        goes_on tree code texts w lay img s.by p q s.at w' lay' after q' refl able_is (s.by.laid ∙ sym (length_set_numbered w.instances part.instance _)) arrays_now events_now
-        (frames.alike tree code texts nested keeps order w lay img p q part outer bound core s owns ms makes new_cells allotted descriptors added)
-        s.by.output refl refl refl refl (system_stays img p core new s.has refl q w s.at) able_p others (living_now small)
+    making_it : IsMaking w part.instance
+    making_it =
+        record {
+          number = p;
+          process = q;
+          part = part;
+          is = s.at;
+          among = subst (λ (parts : List Part). IsAmong parts part) (sym s.todo) (inl refl);
+          owns = owns;
+          instance_is = refl;
+          makes = λ none_made. some_made (sym makes ∙ none_made);
+        }
+      where
+        some_made : ms ++ all_left_to_make part.rest ≡ [] → ⊥
+        some_made none_made = absurd (omega (arith, some, ap length none_made, length-append ms (all_left_to_make part.rest)))
+
+    after_so : MayAct sc w p → IsAfter sc w w' p
+    after_so may = after_choice sc w w' p q facts may s.at (ap (λ (o : Choice). o.world) chosen)
+
+    low_so : MayAct sc w p → IsLow sc w' part.instance
+    low_so may = subst (λ (o : Choice). IsLow sc o.world part.instance) chosen (may.making part.instance making_it)
+
+    pictured : MayAct sc w p → size new ≤ stack_limit → PicturesBy tree code texts w' lay' after
+    pictured may small =
+        goes_on tree code texts w lay img s.by p q s.at w' lay' after q' refl able_is as_many arrays_now events_now
+        (alike (after_so may) (low_so may))
+        s.by.output refl refl refl refl (system_stays img p core new s.has refl q w s.at) able_p others (living_now (after_so may) (low_so may) small)
 
     pub cells_are_made : Does tree code texts w img p
     cells_are_made = by_size (most_or_more new.registers.s stack_limit)
@@ -238,6 +323,6 @@ module _ (tree : PProgram) (code : Code) (texts : Texts) (nested : AreNested (sc
             let table_is : table code img p ≡ outcomes.gives after = gives_within code img after p new.registers raw_is has_here.registers small in
             gave after not_plain table_is
             (action_is code img p core s.has (ops.Plain kinds.Entr) made there (outcomes.gives after) table_is ∙ ap as_action c.action ∙ acts ∙ ap (λ (o : Choice). Some o.action) (sym chosen))
-            (λ able_now. subst (λ (o : Choice). Pictures tree code texts o.world after) (sym chosen) (lay', pictured (omega (arith, small, new_core.top))))
+            (λ may. subst (λ (o : Choice). Pictures tree code texts o.world after) (sym chosen) (lay', pictured may (omega (arith, small, new_core.top))))
         by_size (inr long) =
             stopped not_plain (limit_beyond code img after p new.registers raw_is has_here.registers long) (omega (arith, long, new_core.top, words_many, some_room, s.room, s.light))

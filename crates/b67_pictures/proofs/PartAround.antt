@@ -34,14 +34,17 @@ use Rattle.b67_rows.proofs.LeaveRow.{without_frame}
 use Rattle.b67_rows.proofs.Parting.{IsSameBut}
 use Rattle.b67_rows.proofs.Spelled.{HasText, HaveTexts}
 use Rattle.b67_rows.proofs.Unmade.{makes, unmade}
-use Rattle.b67_frames.specs.Arrays.{Layout, AreKnown, IsOwn}
-use Rattle.b67_frames.specs.Frames.{IsChained, most_around, Frame, Waits, run_level}
+use Rattle.b67_frames.specs.Arrays.{Layout, AreKnown}
+use Rattle.b67_frames.specs.Frames.{IsInReach, IsChained, most_around, Frame, Waits, run_level}
 use Rattle.b67_frames.proofs.Expressions.{expression_resumed}
-use Rattle.b67_frames.proofs.Knowing.{known_of}
 use Rattle.b67_frames.proofs.Lying.{StayBelow, known_after, shape_on}
 use Rattle.b67_scenes.specs.Pictures.{Living}
+use Rattle.b67_scenes.specs.Reaches as reaching
+use Rattle.b67_scenes.proofs.Ancestors.{all_laid}
 use Rattle.b67_scenes.proofs.Landing.{steps_none, living_of}
+use Rattle.b67_scenes.proofs.Paths.{CanClimb}
 use Rattle.b67_scenes.proofs.Scene.{Scene}
+use Rattle.b67_scenes.proofs.Tasks.{task_stays, events_left}
 use Rattle.b67_scenes.proofs.Stage.{weight_of}
 use Rattle.b67_scenes.proofs.Staying.{text_in, level_in, most_in, FrameStill, frame_still, still_low, same_weight, context_in, names_in}
 use Rattle.b67_scenes.proofs.Stuffed.{known_both}
@@ -52,7 +55,7 @@ module _ (tree : PProgram) (code : Code) (texts : Texts) (stand : HaveTexts tree
     (w : World) (lay : Layout) (img : Image) (p : ℕ) (q : Process) (part next : Part) (parts : List Part) (bound : ℕ) (core : Core)
     (s : Scene tree code texts w lay img p q part (next ∷ parts) bound core)
     (r : Answer) (given : Option Word) (g : IsGiven s.stands.frame.gives r given) (gives_it : Gives s.stands.frame.gives r)
-    (known_there : AreKnown (scopes_of tree) w lay (IsOwn (next ∷ parts)) next.instance (known_given s.stands.frame.gives r given)) where
+    (known_there : AreKnown (scopes_of tree) w lay (IsInReach w (next ∷ parts)) next.instance (known_given s.stands.frame.gives r given)) where
   abbrev sc : Scopes
   sc = scopes_of tree
 
@@ -108,7 +111,7 @@ module _ (tree : PProgram) (code : Code) (texts : Texts) (stand : HaveTexts tree
 
   -- ---- in a world in which the instances are what they were, but for what was left
 
-  module _ (w' : World) (at_now : numbered w'.processes p ≡ Some q') (stay : StayBelow w w' lay lay p f) (same_now : (j : ℕ) → IsSameBut (instance_at w' j) (instance_at w j))
+  module _ (w' : World) (climb : CanClimb (scopes_of tree) w') (as_many : length lay.places ≡ length w'.instances) (at_now : numbered w'.processes p ≡ Some q') (stay : StayBelow (scopes_of tree) w w' lay lay p f) (same_now : (j : ℕ) → IsSameBut (instance_at w' j) (instance_at w j))
       (same_up : (up j : ℕ) → ancestor w' up j ≡ ancestor w up j) (now : Image) (has_here : HasCore now p new) where
     still : FrameStill tree code texts w w' lay lay p f stay next parts u.below u.frame.cells u.frame.gives
     still = frame_still tree code texts w w' lay lay p f stay next parts u.below u.frame s.around.1 lowest
@@ -117,10 +120,10 @@ module _ (tree : PProgram) (code : Code) (texts : Texts) (stand : HaveTexts tree
     block_now = sym (same_now next.instance).block
 
     -- what is known of descriptors and references holds as it did
-    known_now : AreKnown sc w' lay (IsOwn (next ∷ parts)) next.instance held
+    known_now : AreKnown sc w' lay (IsInReach w' (next ∷ parts)) next.instance held
     known_now =
         known_after tree code texts w w' lay lay p f stay next parts u.below u.frame s.around.1 lowest held
-        (known_both sc w lay (next ∷ parts) next.instance (known_given s.stands.frame.gives r given) u.held known_there u.held_are)
+        (known_both sc w lay (IsInReach w (next ∷ parts)) next.instance (known_given s.stands.frame.gives r given) u.held known_there u.held_are)
 
     text : HasText code texts (segment_of sc.blocks ((instance_at w next.instance).block))
     text = stand ((instance_at w next.instance).block)
@@ -187,13 +190,11 @@ module _ (tree : PProgram) (code : Code) (texts : Texts) (stand : HaveTexts tree
 
     pub living_now : Living tree code texts w' lay now p q'
     living_now =
-        living_of tree code texts w' lay now fragments p q' part' parts bound' new new (record {
+        living_of tree code texts w' lay now climb (all_laid w' lay climb.facts as_many) fragments p q' part' parts bound' new new (record {
           todo = refl;
-          independent = s.independent;
-          without_task = s.without_task;
           has = has_here;
-          free = s.free;
-          idle = s.idle;
+          critical = s.critical;
+          task = task_stays sc w w' lay lay (events_left w w' same_now) (λ j f laid. laid) q.task core.registers.task s.task;
           sees = refl;
           small = smaller;
           begun = 0;
@@ -207,12 +208,13 @@ module _ (tree : PProgram) (code : Code) (texts : Texts) (stand : HaveTexts tree
           pc = u.pc;
           slots = slots;
           known = held;
-          known_are = known_of sc w' w' lay (next ∷ parts) (part' ∷ parts) refl (λ j own. own) next.instance held known_now;
+          known_are = known_now;
           at = subst (λ (j : ℕ). CoreAt sc held code (texts.placed (segment_of sc.blocks j)) (run_level (is_evaluation next.purpose) (level_of (block_numbered sc.blocks j))) u.pc slots new) block_now core_at;
           held = subst (λ (j : ℕ). length slots ≤ most_around tree j) block_now few_now;
           comes = subst (λ (y : Yields). ComesTo sc (context_in tree code texts w' part' y) (text_in tree texts w' part') (level_in tree w' part') (most_in tree w' part') part'.rest u.pc slots) (sym still.gives_are)
               (subst (λ (j : ℕ). ComesTo sc (in_routine u.frame.gives (context_of code texts sc j)) (texts.placed (segment_of sc.blocks j)) (run_level (is_evaluation next.purpose) (level_of (block_numbered sc.blocks j))) (most_around tree j) (resume sc next.rest r) u.pc slots) block_now
               (u.returns r gives_it));
+          reaches = reaching.all refl;
           room = subst (λ (j : ℕ). length u.below + most_around tree j ≤ bound') block_now (omega arith);
           light = light';
         })

@@ -6,7 +6,8 @@ use Rattle.algol_tree.specs.Plain.{PProgram}
 use Rattle.algol_tree.specs.Scopes.{Scopes, scopes_of}
 use Rattle.algol_tree.specs.declared.tree.Kind.{Kind}
 use Rattle.algol_meaning.specs.Value as cells
-use Rattle.algol_meaning.specs.Value.{Cell, reference}
+use Rattle.algol_meaning.specs.Value.{Cell, Reference, reference}
+use Rattle.b67_word.specs.declared.Place.{Place}
 use Rattle.b67_word.specs.Word.{Word}
 use Rattle.b67_control.specs.declared.Sirw.{Sirw}
 use Rattle.b67_store.specs.Store.{word_at}
@@ -46,10 +47,12 @@ use Rattle.b67_rows.proofs.Rows.{action_not_plain, action_is}
 use Rattle.b67_rows.proofs.Slotted.{Top, top_slot}
 use Rattle.b67_rows.proofs.Unmade.{makes, unmade}
 use Rattle.b67_rows.proofs.Words.{reference_read}
-use Rattle.b67_frames.specs.Arrays.{Layout, Denotes, named_from, IsOwn}
+use Rattle.b67_rows.proofs.Touching.{NearCell}
+use Rattle.b67_frames.specs.Arrays.{Layout, LeadsTo, Denotes, named_from}
+use Rattle.b67_frames.specs.Frames.{IsInReach}
 use Rattle.b67_scenes.proofs.ArrayPlaces.{array_index}
 use Rattle.b67_scenes.proofs.EventHomes.{cell_there, FormalEvent, formal_event_there}
-use Rattle.b67_scenes.proofs.FormalHomes.{FormalHome, formal_home, leads_so}
+use Rattle.b67_scenes.proofs.FormalHomes.{FormalHome, formal_home}
 use Rattle.b67_scenes.proofs.Homes.{operator_there}
 use Rattle.b67_scenes.proofs.NameHomes.{NameCellHome, NameStands, for_variable, for_actual, LeadsOn, leads_on, name_stands}
 use Rattle.b67_scenes.proofs.Scene.{Scene}
@@ -58,6 +61,22 @@ use Rattle.b67_scenes.proofs.Staying.{text_in, level_in, context_in, most_in}
 use Rattle.b67_pictures.specs.Acting.{Does}
 use Rattle.b67_pictures.proofs.Indexing.{more_known}
 use Rattle.b67_pictures.proofs.InFrame.{does_in_frame}
+
+-- a reference that leads to an array leads to it for each shape with which all agree that agree with the first
+leads_so : (sc : Scopes) (w : World) (lay : Layout) (Stand : ℕ → Type 0) (shape shape' : Shape) → ((a : Shape) → Agrees shape a → Agrees shape' a) → (r : Reference) (word : Word) →
+    LeadsTo sc w lay Stand shape r word → LeadsTo sc w lay Stand shape' r word
+leads_so sc w lay Stand shape shape' agree r word h =
+    record {
+      own = h.own;
+      declared = h.declared;
+      agrees = agree _ h.agrees;
+      cell = h.cell;
+      allotted = h.allotted;
+      array = h.array;
+      frame = h.frame;
+      laid = h.laid;
+      word_is = h.word_is;
+    }
 
 -- ---- what a process finds that stands at LODT
 
@@ -73,13 +92,14 @@ module _ (tree : PProgram) (code : Code) (texts : Texts) (nested : AreNested (sc
     pub given : Cell
     pub cell_is : cell_at w (named_from (scopes_of tree) w lay part.instance n) ≡ given
     pub word : Word
-    pub denotes : Denotes (scopes_of tree) w lay (IsOwn (part ∷ outer)) wanted given word
+    pub denotes : Denotes (scopes_of tree) w lay (IsInReach w (part ∷ outer)) wanted given word
     pub may_pass : IsPassed wanted given
     pub other : Sirw
     pub refers : as_sirw word ≡ Some other
-    pub at : ℕ
-    pub shown : display_at core.registers found.couple.level ≡ Some (place p at)
-    pub lies : word_at img.stacks (place p (at + found.couple.index)) ≡ Some word
+    pub at : Place
+    pub near : NearCell p img (record { frame = at; index = found.couple.index })
+    pub shown : display_at core.registers found.couple.level ≡ Some at
+    pub lies : word_at img.stacks (place at.stack (at.at + found.couple.index)) ≡ Some word
     pub top : Top (scopes_of tree) s.stands.held (level_in tree w part) (frame core.registers) (length core.below) (reference_slot found.couple) below core.words
     pub names : as_irw top.word ≡ Some (record { level = found.couple.level; index = found.couple.index })
 
@@ -99,17 +119,18 @@ module _ (tree : PProgram) (code : Code) (texts : Texts) (nested : AreNested (sc
       record {
         given = reference h.r;
         cell_is = h.cell_is;
-        word = h.word;
-        denotes = subst (λ (o : Wanted). Denotes (scopes_of tree) w lay (IsOwn (part ∷ outer)) o (reference h.r) h.word) (sym e)
-            (leads_so (scopes_of tree) w lay (part ∷ outer) (part ∷ outer) (λ j own. own) actual shape (λ b is. (is.0 ∙ agrees.0, is.1 ∙ agrees.1)) h.r h.word h.leads);
+        word = h.home.word;
+        denotes = subst (λ (o : Wanted). Denotes (scopes_of tree) w lay (IsInReach w (part ∷ outer)) o (reference h.r) h.home.word) (sym e)
+            (leads_so (scopes_of tree) w lay (IsInReach w (part ∷ outer)) actual shape (λ b is. (is.0 ∙ agrees.0, is.1 ∙ agrees.1)) h.r h.home.word h.leads);
         may_pass = subst (λ (o : Wanted). IsPassed o (reference h.r)) (sym e) tt;
-        other = record { stack = p; displacement = h.target.at; index = array_index tree code texts w lay img p q part outer bound core s h.r.instance h.leads.array.number };
+        other = record { stack = h.target.at.stack; displacement = h.target.at.at; index = array_index tree code texts w lay img p q part outer bound core s h.r.instance h.leads.array.number };
         refers = h.reads;
-        at = h.at;
-        shown = h.shown;
-        lies = h.lies;
+        at = h.home.at;
+        near = h.home.near;
+        shown = h.home.shown;
+        lies = h.home.lies;
         top = on_top;
-        names = ap as_irw on_top.slot_is ∙ reference_read found.couple h.fits.0 h.fits.1;
+        names = ap as_irw on_top.slot_is ∙ reference_read found.couple h.home.fits.0 h.home.fits.1;
       }
 
   -- an event
@@ -118,32 +139,34 @@ module _ (tree : PProgram) (code : Code) (texts : Texts) (nested : AreNested (sc
       record {
         given = reference h.r;
         cell_is = h.cell_is;
-        word = h.word;
-        denotes = subst (λ (o : Wanted). Denotes (scopes_of tree) w lay (IsOwn (part ∷ outer)) o (reference h.r) h.word) (sym e) h.leads;
+        word = h.home.word;
+        denotes = subst (λ (o : Wanted). Denotes (scopes_of tree) w lay (IsInReach w (part ∷ outer)) o (reference h.r) h.home.word) (sym e) h.leads;
         may_pass = subst (λ (o : Wanted). IsPassed o (reference h.r)) (sym e) tt;
-        other = record { stack = p; displacement = length h.lies.frame.lower; index = (cell_there tree code texts nested w lay img p q part outer bound core s h.lies h.leads.made.number).index };
+        other = record { stack = h.lies.found.number; displacement = length h.lies.found.lies.frame.lower; index = (cell_there tree code texts nested w lay img p q part outer bound core s h.lies h.leads.made.number).index };
         refers = h.refers;
-        at = h.at;
-        shown = h.shown;
-        lies = h.there;
+        at = h.home.at;
+        near = h.home.near;
+        shown = h.home.shown;
+        lies = h.home.lies;
         top = on_top;
-        names = ap as_irw on_top.slot_is ∙ reference_read found.couple h.fits.0 h.fits.1;
+        names = ap as_irw on_top.slot_is ∙ reference_read found.couple h.home.fits.0 h.home.fits.1;
       }
 
   -- a variable of that kind, or an actual
   finds_so : (kind : Kind) → wanted ≡ wants.by_name kind → (home : NameCellHome tree code texts nested w lay img p q part outer bound core s n kind found.couple)
-      (given : Cell) → cell_at w (named_from (scopes_of tree) w lay part.instance n) ≡ given → Denotes (scopes_of tree) w lay (IsOwn (part ∷ outer)) (wants.by_name kind) given home.word → IsPassed (wants.by_name kind) given →
+      (given : Cell) → cell_at w (named_from (scopes_of tree) w lay part.instance n) ≡ given → Denotes (scopes_of tree) w lay (IsInReach w (part ∷ outer)) (wants.by_name kind) given home.word → IsPassed (wants.by_name kind) given →
       LeadsOn tree code texts nested w lay img p q part outer bound core s home.word → FindsFormal
   finds_so kind e home given is denotes may on =
       record {
         given = given;
         cell_is = is;
         word = home.word;
-        denotes = subst (λ (o : Wanted). Denotes (scopes_of tree) w lay (IsOwn (part ∷ outer)) o given home.word) (sym e) denotes;
+        denotes = subst (λ (o : Wanted). Denotes (scopes_of tree) w lay (IsInReach w (part ∷ outer)) o given home.word) (sym e) denotes;
         may_pass = subst (λ (o : Wanted). IsPassed o given) (sym e) may;
-        other = record { stack = p; displacement = on.at; index = on.index };
+        other = record { stack = on.at.stack; displacement = on.at.at; index = on.index };
         refers = on.refers;
         at = home.at;
+        near = home.near;
         shown = home.shown;
         lies = home.lies;
         top = on_top;
@@ -229,9 +252,9 @@ module _ (tree : PProgram) (code : Code) (texts : Texts) (nested : AreNested (sc
         (one ∷ s.stands.held) (f.denotes, s.stands.held_are) next (descriptor (passed_held wanted f.given) ∷ below) core_at few
         (answered (cell f.given) next (descriptor (passed_held wanted f.given) ∷ below) (refl, refl, f.may_pass)) Pass
         (action_not_plain code img p core s.has (ops.Plain kinds.Lodt) next there
-        (pass_class code img p core s.has next there f.top.word f.top.words_below f.top.is found.couple.level found.couple.index f.names (place p f.at) f.shown f.word f.lies
+        (pass_class code img p core s.has next there f.top.word f.top.words_below f.top.is found.couple.level found.couple.index f.names f.at f.shown f.word f.lies
         f.other f.refers))
-        (pass_raw code img p core s.has next there f.top.word f.top.words_below f.top.is found.couple.level found.couple.index f.names (place p f.at) f.shown f.word f.lies
+        (pass_raw code img p core s.has next there f.top.word f.top.words_below f.top.is found.couple.level found.couple.index f.names f.at f.shown f.word f.lies
         f.other f.refers
         ∙ ap (λ (o : List (List ℕ)). effects.gives (record (with_core img p new) { output = o })) s.by.output)
         (choice_is sc w p q part outer s.at s.todo

@@ -28,11 +28,13 @@ use Rattle.b67_segment.specs.declared.code.Code.{Code}
 use Rattle.b67_segment.specs.declared.code.Segment.{Segment}
 use Rattle.b67_store.specs.Store.{word_at}
 use Rattle.b67_scenes.specs.States.{StateIs}
+use Rattle.algol_paths.specs.Arrays.{DeclaredArray, Shape, shape_of}
+use Rattle.b67_word.specs.declared.Place.{Place}
 use Rattle.b67_table.specs.Chains.{place}
 use Rattle.b67_table.specs.Image.{Image}
 use Rattle.b67_table.specs.Private.{frame, display_at}
 use Rattle.b67_templates.specs.Contexts.{Yields, yields_of, Context}
-use Rattle.b67_templates.specs.Cells.{Simple, parameter_cells, parameter_wants, simple_cells, procedures, IsVariable, IsDeclaredEvent, IsProcedure}
+use Rattle.b67_templates.specs.Cells.{Simple, parameter_cells, parameter_wants, simple_cells, procedures, made_base, Agrees, IsVariable, IsDeclaredArray, IsDeclaredEvent, IsProcedure}
 use Rattle.b67_templates.specs.Depths.{decls_depth, stmts_depth}
 use Rattle.b67_templates.specs.Fragments.{code_at}
 use Rattle.b67_templates.proofs.Few.{actuals_are_few}
@@ -55,13 +57,20 @@ use Rattle.b67_rows.proofs.StackWords.{get-front, get-behind}
 use Rattle.b67_rows.proofs.Parents.{length_around}
 use Rattle.b67_rows.proofs.Unmade.{makes, unmade}
 use Rattle.b67_rows.proofs.Words.{reference_read}
-use Rattle.b67_frames.specs.Arrays.{Layout, named_from, LeadsToEvent, LeadsToVariable, IsNamed, IsOwn}
-use Rattle.b67_frames.specs.Frames.{block_controls, controls_count, most_around, IsComplete}
+use Rattle.b67_frames.specs.Arrays.{Layout, named_from, LeadsTo, LeadsToEvent, LeadsToVariable, IsNamed}
+use Rattle.b67_frames.specs.Frames.{IsInReach, ArePlaced, block_controls, controls_count, most_around, IsComplete}
 use Rattle.b67_frames.proofs.ControlWords.{get_control, controls_fit}
 use Rattle.b67_frames.proofs.Formals.{AreGivenCells, given_are}
 use Rattle.b67_frames.proofs.FreshCells.{simple_many, words_long}
-use Rattle.b67_frames.proofs.Linked.{Linked, begins_core, own_linked, linked_lies, linked_low, level_around}
-use Rattle.b67_frames.proofs.Lying.{Lies, lies_in, IsParent, parents_in, part_own}
+use Rattle.b67_frames.proofs.Linked.{Linked, level_around}
+use Rattle.b67_frames.proofs.Lying.{Lies}
+use Rattle.b67_frames.proofs.OwnCells.{HasCells}
+use Rattle.b67_frames.proofs.StaticParents.{IsParent}
+use Rattle.b67_scenes.proofs.Finding.{Found}
+use Rattle.b67_scenes.proofs.Led.{part_there, named_parent, named_reached, named_seen, named_shown, scene_placed}
+use Rattle.b67_scenes.proofs.Sights.{Seen, cell_below, cell_lies as seen_word}
+use Rattle.b67_pictures.proofs.ParentPlaces.{standing_linked, standing_cells, found_linked, linked_few, linked_low}
+use Rattle.algol_standing.specs.Worlds.{IsStanding}
 use Rattle.b67_frames.proofs.NamedEvents.{event_leads}
 use Rattle.b67_frames.proofs.NamedArrays.{IsSeenMade, both_seen, up_complete, named_leads}
 use Rattle.b67_frames.proofs.Segmenting.{needs}
@@ -159,17 +168,27 @@ module _ (tree : PProgram) (code : Code) (program : ProgramAt code tree) (nested
   high : up + OUTER_LEVEL ≤ names
   high = omega (arith, length_around sc.blocks block, get_below (block ∷ around sc.blocks block) up u seen_there)
 
-  parent : IsParent tree code texts w lay p (part ∷ outer) part.instance up u
-  parent = parents_in tree code texts w lay p part outer core s.stands s.around part.instance (part_own tree code texts w lay p part outer core.below s.stands.frame) up u seen_there
+  parent : IsParent sc w lay part.instance up u
+  parent = named_parent tree code texts w lay img p q part outer bound core s n seen_there
 
-  lies : Lies tree code texts w lay p (part ∷ outer) h core.below
-  lies = lies_in tree code texts w lay p part outer core s.stands s.around h parent.own
+  in_reach : IsInReach w (part ∷ outer) h
+  in_reach = named_reached tree code texts w lay img p q part outer bound core s n seen_there
 
-  linked : Linked sc w lay img.stacks p h
-  linked = own_linked tree code texts w lay p img.stacks part outer core s.stands s.around (begins_core img p core s.has) h parent.own
+  -- its frame, in whatever stack
+  seen_frame : Seen tree code texts w lay img p q part outer bound core s h
+  seen_frame = named_seen tree code texts w lay img p q part outer bound core s n seen_there
+
+  abbrev found : Found tree code texts w lay img h
+  found = seen_frame.found
+
+  abbrev lies : Lies tree code texts w lay found.number (found.part ∷ found.outer) h found.settled
+  lies = found.lies
+
+  linked : Linked sc w lay img.stacks h
+  linked = standing_linked tree code texts w lay img s.by s.ok h parent.stands
 
   abbrev x : Instance
-  x = lies.owned.framed.instance
+  x = seen_frame.found.lies.owned.framed.instance
 
   block_is : x.block ≡ u
   block_is = ap (λ (o : Option Instance). (or_no_instance o).block) (sym lies.owned.framed.is) ∙ ap (λ (k : ℕ). (instance_at w k).block) lies.instance_is ∙ parent.block
@@ -179,7 +198,7 @@ module _ (tree : PProgram) (code : Code) (program : ProgramAt code tree) (nested
 
   -- It has made all its arrays: no bound of an array calls a procedure of its own block.
   complete : IsComplete sc w lay h
-  complete = up_complete tree code texts w lay p part outer core.below s.stands.frame s.around up (by_text in_bound) parent.complete
+  complete = up_complete sc w lay part.instance up (by_text in_bound) parent.complete
     where
       by_text : IsComplete sc w lay part.instance ⊎ InEntry (IsSeenAround sc block) n gs → IsComplete sc w lay part.instance ⊎ (1 ≤ up)
       by_text (inl whole) = inl whole
@@ -257,31 +276,31 @@ module _ (tree : PProgram) (code : Code) (program : ProgramAt code tree) (nested
       ))
       ∙ get-front controls_there lies.owned.framed.descriptors named.number (pcw_word c) control_lies
 
-  abbrev there : ℕ
-  there = length lies.frame.lower + couple.index
+  far_low : 2 + far < made_base sc (block_numbered sc.blocks ((instance_at w h).block))
+  far_low =
+      omega (
+        arith,
+        ap (λ (k : ℕ). made_base sc (block_numbered sc.blocks k)) parent.block,
+        get_below (procedures (block_numbered sc.blocks u).decls) named.number named.declared named.there,
+      )
 
-  below_lies : slice_get core.below there ≡ Some (pcw_word c)
-  below_lies =
-      ap (λ (ws : List Word). slice_get ws there) lies.words_are
-      ∙ get-front lies.front lies.rest there (pcw_word c)
-      (ap (λ (ws : List Word). slice_get ws there) lies.frame.words_are
-      ∙ get-behind lies.frame.lower (lies.frame.mark ∷ lies.frame.control ∷ lies.frame.cells) (suc (suc far)) there (omega (arith, named.index_is))
-      ∙ cells_lie)
+  below : length lies.frame.lower + (2 + far) < length found.core.below
+  below = cell_below tree code texts w lay img p q part outer bound core s h seen_frame far (get_below lies.frame.cells far (pcw_word c) cells_lie) far_low
 
-  same_at : linked.at ≡ length lies.frame.lower
-  unfolding lies
-  same_at = linked_lies tree code texts w lay p img.stacks part outer core s.stands s.around h parent.own linked
+  linked_at : linked.at ≡ place found.number (length lies.frame.lower)
+  linked_at = found_linked tree code texts w lay img s.by s.ok h parent.stands linked found
 
-  entry_lies : word_at img.stacks (record { stack = p; at = linked.at + couple.index }) ≡ Some (pcw_word c)
+  entry_lies : word_at img.stacks (record { stack = (linked.at).stack; at = (linked.at).at + couple.index }) ≡ Some (pcw_word c)
   entry_lies =
-      ap (λ (k : ℕ). word_at img.stacks (record { stack = p; at = k + couple.index })) same_at
-      ∙ begins_core img p core s.has there (pcw_word c) below_lies
+      ap (λ (g : Place). word_at img.stacks (record { stack = g.stack; at = g.at + couple.index })) linked_at
+      ∙ ap (λ (k : ℕ). word_at img.stacks (place found.number (length lies.frame.lower + k))) index_far
+      ∙ seen_word tree code texts w lay img p q part outer bound core s h seen_frame far (pcw_word c) cells_lie below
+    where
+      index_far : couple.index ≡ 2 + far
+      index_far = omega (arith, named.index_is)
 
-  level_up : couple.level ≡ names - up
-  level_up = omega (arith, named.level_is)
-
-  shown : display_at core.registers couple.level ≡ Some (place p linked.at)
-  shown = ap (λ (k : ℕ). display_at core.registers k) level_up ∙ s.stands.chained up high ∙ linked.laid
+  shown : display_at core.registers couple.level ≡ Some linked.at
+  shown = named_shown tree code texts w lay img p q part outer bound core s n seen_there couple.level (omega (arith, named.level_is)) seen_frame ∙ ap (λ (g : Place). Some g) (sym linked_at)
 
   -- ---- its reference
 
@@ -324,17 +343,18 @@ module _ (tree : PProgram) (code : Code) (program : ProgramAt code tree) (nested
         given_few = omega (arith, given_many, simple_many sc b, (nested.nested.each callee known).few);
         marks = refl;
         stands = at.stands;
-        own_parent = parent.own;
+        in_reach = in_reach;
         complete = complete;
         known = known;
         around_is = around_is;
         linked = linked;
-        low = linked_low tree code texts w lay p img.stacks part outer core s.stands s.around h parent.own linked;
+        few = linked_few tree code texts w lay img s.by s.ok h parent.stands linked;
+        low = linked_low tree code texts w lay img s.by s.ok h parent.stands linked;
         segment = segment_there.0;
         there = segment_there.1;
         spells = program.spells (segment_of sc.blocks callee) segment_there.0 segment_there.1;
-        leads = λ m y is. procedure_leads code img core a.1 y m c (place p linked.at) couple.level couple.index (reads y is) (pcw_word c) shown entry_lies no_sirw (as_pcw-pcw_word c fits);
-        calls = λ y is. procedure_calls code img core a.1 y (record { entered = false; stack = 0; displacement = 0; df = 0 }) c (place p linked.at) couple.level couple.index (reads y is)
+        leads = λ m y is. procedure_leads code img core a.1 y m c linked.at couple.level couple.index (reads y is) (pcw_word c) shown entry_lies no_sirw (as_pcw-pcw_word c fits);
+        calls = λ y is. procedure_calls code img core a.1 y (record { entered = false; stack = 0; displacement = 0; df = 0 }) c linked.at couple.level couple.index (reads y is)
             (pcw_word c) shown entry_lies no_sirw (as_pcw-pcw_word c fits);
       }
 
@@ -369,21 +389,37 @@ module _ (tree : PProgram) (code : Code) (program : ProgramAt code tree) (nested
   abbrev AreCellsThere : List Cell → List Word → Type 0
   AreCellsThere given ws = AreCells tree code texts nested short fragments begins_so keeps order w lay img p q part outer bound core s able_is able_p callee given ws
 
-  variables_lead : (m : Named) → IsSeenMade tree w lay part m → (kind : Kind) (y : Couple) → IsVariable sc names m kind y → (x : Word) → IsNamed sc w lay (IsOwn (part ∷ outer)) part.instance m x →
-      LeadsToVariable sc w lay (IsOwn (part ∷ outer)) kind (named_from sc w lay part.instance m) x
-  variables_lead m seen kind y v x h = variable_leads tree code texts w lay p part outer core.below s.stands.frame s.around names m seen.0 kind y v x h
+  abbrev Reached : ℕ → Type 0
+  Reached = IsInReach w (part ∷ outer)
 
-  events_lead : (m : Named) → IsSeenMade tree w lay part m → (y : Couple) → IsDeclaredEvent sc names m y → (x : Word) → IsNamed sc w lay (IsOwn (part ∷ outer)) part.instance m x →
-      LeadsToEvent sc w lay (IsOwn (part ∷ outer)) (named_from sc w lay part.instance m) x
-  events_lead m seen y v x h = event_leads tree code texts w lay p part outer core.below s.stands.frame s.around names m seen y v x h
+  here_stands : IsStanding w part.instance
+  here_stands = part_there tree code texts w lay img p q part outer bound core s
+
+  placed : ArePlaced sc w lay
+  placed = scene_placed tree code texts w lay img p q part outer bound core s
+
+  each : (j : ℕ) → IsStanding w j → HasCells sc w lay j
+  each j st = standing_cells tree code texts w lay img s.by s.ok j st
+
+  arrays_lead : (m : Named) → IsSeenMade tree w lay part m → (shape : Shape) (d : DeclaredArray) (y : Couple) → IsDeclaredArray sc names m d y → Agrees shape (shape_of d) → (x : Word) → IsNamed sc w lay Reached part.instance m x →
+      LeadsTo sc w lay Reached shape (named_from sc w lay part.instance m) x
+  arrays_lead m seen shape d y v agrees x h = named_leads tree w lay placed each part here_stands Reached names m seen shape d y v agrees x h
+
+  variables_lead : (m : Named) → IsSeenMade tree w lay part m → (kind : Kind) (y : Couple) → IsVariable sc names m kind y → (x : Word) → IsNamed sc w lay Reached part.instance m x →
+      LeadsToVariable sc w lay Reached kind (named_from sc w lay part.instance m) x
+  variables_lead m seen kind y v x h = variable_leads tree w lay placed part here_stands Reached names m seen.0 kind y v x h
+
+  events_lead : (m : Named) → IsSeenMade tree w lay part m → (y : Couple) → IsDeclaredEvent sc names m y → (x : Word) → IsNamed sc w lay Reached part.instance m x →
+      LeadsToEvent sc w lay Reached (named_from sc w lay part.instance m) x
+  events_lead m seen y v x h = event_leads tree w lay placed each part here_stands Reached names m seen y v x h
 
   -- the cells of its parameters
   cells_there : (ws : List Word) → ActualsAre sc s.stands.held level (frame core.registers) (length core.below) (parameter_wants sc callee) gs ws → AreCellsThere (given_cells sc w p q part outer gs) ws
   cells_there ws are =
-      let g : AreGivenCells sc context w lay p q part outer level (frame core.registers) (length core.below) s.stands.held s.stands.held_are (IsSeenMade tree w lay part)
-      (named_leads tree code texts w lay p part outer core.below s.stands.frame s.around names) events_lead variables_lead (parameter_cells sc b) b.parameters gs ws =
-      given_are sc context w lay p q part outer level (frame core.registers) (length core.below) s.stands.held s.stands.held_are (IsSeenMade tree w lay part)
-      (named_leads tree code texts w lay p part outer core.below s.stands.frame s.around names) events_lead variables_lead fit (parameter_cells sc b) b.parameters parameters.told refl arrays_seen ws are in
+      let g : AreGivenCells sc context w lay p q part outer level (frame core.registers) (length core.below) Reached s.stands.held s.stands.held_are (IsSeenMade tree w lay part) arrays_lead events_lead variables_lead
+      (parameter_cells sc b) b.parameters gs ws =
+      given_are sc context w lay p q part outer level (frame core.registers) (length core.below) Reached s.stands.held s.stands.held_are (IsSeenMade tree w lay part) arrays_lead events_lead variables_lead fit
+      (parameter_cells sc b) b.parameters parameters.told refl arrays_seen ws are in
       record { cells = g.cells; lead = g.lead }
 
   pub entering_procedure : Does tree code texts w img p

@@ -38,7 +38,8 @@ use Rattle.b67_rows.proofs.Asked.{reads_seen}
 use Rattle.b67_rows.proofs.Rows.{action_not_plain, action_is, words_are}
 use Rattle.b67_rows.proofs.StackWords.{get-front}
 use Rattle.b67_frames.specs.Arrays.{Layout, named_from}
-use Rattle.b67_scenes.proofs.Homes.{operator_there, Home, home}
+use Rattle.b67_scenes.proofs.Finding.{Found}
+use Rattle.b67_scenes.proofs.Homes.{operator_there, named_at, Home, home}
 use Rattle.b67_scenes.proofs.Scene.{Scene}
 use Rattle.b67_scenes.proofs.Stage.{choice_is}
 use Rattle.b67_scenes.proofs.Staying.{text_in, level_in, context_in, most_in, names_in}
@@ -114,13 +115,6 @@ module _ (tree : PProgram) (code : Code) (texts : Texts) (fragments : FragmentsA
           (λ t. action_is code img p core s.has (ops.Valc a.2.0) a.1 there (outcomes.gives (record (with_core img p new) { output = w.output })) t
           ∙ ap as_action (value_read_letter code img p core s.has a.2.0 a.1 there from to shown x reaches (no_pcw x tag)))
 
-    -- what lies below the floor lies in the stack
-    below_there : (k : ℕ) (x : Word) → slice_get core.below k ≡ Some x → word_at img.stacks (place p k) ≡ Some x
-    below_there k x e =
-        ap (λ (r : ℕ). word_at img.stacks (place r k)) (sym s.has.own)
-        ∙ ap (λ (ws : List Word). slice_get ws k) (words_are img p core s.has)
-        ∙ get-front core.below _ k x e
-
     -- ---- a variable
 
     abbrev IsHome : Type 0
@@ -128,10 +122,10 @@ module _ (tree : PProgram) (code : Code) (texts : Texts) (fragments : FragmentsA
 
     variable_read : IsHome → Does tree code texts w img p
     variable_read f =
-        let at : ℕ = length f.at.lies.frame.lower in
-        let from : cells.Cell = record { frame = place p at; index = a.2.0.index } in
+        let there : Found tree code texts w lay img (named_at tree code texts w lay img p q part outer bound core s n).instance = f.at.seen_there.found in
+        let from : cells.Cell = record { frame = place there.number (length there.lies.frame.lower); index = a.2.0.index } in
         read_does from from (ap (λ (o : Option Place). cell_in o a.2.0.index) f.shown) f.at.word
-        (reached_there img.stacks from f.at.word (below_there (at + a.2.0.index) f.at.word f.below_lies) (no_sirw f.at.word (value_tag f.at.value f.at.word f.at.word_is)))
+        (reached_there img.stacks from f.at.word f.lies (no_sirw f.at.word (value_tag f.at.value f.at.word f.at.word_is)))
         f.at.value f.at.word_is f.at.fits (ap (λ (c : Cell). read_of sc w p q part outer c) f.at.cell_is)
 
     pub reading : IsVariable sc (names_in tree w part) n a.0 a.2.0 → Does tree code texts w img p
@@ -150,11 +144,12 @@ module _ (tree : PProgram) (code : Code) (texts : Texts) (fragments : FragmentsA
       name_read : IsNameHome → Does tree code texts w img p
       name_read f =
           let v : VariableHome tree code texts w lay img p q part outer bound core s f.r a.0 f.denotes.found = f.named.home in
-          let at : ℕ = length v.lies.frame.lower in
-          let from : cells.Cell = record { frame = place p f.home.at; index = a.2.0.index } in
-          let to : cells.Cell = record { frame = place p at; index = 2 + v.number } in
+          let there : Found tree code texts w lay img f.r.instance = v.seen_there.found in
+          let at : ℕ = length there.lies.frame.lower in
+          let from : cells.Cell = record { frame = f.home.at; index = a.2.0.index } in
+          let to : cells.Cell = record { frame = place there.number at; index = 2 + v.number } in
           read_does from to (ap (λ (o : Option Place). cell_in o a.2.0.index) f.home.shown) v.word
-          (reached_through img.stacks from f.home.word (record { stack = p; displacement = at; index = 2 + v.number }) v.word f.home.lies f.named.reads (below_there (at + (2 + v.number)) v.word v.below_lies)
+          (reached_through img.stacks from f.home.word (record { stack = there.number; displacement = at; index = 2 + v.number }) v.word f.home.lies f.named.reads v.word_lies
           (no_sirw v.word (value_tag v.value v.word v.word_is)))
           v.value v.word_is v.fits
           (ap (λ (c : Cell). read_of sc w p q part outer c) f.cell_is ∙ ap (λ (c : Cell). goes sc w p q part outer Read w (value (value_in c))) v.cell_is)

@@ -1,11 +1,12 @@
 -- Whom the operator of an action releases: whom the action of the source releases.
-use Rattle.std.proofs.Common.{◌≡◌, ◌⊎◌, inl, inr, refl, sym, ap, ◌∙◌, ℕ, [], Option, Some, None, false}
+use Rattle.std.proofs.Common.{◌≡◌, ◌⊎◌, inl, inr, refl, sym, ap, ◌∙◌, subst, ℕ, [], Option, Some, None, false}
 use Rattle.b67_list.specs.Numbered.{numbered}
 use Rattle.b67_num.specs.declared.FaultKind.{FaultKind}
 use Rattle.algol_tree.specs.Plain.{PProgram}
 use Rattle.algol_tree.specs.Scopes.{scopes_of}
-use Rattle.algol_meaning.specs.Actions.{Action}
+use Rattle.algol_meaning.specs.Actions.{Action, End}
 use Rattle.algol_meaning.specs.Choice.{choice}
+use Rattle.algol_meaning.specs.Value.{Reference}
 use Rattle.algol_meaning.specs.World.{World}
 use Rattle.b67_control.specs.declared.Registers.{Registers}
 use Rattle.b67_segment.specs.declared.code.Code.{Code}
@@ -20,15 +21,15 @@ use Rattle.b67_letters.specs.Releases.{registers_releases, released_by, releases
 use Rattle.b67_letters.specs.Laws.{may_release}
 use Rattle.b67_letters.proofs.Mute.{few_operators_release}
 use Rattle.b67_faithful.specs.Correspondence.{action_of, as_action, operator_action}
-use Rattle.b67_faithful.proofs.Choices.{is_releasing, ReleasesNone}
+use Rattle.b67_faithful.proofs.Choices.{is_releasing, EndsIdle, ReleasesNone}
 use Rattle.b67_faithful.proofs.Contradictions.{some_same}
-use Rattle.b67_pictures.specs.Acting.{Does, gave, failed_by, stopped}
+use Rattle.b67_pictures.specs.Acting.{Does, gave, failed_by, counted_gave, stopped}
 
 -- where the operator does not come to the stack limit
 abbrev pub IsReleased : PProgram → Code → World → Image → ℕ → Type 0
 IsReleased tree code w img p = (table code img p ≡ limit → ⊥) → releases code img p ≡ (choice (scopes_of tree) w p).released
 
--- an action that releases nobody, where its process has no task
+-- an action that is none on an event
 harmless : (l : Letter) → is_releasing (action_of l) ≡ false → (may_release l ≡ false) ⊎ (l ≡ letters.End)
 harmless letters.Read e = inl refl
 harmless letters.Index e = inl refl
@@ -55,25 +56,27 @@ harmless letters.Happened e = inl refl
 harmless letters.Procure e = inl refl
 harmless letters.Liberate e = cc
 
-released_none : (code : Code) (img : Image) (p : ℕ) (r : Registers) → numbered img.regs p ≡ Some r → r.task ≡ None → (x : Action) → operator_action code img p ≡ Some x → is_releasing x ≡ false
+released_none : (code : Code) (img : Image) (p : ℕ) (r : Registers) → numbered img.regs p ≡ Some r → (x : Action) → (x ≡ End → r.task ≡ None) → operator_action code img p ≡ Some x → is_releasing x ≡ false
     → releases code img p ≡ []
-released_none code img p r has idle x is calm = by_letter (letter code img p) refl is
+released_none code img p r has x idle is calm = by_letter (letter code img p) refl is
   where
-    by_kind : (l : Letter) → letter code img p ≡ Some l → (may_release l ≡ false) ⊎ (l ≡ letters.End) → releases code img p ≡ []
-    by_kind l e (inl never) = few_operators_release.others code img p l e never
-    by_kind l e (inr ends) = few_operators_release.ends code img p r (e ∙ ap (λ (k : Letter). Some k) ends) has idle
+    by_kind : (l : Letter) → letter code img p ≡ Some l → action_of l ≡ x → (may_release l ≡ false) ⊎ (l ≡ letters.End) → releases code img p ≡ []
+    by_kind l e same (inl never) = few_operators_release.others code img p l e never
+    by_kind l e same (inr ends) = few_operators_release.ends code img p r (e ∙ ap (λ (k : Letter). Some k) ends) has (idle (sym same ∙ ap action_of ends))
 
     by_letter : (o : Option Letter) → letter code img p ≡ o → as_action o ≡ Some x → releases code img p ≡ []
     by_letter None e a = cc
-    by_letter (Some l) e a = by_kind l e (harmless l (ap is_releasing (some_same a) ∙ calm))
+    by_letter (Some l) e a = by_kind l e (some_same a) (harmless l (ap is_releasing (some_same a) ∙ calm))
 
 fault_releases : (code : Code) (img : Image) (p : ℕ) (kind : FaultKind) → table code img p ≡ faults kind → releases code img p ≡ []
 fault_releases code img p kind t = ap (λ (o : Outcome Image). released_by o (registers_releases code img p (numbered img.regs p))) t
 
--- an action that releases nobody
-pub none_released : (tree : PProgram) (code : Code) (texts : Texts) (w : World) (img : Image) (p : ℕ) (r : Registers) → numbered img.regs p ≡ Some r → r.task ≡ None → ReleasesNone (choice (scopes_of tree) w p) →
-    Does tree code texts w img p → IsReleased tree code w img p
-none_released tree code texts w img p r has idle none (gave after np t action by) no_limit =
-    released_none code img p r has idle ((choice (scopes_of tree) w p).action) action none.calm ∙ sym none.none
-none_released tree code texts w img p r has idle none (failed_by kind np t action by) no_limit = fault_releases code img p kind t ∙ sym none.none
-none_released tree code texts w img p r has idle none (stopped np t heavy) no_limit = absurd (no_limit t)
+-- an action that releases nobody, of a process whose register has no task where it has none
+pub none_released : (tree : PProgram) (code : Code) (texts : Texts) (w : World) (img : Image) (p : ℕ) (r : Registers) → numbered img.regs p ≡ Some r → (task : Option Reference) → (task ≡ None → r.task ≡ None) →
+    ReleasesNone task (choice (scopes_of tree) w p) → Does tree code texts w img p → IsReleased tree code w img p
+none_released tree code texts w img p r has task told none (gave after np t action by) no_limit =
+    released_none code img p r has ((choice (scopes_of tree) w p).action) (λ (e : (choice (scopes_of tree) w p).action ≡ End). told (subst (EndsIdle task) e none.idle)) action none.calm ∙ sym none.none
+none_released tree code texts w img p r has task told none (counted_gave after np t action by) no_limit =
+    released_none code img p r has ((choice (scopes_of tree) w p).action) (λ (e : (choice (scopes_of tree) w p).action ≡ End). told (subst (EndsIdle task) e none.idle)) action none.calm ∙ sym none.none
+none_released tree code texts w img p r has task told none (failed_by kind np t action by) no_limit = fault_releases code img p kind t ∙ sym none.none
+none_released tree code texts w img p r has task told none (stopped np t heavy) no_limit = absurd (no_limit t)

@@ -56,9 +56,10 @@ use Rattle.b67_rows.proofs.Slotted.{Top, top_slot}
 use Rattle.b67_rows.proofs.TopRow.{with_other}
 use Rattle.b67_rows.proofs.Unmade.{makes, unmade}
 use Rattle.b67_rows.proofs.Words.{value_tag, no_sirw, no_pcw, pcw_refers_nothing, reference_read}
-use Rattle.b67_frames.specs.Arrays.{Layout, LeadsToVariable, IsOwn}
-use Rattle.b67_frames.proofs.Linked.{begins_core}
+use Rattle.b67_frames.specs.Arrays.{Layout, LeadsToVariable}
+use Rattle.b67_frames.specs.Frames.{IsInReach}
 use Rattle.b67_scenes.specs.Pictures.{Pictures}
+use Rattle.b67_scenes.proofs.Finding.{Found}
 use Rattle.b67_scenes.proofs.Homes.{operator_there}
 use Rattle.b67_scenes.proofs.NameHomes.{NameCellHome, NameHome, ActualNamed, NameStands, for_variable, for_actual, name_stands}
 use Rattle.b67_scenes.proofs.ActualHomes.{routine_of, same_place}
@@ -134,7 +135,7 @@ module _ (tree : PProgram) (code : Code) (texts : Texts) (nested : AreNested (sc
   Finds = FindsName tree code texts nested w lay img p q part outer bound core s n asks kind next below a.3
 
   -- the cell that the reference on top names
-  named_on_top : (f : Finds) (at : ℕ) → display_at core.registers couple.level ≡ Some (place p at) → cell_of core.registers f.top.word ≡ Some (record { frame = place p at; index = couple.index })
+  named_on_top : (f : Finds) (at : Place) → display_at core.registers couple.level ≡ Some at → cell_of core.registers f.top.word ≡ Some (record { frame = at; index = couple.index })
   named_on_top f at shown =
       ap (λ (o : Option Irw). irw_or_sirw core.registers o (as_sirw f.top.word)) f.names
       ∙ ap (λ (o : Option Place). cell_in o couple.index) shown
@@ -145,30 +146,30 @@ module _ (tree : PProgram) (code : Code) (texts : Texts) (nested : AreNested (sc
     abbrev v : VariableHome tree code texts w lay img p q part outer bound core s h.r kind h.denotes.found
     v = h.named.home
 
+    abbrev found_there : Found tree code texts w lay img h.r.instance
+    found_there = v.seen_there.found
+
     abbrev at : ℕ
-    at = length v.lies.frame.lower
+    at = length found_there.lies.frame.lower
 
     abbrev from : cells.Cell
-    from = record { frame = place p h.home.at; index = couple.index }
+    from = record { frame = h.home.at; index = couple.index }
 
     abbrev to : cells.Cell
-    to = record { frame = place p at; index = 2 + v.number }
+    to = record { frame = place found_there.number at; index = 2 + v.number }
 
     named : cell_of core.registers f.top.word ≡ Some from
     named = named_on_top f h.home.at h.home.shown
-
-    lies : word_at img.stacks (place p (at + (2 + v.number))) ≡ Some v.word
-    lies = begins_core img p core s.has (at + (2 + v.number)) v.word v.below_lies
 
     tag : v.word.tag ≡ 0
     tag = value_tag v.value v.word v.word_is
 
     reaches : Reaches img.stacks from v.word to
     reaches =
-        reached_through img.stacks from h.home.word (record { stack = p; displacement = at; index = 2 + v.number }) v.word h.home.lies h.named.reads lies (no_sirw v.word tag)
+        reached_through img.stacks from h.home.word (record { stack = found_there.number; displacement = at; index = 2 + v.number }) v.word h.home.lies h.named.reads v.word_lies (no_sirw v.word tag)
 
-    leads : LeadsToVariable sc w lay (IsOwn (part ∷ outer)) kind h.r (cell_word to)
-    leads = subst (λ (x : Word). LeadsToVariable sc w lay (IsOwn (part ∷ outer)) kind h.r x) h.named.word_is h.denotes
+    leads : LeadsToVariable sc w lay (IsInReach w (part ∷ outer)) kind h.r (cell_word to)
+    leads = subst (λ (x : Word). LeadsToVariable sc w lay (IsInReach w (part ∷ outer)) kind h.r x) h.named.word_is h.denotes
 
     abbrev one : Known
     one = record { held = variable h.r kind; word = cell_word to }
@@ -213,24 +214,24 @@ module _ (tree : PProgram) (code : Code) (texts : Texts) (nested : AreNested (sc
   IsActualNamed = ActualNamed tree code texts nested w lay img p q part outer bound core s n kind couple
 
   module _ (h : IsActualNamed) (f : Finds) (no_place : is_subscripted h.a.actual ≡ false) where
+    abbrev actual_there : Found tree code texts w lay img h.a.instance
+    actual_there = h.actual.seen_there.found
+
     abbrev high : ℕ
-    high = length h.actual.lies.frame.lower
+    high = length actual_there.lies.frame.lower
 
     abbrev control : Pcw
     control = routine_of sc ((instance_at w h.a.instance).block) h.a.actual h.actual.at
 
     abbrev first : cells.Cell
-    first = record { frame = place p h.home.at; index = couple.index }
+    first = record { frame = h.home.at; index = couple.index }
 
     abbrev second : cells.Cell
-    second = record { frame = place p high; index = h.denotes.couple.index }
-
-    control_lies : word_at img.stacks (place p (high + h.denotes.couple.index)) ≡ Some (pcw_word control)
-    control_lies = begins_core img p core s.has (high + h.denotes.couple.index) (pcw_word control) h.actual.control_lies
+    second = record { frame = place actual_there.number high; index = h.denotes.couple.index }
 
     control_reached : Reaches img.stacks first (pcw_word control) second
     control_reached =
-        reached_through img.stacks first h.home.word (record { stack = p; displacement = high; index = h.denotes.couple.index }) (pcw_word control) h.home.lies h.actual.reads control_lies
+        reached_through img.stacks first h.home.word (record { stack = actual_there.number; displacement = high; index = h.denotes.couple.index }) (pcw_word control) h.home.lies h.actual.reads h.actual.control_lies
         (pcw_refers_nothing control)
 
     table_is : table code img p ≡ outcomes.faults NotAVariable
@@ -255,7 +256,7 @@ module _ (tree : PProgram) (code : Code) (texts : Texts) (nested : AreNested (sc
     no_variable =
         failed_by NotAVariable (fault_not_plain code img p core s.has (ops.Plain kinds.Eval) next there NotAVariable table_is) table_is
         (action_is code img p core s.has (ops.Plain kinds.Eval) next there (outcomes.faults NotAVariable) table_is ∙ ap (λ (c : Choice). Some c.action) (sym chosen))
-        (subst (λ (c : Choice). Pictures tree code texts c.world (failed img p NotAVariable)) (sym chosen) (lay, faulted tree code texts w lay img s.by p q s.at NotAVariable))
+        (subst (λ (c : Choice). Pictures tree code texts c.world (failed img p NotAVariable)) (sym chosen) (lay, faulted tree code texts w lay img s.by p q s.at s.ok NotAVariable))
 
   -- a variable's cell is found, or an element's by the code of the actual, where that is subscripted
   pub resolving : ((h : IsActualNamed) → is_subscripted h.a.actual ≡ true → Does tree code texts w img p) → Does tree code texts w img p

@@ -193,7 +193,7 @@ module _ (tree : PProgram) (code : Code) (texts : Texts) (fragments : FragmentsA
         ∙ ap (λ (b : Bool). if b then (goes sc w p q part outer act.Select w done) else fails sc w p q part outer CaseIndex) exists in
         failed_by CaseIndex (fault_not_plain code img p core s.has (ops.Plain kinds.Entr) a.0 there CaseIndex table_is) table_is
         (action_is code img p core s.has (ops.Plain kinds.Entr) a.0 there (outcomes.faults CaseIndex) table_is ∙ ap (λ (o : Choice). Some o.action) (sym chosen))
-        (subst (λ (o : Choice). Pictures tree code texts o.world (failed img p CaseIndex)) (sym chosen) (lay, faulted tree code texts w lay img s.by p q s.at CaseIndex))
+        (subst (λ (o : Choice). Pictures tree code texts o.world (failed img p CaseIndex)) (sym chosen) (lay, faulted tree code texts w lay img s.by p q s.at s.ok CaseIndex))
 
     by_case : IsCase (whole_of v) ss → Does tree code texts w img p
     by_case (one_of i is h exists inside) = goes_to_case i is h exists inside

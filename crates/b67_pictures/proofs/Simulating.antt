@@ -4,12 +4,13 @@ use Rattle.b67_list.specs.Numbered.{numbered}
 use Rattle.b67_num.specs.declared.FaultKind.{FaultKind}
 use Rattle.algol_tree.specs.Plain.{PProgram}
 use Rattle.algol_tree.specs.Scopes.{scopes_of}
-use Rattle.algol_meaning.specs.World.{Process, World}
+use Rattle.algol_meaning.specs.World.{Process, World, is_able, process_at}
 use Rattle.algol_meaning.specs.Choice.{choice}
-use Rattle.algol_meaning.specs.Run.{start}
+use Rattle.algol_meaning.specs.Run.{start, may_go}
 use Rattle.algol_texts.specs.Texts.{AreTexts, HasOuterBlock}
 use Rattle.algol_standing.specs.Worlds.{IsWhole}
 use Rattle.algol_standing.specs.Fitting.{IsOk}
+use Rattle.algol_standing.proofs.LowLaws.{others_keep_low, making_is_low}
 use Rattle.algol_standing.proofs.Worlds.{first_world_stands, choices_keep_worlds}
 use Rattle.b67_word.specs.declared.Place.{Place}
 use Rattle.b67_control.specs.declared.Registers.{Registers}
@@ -28,7 +29,7 @@ use Rattle.b67_table.specs.Touches.{IsPrivate}
 use Rattle.b67_table.specs.Sound.{Lives, OperatorTouches}
 use Rattle.b67_cores.specs.Stretches.{StepsArePerformed, StepsComeToLimit}
 use Rattle.b67_listing.specs.Listings.{IsListable}
-use Rattle.b67_faithful.proofs.Choices.{StartsNone}
+use Rattle.b67_faithful.proofs.Choices.{processes_stay}
 use Rattle.b67_faithful.specs.Agreement.{Shows}
 use Rattle.b67_faithful.specs.Faithful.{HasFormats, HasSegments, IsShort, Faithful}
 use Rattle.b67_faithful.specs.Weight.{weight}
@@ -36,11 +37,12 @@ use Rattle.b67_faithful.specs.Simulation.{AreFew, Acted, Comes, acts, stops, Sim
 use Rattle.b67_faithful.proofs.Contradictions.{true_false, gives_same, faults_same, gives_faults}
 use Rattle.b67_faithful.proofs.Counting.{simulations_are_faithful}
 use Rattle.b67_faithful.proofs.Ways.{may_lead}
+use Rattle.b67_rows.proofs.Counted.{AreCounted, table_counted}
 use Rattle.b67_rows.proofs.Numbers.{numbered_beyond}
 use Rattle.b67_frames.specs.Arrays.{Layout}
-use Rattle.b67_scenes.specs.Pictures.{Living, Pictured, living, dead, PicturesBy, Pictures}
+use Rattle.b67_scenes.specs.Pictures.{Pictured, living, dead, PicturesBy, Pictures}
 use Rattle.b67_scenes.proofs.Showing.{able_acts, no_limit, IsAble, able_one, able_alike, ends_alike, is_light}
-use Rattle.b67_pictures.specs.Acting.{Does, gave, failed_by, stopped}
+use Rattle.b67_pictures.specs.Acting.{MayAct, Does, gave, failed_by, counted_gave, stopped}
 use Rattle.b67_pictures.proofs.Quiet.{SettledAct, through_plain, Operates, plainly, acting, operates, Settles, settles}
 
 -- ---- an outcome is one
@@ -60,9 +62,9 @@ limit_interrupts x y = cc
 pub faults_limit : {A B : Type 0} {j : FaultKind} {e : Outcome A} → e ≡ faults j → e ≡ limit → B
 faults_limit x y = cc
 
--- an image pictures a world in which there is a process 1, and which is as worlds are
+-- An image pictures a world in which there is a process 1, and which is as worlds are. It has registers for as many processes as there have been.
 abbrev pub PicturesSome : PProgram → Code → Texts → World → Image → Type 0
-PicturesSome tree code texts w img = Pictures tree code texts w img × (1 ≤ length w.processes) × IsOk (scopes_of tree) IsWhole w
+PicturesSome tree code texts w img = Pictures tree code texts w img × (1 ≤ length w.processes) × IsOk (scopes_of tree) IsWhole w × AreCounted img
 
 -- what no operator of a pictured image touches: a word in another process's private part
 abbrev pub StandApart : PProgram → Code → Texts → Type 0
@@ -74,13 +76,16 @@ abbrev pub OperatorsAreFew : PProgram → Code → Texts → Type 0
 OperatorsAreFew tree code texts =
     (w : World) (lay : Layout) (a : Image) → PicturesBy tree code texts w lay a → (b : Image) (p n : ℕ) → Plains code p a n b → AreFew code p n b
 
--- no action of a process that is pictured makes a process or takes one away
-abbrev pub ActsAlone : PProgram → Code → Texts → Type 0
-ActsAlone tree code texts =
-    (w : World) (lay : Layout) (img : Image) (p : ℕ) (q : Process) → PicturesBy tree code texts w lay img → numbered w.processes p ≡ Some q → Living tree code texts w lay img p q →
-    StartsNone w (choice (scopes_of tree) w p)
+-- registers are not lost
+failed_counted : (img : Image) (p : ℕ) (kind : FaultKind) → AreCounted img → AreCounted (failed img p kind)
+unfolding failed
+failed_counted img p kind counted = counted
 
-module _ (tree : PProgram) (code : Code) (texts : Texts) (performed : StepsArePerformed) (limits : StepsComeToLimit) (alone : ActsAlone tree code texts)
+first_counted : AreCounted first_image
+unfolding first_image
+first_counted = refl
+
+module _ (tree : PProgram) (code : Code) (texts : Texts) (performed : StepsArePerformed) (limits : StepsComeToLimit)
     (fit : AreTexts (scopes_of tree)) (settled_does : (w : World) → IsOk (scopes_of tree) IsWhole w → SettledAct tree code texts w) where
   abbrev Pic : World → Image → Type 0
   Pic w img = PicturesSome tree code texts w img
@@ -95,34 +100,47 @@ module _ (tree : PProgram) (code : Code) (texts : Texts) (performed : StepsArePe
     operator_of one = operates tree code texts performed limits w (settled_does w ok) lay p one.process one.at one.able_is a by one.able_p one.lives_so
 
     -- the processes of a world are some
-    some_after : 1 ≤ length w.processes → StartsNone w (choice (scopes_of tree) w p) → 1 ≤ length (choice (scopes_of tree) w p).world.processes
-    some_after some one = omega (arith, some, one.same)
+    some_after : 1 ≤ length w.processes → 1 ≤ length (choice (scopes_of tree) w p).world.processes
+    some_after some = omega (arith, some, processes_stay (scopes_of tree) w p)
 
     -- and the world is as worlds are
-    acted : {b : Image} → 1 ≤ length (choice (scopes_of tree) w p).world.processes → IsOk (scopes_of tree) IsWhole ((choice (scopes_of tree) w p).world) → (one : IsAble tree code texts w lay a by p) → Acts code p a b → Operator w lay a p →
+    acted : {b : Image} → 1 ≤ length (choice (scopes_of tree) w p).world.processes → MayAct (scopes_of tree) w p → AreCounted a → (one : IsAble tree code texts w lay a by p) → Acts code p a b → Operator w lay a p →
         Acted tree code Pic w p a b
-    acted some ok_after one (runs.acts np t) (plainly after e t') = true_false e np
-    acted {b} some ok_after one (runs.acts np t) (acting (gave after np' t' action by') freed) =
+    acted some may counted one (runs.acts np t) (plainly after e t') = true_false e np
+    acted {b} some may counted one (runs.acts np t) (acting (gave after np' t' action by') freed) =
         record {
           action = action;
           released = freed (λ l. gives_limit t l);
-          pictures = (subst (λ (i : Image). Pictures tree code texts ((choice (scopes_of tree) w p).world) i) (gives_same t' t) (by' one.able_now), some, ok_after);
+          pictures = (subst (λ (i : Image). Pictures tree code texts ((choice (scopes_of tree) w p).world) i) (gives_same t' t) (by' may), some, may.ok, table_counted code a b p t counted);
         }
-    acted some ok_after one (runs.acts np t) (acting (failed_by kind np' t' action by') freed) = gives_faults t t'
-    acted some ok_after one (runs.acts np t) (acting (stopped np' t' heavy) freed) = gives_limit t t'
-    acted some ok_after one (runs.fails kind t) (plainly after e t') = gives_faults t' t
-    acted some ok_after one (runs.fails kind t) (acting (stopped np' t' heavy) freed) = faults_limit t t'
-    acted some ok_after one (runs.fails kind t) (acting (gave after np' t' action by') freed) = gives_faults t' t
-    acted some ok_after one (runs.fails kind t) (acting (failed_by kind' np' t' action by') freed) =
+    acted {b} some may counted one (runs.acts np t) (acting (counted_gave after np' t' action by') freed) =
+        record {
+          action = action;
+          released = freed (λ l. gives_limit t l);
+          pictures = (
+            subst (λ (i : Image). Pictures tree code texts ((choice (scopes_of tree) w p).world) i) (gives_same t' t) (by' may counted),
+            some,
+            may.ok,
+            table_counted code a b p t counted,
+          );
+        }
+    acted some may counted one (runs.acts np t) (acting (failed_by kind np' t' action by') freed) = gives_faults t t'
+    acted some may counted one (runs.acts np t) (acting (stopped np' t' heavy) freed) = gives_limit t t'
+    acted some may counted one (runs.fails kind t) (plainly after e t') = gives_faults t' t
+    acted some may counted one (runs.fails kind t) (acting (stopped np' t' heavy) freed) = faults_limit t t'
+    acted some may counted one (runs.fails kind t) (acting (gave after np' t' action by') freed) = gives_faults t' t
+    acted some may counted one (runs.fails kind t) (acting (counted_gave after np' t' action by') freed) = gives_faults t' t
+    acted some may counted one (runs.fails kind t) (acting (failed_by kind' np' t' action by') freed) =
         record {
           action = action;
           released = freed (λ l. faults_limit t l);
-          pictures = (subst (λ (k : FaultKind). Pictures tree code texts ((choice (scopes_of tree) w p).world) (failed a p k)) (faults_same t' t) by', some, ok_after);
+          pictures = (subst (λ (k : FaultKind). Pictures tree code texts ((choice (scopes_of tree) w p).world) (failed a p k)) (faults_same t' t) by', some, may.ok, failed_counted a p kind counted);
         }
 
     not_tagged : (kind : InterruptKind) → Operator w lay a p → table code a p ≡ interrupts kind → ⊥
     not_tagged kind (plainly after e t) i = gives_interrupts t i
     not_tagged kind (acting (gave after np t action by') freed) i = gives_interrupts t i
+    not_tagged kind (acting (counted_gave after np t action by') freed) i = gives_interrupts t i
     not_tagged kind (acting (failed_by k np t action by') freed) i = faults_interrupts t i
     not_tagged kind (acting (stopped np t heavy) freed) i = limit_interrupts t i
 
@@ -130,6 +148,7 @@ module _ (tree : PProgram) (code : Code) (texts : Texts) (performed : StepsArePe
     heavy_one : Operator w lay a p → table code a p ≡ limit → stack_limit < weight tree w p
     heavy_one (plainly after e t) i = gives_limit t i
     heavy_one (acting (gave after np t action by') freed) i = gives_limit t i
+    heavy_one (acting (counted_gave after np t action by') freed) i = gives_limit t i
     heavy_one (acting (failed_by k np t action by') freed) i = faults_limit t i
     heavy_one (acting (stopped np t heavy) freed) i = heavy
 
@@ -147,6 +166,7 @@ module _ (tree : PProgram) (code : Code) (texts : Texts) (performed : StepsArePe
 
     comes_to : {n : ℕ} {quiet : Image} → Plains code p a n quiet → Does tree code texts w quiet p → Comes tree code Pic p a
     comes_to plains (gave after np t action by') = acts plains (runs.acts np t)
+    comes_to plains (counted_gave after np t action by') = acts plains (runs.acts np t)
     comes_to plains (failed_by kind np t action by') = acts plains (runs.fails kind t)
     comes_to plains (stopped np t heavy) = stops plains t
 
@@ -174,18 +194,24 @@ module _ (tree : PProgram) (code : Code) (texts : Texts) (performed : StepsArePe
         }
 
     -- the world stays as worlds are
-    ok_then : (w : World) (a : Image) (p : ℕ) → Pic w a → may_act a p ≡ true → IsOk (scopes_of tree) IsWhole ((choice (scopes_of tree) w p).world)
-    ok_then w a p pic may = choices_keep_worlds (scopes_of tree) w p fit pic.2 (may_lead code w a (shows_world w a pic) p may)
+    may_then : (w : World) (a : Image) (p : ℕ) → Pic w a → may_act a p ≡ true → is_able ((process_at w p).state) ≡ true → MayAct (scopes_of tree) w p
+    may_then w a p pic may able_now =
+        let goes : may_go w p ≡ true = may_lead code w a (shows_world w a pic) p may in
+        record {
+          able = able_now;
+          ok = choices_keep_worlds (scopes_of tree) w p fit pic.2 goes;
+          others = λ i stands other low. others_keep_low (scopes_of tree) w p i fit pic.2 goes stands other low;
+          making = λ i makes. making_is_low (scopes_of tree) w p i fit pic.2 goes makes;
+        }
 
     pub simulation : Simulates tree code (PicturesSome tree code texts)
     simulation =
         record {
-          first = (first, some_first, first_world_stands (scopes_of tree) outer);
-          plain = λ w a b p pic e t. ((pic.0.0, through_plain tree code texts performed limits w (settled_does w pic.2) pic.0.0 a b p pic.0.1 e t), pic.1, pic.2);
+          first = (first, some_first, first_world_stands (scopes_of tree) outer, first_counted);
+          plain = λ w a b p pic e t. ((pic.0.0, through_plain tree code texts performed limits w (settled_does w pic.2) pic.0.0 a b p pic.0.1 e t), pic.1, pic.2, table_counted code a b p t pic.3);
           act = λ w a b p pic may x.
               let one : IsAble tree code texts w pic.0.0 a pic.0.1 p = able_one tree code texts w pic.0.0 a pic.0.1 p (able_acts a p may) in
-              let none : StartsNone w (choice (scopes_of tree) w p) = alone w pic.0.0 a p one.process pic.0.1 one.at one.lives_so in
-              acted w pic.2 pic.0.0 a pic.0.1 p (some_after w pic.2 pic.0.0 a pic.0.1 p pic.1 none) (ok_then w a p pic may) one x (operator_of w pic.2 pic.0.0 a pic.0.1 p one);
+              acted w pic.2 pic.0.0 a pic.0.1 p (some_after w pic.2 pic.0.0 a pic.0.1 p pic.1) (may_then w a p pic may one.able_now) pic.3 one x (operator_of w pic.2 pic.0.0 a pic.0.1 p one);
           come = λ w a p pic may. comes w pic.2 pic.0.0 a pic.0.1 p (able_one tree code texts w pic.0.0 a pic.0.1 p (able_acts a p may));
           few = λ w a b p n pic plains. few_operators w pic.0.0 a pic.0.1 b p n plains;
           shows = shows_world;

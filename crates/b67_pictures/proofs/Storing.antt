@@ -94,16 +94,12 @@ module _ (tree : PProgram) (code : Code) (texts : Texts) (fragments : FragmentsA
     reads : as_irw y ≡ Some (record { level = couple.level; index = couple.index })
     reads = ap as_irw y_is ∙ reference_read couple low little
 
-    -- the display names the frame
-    shown : display_at core.registers couple.level ≡ Some (record { stack = core.registers.stack; at = length f.at.lies.frame.lower })
-    shown = f.shown ∙ ap (λ (m : ℕ). Some (place m (length f.at.lies.frame.lower))) (sym s.has.own)
-
     -- so the reference names its cell
-    named : cell_of core.registers y ≡ Some (record { frame = record { stack = core.registers.stack; at = length f.at.lies.frame.lower }; index = 2 + f.at.number })
+    named : cell_of core.registers y ≡ Some (record { frame = place f.at.seen_there.found.number (length f.at.seen_there.found.lies.frame.lower); index = 2 + f.at.number })
     named =
         ap (λ (o : Option Irw). irw_or_sirw core.registers o (as_sirw y)) reads
-        ∙ ap (λ (o : Option Place). cell_in o couple.index) shown
-        ∙ ap (λ (k : ℕ). Some (record { frame = record { stack = core.registers.stack; at = length f.at.lies.frame.lower }; index = k })) f.index
+        ∙ ap (λ (o : Option Place). cell_in o couple.index) f.shown
+        ∙ ap (λ (k : ℕ). Some (record { frame = place f.at.seen_there.found.number (length f.at.seen_there.found.lies.frame.lower); index = k })) f.index
 
     does : Does tree code texts w img p
     does =

@@ -9,6 +9,7 @@ use Rattle.algol_meaning.specs.Rest.{Answer, done, there}
 use Rattle.algol_meaning.specs.World.{Part, Process, lives, World}
 use Rattle.algol_meaning.specs.Asks.{stores, ask, resume}
 use Rattle.algol_paths.specs.Laws.{RestsKeepToTheirText, AllIsMadeInOrder}
+use Rattle.b67_word.specs.declared.Place.{Place}
 use Rattle.b67_word.specs.Word.{Word}
 use Rattle.b67_control.specs.declared.Irw.{Irw}
 use Rattle.b67_control.specs.declared.Sirw.{Sirw}
@@ -19,6 +20,7 @@ use Rattle.b67_ops.specs.declared.PlainKind.TheVariants as kinds
 use Rattle.b67_segment.specs.declared.code.Code.{Code}
 use Rattle.b67_scenes.specs.States.{StateIs}
 use Rattle.b67_table.specs.Arrays.{as_indexed, indexed_in}
+use Rattle.b67_table.specs.Chains.{place}
 use Rattle.b67_table.specs.Image.{Image}
 use Rattle.b67_table.specs.Private.{frame}
 use Rattle.b67_table.specs.References.{irw_or_sirw, cell_of}
@@ -31,7 +33,8 @@ use Rattle.b67_cores.specs.Stretches.{FragmentsArePerformed}
 use Rattle.b67_fitting.specs.Nested.{AreNested}
 use Rattle.b67_rows.proofs.Slotted.{Top, top_slot}
 use Rattle.b67_rows.proofs.Words.{cell_describes_nothing}
-use Rattle.b67_frames.specs.Arrays.{Layout, LeadsToVariable, IsOwn}
+use Rattle.b67_frames.specs.Arrays.{Layout, LeadsToVariable}
+use Rattle.b67_frames.specs.Frames.{IsInReach}
 use Rattle.b67_frames.proofs.Knowing.{known_is}
 use Rattle.b67_scenes.proofs.Homes.{operator_there}
 use Rattle.b67_scenes.proofs.NamedVariables.{NamesVariable, names_variable}
@@ -57,7 +60,7 @@ module _ (tree : PProgram) (code : Code) (texts : Texts) (nested : AreNested (sc
   pub record FindsVariable (r : Reference) (kind : Kind) (v : Value) (below : List Slot) : Type 0 where
     pub first : Top sc s.stands.held (level_in tree w part) (frame core.registers) (length core.below) (operand v) (descriptor (variable r kind) ∷ below) core.words
     pub second : Top sc s.stands.held (level_in tree w part) (frame core.registers) (length core.below) (descriptor (variable r kind)) below first.words_below
-    pub leads : LeadsToVariable sc w lay (IsOwn (part ∷ outer)) kind r second.word
+    pub leads : LeadsToVariable sc w lay (IsInReach w (part ∷ outer)) kind r second.word
     pub named : NamesVariable tree code texts nested w lay img p q part outer bound core s r kind second.word leads
 
   pub finds_variable : (r : Reference) (kind : Kind) (v : Value) (below : List Slot) → s.stands.slots ≡ operand v ∷ descriptor (variable r kind) ∷ below → FindsVariable r kind v below
@@ -67,8 +70,8 @@ module _ (tree : PProgram) (code : Code) (texts : Texts) (nested : AreNested (sc
       top_slot sc s.stands.held (level_in tree w part) (frame core.registers) (length core.below) s.stands.slots (operand v) under core.words s.stands.there.words_are lies in
       let second : Top sc s.stands.held (level_in tree w part) (frame core.registers) (length core.below) (descriptor (variable r kind)) below first.words_below =
       top_slot sc s.stands.held (level_in tree w part) (frame core.registers) (length core.below) under (descriptor (variable r kind)) below first.words_below first.are refl in
-      let leads : LeadsToVariable sc w lay (IsOwn (part ∷ outer)) kind r second.word =
-      known_is sc w lay (part ∷ outer) part.instance s.stands.held s.stands.held_are (variable r kind) second.word second.slot_is in
+      let leads : LeadsToVariable sc w lay (IsInReach w (part ∷ outer)) kind r second.word =
+      known_is sc w lay (IsInReach w (part ∷ outer)) part.instance s.stands.held s.stands.held_are (variable r kind) second.word second.slot_is in
       record { first = first; second = second; leads = leads; named = names_variable tree code texts nested w lay img p q part outer bound core s r kind second.word leads }
 
 -- ---- the action
@@ -86,11 +89,10 @@ module _ (tree : PProgram) (code : Code) (texts : Texts) (nested : AreNested (sc
   does : FindsVariable tree code texts nested w lay img p q part outer bound core s r a.2.kind v a.1 → Does tree code texts w img p
   does f =
       let h : VariableHome tree code texts w lay img p q part outer bound core s r a.2.kind f.leads.found = f.named.home in
-      let high : ℕ = length h.lies.frame.lower in
-      let names : cell_of core.registers f.second.word ≡ Some (record { frame = record { stack = core.registers.stack; at = high }; index = 2 + h.number }) =
+      let at_frame : Place = place h.seen_there.found.number (length h.seen_there.found.lies.frame.lower) in
+      let names : cell_of core.registers f.second.word ≡ Some (record { frame = at_frame; index = 2 + h.number }) =
       ap (λ (o : Option Irw). irw_or_sirw core.registers o (as_sirw f.second.word)) (no_other_reference f.second.word _ f.named.reads)
-      ∙ ap (λ (o : Option Sirw). irw_or_sirw core.registers None o) f.named.reads
-      ∙ ap (λ (n : ℕ). Some (record { frame = record { stack = n; at = high }; index = 2 + h.number })) (sym s.has.own) in
+      ∙ ap (λ (o : Option Sirw). irw_or_sirw core.registers None o) f.named.reads in
       let plain_word : as_indexed f.second.word ≡ None = ap as_indexed f.leads.word_is ∙ ap indexed_in (cell_describes_nothing _) in
       variable_stored tree code texts fragments keeps order w lay img p q part outer bound core s able_is able_p r a.2.kind f.leads.found h (there r) v a.2.fits asks refl a.0 a.1
       (answered done a.0 a.1 (refl, refl)) at_store (descriptor (variable r a.2.kind)) a.2.lies refl f.first.word f.second.word f.second.words_below

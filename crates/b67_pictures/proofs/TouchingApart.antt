@@ -60,7 +60,7 @@ use Rattle.b67_rows.proofs.AskedEntries.{enters_seen}
 use Rattle.b67_rows.proofs.Slotted.{Top, top_slot}
 use Rattle.b67_rows.proofs.Yielding.{result_given}
 use Rattle.b67_rows.proofs.Words.{no_sirw, reference_read}
-use Rattle.b67_rows.proofs.Touching.{NearFrame, own_frame, own_cell, NamesNear}
+use Rattle.b67_rows.proofs.Touching.{NearFrame, own_frame, NamesNear}
 use Rattle.b67_rows.proofs.TouchingOperators.{StandsNear, privately, near_reaches, operator_private}
 use Rattle.b67_rows.proofs.TouchingNames.{value_names, value_names_through, through_named, none_named, branch_names, cell_named, refers_named, no_kind, block_names, entry_names}
 use Rattle.b67_frames.specs.Arrays.{Layout}
@@ -68,6 +68,7 @@ use Rattle.b67_frames.proofs.TouchingCalls.{under_top, over_top, call_names}
 use Rattle.b67_frames.proofs.TouchingWords.{couple_fits, procedure_fits, pcw_kind}
 use Rattle.b67_frames.proofs.Lying.{asks_as_own, frame_gives, runs_low, runs_deep}
 use Rattle.b67_scenes.specs.Pictures.{Living, PicturesBy}
+use Rattle.b67_scenes.proofs.Finding.{Found, frame_near, place_near}
 use Rattle.b67_scenes.proofs.NameHomes.{NameCellHome, NameStands, LeadsOn, home_of_name, leads_on, name_stands}
 use Rattle.b67_scenes.proofs.Scene.{Scene, scene_of, shown_frame}
 use Rattle.b67_scenes.proofs.Worlds.{narrow_of}
@@ -78,6 +79,7 @@ use Rattle.b67_scenes.proofs.TouchingEvents.{happened_near, acted_near, event_ma
 use Rattle.b67_scenes.proofs.TouchingScene.{by_names, by_class}
 use Rattle.b67_pictures.proofs.Resolving.{FindsName, finds_name, resolved_name}
 use Rattle.b67_pictures.proofs.StoringThere.{FindsVariable, finds_variable}
+use Rattle.b67_pictures.proofs.TouchingStarts.{starts_near}
 use Rattle.b67_pictures.proofs.TouchingElements.{element_read_near, indexed_near, element_stored_near, passed_near, made_near}
 
 -- ---- a process at its action
@@ -123,7 +125,7 @@ module _ (tree : PProgram) (code : Code) (texts : Texts) (nested : AreNested (sc
 
     -- ---- cells
 
-    -- what the display names
+    -- what the display names in its own stack
     shown_near : (at l : ℕ) → display_at r l ≡ Some (place p at) → (f : Place) → display_at r l ≡ Some f → NearFrame p img f
     shown_near at l shown f e = own_frame p img f (ap (λ (y : Place). y.stack) (some_same (sym e ∙ shown)))
 
@@ -142,14 +144,14 @@ module _ (tree : PProgram) (code : Code) (texts : Texts) (nested : AreNested (sc
     way : (n : Named) (kind : Kind) (couple : Couple) (x : IsNamedThere n kind couple) → LeadsOn tree code texts nested w lay img p q part outer bound core s (CellOf n kind couple x).word
     way n kind couple x = leads_on tree code texts nested w lay img p q part outer bound core s n kind couple x
 
-    -- it leads to one of the own stack
+    -- it leads to one that is near
     name_near : (n : Named) (kind : Kind) (couple : Couple) (next : ℕ) → Has text level s.stands.pc (ops.Valc couple) next → IsNamedThere n kind couple → Comes
     name_near n kind couple next has_it x =
         let h : NameCellHome tree code texts nested w lay img p q part outer bound core s n kind couple = CellOf n kind couple x in
         let t : LeadsOn tree code texts nested w lay img p q part outer bound core s (CellOf n kind couple x).word = way n kind couple x in
         by_op (ops.Valc couple) next has_it
-        (value_names_through p img r couple (place p h.at) h.shown (own_cell p img (record { frame = place p h.at; index = couple.index }) refl) h.word h.lies
-        (record { stack = p; displacement = t.at; index = t.index }) t.refers (own_cell p img (record { frame = place p t.at; index = t.index }) refl) t.reached t.lies t.no_further)
+        (value_names_through p img r couple h.at h.shown h.near h.word h.lies
+        (record { stack = (t.at).stack; displacement = (t.at).at; index = t.index }) t.refers t.near t.reached t.lies t.no_further)
 
     read_near : (n : Named) → ask part.rest ≡ reads n → At (reads n) → Comes
     read_near n e a =
@@ -191,21 +193,21 @@ module _ (tree : PProgram) (code : Code) (texts : Texts) (nested : AreNested (sc
         let f : FindsName tree code texts nested w lay img p q part outer bound core s n e a.0 a.1 a.2 a.3 = finds_name tree code texts nested w lay img p q part outer bound core s n e a.0 a.1 a.2 a.3 h in
         by_op (ops.Plain kinds.Eval) a.1 a.3.stands
         (through_named p img r kinds.Eval (λ g. cc) (r.s - 1) (λ m g. g) f.top.word (over_top img p core s.has f.top.word f.top.words_below f.top.is)
-        (record { level = a.3.couple.level; index = a.3.couple.index }) (place p h.at) h.word (record { stack = p; displacement = t.at; index = t.index }) t.reached f.names h.shown
-        (own_cell p img (record { frame = place p h.at; index = a.3.couple.index }) refl) h.lies t.refers
-        (own_cell p img (record { frame = place p t.at; index = t.index }) refl) t.lies t.no_further)
+        (record { level = a.3.couple.level; index = a.3.couple.index }) h.at h.word (record { stack = (t.at).stack; displacement = (t.at).at; index = t.index }) t.reached f.names h.shown
+        h.near h.lies t.refers t.near t.lies t.no_further)
 
     there_near : (x : Reference) (v : Value) → At (stores (there x) v) → Comes
     there_near x v a =
         let f : FindsVariable tree code texts nested w lay img p q part outer bound core s x a.2.kind v a.1 =
         finds_variable tree code texts nested w lay img p q part outer bound core s x a.2.kind v a.1 a.2.lies in
         let top : core.words ≡ (f.first.word ∷ []) ++ f.second.word ∷ f.second.words_below = f.first.is ∙ ap (λ (ws : List Word). f.first.word ∷ ws) f.second.is in
-        let high : ℕ = length f.named.home.lies.frame.lower in
+        let found : Found tree code texts w lay img x.instance = f.named.home.seen_there.found in
+        let high : ℕ = length found.lies.frame.lower in
         by_op (ops.Plain kinds.Stod) a.0 a.2.stands
         (refers_named p img r kinds.Stod (λ g. cc) (r.s - 2) (λ m g. g) f.second.word
         (under_top img p core s.has (f.first.word ∷ []) f.second.word f.second.words_below top (r.s - 2) (omega (arith, s.has.is.top, ap length top))) (λ follows. follows)
-        (record { stack = p; displacement = high; index = 2 + f.named.home.number }) f.named.reads
-        (own_cell p img (record { frame = place p high; index = 2 + f.named.home.number }) refl))
+        (record { stack = found.number; displacement = high; index = 2 + f.named.home.number }) f.named.reads
+        (frame_near tree code texts w lay img x.instance found p, place_near tree code texts w lay img x.instance found p (high + (2 + f.named.home.number)) f.named.home.below))
 
     left_near : At (leaves done) → Comes
     left_near a = by_op (ops.Plain kinds.Exit) a.0 a.2 (none_named p img r kinds.Exit (λ e. cc) (λ n takes. takes))
@@ -213,8 +215,8 @@ module _ (tree : PProgram) (code : Code) (texts : Texts) (nested : AreNested (sc
     given_near : (v : Value) → At (leaves (value v)) → Comes
     given_near v a = by_op (ops.Plain kinds.Retn) a.1 a.4 (none_named p img r kinds.Retn (λ e. cc) (λ n takes. takes))
 
-    place_near : (x : FoundPlace) → At (leaves (at_place x)) → Comes
-    place_near x a = by_op (ops.Plain kinds.Retn) a.1 a.4 (none_named p img r kinds.Retn (λ e. cc) (λ n takes. takes))
+    giving_near : (x : FoundPlace) → At (leaves (at_place x)) → Comes
+    giving_near x a = by_op (ops.Plain kinds.Retn) a.1 a.4 (none_named p img r kinds.Retn (λ e. cc) (λ n takes. takes))
 
     called : (name : Intrinsic) (vs : List Value) (below : List Slot) → s.stands.slots ≡ operands vs (intrinsic name ∷ mark ∷ below) → NamesNear p img (ops.Plain kinds.Entr) r
     called name vs below lies =
@@ -292,7 +294,7 @@ module _ (tree : PProgram) (code : Code) (texts : Texts) (nested : AreNested (sc
     by_ask (enters n gs) e a = called_near n gs e a
     by_ask (reads_result name) e a = result_near name e a
     by_ask (leaves (cell c)) e a = absurd a
-    by_ask (leaves (at_place y)) e a = place_near y a
+    by_ask (leaves (at_place y)) e a = giving_near y a
     by_ask (leaves entered) e a = absurd a
     by_ask (stores (there y) v) e a = there_near y v a
     by_ask (stores (element_of y ks) v) e a = element_stored_near tree code texts nested w lay img p q part outer bound core s y ks v a
@@ -303,7 +305,7 @@ module _ (tree : PProgram) (code : Code) (texts : Texts) (nested : AreNested (sc
     by_ask (passes n) e a = passed_near tree code texts nested w lay img p q part outer bound core s n e a
     by_ask (resolves n) e a = resolved_near n e a
     by_ask (goes_to n) e a = gone_near n a
-    by_ask (starts n gs task) e a = absurd a
+    by_ask (starts n gs task) e a = starts_near tree code texts nested w lay img p q part outer bound core s n gs task e a
     by_ask (acts y n) e a = acted_near tree code texts nested w lay img p q part outer bound core s y n e a
     by_ask (makes_arrays kind ns pairs vs) e a = made_near tree code texts nested w lay img p q part outer bound core s kind ns pairs vs a
     by_ask (makes_event n) e a = event_made_near tree code texts nested w lay img p q part outer bound core s n a

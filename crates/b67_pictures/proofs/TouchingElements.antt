@@ -34,10 +34,10 @@ use Rattle.b67_rows.proofs.AskedElements.{array_asked}
 use Rattle.b67_rows.proofs.Described.{IsDescriptor, is_descriptor, IsFound, itself}
 use Rattle.b67_rows.proofs.IndexRows.{top_word, under_word}
 use Rattle.b67_rows.proofs.Slotted.{Top, top_slot}
-use Rattle.b67_rows.proofs.Touching.{own_cell}
 use Rattle.b67_rows.proofs.TouchingNames.{cell_named, found_named}
 use Rattle.b67_rows.proofs.TouchingOperators.{StandsNear}
-use Rattle.b67_frames.specs.Arrays.{Layout, IsElement, IsOwn}
+use Rattle.b67_frames.specs.Arrays.{Layout, IsElement}
+use Rattle.b67_frames.specs.Frames.{IsInReach}
 use Rattle.b67_frames.proofs.Knowing.{known_is}
 use Rattle.b67_frames.proofs.TouchingCalls.{call_names, over_top}
 use Rattle.b67_scenes.proofs.ArrayHomes.{MeantArray, array_home}
@@ -104,8 +104,8 @@ module _ (tree : PProgram) (code : Code) (texts : Texts) (nested : AreNested (sc
         top_slot sc s.stands.held level (frame core.registers) (length core.below) s.stands.slots (operand v) (descriptor (element r ks a.2.kind) ∷ a.1) core.words s.stands.there.words_are a.2.lies in
         let second : Top sc s.stands.held level (frame core.registers) (length core.below) (descriptor (element r ks a.2.kind)) a.1 first.words_below =
         top_slot sc s.stands.held level (frame core.registers) (length core.below) (descriptor (element r ks a.2.kind) ∷ a.1) (descriptor (element r ks a.2.kind)) a.1 first.words_below first.are refl in
-        let e : IsElement sc w lay (IsOwn (part ∷ outer)) r ks a.2.kind second.word =
-        known_is sc w lay (part ∷ outer) part.instance s.stands.held s.stands.held_are (element r ks a.2.kind) second.word second.slot_is in
+        let e : IsElement sc w lay (IsInReach w (part ∷ outer)) r ks a.2.kind second.word =
+        known_is sc w lay (IsInReach w (part ∷ outer)) part.instance s.stands.held s.stands.held_are (element r ks a.2.kind) second.word second.slot_is in
         let h : ElementHome tree code texts w lay img p q part outer bound core s r ks a.2.kind second.word e = element_home tree code texts w lay img p q part outer bound core s r ks a.2.kind second.word e in
         let d : IsDescriptor second.word (at_element e.at e.number) = is_descriptor second.word (at_element e.at e.number) (indexed_is second.word (at_element e.at e.number) h.reads) in
         by_found kinds.Stod (λ f. cc) (core.registers.s - 2) a.0 (λ m f. f) a.2.stands second.word
@@ -118,7 +118,7 @@ module _ (tree : PProgram) (code : Code) (texts : Texts) (nested : AreNested (sc
         by_names tree code texts nested w lay img p q part outer bound core s (ops.Plain kinds.Lodt) a.1 a.3.stands
         (cell_named p img core.registers kinds.Lodt (λ e. cc) (core.registers.s - 1) (λ m e. e) f.top.word
         (over_top img p core s.has f.top.word f.top.words_below f.top.is) (λ follows. follows)
-        (record { level = a.3.couple.level; index = a.3.couple.index }) (place p f.at) f.names f.shown (own_cell p img (record { frame = place p f.at; index = a.3.couple.index }) refl))
+        (record { level = a.3.couple.level; index = a.3.couple.index }) f.at f.names f.shown f.near)
 
     pub made_near : (kind : Kind) (ns : List Named) (pairs : List PPair) (vs : List Value) → At (makes_arrays kind ns pairs vs) → StandsNear code p img core.registers
     made_near kind ns pairs vs a =

@@ -1,0 +1,93 @@
+-- EXIT of the base frame of a process with a task: what it comes to, and whom it releases.
+use Rattle.std.proofs.Common.{◌≡◌, refl, ap, ◌∙◌, ℕ, ◌+◌, List, [], ◌∷◌, ◌++◌, length, take, drop, Option, Some, Bool, false, Ok, append-nil}
+use Rattle.std.specs.Prelude.{if◌then◌else◌, nat_eq, reverse}
+use Rattle.b67_list.specs.Numbered.{numbered, set_numbered}
+use Rattle.b67_num.specs.declared.FaultKind.TheVariants.{CriticalBlockExit}
+use Rattle.b67_word.specs.declared.Place.{Place}
+use Rattle.b67_word.specs.Word.{Word}
+use Rattle.b67_control.specs.declared.Registers.{Registers}
+use Rattle.b67_ops.specs.declared.Operator.TheVariants as ops
+use Rattle.b67_ops.specs.declared.PlainKind.TheVariants as kinds
+use Rattle.b67_segment.specs.declared.code.Code.{Code}
+use Rattle.b67_store.specs.Store.{Rows, words_of}
+use Rattle.b67_events.specs.Events.{Event, closed_from, waiters_at, caused, changed as with_event}
+use Rattle.b67_table.specs.Effect.{gives}
+use Rattle.b67_table.specs.Image.{Image, with_rows}
+use Rattle.b67_table.specs.Linkage.{arrays_closed, caused_by, frame_left, is_critical, leave_base, leave_other}
+use Rattle.b67_table.specs.Private.{frame}
+use Rattle.b67_table.specs.Program.{Program, Change, done, changed, asked, answer, fault, registers, end_process, close_events}
+use Rattle.b67_table.specs.Questions.{live_criticals, told}
+use Rattle.b67_table.specs.Questions as questions
+use Rattle.b67_table.specs.Rows.{row, exit}
+use Rattle.b67_table.specs.Table.{raw, operator_at}
+use Rattle.b67_table.specs.Writes.{written, able_again}
+use Rattle.b67_table.specs.Writes as writes
+use Rattle.b67_table.specs.declared.ProcessState.TheVariants.{Ended}
+use Rattle.b67_letters.proofs.Calm.{arrays_have}
+use Rattle.b67_letters.specs.Releases.{change_releases, effect_releases, fetched_releases, registers_releases}
+use Rattle.b67_cores.specs.Cores.{Core, HasCore}
+use Rattle.b67_rows.proofs.Rows.{words_are}
+use Rattle.b67_rows.proofs.StackWords.{take-seam}
+use Rattle.b67_frames.proofs.ExitRow.{ended_at, exit_causes}
+
+module _ (code : Code) (img : Image) (p : ℕ) (core : Core) (has : HasCore img p core) (next : ℕ) (at : operator_at code core.registers ≡ Ok (ops.Plain kinds.Exit, next))
+    (mark control : Word) (cells : List Word) (below : core.below ≡ mark ∷ control ∷ cells) (counted : core.registers.cells ≡ length cells) (base : frame core.registers ≡ 0)
+    (rows : Rows) (closed : (q : ℕ) (more : Change) → changed q (arrays_closed cells more) img ≡ changed q more (with_rows img rows)) (free : is_critical core.registers.stack (0 ∷ []) (live_criticals img.states img.regs) ≡ false)
+    (task : Place) (tasked : core.registers.task ≡ Some task) where
+  abbrev r : Registers
+  r = core.registers
+
+  abbrev left : Registers
+  left = record r { place = next }
+
+  -- the image in which it has ended, and its task's event is caused
+  abbrev pub caused_at : Image
+  caused_at =
+      record (ended_at img rows p (record core.registers { place = next })) {
+        events = with_event task caused (closed_from core.registers.stack 0 img.events);
+        states = set_numbered (able_again (waiters_at task (closed_from core.registers.stack 0 img.events)) img.states) p Ended;
+      }
+
+  pub caused_raw : raw code img p ≡ gives caused_at
+  caused_raw = exit_causes code img p core has next at mark control cells below counted base rows closed free task tasked
+
+  -- ---- whom it releases
+
+  abbrev left_with : ℕ → List Word → Program
+  left_with f ws = if nat_eq f 0 then leave_base r ws next else leave_other r ws f []
+
+  abbrev last : Option Place → Change
+  last t = close_events r.stack 0 (registers left (caused_by t (end_process r.stack done)))
+
+  cells_there : take r.cells (drop (0 + 2) (words_of img.stacks r.stack)) ≡ cells
+  cells_there =
+      ap (λ (ws : List Word). take r.cells (drop (0 + 2) ws)) (words_are img p core has ∙ ap (λ (ws : List Word). ws ++ reverse core.words) below)
+      ∙ take-seam cells (reverse core.words) r.cells counted
+
+  exit_asked : asked img (exit r next) ≡ gives (arrays_closed cells (last (Some task)))
+  exit_asked =
+      ap (λ (f : ℕ). asked img (left_with f (take r.cells (drop (f + 2) (words_of img.stacks r.stack))))) base
+      ∙ ap (λ (ws : List Word). asked img (leave_base r ws next)) cells_there
+      ∙ ap (λ (b : Bool). asked img (if b then fault CriticalBlockExit else answer (frame_left r.stack 0 cells (registers left (caused_by r.task (end_process r.stack done)))))) free
+      ∙ ap (λ (t : Option Place). gives (arrays_closed cells (last t))) tasked
+
+  -- rows that are closed release nobody, and leave the events
+  abbrev Releases : Change → Type 0
+  Releases c = (i : Image) → i.events ≡ img.events → change_releases p c i ≡ waiters_at task (closed_from r.stack 0 img.events)
+
+  last_releases : Releases (last (Some task))
+  last_releases i same =
+      append-nil (waiters_at task (closed_from r.stack 0 i.events))
+      ∙ ap (λ (events : List Event). waiters_at task (closed_from r.stack 0 events)) same
+
+  end_change : change_releases p (arrays_closed cells (last (Some task))) img ≡ waiters_at task (closed_from r.stack 0 img.events)
+  end_change =
+      arrays_have Releases (λ n more j i same. j (written p (writes.close_row n) i) same) (λ n more j i same. j (told i (questions.row n)) i same) cells (last (Some task)) last_releases img refl
+
+  pub end_releases : registers_releases code img p (numbered img.regs p) ≡ waiters_at task (closed_from core.registers.stack 0 img.events)
+  unfolding row
+  end_releases =
+      ap (registers_releases code img p) has.registers
+      ∙ ap (fetched_releases code img p core.registers) at
+      ∙ ap (effect_releases p img) exit_asked
+      ∙ end_change

@@ -1,0 +1,45 @@
+-- Who starts a process has nothing to make.
+use Rattle.std.proofs.Common.{◌≡◌, refl, List, [], ◌∷◌, Option}
+use Rattle.algol_tree.specs.declared.tree.Named.{Named}
+use Rattle.algol_tree.specs.Plain.{PBody}
+use Rattle.algol_meaning.specs.Rest.{Given, valued, passed, refers, names, Hole, read, element, index, happens, broken, enter, inside, subscript, argument, left, right, negated, inverted, condition, Actuals, pass, in_value, Rest, arrays, event, bounding}
+use Rattle.algol_meaning.specs.Asks.{starts, ask, ask_hole, ask_actuals}
+use Rattle.algol_paths.specs.Arrays.{all_to_make}
+use Rattle.algol_paths.specs.Texts.{InGivens}
+use Rattle.b67_rows.proofs.AskedEntries.{InReferred}
+
+-- an expression starts none
+mutual
+  hole_starts : (n : Named) (gs : List Given) (task : Option Named) (h : Hole) → ask_hole h ≡ starts n gs task → ⊥
+  hole_starts n gs task (read m) e = cc
+  hole_starts n gs task (element m ks i) e = cc
+  hole_starts n gs task (index m ks i x es) e = cc
+  hole_starts n gs task (happens m) e = cc
+  hole_starts n gs task (broken op v w fault) e = cc
+  hole_starts n gs task (enter m hs) e = cc
+  hole_starts n gs task inside e = cc
+  hole_starts n gs task (subscript m ks h es) e = hole_starts n gs task h e
+  hole_starts n gs task (argument m x) e = actuals_start n gs task x e
+  hole_starts n gs task (left op h b) e = hole_starts n gs task h e
+  hole_starts n gs task (right op v h) e = hole_starts n gs task h e
+  hole_starts n gs task (negated h) e = hole_starts n gs task h e
+  hole_starts n gs task (inverted h) e = hole_starts n gs task h e
+  hole_starts n gs task (condition h x y) e = hole_starts n gs task h e
+
+  actuals_start : (n : Named) (gs : List Given) (task : Option Named) (x : Actuals) → ask_actuals x ≡ starts n gs task → ⊥
+  actuals_start n gs task (pass hs m sorts es) e = cc
+  actuals_start n gs task (in_value hs h sorts es) e = hole_starts n gs task h e
+
+pub none_to_make : (n : Named) (gs : List Given) (task : Option Named) (r : Rest) → ask r ≡ starts n gs task → all_to_make r ≡ []
+none_to_make n gs task (arrays kind ns pairs vs k) e = cc
+none_to_make n gs task (event m k) e = cc
+none_to_make n gs task (bounding kind ns pairs vs h ps k) e = absurd (hole_starts n gs task h e)
+none_to_make n gs task r e = refl
+
+-- of each name that is given P holds
+pub all_referred : (P : Named → Type 0) (gs : List Given) → InGivens P gs → InReferred P gs
+all_referred P [] is = tt
+all_referred P (refers n ∷ gs) is = (is.0, all_referred P gs is.1)
+all_referred P (valued v ∷ gs) is = all_referred P gs is
+all_referred P (passed c ∷ gs) is = all_referred P gs is
+all_referred P (names e ∷ gs) is = all_referred P gs is.1

@@ -1,0 +1,88 @@
+-- A process that starts another leaves the others alone: on the newest instance of another process nobody depends who did not.
+use Rattle.std.proofs.Common.{◌≡◌, ◌≢◌, inl, refl, sym, ap, ◌∙◌, subst, ℕ, ◌+◌, List, [], ◌∷◌, ◌++◌, length, Option, Some, true, false, arith}
+use Rattle.std.specs.Prelude.{Bool, ◌==◌, ◌&&◌, ◌||◌, slice_get}
+use Rattle.std.proofs.lemmas.Bool.Decides.{nat_tests}
+use Rattle.b67_list.specs.Numbered.{numbered, set_numbered}
+use Rattle.algol_tree.specs.Scopes.{Scopes, scopes_of}
+use Rattle.algol_meaning.specs.World.{Instance, Process, lives, World, instance_at, or_no_instance}
+use Rattle.algol_meaning.specs.Critical.{is_this, some_depends, own_instances}
+use Rattle.algol_standing.specs.Skeleton.{Home, IsIn}
+use Rattle.algol_standing.specs.Worlds.{stack_of, skeleton, IsOnPath, IsStanding, IsWhole}
+use Rattle.algol_standing.specs.Fitting.{IsOk}
+use Rattle.algol_standing.proofs.Lists.{some_same}
+use Rattle.algol_standing.proofs.Pairs.{stack_forth}
+use Rattle.algol_standing.proofs.Standing.{home_stands}
+use Rattle.b67_word.specs.declared.Place.{Place}
+use Rattle.b67_table.specs.Chains.{place}
+use Rattle.b67_frames.specs.Arrays.{Layout}
+use Rattle.b67_frames.proofs.Facts.{HasFacts, facts_of}
+use Rattle.b67_frames.proofs.Knowing.{KeepsArrays, keeps_same}
+use Rattle.b67_frames.proofs.Onward.{StandOn}
+use Rattle.b67_rows.proofs.Growing.{numbered_before}
+use Rattle.b67_scenes.proofs.Ancestors.{AreLaid}
+use Rattle.b67_scenes.proofs.Kept.{LeavesAlone}
+use Rattle.b67_scenes.proofs.StartingProcess.{started_world, started_layout, rows_before}
+use Rattle.b67_scenes.proofs.Unseen.{newest_alone}
+use Rattle.b67_pictures.proofs.Alone.{IsAfter, free_still, dependent_but, stands_on}
+
+other_is : (m n : ℕ) → m ≢ n → (m == n) ≡ false
+other_is m n h = grind (arith, nat_tests)
+
+-- who does not depend on it, with one more who does not
+pub none_depends : (qs : List Process) (new : Process) (i c : ℕ) → new.critical ≡ Some c → c ≢ i → some_depends qs i ≡ false → some_depends (qs ++ new ∷ []) i ≡ false
+none_depends [] new i c critical other free =
+    ap (λ (o : Option ℕ). (lives new.state && is_this o i) || false) critical ∙ ap (λ (b : Bool). (lives new.state && b) || false) (other_is c i other) ∙ by (lives new.state)
+  where
+    by : (b : Bool) → ((b && false) || false) ≡ false
+    by true = refl
+    by false = refl
+none_depends (q ∷ qs) new i c critical other free = by (lives q.state && is_this q.critical i) free (none_depends qs new i c critical other)
+  where
+    by : (b : Bool) → (b || some_depends qs i) ≡ false → (some_depends qs i ≡ false → some_depends (qs ++ new ∷ []) i ≡ false) → (b || some_depends (qs ++ new ∷ []) i) ≡ false
+    by true e again = e
+    by false e again = again e
+
+module _ (sc : Scopes) (w : World) (lay : Layout) (ok : IsOk sc IsWhole w) (p : ℕ) (q q' : Process) (at : numbered w.processes p ≡ Some q) (critical_is : q'.critical ≡ q.critical) (alive : lives q'.state ≡ true → lives q.state ≡ true)
+    (top : ℕ) (older : List ℕ) (own : own_instances q.todo ≡ top ∷ older) (made : Instance) (new : Process) (c : ℕ) (critical : new.critical ≡ Some c) (path : IsOnPath w top c) where
+  facts : HasFacts w
+  facts = facts_of sc w ok
+
+  abbrev w' : World
+  w' = started_world w p q' made new
+
+  abbrev top_stands : IsStanding w top
+  top_stands = record { number = p; stack = stack_of q; is = stack_forth w p q at; inside = subst (λ (xs : List ℕ). IsIn xs top) (sym own) (inl refl) }
+
+  -- the newest of another process, on whom nobody depends, is not the critical one of the new process
+  is_other : (k : ℕ) (o : Process) (i : ℕ) (rest : List ℕ) → k ≢ p → numbered w.processes k ≡ Some o → own_instances o.todo ≡ i ∷ rest → some_depends w.processes i ≡ false → c ≢ i
+  is_other k o i rest apart is newest free same =
+      let top_is : top ≡ i = newest_alone sc w k o i rest ok is newest free top (subst (λ (x : ℕ). IsOnPath w top x) same path) in
+      let stands : IsStanding w i = record { number = k; stack = stack_of o; is = stack_forth w k o is; inside = subst (λ (xs : List ℕ). IsIn xs i) (sym newest) (inl refl) } in
+      let f = home_stands (skeleton w) ok.sound.skeleton_ok i stands in
+      let g = home_stands (skeleton w) ok.sound.skeleton_ok top top_stands in
+      let home : f.0 ≡ g.0 = some_same f.1 (ap (λ (x : ℕ). slice_get (skeleton w).homes x) (sym top_is) ∙ g.1) in
+      apart (sym f.2 ∙ ap (λ (h : Home). h.process) home ∙ g.2)
+
+  -- what stands keeps all that it has
+  keeps : (j : ℕ) → IsStanding w j → IsStanding w' j → KeepsArrays sc w w' lay (started_layout w lay) j
+  keeps j st later =
+      let x = facts.there j st in
+      keeps_same sc w w' lay (started_layout w lay) j
+      (ap or_no_instance (numbered_before w.instances (made ∷ []) j x.0 x.1) ∙ sym (ap or_no_instance x.1))
+      (rows_before w lay j x.0 x.1)
+
+  module _ (after : IsAfter sc w (started_world w p q' made new) p) where
+    pub all_stand_on : StandOn sc w (started_world w p q' made new) lay (started_layout w lay)
+    all_stand_on = stands_on sc w w' lay (started_layout w lay) p facts after keeps (λ j f e. numbered_before lay.places (place (length w.processes + 1) 0 ∷ []) j f e)
+
+    pub left_alone : AreLaid w lay → (k : ℕ) → k ≢ p → LeavesAlone sc w (started_world w p q' made new) lay (started_layout w lay) k
+    left_alone laid k apart =
+        record {
+          laid = laid;
+          on = all_stand_on;
+          depends = λ i o rest is newest free.
+              none_depends (set_numbered w.processes p q') new i c critical (is_other k o i rest apart is newest free)
+              (free_still w.processes (set_numbered w.processes p q') i (dependent_but w.processes p q q' at critical_is alive) free);
+          lows = λ i x is mine stands low.
+              after.lows i (facts.stands i x is stands) (λ same. apart (sym mine ∙ ap (λ (y : Instance). y.process) (sym (ap or_no_instance is)) ∙ same)) low;
+        }

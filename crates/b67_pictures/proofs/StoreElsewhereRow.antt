@@ -1,0 +1,113 @@
+-- STOD on a cell of another stack than the process's own, which the reference under the top names.
+use Rattle.std.proofs.Common.{◌≡◌, ◌≢◌, refl, ap, ◌∙◌, ℕ, ◌+◌, ◌-◌, List, [], ◌∷◌, ◌++◌, length, take, Option, Some, None, Bool, false, Ok, arith}
+use Rattle.std.specs.Prelude.{if◌then◌else◌, ◌==◌, reverse, slice_get, slice_set}
+use Rattle.b67_word.specs.declared.Place.{Place}
+use Rattle.b67_word.specs.Word.{Word}
+use Rattle.b67_control.specs.declared.Registers.{Registers}
+use Rattle.b67_control.specs.declared.Descriptor.{Descriptor}
+use Rattle.b67_table.specs.Arrays.{as_indexed}
+use Rattle.b67_ops.specs.declared.Operator.TheVariants as ops
+use Rattle.b67_ops.specs.declared.PlainKind.TheVariants as kinds
+use Rattle.b67_segment.specs.declared.code.Code.{Code}
+use Rattle.b67_store.specs.Store.{Stacks, words_or, words_of, word_at, with_stack, with_word, with_cut}
+use Rattle.b67_table.specs.declared.Cell.{Cell}
+use Rattle.b67_table.specs.declared.Class.TheVariants as classes
+use Rattle.b67_table.specs.declared.Reached.{Reached}
+use Rattle.b67_table.specs.declared.InterruptKind.TheVariants.{StackUnderflow}
+use Rattle.b67_table.specs.Effect.{Effect, gives}
+use Rattle.b67_table.specs.Image.{Image, with_stacks, with_registers}
+use Rattle.b67_table.specs.Look.{Look, found, stops, ◌>->◌, valid, seen}
+use Rattle.b67_table.specs.Program.{Program, does, effect_of, asked, see, answer, ◌>>=◌, save}
+use Rattle.b67_table.specs.Private.{floor}
+use Rattle.b67_table.specs.References.{Two, cell_of, cell_place, reached_in, named, from_top, operand_in, invalid}
+use Rattle.b67_table.specs.Rows.{row, store, store_by, stored}
+use Rattle.b67_table.specs.Table.{raw, operator_at, class_at}
+use Rattle.b67_letters.specs.declared.Letter.TheVariants.{Store, ElementStore}
+use Rattle.b67_letters.specs.Letters.{told_by, element_or_not, stored_letter, operator_letter}
+use Rattle.b67_cores.specs.Cores.{Core, HasCore, with_core}
+use Rattle.b67_rows.proofs.Cored.{stack_other}
+use Rattle.b67_rows.proofs.IndexRows.{without_two}
+use Rattle.b67_rows.proofs.Rows.{raw_is, words_are}
+use Rattle.b67_rows.proofs.StackWords.{word-over, word-under, cut-stack}
+use Rattle.b67_rows.proofs.StoreRow.{most_is}
+
+module _ (code : Code) (img : Image) (p : ℕ) (core : Core) (has : HasCore img p core) (next : ℕ) (at : operator_at code core.registers ≡ Ok (ops.Plain kinds.Stod, next))
+    (x y old : Word) (words : List Word) (top : core.words ≡ x ∷ y ∷ words) (frame : Place) (index : ℕ) (names : cell_of core.registers y ≡ Some (record { frame = frame; index = index })) (plain_word : as_indexed y ≡ None)
+    (apart : frame.stack ≢ core.registers.stack) (lies : word_at img.stacks (cell_place (record { frame = frame; index = index })) ≡ Some old) (tag : x.tag ≡ 0) (old_tag : old.tag ≡ 0) where
+  abbrev r : Registers
+  r = core.registers
+
+  abbrev cell : Cell
+  cell = record { frame = frame; index = index }
+
+  abbrev tested : Program → Effect Image
+  tested t = effect_of p img (asked img t)
+
+  whole : words_of img.stacks r.stack ≡ core.below ++ reverse (x ∷ y ∷ words)
+  whole = words_are img p core has ∙ ap (λ (ws : List Word). core.below ++ reverse ws) top
+
+  long : r.s ≡ length core.below + length words + 2
+  long = omega (arith, has.is.top, ap length top)
+
+  top_word : word_at img.stacks (record { stack = r.stack; at = r.s - 1 }) ≡ Some x
+  top_word =
+      ap (λ (ws : List Word). slice_get ws (r.s - 1)) whole
+      ∙ word-over core.below x (y ∷ words) (r.s - 1) (omega (arith, long))
+
+  under_word : word_at img.stacks (record { stack = r.stack; at = r.s - 2 }) ≡ Some y
+  under_word =
+      ap (λ (ws : List Word). slice_get ws (r.s - 2)) whole
+      ∙ word-under core.below (x ∷ []) y words (r.s - 2) (omega (arith, long))
+
+  abbrev after : Registers
+  after = record r { s = r.s - 2 + 0; place = next }
+
+  abbrev changed : Stacks
+  changed = with_word img.stacks (cell_place cell) x
+
+  -- the cell is changed and the two words are dropped
+  saved : with_cut (with_word img.stacks (cell_place (record { frame = frame; index = index })) x) core.registers.stack (core.registers.s - 2) ≡
+      with_stack (with_word img.stacks (cell_place (record { frame = frame; index = index })) x) core.registers.stack (core.below ++ reverse words)
+  saved =
+      ap (λ (o : Option (List Word)). with_stack changed r.stack (take (r.s - 2) (words_or o))) (stack_other img.stacks frame.stack r.stack (slice_set (words_of img.stacks frame.stack) (frame.at + index) x) apart)
+      ∙ ap (λ (ws : List Word). with_stack changed r.stack (take (r.s - 2) ws)) whole
+      ∙ ap (λ (ws : List Word). with_stack changed r.stack ws) (cut-stack core.below (x ∷ y ∷ []) words (r.s - 2) (omega (arith, long)))
+
+  abbrev two : Word → Word → Two
+  two a b = record { x = a; y = b }
+
+  abbrev go_on : Two → Program
+  go_on t = see (operand_in t.x) >>= (λ (a : Word). store_by false r next a t.y (as_indexed t.y))
+
+  abbrev under : Word → Look Two
+  under a = from_top r 1 >-> (λ (b : Word). found (two a b))
+
+  abbrev put : Reached → Program
+  put v = see (operand_in v.word) >>= (λ (o : Word). answer (stored false r next x (save (cell_place v.cell) x)))
+
+  does_is : does p (store false r next) img ≡ gives (with_core (with_stacks img (with_word img.stacks (cell_place (record { frame = frame; index = index })) x)) p (without_two core words next))
+  does_is =
+      ap (λ (b : Bool). tested (see ((if b then from_top r 0 else stops StackUnderflow) >-> under) >>= go_on)) (most_is (floor r + 2) r.s (omega (arith, long, has.is.bottom)))
+      ∙ ap (λ (o : Option Word). tested (see (valid o >-> under) >>= go_on)) top_word
+      ∙ ap (λ (o : Option Word). tested (see (valid o >-> (λ (b : Word). found (two x b))) >>= go_on)) under_word
+      ∙ ap (λ (t : ℕ). tested (see (if t == 0 then found x else invalid) >>= (λ (a : Word). store_by false r next a y (as_indexed y)))) tag
+      ∙ ap (λ (d : Option Descriptor). tested (store_by false r next x y d)) plain_word
+      ∙ ap (λ (o : Option Cell). tested (see (named o) >>= put)) names
+      ∙ ap (λ (o : Option Word). tested (see (reached_in cell o) >>= put)) lies
+      ∙ ap (λ (t : ℕ). tested (see (if t == 0 then found old else invalid) >>= (λ (o : Word). answer (stored false r next x (save (cell_place cell) x))))) old_tag
+      ∙ ap (λ (ss : Stacks). gives (with_registers (with_stacks img ss) p after)) saved
+
+  pub stores_elsewhere : operator_letter (ops.Plain kinds.Stod) img core.registers ≡ Some Store
+  stores_elsewhere =
+      ap (λ (b : Bool). told_by stored_letter (seen img.stacks ((if b then from_top r 0 else stops StackUnderflow) >-> under))) (most_is (floor r + 2) r.s (omega (arith, long, has.is.bottom)))
+      ∙ ap (λ (o : Option Word). told_by stored_letter (seen img.stacks (valid o >-> under))) top_word
+      ∙ ap (λ (o : Option Word). told_by stored_letter (seen img.stacks (valid o >-> (λ (b : Word). found (two x b))))) under_word
+      ∙ ap (λ (d : Option Descriptor). Some (element_or_not ElementStore Store d)) plain_word
+
+  pub store_elsewhere_raw : raw code img p ≡ gives (with_core (with_stacks img (with_word img.stacks (cell_place (record { frame = frame; index = index })) x)) p (without_two core words next))
+  unfolding row
+  store_elsewhere_raw = raw_is code img p core has (ops.Plain kinds.Stod) next at ∙ does_is
+
+  pub store_elsewhere_class : class_at (ops.Plain kinds.Stod) core.registers.place ≡ classes.Action
+  unfolding class_at row
+  store_elsewhere_class = refl
