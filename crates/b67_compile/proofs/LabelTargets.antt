@@ -35,7 +35,6 @@ use Rattle.b67_emit_text.specs.Entries.{Entry}
 use Rattle.b67_emit_text.specs.Targets as table
 use Rattle.b67_emit_text.specs.Targets.{or_target, target_there, target_at, targets_from, targets_in}
 use Rattle.b67_emit_text.specs.Texts.{Text, texts}
-use Rattle.b67_fitting.specs.Alone.{IsAlone}
 use Rattle.b67_fitting.specs.Fitted.{AreTargets, declared_at, meant_as, target_numbered, target_of}
 use Rattle.b67_fitting.specs.Names.{HasNames}
 use Rattle.b67_fitting.proofs.Apart.{IsIn, same_place, same_self}
@@ -163,7 +162,7 @@ label_class class.unknown h = absurd (let clash : false ≡ true = h in cc)
 
 -- ---- a program
 
-module _ (at : Spot) (ds : PDecls) (ss : PStmts) (names : Names) (order : IsInOrder (tree.program (tree.body at ds ss))) (alone : IsAlone (tree.program (tree.body at ds ss)))
+module _ (at : Spot) (ds : PDecls) (ss : PStmts) (names : Names) (order : IsInOrder (tree.program (tree.body at ds ss)))
     (named : HasNames (tree.program (tree.body at ds ss))) (are : AreOf (tree.program (tree.body at ds ss)) names.scopes.now) where
   abbrev p : PProgram
   p = tree.program (tree.body at ds ss)
@@ -178,7 +177,7 @@ module _ (at : Spot) (ds : PDecls) (ss : PStmts) (names : Names) (order : IsInOr
   ts = texts (tree.body at ds ss)
 
   own_number : (j : ℕ) → j < length blocks → number_at blocks (block_numbered blocks j).spot ≡ j
-  own_number j h = each_number p order alone j (block_numbered blocks j) (block_there blocks j h)
+  own_number j h = each_number p order j (block_numbered blocks j) (block_there blocks j h)
 
   -- the labels of each block are known so
   all_labels : AllByRecursion (HasLabels blocks all) blocks
@@ -237,7 +236,7 @@ module _ (at : Spot) (ds : PDecls) (ss : PStmts) (names : Names) (order : IsInOr
         let e = r.entry in
         let same : 0 + k ≡ k = omega arith in
         let there : slice_get (entries_among blocks k blocks) r.place ≡ Some e =
-        ap (λ (es : List Entry). slice_get es r.place) (entries_are at ds ss order alone named k)
+        ap (λ (es : List Entry). slice_get es r.place) (entries_are at ds ss order named k)
         ∙ ap (λ (n : ℕ). slice_get (entries_numbered 0 ts n) r.place) (sym same) ∙ of_text 0 ts k r.place r.text e r.there r.entry_there in
         let l : IsLabelOf sc (block_there blocks) own_number k r.place e = label_of_entry sc (block_there blocks) own_number k r.place e there in
         let j = l.block in
@@ -280,7 +279,7 @@ module _ (at : Spot) (ds : PDecls) (ss : PStmts) (names : Names) (order : IsInOr
         let zero_first : 0 + k ≡ k = omega arith in
         let q = in_text 0 ts k (labels_before sc k j.0 + i.0) e
         (ap (λ (n : ℕ). slice_get (entries_numbered 0 ts n) (labels_before sc k j.0 + i.0)) zero_first
-        ∙ ap (λ (es : List Entry). slice_get es (labels_before sc k j.0 + i.0)) (sym (entries_are at ds ss order alone named k)) ∙ there) in
+        ∙ ap (λ (es : List Entry). slice_get es (labels_before sc k j.0 + i.0)) (sym (entries_are at ds ss order named k)) ∙ there) in
         absurd (some_text 0 ts k (labels_before sc k j.0 + i.0) q.text e q.text_is q.entry_is (ap (targets_in 0 ts) r.at ∙ h))
 
     targets_are : target_told (targets_in 0 ts d.spot) ≡ target_of (scopes_of p) d

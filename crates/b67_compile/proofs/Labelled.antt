@@ -14,7 +14,6 @@ use Rattle.b67_ops.specs.declared.TheConstants.{OUTER_LEVEL}
 use Rattle.b67_templates.specs.Labels.{label_number}
 use Rattle.b67_emit_text.specs.Entries.{Entry, entries_in_stmts}
 use Rattle.b67_emit_text.specs.Texts.{Text, texts, texts_in_body}
-use Rattle.b67_fitting.specs.Alone.{IsAlone}
 use Rattle.b67_fitting.specs.Names.{HasNames}
 use Rattle.b67_fitting.proofs.Numbering.{block_is}
 use Rattle.b67_fitting.proofs.SurroundedSites.{each_number}
@@ -41,7 +40,7 @@ pub record LabelEntry (ts : List Text) (p : PProgram) (j number : ℕ) (name : L
   pub text_is : slice_get ts (segment_of (scopes_of p).blocks j) ≡ Some text
   pub entry_is : slice_get (entries_in_text text) number ≡ Some (record { level = level_of (block_numbered (scopes_of p).blocks j); name = label; stmts = (block_numbered (scopes_of p).blocks j).stmts })
 
-module _ (spot : Spot) (ds : PDecls) (ss : PStmts) (order : IsInOrder (tree.program (tree.body spot ds ss))) (alone : IsAlone (tree.program (tree.body spot ds ss)))
+module _ (spot : Spot) (ds : PDecls) (ss : PStmts) (order : IsInOrder (tree.program (tree.body spot ds ss)))
     (named : HasNames (tree.program (tree.body spot ds ss))) where
   abbrev p : PProgram
   p = tree.program (tree.body spot ds ss)
@@ -49,14 +48,14 @@ module _ (spot : Spot) (ds : PDecls) (ss : PStmts) (order : IsInOrder (tree.prog
   all_own : AreOwn (blocks_of_program p) (blocks_of_program p)
   all_own =
       let bs = blocks_of_program p in
-      each_own (IsOwn bs) bs (λ i b h. ap (block_numbered bs) (each_number p order alone i b h) ∙ block_is bs i b h)
+      each_own (IsOwn bs) bs (λ i b h. ap (block_numbered bs) (each_number p order i b h) ∙ block_is bs i b h)
 
   all_numbered : AreNumbered (blocks_of_program p) 1 (texts_in_body (tree.body spot ds ss) OUTER_LEVEL)
   all_numbered =
       let bs = blocks_of_program p in
       each_numbered bs 1 (texts_in_body (tree.body spot ds ss) OUTER_LEVEL)
       (λ i t h.
-      let r = text_block spot ds ss order alone named (suc i) t h in
+      let r = text_block spot ds ss order named (suc i) t h in
       let at : t.spot ≡ r.block.spot = ap (λ (z : Text). z.spot) r.is in
       let same : suc i ≡ 1 + i = omega arith in
       ap (λ (s : Spot). segment_of bs (number_at bs s)) at ∙ ap (segment_of bs) r.of.number_is ∙ r.of.segment ∙ same)
@@ -79,7 +78,7 @@ module _ (spot : Spot) (ds : PDecls) (ss : PStmts) (order : IsInOrder (tree.prog
       let bs = blocks_of_program p in
       let sc = scopes_of p in
       let b = block_numbered bs j in
-      let own : (i : ℕ) → i < length bs → number_at bs (block_numbered bs i).spot ≡ i = (λ i less. each_number p order alone i (block_numbered bs i) (block_there bs i less)) in
+      let own : (i : ℕ) → i < length bs → number_at bs (block_numbered bs i).spot ≡ i = (λ i less. each_number p order i (block_numbered bs i) (block_there bs i less)) in
       let r : IsEntry sc (block_there bs) own j number name = numbered_entry sc (block_there bs) own j number name known h in
       let k = segment_of bs j in
       let e : Entry = record { level = level_of b; name = r.label; stmts = b.stmts } in

@@ -1,4 +1,3 @@
-pub mod Decided
 pub mod Everywhere
 pub mod Fits
 pub mod Meanings

@@ -12,7 +12,6 @@ use Rattle.algol_tree.specs.Plain.{PDecls, PStmts, PProgram}
 use Rattle.algol_paths.specs.Segments.{is_procedure, procedures_before, segment_among, segment_of, segment_tokens, tokens_or_none}
 use Rattle.b67_ops.specs.declared.TheConstants.{OUTER_LEVEL}
 use Rattle.b67_emit_text.specs.Texts.{Text, outer_text, texts, texts_in_body}
-use Rattle.b67_fitting.specs.Alone.{IsAlone}
 use Rattle.b67_fitting.specs.Names.{HasNames}
 use Rattle.b67_fitting.proofs.Numbering.{block_is}
 use Rattle.b67_fitting.proofs.SurroundedSites.{each_number}
@@ -144,7 +143,7 @@ block_there [] k h = absurd (omega (arith, h))
 block_there (c ∷ bs) zero h = refl
 block_there (c ∷ bs) (suc k) h = block_there bs k (omega (arith, h))
 
-module _ (spot : Spot) (ds : PDecls) (ss : PStmts) (order : IsInOrder (tree.program (tree.body spot ds ss))) (alone : IsAlone (tree.program (tree.body spot ds ss)))
+module _ (spot : Spot) (ds : PDecls) (ss : PStmts) (order : IsInOrder (tree.program (tree.body spot ds ss)))
     (named : HasNames (tree.program (tree.body spot ds ss))) where
   abbrev p : PProgram
   p = tree.program (tree.body spot ds ss)
@@ -157,7 +156,7 @@ module _ (spot : Spot) (ds : PDecls) (ss : PStmts) (order : IsInOrder (tree.prog
   outer_is = record {
     block = 0;
     there = refl;
-    number_is = each_number p order alone 0 (outer_block (tree.body spot ds ss)) refl;
+    number_is = each_number p order 0 (outer_block (tree.body spot ds ss)) refl;
     segment = refl;
     short = omega arith;
   }
@@ -176,7 +175,7 @@ module _ (spot : Spot) (ds : PDecls) (ss : PStmts) (order : IsInOrder (tree.prog
         of = record {
           block = n.number;
           there = n.there;
-          number_is = each_number p order alone n.number r.block n.there;
+          number_is = each_number p order n.number r.block n.there;
           segment = procedure_segment bs n.number own ∙ ap suc n.before;
           short = omega (arith, tokens);
         };
@@ -192,7 +191,7 @@ module _ (spot : Spot) (ds : PDecls) (ss : PStmts) (order : IsInOrder (tree.prog
   unfolding blocks_of_program
   block_text j known (inl first) =
       subst (HasText p (texts (tree.body spot ds ss))) (sym first)
-      (record { tokens = body_tokens (tree.body spot ds ss); number_is = each_number p order alone 0 (outer_block (tree.body spot ds ss)) refl; text = refl })
+      (record { tokens = body_tokens (tree.body spot ds ss); number_is = each_number p order 0 (outer_block (tree.body spot ds ss)) refl; text = refl })
   block_text j known (inr own) =
       let bs = blocks_of_program p in
       let b = block_numbered bs j in
@@ -201,7 +200,7 @@ module _ (spot : Spot) (ds : PDecls) (ss : PStmts) (order : IsInOrder (tree.prog
       let r = of_block (filter is_procedure bs) (segs (sites_of p)) inner k b (all_match spot ds ss named) (numbered_procedure bs j b there own) in
       record {
         tokens = r.segment.tokens;
-        number_is = each_number p order alone j b there;
+        number_is = each_number p order j b there;
         text = ap (slice_get (texts (tree.body spot ds ss))) (procedure_segment bs j own) ∙ r.text_is ∙ ap Some r.fits.is;
       }
 

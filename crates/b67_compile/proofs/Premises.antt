@@ -34,7 +34,6 @@ use Rattle.b67_emit_stmt.specs.Actuals.{AreInner}
 use Rattle.b67_emit_text.specs.Programs.{AreDue, IsDue}
 use Rattle.b67_emit_text.specs.Targets.{AreTargets}
 use Rattle.b67_emit_text.specs.Texts.{Text, texts, texts_in_body}
-use Rattle.b67_fitting.specs.Alone.{IsAlone}
 use Rattle.b67_fitting.specs.Fitted.{BlockFits, IsToldOf}
 use Rattle.b67_fitting.specs.Names.{HasNames}
 use Rattle.b67_fitting.specs.Nested.{AreParameters, AreTold, IsText, LiesNested}
@@ -67,15 +66,14 @@ pub record Given (p : PProgram) (names : Names) : Type 0 where
   pub whole : HasWholeNumbers p
   pub texts : HasPlainTexts p
   pub named : HasNames p
-  pub alone : IsAlone p
   pub labels : AreTargets (texts_in_program p) names.labels
 
 -- the same of the parts of the program's body
 pub given : (b : Body) (s : table.Scopes) (bounds : BTreeMap Spot Lows) (names : Names) → names.scopes.now ≡ s → names.lows ≡ bounds →
     AreOf (tree.program (plain.body b)) s → ((spot : Spot) → under bounds spot ≡ lows_at (blocks_of_program (tree.program (plain.body b))) spot) →
     Accepted (tree.program (plain.body b)) → IsInOrder (tree.program (plain.body b)) → HasWholeNumbers (tree.program (plain.body b)) → HasPlainTexts (tree.program (plain.body b)) →
-    HasNames (tree.program (plain.body b)) → IsAlone (tree.program (plain.body b)) → (targets : BTreeMap Spot Target) → names.labels ≡ targets → AreTargets (texts (plain.body b)) targets → Given (tree.program (tree.body b.spot (plain.decls b.decls) (plain.stmts b.stmts))) names
-given b s bounds names scopes_are bounds_are resolved lows accepted order whole texts_are named alone targets targets_are labels =
+    HasNames (tree.program (plain.body b)) → (targets : BTreeMap Spot Target) → names.labels ≡ targets → AreTargets (texts (plain.body b)) targets → Given (tree.program (tree.body b.spot (plain.decls b.decls) (plain.stmts b.stmts))) names
+given b s bounds names scopes_are bounds_are resolved lows accepted order whole texts_are named targets targets_are labels =
     subst (λ (z : PBody). Given (tree.program z) names) (body_is b)
     (record {
       resolved = subst (AreOf (tree.program (plain.body b))) (sym scopes_are) resolved;
@@ -85,7 +83,6 @@ given b s bounds names scopes_are bounds_are resolved lows accepted order whole 
       whole = whole;
       texts = texts_are;
       named = named;
-      alone = alone;
       labels = subst (AreTargets (texts (plain.body b))) (sym targets_are) labels;
     })
 
@@ -134,13 +131,13 @@ module _ (spot : Spot) (ds : PDecls) (ss : PStmts) (names : Names) where
 
   module _ (has : Given p names) where
     pub lies : LiesNested p
-    lies = programs_lie_nested p has.accepted has.order has.alone has.named
+    lies = programs_lie_nested p has.accepted has.order has.named
 
     pub few : length (texts (tree.body spot ds ss)) ≤ 1 + MOST_PROCEDURES
     unfolding scopes_of
     few =
         let bs = blocks_of_program p in
-        omega (arith, texts_many spot ds ss has.order has.alone has.named, lies.nested.procedures_few (length bs), ap (λ (z : List Block). length (filter is_procedure z)) (all_taken bs))
+        omega (arith, texts_many spot ds ss has.order has.named, lies.nested.procedures_few (length bs), ap (λ (z : List Block). length (filter is_procedure z)) (all_taken bs))
 
     -- what the tables tell of the names is what the program says of them
     told : IsToldOf p (meanings names)
@@ -149,7 +146,7 @@ module _ (spot : Spot) (ds : PDecls) (ss : PStmts) (names : Names) where
       results = results_known p names has.resolved;
       lows = lows_known p names has.resolved has.lows;
       meant = meant_known p names has.order has.resolved;
-      labels = targets_known spot ds ss names has.order has.alone has.named has.resolved has.labels;
+      labels = targets_known spot ds ss names has.order has.named has.resolved has.labels;
       actuals = actuals_known p names has.resolved;
     }
 
@@ -170,7 +167,7 @@ module _ (spot : Spot) (ds : PDecls) (ss : PStmts) (names : Names) where
         let many : length (parameter_cells sc b) ≡ length b.parameters = parameters_many sc b (subst (AreParameters sc) here text.parameters) in
         let cells : length (simple_cells sc b) + length (procedures b.decls) + length (actuals_of sc b) + length (made_of b.decls) ≤ MOST_BLOCK_CELLS =
         subst (λ (z : Block). length (simple_cells sc z) + length (procedures z.decls) + length (actuals_of sc z) + length (made_of z.decls) ≤ MOST_BLOCK_CELLS) here text.few in
-        let fits : BlockFits p (meanings names) is.block = accepted_fit p (meanings names) has.accepted has.order has.alone has.whole has.texts told is.block known in
+        let fits : BlockFits p (meanings names) is.block = accepted_fit p (meanings names) has.accepted has.order has.whole has.texts told is.block known in
         record {
           segment = ap (segment_of bs) is.number_is ∙ is.segment;
           named = ap (λ (z : Block). z.name) own;
@@ -187,7 +184,7 @@ module _ (spot : Spot) (ds : PDecls) (ss : PStmts) (names : Names) where
 
     pub due : AreDue (scopes_of p) names (texts (tree.body spot ds ss))
     due number t e =
-        let r = text_block spot ds ss has.order has.alone has.named number t e in
+        let r = text_block spot ds ss has.order has.named number t e in
         subst (Due number) (sym r.is) (due_of number r.block r.tokens r.of)
 
     -- ---- cells
@@ -197,11 +194,11 @@ module _ (spot : Spot) (ds : PDecls) (ss : PStmts) (names : Names) where
     block_few have k known =
         let bs = blocks_of_program p in
         let there = block_there bs k known in
-        subst (HasFew bs (sites_of p)) (each_number p has.order has.alone k (block_numbered bs k) there)
+        subst (HasFew bs (sites_of p)) (each_number p has.order k (block_numbered bs k) there)
         (each_at (λ (b : Block). HasFew bs (sites_of p) (number_at bs b.spot)) bs k (block_numbered bs k) have there)
 
     surrounded : AllByRecursion (λ (x : Site). IsSurrounded (blocks_of_program p) x.around) (sites_of p)
-    surrounded = each_surrounded p has.accepted has.order has.alone
+    surrounded = each_surrounded p has.accepted has.order
 
     all_few : AreOfFew (blocks_of_program p) (sites_of p) (sites_of p)
     all_few =
@@ -209,7 +206,7 @@ module _ (spot : Spot) (ds : PDecls) (ss : PStmts) (names : Names) where
         let all = sites_of p in
         let Known : Block → Type 0 = λ b. number_at bs b.spot < length bs in
         let known : AllByRecursion Known bs =
-        each_by Known bs (λ i b h. subst (λ (n : ℕ). n < length bs) (sym (each_number p has.order has.alone i b h)) (slice_get_within bs i b h)) in
+        each_by Known bs (λ i b h. subst (λ (n : ℕ). n < length bs) (sym (each_number p has.order i b h)) (slice_get_within bs i b h)) in
         let around = each_of (λ (x : Site). IsSurrounded bs x.around) (λ (x : Site). x.around.block < length bs) all (λ x h. h.some) surrounded in
         each_of (IsOfOne bs) (λ (c : Cell). HasFew bs all c.block) (flat_map (cells_at bs) all) (λ c h. block_few (blocks_few bs all (cells_kept p has.accepted)) c.block h)
         (all_of_one bs (filter is_procedure bs) all (texts_in_body (tree.body spot ds ss) OUTER_LEVEL) (all_match spot ds ss has.named) (each_kept_by Known is_procedure bs known) around)
@@ -219,7 +216,7 @@ module _ (spot : Spot) (ds : PDecls) (ss : PStmts) (names : Names) where
     near =
         let bs = blocks_of_program p in
         let all = sites_of p in
-        couples_near p names has.resolved (no_event_rows spot ds ss names has.order has.alone has.named has.resolved has.lows) (located_near bs all all_few) (result_near bs all all_few) (actual_near bs all all_few (actual_cells bs all))
+        couples_near p names has.resolved (no_event_rows spot ds ss names has.order has.named has.resolved has.lows) (located_near bs all all_few) (result_near bs all all_few) (actual_near bs all all_few (actual_cells bs all))
 
     -- ---- levels
 

@@ -18,7 +18,6 @@ use Rattle.algol_scope.proofs.Bodies.{body_is}
 use Rattle.b67_ops.specs.declared.TheConstants.{MOST_LEVEL, OUTER_LEVEL}
 use Rattle.b67_emit_text.specs.Targets.{AreSmall}
 use Rattle.b67_emit_text.specs.Texts.{Text, texts, HaveLevelsBody}
-use Rattle.b67_fitting.specs.Alone.{IsAlone}
 use Rattle.b67_fitting.specs.Names.{HasNames}
 use Rattle.b67_fitting.specs.Nested.{LiesNested}
 use Rattle.b67_fitting.proofs.Nesting.{programs_lie_nested}
@@ -31,14 +30,13 @@ use Rattle.b67_compile.proofs.SmallTexts.{IsLow, IsSlight, program_levels, texts
 pub record IsPlain (p : PProgram) : Type 0 where
   pub accepted : Accepted p
   pub order : IsInOrder p
-  pub alone : IsAlone p
   pub named : HasNames p
 
 -- the same of the parts of the program's body
-pub parts_of : (b : Body) → Accepted (tree.program (plain.body b)) → IsInOrder (tree.program (plain.body b)) → IsAlone (tree.program (plain.body b)) → HasNames (tree.program (plain.body b)) →
+pub parts_of : (b : Body) → Accepted (tree.program (plain.body b)) → IsInOrder (tree.program (plain.body b)) → HasNames (tree.program (plain.body b)) →
     IsPlain (tree.program (tree.body b.spot (plain.decls b.decls) (plain.stmts b.stmts)))
-parts_of b accepted order alone named =
-    subst (λ (z : PBody). IsPlain (tree.program z)) (body_is b) (record { accepted = accepted; order = order; alone = alone; named = named })
+parts_of b accepted order named =
+    subst (λ (z : PBody). IsPlain (tree.program z)) (body_is b) (record { accepted = accepted; order = order; named = named })
 
 all_taken : {X : Type 0} (xs : List X) → take (length xs) xs ≡ xs
 all_taken [] = refl
@@ -49,13 +47,13 @@ module _ (spot : Spot) (ds : PDecls) (ss : PStmts) (is : IsPlain (tree.program (
   p = tree.program (tree.body spot ds ss)
 
   lies : LiesNested p
-  lies = programs_lie_nested p is.accepted is.order is.alone is.named
+  lies = programs_lie_nested p is.accepted is.order is.named
 
   pub texts_few : length (texts (tree.body spot ds ss)) ≤ 1 + MOST_PROCEDURES
   unfolding scopes_of
   texts_few =
       let bs = blocks_of_program p in
-      omega (arith, texts_many spot ds ss is.order is.alone is.named, lies.nested.procedures_few (length bs), ap (λ (z : List Block). length (filter is_procedure z)) (all_taken bs))
+      omega (arith, texts_many spot ds ss is.order is.named, lies.nested.procedures_few (length bs), ap (λ (z : List Block). length (filter is_procedure z)) (all_taken bs))
 
   all_low : AllByRecursion IsLow (blocks_of_program p)
   unfolding scopes_of
@@ -71,5 +69,5 @@ module _ (spot : Spot) (ds : PDecls) (ss : PStmts) (is : IsPlain (tree.program (
   texts_small number t h =
       let ts = texts (tree.body spot ds ss) in
       let slight : IsSlight t = each_at IsSlight ts number t (texts_slight spot ds ss texts_leveled) h in
-      let r = text_block spot ds ss is.order is.alone is.named number t h in
+      let r = text_block spot ds ss is.order is.named number t h in
       (slight.0, omega (arith, slight.1, ap (λ (z : Text). z.tokens) r.is, r.of.short, lies.short number))

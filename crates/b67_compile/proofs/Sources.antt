@@ -12,12 +12,9 @@ use Rattle.algol_tree.specs.Accepted.{Accepted}
 use Rattle.algol_tree.specs.Plain as tree
 use Rattle.algol_tree.specs.Plain.{PExpr, PExprs, PPair, PStmt, PStmts, PDecl, PDecls, PBody, PProgram}
 use Rattle.algol_front.proofs.Ordered.{IsSource}
-use Rattle.b67_fitting.specs.Alone.{IsAlone}
-use Rattle.b67_fitting.specs.Built.{IsBuilt}
 use Rattle.b67_fitting.specs.Names.{StmtNamed, StmtsNamed, DeclNamed, DeclsNamed, HasNames}
 use Rattle.b67_fitting.specs.Texts.{PhrasePlain, StmtPlain, StmtsPlain, DeclPlain, DeclsPlain, HasPlainTexts}
 use Rattle.b67_fitting.specs.Wholes.{NumbersWhole, AllWhole, BoundsWhole, SpecWhole, StmtWhole, StmtsWhole, DeclWhole, DeclsWhole, HasWholeNumbers}
-use Rattle.b67_fitting.proofs.Alone.{built_programs_are_alone}
 use Rattle.b67_fitting.proofs.NamesRead.{sources_named}
 use Rattle.b67_fitting.proofs.Numbered.{sources_whole}
 use Rattle.b67_fitting.proofs.Written.{sources_plain}
@@ -167,10 +164,6 @@ mutual
 
 pub source_accepted : (p : PProgram) → IsSource p → Accepted p
 source_accepted p some = ∥∥₁_elim some (accepted_once p) (λ s. s.1.accepted)
-
--- .. that is built is of one process
-pub source_alone : (p : PProgram) → IsSource p → IsBuilt p → IsAlone p
-source_alone p some built = built_programs_are_alone p (source_accepted p some) built
 
 pub source_named : (p : PProgram) → IsSource p → HasNames p
 source_named (tree.program (tree.body spot ds ss)) some =

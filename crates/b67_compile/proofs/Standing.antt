@@ -148,7 +148,7 @@ module _ (spot : Spot) (ds : PDecls) (ss : PStmts) (names : Names) (has : Given 
     pub short_code : length segments ≡ length ts → AreShort segments ts → IsShort p code
     short_code many short k segment h =
         let t = in_both segments ts k segment many h in
-        let r = text_block spot ds ss has.order has.alone has.named k t.0 t.1 in
+        let r = text_block spot ds ss has.order has.named k t.0 t.1 in
         omega (arith, short k segment t.0 h t.1, ap (λ (z : Text). z.tokens) r.is, r.of.short)
 
     pub listable_code : Coded (scopes_of p) formats segments ts → AreShort segments ts → AreListed formats → IsListable code
@@ -168,7 +168,7 @@ module _ (spot : Spot) (ds : PDecls) (ss : PStmts) (names : Names) (has : Given 
     pub program_at : Coded (scopes_of p) formats segments ts → ProgramAt code p
     unfolding scopes_of
     program_at coded = record {
-      many = coded.many ∙ texts_many spot ds ss has.order has.alone has.named;
+      many = coded.many ∙ texts_many spot ds ss has.order has.named;
       texts = code_texts;
       spells = coded.spells;
       bodies = bodies;
@@ -181,8 +181,8 @@ module _ (spot : Spot) (ds : PDecls) (ss : PStmts) (names : Names) (has : Given 
         labels : (j number : ℕ) (name : List ℕ) → j < length (scopes_of p).blocks → label_number (scopes_of p) j name ≡ Some number →
             LabelAt (scopes_of p) (context_of code code_texts (scopes_of p) j) (coded.placed (segment_of (scopes_of p).blocks j)) (level_of (block_numbered (scopes_of p).blocks j)) (block_numbered (scopes_of p).blocks j) name number
         labels j number name known h =
-            let label = labels_stand p has.accepted has.order has.alone has.whole has.texts j number name known h in
-            let r = label_entry spot ds ss has.order has.alone has.named j number name known h in
+            let label = labels_stand p has.accepted has.order has.whole has.texts j number name known h in
+            let r = label_entry spot ds ss has.order has.named j number name known h in
             let e : Entry = record { level = level_of (block_numbered (scopes_of p).blocks j); name = r.label; stmts = (block_numbered (scopes_of p).blocks j).stmts } in
             let at = coded.tables (segment_of (scopes_of p).blocks j) r.text r.text_is number e r.entry_is label.0
             (ap (label_in (block_numbered (scopes_of p).blocks j).stmts) r.name_is ∙ label.1) in
@@ -193,7 +193,7 @@ module _ (spot : Spot) (ds : PDecls) (ss : PStmts) (names : Names) (has : Given 
         bodies j known own =
             let sc = scopes_of p in
             let b = block_numbered sc.blocks j in
-            let r = block_text spot ds ss has.order has.alone has.named j known own in
+            let r = block_text spot ds ss has.order has.named j known own in
             let at : Context =
             record { formats = formats; segment = segment_of sc.blocks j; block = j; level = level_of b; yields = yields_of b.result; labels = coded.labels } in
             let there = coded.code (segment_of sc.blocks j) (text_of b r.tokens) r.text in

@@ -7,8 +7,6 @@ ghost use Rattle.algol_tree.specs.Image as plain;
 ghost use Rattle.algol_scope.specs.Resolved.{AreOf};
 ghost use Rattle.b67_listing.specs.Listings.{IsListable};
 ghost use Rattle.b67_templates.specs.Programs.{ProgramAt};
-ghost use Rattle.b67_fitting.specs.Alone.{IsAlone};
-ghost use Rattle.b67_fitting.specs.Built.{IsBuilt};
 ghost use Rattle.b67_fitting.specs.Names.{HasNames};
 ghost use Rattle.b67_fitting.specs.Texts.{HasPlainTexts};
 ghost use Rattle.b67_fitting.specs.Wholes.{HasWholeNumbers};
@@ -25,7 +23,7 @@ use b67_list::List;
 use b67_segment::Code;
 use std::alloc::{AllocError, Global};
 
-/// The code of a program of one process: a segment for the program's text and one for each procedure in the order of the text, and a
+/// The code of a program: a segment for the program's text and one for each procedure in the order of the text, and a
 /// format for each line that is written, in order.
 fn code_of<E: ExprEmitter>(
     alloc: Global,
@@ -39,7 +37,6 @@ fn code_of<E: ExprEmitter>(
     requires whole { HasWholeNumbers (plain.program program.now) }
     requires texts { HasPlainTexts (plain.program program.now) }
     requires named { HasNames (plain.program program.now) }
-    requires alone { IsAlone (plain.program program.now) }
     ensures code { IfOk result (λ code. ProgramAt code (plain.program program.now)) }
     ensures formats { IfOk result (HasFormats (plain.program program.now)) }
     ensures short { IfOk result (IsShort (plain.program program.now)) }
@@ -55,9 +52,8 @@ fn code_of<E: ExprEmitter>(
     })
 }
 
-/// The code of an accepted source that is built. For every list of choices it does what the source does, and its listing tells it.
+/// The code of an accepted source. For every list of choices it does what the source does, and its listing tells it.
 pub fn compile(alloc: Global, checked: &Checked) -> Result<Code, AllocError>
-    requires { IsBuilt (plain.program checked.now.program) }
     ensures { IfOk result (Faithful (plain.program checked.now.program)) }
 {
     code_of(alloc, &Exprs { alloc }, &checked.program, &checked.scopes)

@@ -21,25 +21,25 @@ pub targets_of-requires-clause-levels : goal.targets_of-requires-clause-levels
 targets_of-requires-clause-levels g c =
     let b = c.args.program.now.body in
     let r = c.requires in
-    subst (λ (z : PBody). HaveLevelsBody z OUTER_LEVEL) (sym (body_is b)) (texts_leveled b.spot (plain.decls b.decls) (plain.stmts b.stmts) (parts_of b r.accepted r.order r.alone r.named))
+    subst (λ (z : PBody). HaveLevelsBody z OUTER_LEVEL) (sym (body_is b)) (texts_leveled b.spot (plain.decls b.decls) (plain.stmts b.stmts) (parts_of b r.accepted r.order r.named))
 
 pub targets_of-requires-clause-many : goal.targets_of-requires-clause-many
 targets_of-requires-clause-many g c =
     let b = c.args.program.now.body in
     let r = c.requires in
-    subst (λ (z : PBody). length (texts z) ≤ 1 + MOST_PROCEDURES) (sym (body_is b)) (texts_few b.spot (plain.decls b.decls) (plain.stmts b.stmts) (parts_of b r.accepted r.order r.alone r.named))
+    subst (λ (z : PBody). length (texts z) ≤ 1 + MOST_PROCEDURES) (sym (body_is b)) (texts_few b.spot (plain.decls b.decls) (plain.stmts b.stmts) (parts_of b r.accepted r.order r.named))
 
 pub targets_of-requires-clause-small : goal.targets_of-requires-clause-small
 targets_of-requires-clause-small g c =
     let b = c.args.program.now.body in
     let r = c.requires in
-    subst (λ (z : PBody). AreSmall (texts z)) (sym (body_is b)) (texts_small b.spot (plain.decls b.decls) (plain.stmts b.stmts) (parts_of b r.accepted r.order r.alone r.named))
+    subst (λ (z : PBody). AreSmall (texts z)) (sym (body_is b)) (texts_small b.spot (plain.decls b.decls) (plain.stmts b.stmts) (parts_of b r.accepted r.order r.named))
 
 pub emit_program-requires-clause-once : goal.emit_program-requires-clause-once
 emit_program-requires-clause-once g c =
     let b = c.args.program.now.body in
     let r = c.requires in
-    subst (λ (z : PBody). StandOnce (texts z)) (sym (body_is b)) (labels_once b.spot (plain.decls b.decls) (plain.stmts b.stmts) (parts_of b r.accepted r.order r.alone r.named).order)
+    subst (λ (z : PBody). StandOnce (texts z)) (sym (body_is b)) (labels_once b.spot (plain.decls b.decls) (plain.stmts b.stmts) (parts_of b r.accepted r.order r.named).order)
 
 pub emit_program-requires-clause-near : goal.emit_program-requires-clause-near
 emit_program-requires-clause-near g c =
@@ -48,7 +48,7 @@ emit_program-requires-clause-near g c =
     let n = c.new-names.result in
     let r = c.requires in
     near b.spot (plain.decls b.decls) (plain.stmts b.stmts) n
-    (given b s c.in_ok-lows.lows n c.new-names.ensures.scopes c.new-names.ensures.lows r.resolved c.in_ok-lows.ensures r.accepted r.order r.whole r.texts r.named r.alone c.in_ok-labels.labels c.new-names.ensures.labels c.in_ok-labels.ensures)
+    (given b s c.in_ok-lows.lows n c.new-names.ensures.scopes c.new-names.ensures.lows r.resolved c.in_ok-lows.ensures r.accepted r.order r.whole r.texts r.named c.in_ok-labels.labels c.new-names.ensures.labels c.in_ok-labels.ensures)
 
 pub emit_program-requires-clause-inner : goal.emit_program-requires-clause-inner
 emit_program-requires-clause-inner g c =
@@ -57,7 +57,7 @@ emit_program-requires-clause-inner g c =
     let n = c.new-names.result in
     let r = c.requires in
     inner b.spot (plain.decls b.decls) (plain.stmts b.stmts) n
-    (given b s c.in_ok-lows.lows n c.new-names.ensures.scopes c.new-names.ensures.lows r.resolved c.in_ok-lows.ensures r.accepted r.order r.whole r.texts r.named r.alone c.in_ok-labels.labels c.new-names.ensures.labels c.in_ok-labels.ensures)
+    (given b s c.in_ok-lows.lows n c.new-names.ensures.scopes c.new-names.ensures.lows r.resolved c.in_ok-lows.ensures r.accepted r.order r.whole r.texts r.named c.in_ok-labels.labels c.new-names.ensures.labels c.in_ok-labels.ensures)
 
 pub emit_program-requires-clause-few : goal.emit_program-requires-clause-few
 emit_program-requires-clause-few g c =
@@ -67,7 +67,7 @@ emit_program-requires-clause-few g c =
     let r = c.requires in
     subst (λ (z : PBody). length (texts z) ≤ 1 + MOST_PROCEDURES) (sym (body_is b))
     (few b.spot (plain.decls b.decls) (plain.stmts b.stmts) n
-    (given b s c.in_ok-lows.lows n c.new-names.ensures.scopes c.new-names.ensures.lows r.resolved c.in_ok-lows.ensures r.accepted r.order r.whole r.texts r.named r.alone c.in_ok-labels.labels c.new-names.ensures.labels c.in_ok-labels.ensures))
+    (given b s c.in_ok-lows.lows n c.new-names.ensures.scopes c.new-names.ensures.lows r.resolved c.in_ok-lows.ensures r.accepted r.order r.whole r.texts r.named c.in_ok-labels.labels c.new-names.ensures.labels c.in_ok-labels.ensures))
 
 pub emit_program-requires-clause-due : goal.emit_program-requires-clause-due
 emit_program-requires-clause-due g c =
@@ -78,7 +78,7 @@ emit_program-requires-clause-due g c =
     let ds = plain.decls b.decls in
     let ss = plain.stmts b.stmts in
     let sc = scopes_of (tree.program (tree.body b.spot ds ss)) in
-    let has = given b s c.in_ok-lows.lows n c.new-names.ensures.scopes c.new-names.ensures.lows r.resolved c.in_ok-lows.ensures r.accepted r.order r.whole r.texts r.named r.alone c.in_ok-labels.labels c.new-names.ensures.labels c.in_ok-labels.ensures in
+    let has = given b s c.in_ok-lows.lows n c.new-names.ensures.scopes c.new-names.ensures.lows r.resolved c.in_ok-lows.ensures r.accepted r.order r.whole r.texts r.named c.in_ok-labels.labels c.new-names.ensures.labels c.in_ok-labels.ensures in
     (sc, subst (λ (z : PBody). AreDue sc n (texts z)) (sym (body_is b)) (due b.spot ds ss n has))
 
 pub returns-clause-code : goal.returns-clause-code
@@ -89,7 +89,7 @@ returns-clause-code g c =
     let r = c.requires in
     let ds = plain.decls b.decls in
     let ss = plain.stmts b.stmts in
-    let has = given b s c.in_ok-lows.lows n c.new-names.ensures.scopes c.new-names.ensures.lows r.resolved c.in_ok-lows.ensures r.accepted r.order r.whole r.texts r.named r.alone c.in_ok-labels.labels c.new-names.ensures.labels c.in_ok-labels.ensures in
+    let has = given b s c.in_ok-lows.lows n c.new-names.ensures.scopes c.new-names.ensures.lows r.resolved c.in_ok-lows.ensures r.accepted r.order r.whole r.texts r.named c.in_ok-labels.labels c.new-names.ensures.labels c.in_ok-labels.ensures in
     let sc = scopes_of (tree.program (tree.body b.spot ds ss)) in
     let segments = c.in_ok-segments.segments.items in
     let formats = c.in_ok-segments.formats.items in
@@ -108,7 +108,7 @@ returns-clause-short g c =
     let r = c.requires in
     let ds = plain.decls b.decls in
     let ss = plain.stmts b.stmts in
-    let has = given b s c.in_ok-lows.lows n c.new-names.ensures.scopes c.new-names.ensures.lows r.resolved c.in_ok-lows.ensures r.accepted r.order r.whole r.texts r.named r.alone c.in_ok-labels.labels c.new-names.ensures.labels c.in_ok-labels.ensures in
+    let has = given b s c.in_ok-lows.lows n c.new-names.ensures.scopes c.new-names.ensures.lows r.resolved c.in_ok-lows.ensures r.accepted r.order r.whole r.texts r.named c.in_ok-labels.labels c.new-names.ensures.labels c.in_ok-labels.ensures in
     let sc = scopes_of (tree.program (tree.body b.spot ds ss)) in
     let segments = c.in_ok-segments.segments.items in
     let formats = c.in_ok-segments.formats.items in
@@ -126,7 +126,7 @@ returns-clause-listable g c =
     let r = c.requires in
     let ds = plain.decls b.decls in
     let ss = plain.stmts b.stmts in
-    let has = given b s c.in_ok-lows.lows n c.new-names.ensures.scopes c.new-names.ensures.lows r.resolved c.in_ok-lows.ensures r.accepted r.order r.whole r.texts r.named r.alone c.in_ok-labels.labels c.new-names.ensures.labels c.in_ok-labels.ensures in
+    let has = given b s c.in_ok-lows.lows n c.new-names.ensures.scopes c.new-names.ensures.lows r.resolved c.in_ok-lows.ensures r.accepted r.order r.whole r.texts r.named c.in_ok-labels.labels c.new-names.ensures.labels c.in_ok-labels.ensures in
     let sc = scopes_of (tree.program (tree.body b.spot ds ss)) in
     let segments = c.in_ok-segments.segments.items in
     let formats = c.in_ok-segments.formats.items in

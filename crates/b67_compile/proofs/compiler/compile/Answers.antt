@@ -1,7 +1,7 @@
 use Rattle.algol_tree.specs.Image.{program as plain}
 use Rattle.b67_compile.proofs.Compiled.{code_is_faithful}
 use Rattle.algol_front.proofs.Ordered.{source_in_order}
-use Rattle.b67_compile.proofs.Sources.{source_accepted, source_alone, source_named, source_plain, source_whole}
+use Rattle.b67_compile.proofs.Sources.{source_accepted, source_named, source_plain, source_whole}
 use Rattle.b67_compile.proofs.compiler.compile.Goals as goal
 
 pub code_of-requires-clause-accepted : goal.code_of-requires-clause-accepted
@@ -19,10 +19,7 @@ code_of-requires-clause-texts c = source_plain (plain c.args.checked.now.program
 pub code_of-requires-clause-named : goal.code_of-requires-clause-named
 code_of-requires-clause-named c = source_named (plain c.args.checked.now.program) c.args.checked.now.accepted
 
-pub code_of-requires-clause-alone : goal.code_of-requires-clause-alone
-code_of-requires-clause-alone c = source_alone (plain c.args.checked.now.program) c.args.checked.now.accepted c.requires
-
 pub returns : goal.returns
 returns c =
     code_is_faithful (plain c.args.checked.now.program) c.code_of.result c.args.checked.now.accepted
-    (source_alone (plain c.args.checked.now.program) c.args.checked.now.accepted c.requires) c.code_of.ensures.code c.code_of.ensures.formats c.code_of.ensures.short c.code_of.ensures.listable
+    c.code_of.ensures.code c.code_of.ensures.formats c.code_of.ensures.short c.code_of.ensures.listable
