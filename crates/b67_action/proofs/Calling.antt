@@ -21,7 +21,6 @@ use Rattle.b67_operators.proofs.Leaves.{in_process}
 use Rattle.b67_intrinsics.specs.declared.hindrance.Hindrance.{Hindrance}
 use Rattle.b67_intrinsics.specs.declared.hindrance.Hindrance.TheVariants.{Stopped, NoMemory}
 use Rattle.b67_intrinsics.specs.Called.{called_in, Tries, IsLeft}
-use Rattle.b67_going.specs.declared.processes.Unstarted.TheVariants as unstarted
 use Rattle.b67_reach.specs.declared.Stop.{Stop}
 use Rattle.b67_reach.specs.Answers.{looked, Acts}
 use Rattle.b67_reach.proofs.Looking.{tells_look, asked_on, acts_stop}

@@ -39,6 +39,12 @@ pub performs_stops : (outcome : Outcome Private) (old new : Private) (answer : R
 performs_stops outcome old new (Ok u) stop e x = cc
 performs_stops outcome old new (Err other) stop e x = let same : other ≡ stop = cc in x.0 ∙ ap (λ (s : PartStop). part_stopped s) same
 
+-- and the part stays as it is
+pub performs_stays : (outcome : Outcome Private) (old new : Private) (answer : Result (Unit {0}) PartStop) (stop : PartStop) → answer ≡ Err stop → Performs outcome old answer new
+    → new ≡ old
+performs_stays outcome old new (Ok u) stop e x = cc
+performs_stays outcome old new (Err other) stop e x = x.1
+
 module _ (op : Operator) (next : ℕ) (st : Stacks) (rows : Rows) (r : Registers) where
   module _ (p : ℕ) (img : Image) (s : img.stacks ≡ st) (t : img.rows ≡ rows) (has : numbered img.regs p ≡ Some r) where
     abbrev put : Private → Image

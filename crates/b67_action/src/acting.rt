@@ -21,14 +21,14 @@ use b67_operators::{exit, return_value};
 use b67_ops::Operator;
 use b67_reach::{Parts, Stop, invalid};
 use b67_store::Core;
-use b67_table::Private;
+use b67_table::Words;
 
 // An operator that takes no memory; ENTR is none.
 fn perform_plainly<C: Core>(
     core: &mut C,
     kernel: &mut Kernel,
     parts: &mut Parts,
-    part: &mut Private,
+    words: &mut Words,
     process: u32,
     row: Row,
     op: &Operator,
@@ -46,7 +46,7 @@ fn perform_plainly<C: Core>(
     ensures code { parts.new.code ≡ parts.old.code }
 {
     match row {
-        Row::Own => perform_own_in(core, &mut parts.regs, process, part, op, next),
+        Row::Own => perform_own_in(core, &mut parts.regs, process, words, op, next),
         Row::Words(kind) => perform_words(core, &mut parts.regs, process, kind, next),
         Row::Exit => exit(core, kernel, parts, process, next),
         Row::ReturnValue => return_value(core, kernel, parts, process, next),
@@ -59,7 +59,7 @@ pub fn perform<C: Core>(
     core: &mut C,
     kernel: &mut Kernel,
     parts: &mut Parts,
-    part: &mut Private,
+    words: &mut Words,
     process: u32,
     row: Row,
     op: &Operator,
@@ -78,6 +78,6 @@ pub fn perform<C: Core>(
 {
     match row {
         Row::Enter => enter(core, kernel, parts, process, next),
-        _ => hindered(perform_plainly(core, kernel, parts, part, process, row, op, next)),
+        _ => hindered(perform_plainly(core, kernel, parts, words, process, row, op, next)),
     }
 }

@@ -15,4 +15,4 @@ mod words;
 pub use done::Done;
 pub use laws::actions_make_able;
 pub use next::action;
-pub use own::{base_of, put_part, take_part};
+pub use own::{base_of, put_words, take_words};

@@ -14,15 +14,15 @@ use crate::done::{Done, hindered_by, went};
 use crate::rows::row_of;
 use b67_events::Kernel;
 use b67_intrinsics::registers;
-use b67_private::next_operator;
+use b67_private::{Prepared, next_operator};
 use b67_reach::{InterruptKind, Parts};
-use b67_segment::{Decoded, Pointer};
+use b67_segment::Pointer;
 use b67_store::Core;
-use b67_table::Private;
+use b67_table::Words;
 
 /// Performs the next operator of a process, whatever its class, as the operator table says, and answers what it came to.
 /// Where the process's segment was decoded at its level, the table of its operators saves the decoding. A private operator
-/// is performed on `part`, whatever that holds. After an operator that was performed `woken` has the processes that it
+/// is performed on `words`, whatever they are. After an operator that was performed `woken` has the processes that it
 /// released, in their order. NoMemory comes only from an intrinsic that makes something: arrays, an
 /// event, a process or a line.
 pub fn action<C: Core>(
@@ -30,8 +30,8 @@ pub fn action<C: Core>(
     kernel: &mut Kernel,
     parts: &mut Parts,
     process: u32,
-    table: Option<&Decoded>,
-    part: &mut Private,
+    table: Option<&Prepared>,
+    words: &mut Words,
 ) -> Done
     requires valid { IsValid parts.old.code (image_of (C.Core.stacks core.old) (C.Core.rows core.old) kernel.old.events parts.old) }
     requires able { is_able (numbered parts.old.states.items process) ≡ true }
@@ -54,7 +54,7 @@ pub fn action<C: Core>(
         return Done::Interrupt(InterruptKind::BadCode);
     };
     let row = row_of(&op, at.place);
-    let answer = perform(core, kernel, parts, part, process, row, &op, next);
+    let answer = perform(core, kernel, parts, words, process, row, &op, next);
     // no store has more rows than it has numbers for
     let _ = core.counted();
     match answer {

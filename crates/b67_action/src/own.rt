@@ -1,5 +1,5 @@
 // Private operators, performed on a copy of the upper words of a private part.
-ghost use Rattle.std.specs.Prelude.{◌≡◌, ◌+◌, ◌<◌, ◌≤◌, ◌++◌, IfSome, IsSome, length, reverse, take, vec_capacity};
+ghost use Rattle.std.specs.Prelude.{◌≡◌, ◌+◌, ◌<◌, ◌≤◌, ◌++◌, IfSome, IsSome, drop, length, reverse, take, vec_capacity};
 ghost use Rattle.b67_control.specs.Display.{levels};
 ghost use Rattle.b67_list.specs.Numbered.{numbered};
 ghost use Rattle.b67_ops.specs.Spelling.{Fits};
@@ -9,14 +9,14 @@ ghost use Rattle.b67_linkage.specs.Held.{IsLinked};
 ghost use Rattle.b67_operators.specs.Leaves.{IsLinkedIn};
 ghost use Rattle.b67_private.specs.Parts.{IsPart};
 ghost use Rattle.b67_reach.specs.Images.{own};
-ghost use Rattle.b67_action.specs.Own.{part_from, part_of, stop_by, DoesOwn, DoesOwnIn};
+ghost use Rattle.b67_action.specs.Own.{part_of, stop_by, DoesOwn, DoesOwnIn};
 
 use b67_linkage::{cut_words, push_word};
 use b67_ops::Operator;
 use b67_private::{REACH, operate};
 use b67_reach::{Registers, Stop, floor};
 use b67_store::Core;
-use b67_table::Private;
+use b67_table::Words;
 use b67_word::Place;
 
 /// The base from which on at most so many words of a private part are copied: so many, or all of it.
@@ -36,43 +36,39 @@ pub fn base_of(regs: &Registers, most: u32) -> u32
     }
 }
 
-/// The registers of a process are copied, and the words of its stack from a base on.
-pub fn take_part<C: Core>(core: &C, regs: &Registers, base: u32, part: &mut Private)
+/// The words of a process's stack from a base on are copied.
+pub fn take_words<C: Core>(core: &C, regs: &Registers, base: u32, words: &mut Words)
     requires linked { IsLinked (C.Core.stacks core.now) (C.Core.rows core.now) regs.now }
     requires within { base ≤ regs.now.s }
-    ensures { part.new ≡ part_from base (C.Core.stacks core.now) regs.now }
+    ensures { words.new ≡ reverse (drop base (words_of (C.Core.stacks core.now) regs.now.stack)) }
 {
-    let length = part.words.len();
-    part.words.cut(length);
+    let length = words.len();
+    words.cut(length);
     let mut at = base;
-    'words: while at < regs.s {
+    'taking: while at < regs.s {
         let place = Place {
             stack: regs.stack,
             at: at as u16,
         };
-        part.words.push(core.read(place).unwrap());
+        words.push(core.read(place).unwrap());
         at += 1;
     }
-    part.regs = *regs;
 }
 
-/// A part is put back: the words of its stack from its base on give way to its own.
-pub fn put_part<C: Core>(core: &mut C, regs: &mut Registers, base: u32, part: &Private)
-    requires open { IsSome (stack_at (C.Core.stacks core.old) part.now.regs.stack) }
-    requires room { base + length part.now.words ≤ stack_limit }
-    ensures stacks { C.Core.stacks core.new ≡ with_stack (C.Core.stacks core.old) part.now.regs.stack (take base (words_of (C.Core.stacks core.old) part.now.regs.stack) ++ reverse part.now.words) }
+/// Words are put back: those of a stack from a base on give way to them.
+pub fn put_words<C: Core>(core: &mut C, stack: u16, base: u32, words: &Words)
+    requires open { IsSome (stack_at (C.Core.stacks core.old) stack) }
+    requires room { base + length words.now ≤ stack_limit }
+    ensures stacks { C.Core.stacks core.new ≡ with_stack (C.Core.stacks core.old) stack (take base (words_of (C.Core.stacks core.old) stack) ++ reverse words.now) }
     ensures rows { C.Core.rows core.new ≡ C.Core.rows core.old }
-    ensures registers { regs.new ≡ part.now.regs }
 {
-    let stack = part.regs.stack;
     cut_words(core, stack, base);
-    let mut count = part.words.len();
-    'words: while count > 0 {
+    let mut count = words.len();
+    'putting: while count > 0 {
         count -= 1;
-        let word = part.words.from_top(count).unwrap();
+        let word = words.from_top(count).unwrap();
         push_word(core, stack, word);
     }
-    *regs = part.regs;
 }
 
 // A stop of a private operator is one of any operator.
@@ -90,7 +86,7 @@ fn stop_by(stop: b67_private::Stop) -> Stop
 pub fn perform_own<C: Core>(
     core: &mut C,
     regs: &mut Registers,
-    part: &mut Private,
+    words: &mut Words,
     op: &Operator,
     next: u16,
 ) -> Result<(), Stop>
@@ -100,10 +96,11 @@ pub fn perform_own<C: Core>(
     ensures { DoesOwn op.now next (own (C.Core.stacks core.old) (C.Core.rows core.old) regs.old) (own (C.Core.stacks core.new) (C.Core.rows core.new) regs.new) result }
 {
     let base = base_of(regs, REACH);
-    take_part(core, regs, base, part);
-    match operate(part, op, next) {
+    let stack = regs.stack;
+    take_words(core, regs, base, words);
+    match operate(regs, words, op, next) {
         Ok(()) => {
-            put_part(core, regs, base, part);
+            put_words(core, stack, base, words);
             Ok(())
         }
         Err(stop) => Err(stop_by(stop)),
@@ -115,7 +112,7 @@ pub fn perform_own_in<C: Core>(
     core: &mut C,
     all: &mut Vec<Registers>,
     process: u32,
-    part: &mut Private,
+    words: &mut Words,
     op: &Operator,
     next: u16,
 ) -> Result<(), Stop>
@@ -126,5 +123,5 @@ pub fn perform_own_in<C: Core>(
     ensures room { vec_capacity all.old ≤ vec_capacity all.new }
 {
     let regs = &mut all[process as usize - 1];
-    perform_own(core, regs, part, op, next)
+    perform_own(core, regs, words, op, next)
 }

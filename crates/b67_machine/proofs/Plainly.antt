@@ -1,8 +1,9 @@
 -- What plain operators of a process leave as it is.
 use Rattle.std.specs.Prelude.{◌&&◌}
-use Rattle.std.proofs.Common.{◌≡◌, true≢false, refl, sym, ap, subst, ◌∙◌, ℕ, ◌+◌, ◌-◌, ◌<◌, ◌≤◌, Bool, true, false, List, length, set, take, ◌++◌, Option, Some, None, IsSome, arith, length-append}
+use Rattle.std.proofs.Common.{◌≡◌, true≢false, refl, sym, ap, subst, ◌∙◌, ℕ, zero, suc, ◌+◌, ◌-◌, ◌<◌, ◌≤◌, Bool, true, false, List, length, set, take, drop, get_or, ◌++◌, Option, Some, None, IsSome, arith, length-append}
 use Rattle.std.specs.Prelude.{reverse}
 use Rattle.std.proofs.lemmas.List.{length-reverse, length-take-le}
+use Rattle.std.proofs.lemmas.Option.{get_or_from_slice_get}
 use Rattle.b67_list.specs.Numbered.{numbered, set_numbered}
 use Rattle.b67_word.specs.Word.{Word}
 use Rattle.b67_control.specs.declared.Registers.{Registers}
@@ -25,9 +26,10 @@ use Rattle.b67_table.proofs.Lists.{numbered_set, numbered_within}
 use Rattle.b67_table.proofs.OwnValid.{words_here}
 use Rattle.b67_table.specs.Privacy.{Keeps as RegistersKeep}
 use Rattle.b67_table.proofs.Privacy.{private_is_private}
-use Rattle.b67_private.specs.Parts.{PlainParts, is_plain, is_short}
+use Rattle.b67_private.specs.Parts.{PlainParts, is_plain, is_short, part_with}
 use Rattle.b67_private.specs.Parts as parts
 use Rattle.b67_private.proofs.Plains.{stretches_are_own}
+use Rattle.b67_action.specs.Own.{part_from}
 use Rattle.b67_action.proofs.Ready.{registers_there}
 use Rattle.b67_machine.specs.Stepping.{IsPiece, IsStretched}
 
@@ -74,6 +76,16 @@ plains_keep code p a b n v able (go {b = c} e t rest) =
 -- the same stack's
 pub ends_at_stack : (a r b : Registers) → a ≡ r → RegistersKeep a b → b.stack ≡ r.stack
 ends_at_stack a r b e k = k.0 ∙ ap (λ (q : Registers). q.stack) e
+
+-- the registers at a process's place are the process's
+pub own_is : (all : List Registers) (p : ℕ) (r q : Registers) → numbered all p ≡ Some r → q ≡ get_or all (p - 1) q → q ≡ r
+own_is all zero r q e f = cc
+own_is all (suc k) r q e f =
+    let k_is : suc k - 1 ≡ k = omega arith in f ∙ ap (λ (n : ℕ). get_or all n q) k_is ∙ get_or_from_slice_get all k r q e
+
+-- the registers of a process and the words that were taken of its stack are its part from there on
+pub taken_is : (st : Stacks) (r q : Registers) (base : ℕ) (ws : List Word) → q ≡ r → ws ≡ reverse (drop base (words_of st r.stack)) → part_with q ws ≡ part_from base st r
+taken_is st r q base ws e f = ap (λ (x : Registers). part_with x ws) e ∙ ap (λ (xs : List Word). part_with r xs) f
 
 -- the words that a stretch leaves have room above the floor before it
 module _ (code : Code) (img : Image) (p : ℕ) (r : Registers) (v : IsValid code img) (able : is_able (numbered img.states p) ≡ true) (has : numbered img.regs p ≡ Some r)

@@ -17,7 +17,7 @@ use b67_events::Kernel;
 use b67_num::FaultKind;
 use b67_reach::Parts;
 use b67_store::Core;
-use b67_table::Private;
+use b67_table::Words;
 pub use entry::Performed;
 pub use reads::End;
 pub use replay::{Replayed, within_entry};
@@ -41,8 +41,8 @@ pub struct Machine<C: Core> {
     counts: Vec<u64>,
     // The operators of segments, by segment and level.
     tables: Vec<Levels>,
-    // Where plain operators are performed.
-    part: Private,
+    // Words of a stack, on which private operators are performed.
+    words: Words,
     failure: Option<Failure>,
     // The process whose operator came to the stack limit, where that was the last that was tried.
     limit: Option<u32>,
@@ -59,7 +59,7 @@ impl<C: Core> Drop for Machine<C> {
             parts: _parts,
             counts: _counts,
             tables: _tables,
-            part: _part,
+            words: _words,
             failure: _,
             limit: _,
             lacked: _,

@@ -8,7 +8,7 @@ use b67_going::MOST_PROCESSES;
 use b67_load::load;
 use b67_segment::Code;
 use b67_store::Core;
-use b67_table::{Private, Words, first_image_is_valid};
+use b67_table::{Words, first_image_is_valid};
 use std::alloc::{AllocError, Global};
 
 impl<C: Core> Machine<C> {
@@ -26,17 +26,13 @@ impl<C: Core> Machine<C> {
         let counts = vec![in alloc; 0; MOST_PROCESSES as usize]?;
         let mut core = core;
         let (kernel, parts) = load(alloc, &mut core, code)?;
-        let part = Private {
-            regs: parts.regs[0],
-            words,
-        };
         Ok(Machine {
             core,
             kernel,
             parts,
             counts,
             tables: Vec::new(alloc),
-            part,
+            words,
             failure: None,
             limit: None,
             lacked: false,

@@ -15,12 +15,12 @@ ghost use Rattle.b67_machine.specs.Tables.{AreTables};
 use crate::Machine;
 use crate::counting::count;
 use crate::tables::{Levels, decoded, prepare};
-use b67_action::{base_of, put_part, take_part};
+use b67_action::{base_of, put_words, take_words};
 use b67_intrinsics::registers;
-use b67_private::{REACH, burst, is_short};
+use b67_private::{REACH, burst_in_place, is_short};
 use b67_reach::Parts;
 use b67_store::Core;
-use b67_table::Private;
+use b67_table::Words;
 
 // The most words of a private part that are copied at once: more than an operator takes off, so that few stretches need a second copy.
 const MOST_COPIED: u32 = 8;
@@ -40,7 +40,7 @@ fn perform_piece<C: Core>(
     parts: &mut Parts,
     process: u32,
     tables: &Vec<Levels>,
-    part: &mut Private,
+    words: &mut Words,
     most: u32,
 ) -> Piece
     requires valid { (events : List Event) × IsValid parts.old.code (image_of (C.Core.stacks core.old) (C.Core.rows core.old) events parts.old) }
@@ -54,12 +54,14 @@ fn perform_piece<C: Core>(
     let regs = registers(&parts.regs, process);
     let table = decoded(tables, regs.segment, regs.ll);
     let base = base_of(regs, MOST_COPIED);
-    take_part(core, regs, base, part);
-    let performed = burst(part, &parts.code, table, most);
-    put_part(core, &mut parts.regs[process as usize - 1], base, part);
+    let stack = regs.stack;
+    take_words(core, regs, base, words);
+    let own = &mut parts.regs[process as usize - 1];
+    let performed = burst_in_place(own, words, &parts.code, table, most);
+    put_words(core, stack, base, words);
     Piece {
         performed,
-        is_short: is_short(part),
+        is_short: is_short(own, words),
     }
 }
 
@@ -69,7 +71,7 @@ fn perform_stretch<C: Core>(
     parts: &mut Parts,
     process: u32,
     tables: &Vec<Levels>,
-    part: &mut Private,
+    words: &mut Words,
     most: u32,
 ) -> u32
     requires valid { (events : List Event) × IsValid parts.old.code (image_of (C.Core.stacks core.old) (C.Core.rows core.old) events parts.old) }
@@ -81,7 +83,7 @@ fn perform_stretch<C: Core>(
 {
     let mut performed = 0;
     'pieces: while performed < most {
-        let piece = perform_piece(core, parts, process, tables, part, most - performed);
+        let piece = perform_piece(core, parts, process, tables, words, most - performed);
         performed += piece.performed;
         if !piece.is_short {
             return performed;
@@ -110,7 +112,7 @@ impl<C: Core> Machine<C> {
             &mut self.parts,
             process,
             &self.tables,
-            &mut self.part,
+            &mut self.words,
             most,
         );
         count(&mut self.counts, process, performed);
@@ -126,7 +128,8 @@ impl<C: Core> Machine<C> {
     {
         let regs = registers(&self.parts.regs, process);
         let base = base_of(regs, REACH);
-        take_part(&self.core, regs, base, &mut self.part);
-        burst(&mut self.part, &self.parts.code, None, 1) == 1
+        let mut regs = *regs;
+        take_words(&self.core, &regs, base, &mut self.words);
+        burst_in_place(&mut regs, &mut self.words, &self.parts.code, None, 1) == 1
     }
 }

@@ -7,3 +7,4 @@ pub mod Deeper
 pub mod Floors
 pub mod Stretching
 pub mod Plains
+pub mod PlacedRows

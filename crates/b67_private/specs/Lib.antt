@@ -1,4 +1,5 @@
 pub mod Parts
 pub mod Performing
 pub mod Operating
+pub mod Prepared
 pub mod Laws

@@ -1,7 +1,8 @@
 -- Plain operators on a private part only.
-use Rattle.std.specs.Prelude.{◌≡◌, ℕ, ◌+◌, ◌^◌, ◌<◌, ◌≤◌, ◌&&◌, nat_lt, Bool, true, false, length, All, Option, Some, None}
+use Rattle.std.specs.Prelude.{◌≡◌, ℕ, ◌+◌, ◌^◌, ◌<◌, ◌≤◌, ◌&&◌, nat_lt, Bool, true, false, List, length, All, Option, Some, None}
 use Rattle.b67_word.specs.declared.Place.{Place}
-use Rattle.b67_word.specs.Word.{IsWord}
+use Rattle.b67_word.specs.Word.{Word, IsWord}
+use Rattle.b67_control.specs.declared.Registers.{Registers}
 use Rattle.b67_control.specs.Display.{levels}
 use Rattle.b67_ops.specs.declared.Operator.{Operator}
 use Rattle.b67_segment.specs.declared.code.Code.{Code}
@@ -15,6 +16,10 @@ use Rattle.b67_table.specs.Limits.{most_cells}
 use Rattle.b67_table.specs.Private.{display_at, floor}
 use Rattle.b67_table.specs.Valid.{IsHeld}
 use Rattle.b67_table.specs.Table.{private_op}
+
+-- the part of these registers and words
+abbrev pub part_with : Registers → List Word → Private
+part_with r words = record { regs = r; words = words }
 
 -- how many words the stack of a part has
 abbrev pub length_of : Private → ℕ

@@ -1,5 +1,5 @@
 -- What the calls on a private part answer.
-use Rattle.std.specs.Prelude.{Bool, true, false, bit_and, bit_or, ◌≡◌, ℕ, ◌+◌, ◌-◌, ◌<◌, [], ◌∷◌, drop, Option, Some, None, Result, Ok, Err}
+use Rattle.std.specs.Prelude.{Bool, true, false, bit_and, bit_or, ◌≡◌, ℕ, ◌+◌, ◌<◌, [], ◌∷◌, drop, Option, Some, None, Result, Ok, Err}
 use Rattle.b67_word.specs.declared.Place.{Place}
 use Rattle.b67_word.specs.Word.{Word}
 use Rattle.b67_control.specs.declared.Registers.{Registers}
@@ -46,16 +46,9 @@ abbrev pub TakesTwo : Private → Option (Word × Word) → Type 0
 TakesTwo p (Some t) = (p.words ≡ t.0 ∷ t.1 ∷ drop 2 p.words) × (floor p.regs + 1 < p.regs.s)
 TakesTwo p None = (then : Word → Word → Private → Effect Private) → two_popped p then ≡ effects.interrupts StackUnderflow
 
--- the part with a word in place of so many on top, and the pointer at this place
-abbrev pub replaced : ℕ → Word → ℕ → Private → Private
-replaced count w place p = record {
-  regs = record p.regs { s = p.regs.s + 1 - count; place = place };
-  words = w ∷ drop count p.words;
-}
-
--- the part without so many words on top, and the pointer at this place
-abbrev pub lowered : ℕ → ℕ → Private → Private
-lowered count place p = record { regs = record p.regs { s = p.regs.s - count; place = place }; words = drop count p.words }
+-- the registers with S and the pointer at these places
+abbrev pub set_to : ℕ → ℕ → Registers → Registers
+set_to s place r = record r { s = s; place = place }
 
 -- what is made of the bits of two operands
 abbrev pub bits_by : Logic → ℕ → ℕ → ℕ

@@ -6,6 +6,7 @@
 
 mod laws;
 mod operators;
+mod prepared;
 mod rows;
 mod stretch;
 mod taking;
@@ -14,7 +15,8 @@ use b67_num::{FaultKind, NumFault};
 use b67_table::InterruptKind;
 pub use laws::{operators_are_own, parts_of_valid_images, stretches_are_own};
 pub use operators::operate;
-pub use stretch::{burst, next_operator};
+pub use prepared::Prepared;
+pub use stretch::{burst, burst_in_place, next_operator};
 pub use taking::is_short;
 
 /// The most words that an operator of a private part takes off.

@@ -3,7 +3,7 @@ ghost use Rattle.std.specs.Prelude.{◌≡◌, ◌<◌, ◌^◌};
 ghost use Rattle.b67_word.specs.Word.{word};
 ghost use Rattle.b67_ops.specs.Spelling.{Fits, FitsAs};
 ghost use Rattle.b67_table.specs.Outcome.{limited};
-ghost use Rattle.b67_private.specs.Parts.{IsPart, length_of, own_outcome};
+ghost use Rattle.b67_private.specs.Parts.{IsPart, length_of, own_outcome, part_with};
 ghost use Rattle.b67_private.specs.Performing.{Performs};
 ghost use Rattle.b67_private.specs.Operating.{effect_by, top_effect, HasRow, HasRowOf, IsHeldCouple};
 
@@ -15,7 +15,7 @@ use crate::rows::{
 use b67_control::Irw;
 use b67_num::{Calculation, Relation};
 use b67_ops::{BranchKind, Operator, PlainKind};
-use b67_table::{InterruptKind, Private};
+use b67_table::{InterruptKind, Registers, Words};
 use b67_word::{Word, make_word, operand};
 
 /// What is done to the words on top only.
@@ -95,7 +95,7 @@ fn literal(tag: u8, bits: u64) -> Word
 // The row of an operator at its place.
 #[tactic(auto, unfolding(b67_table::specs::Rows::row))]
 #[inline(always)]
-fn row_of(op: &Operator, place: u16) -> Row
+pub fn row_of(op: &Operator, place: u16) -> Row
     requires { FitsAs IsHeldCouple op.now }
     ensures { HasRow op.now place result }
 {
@@ -124,50 +124,55 @@ fn row_of(op: &Operator, place: u16) -> Row
 }
 
 #[inline(always)]
-fn change_top(p: &mut Private, row: TopRow, next: u16) -> Result<(), Stop>
-    requires { IsPart p.old }
-    ensures { Performs (limited length_of (top_effect row next p.old)) p.old result p.new }
+fn change_top(regs: &mut Registers, words: &mut Words, row: TopRow, next: u16) -> Result<(), Stop>
+    requires { IsPart (part_with regs.old words.old) }
+    ensures { Performs (limited length_of (top_effect row next (part_with regs.old words.old))) (part_with regs.old words.old) result (part_with regs.new words.new) }
 {
     match row {
-        TopRow::Negate => negate(p, next),
-        TopRow::Complement => complement_top(p, next),
-        TopRow::Drop => drop_top(p, next),
-        TopRow::Exchange => exchange(p, next),
-        TopRow::Double => double(p, next),
-        TopRow::Stuff => stuff_top(p, next),
+        TopRow::Negate => negate(regs, words, next),
+        TopRow::Complement => complement_top(regs, words, next),
+        TopRow::Drop => drop_top(regs, words, next),
+        TopRow::Exchange => exchange(regs, words, next),
+        TopRow::Double => double(regs, words, next),
+        TopRow::Stuff => stuff_top(regs, words, next),
     }
 }
 
 // Does what a row says.
 #[inline(always)]
-fn perform(p: &mut Private, row: Row, next: u16) -> Result<(), Stop>
-    requires { IsPart p.old }
-    ensures { Performs (limited length_of (effect_by row next p.old)) p.old result p.new }
+pub fn perform(regs: &mut Registers, words: &mut Words, row: Row, next: u16) -> Result<(), Stop>
+    requires { IsPart (part_with regs.old words.old) }
+    ensures { Performs (limited length_of (effect_by row next (part_with regs.old words.old))) (part_with regs.old words.old) result (part_with regs.new words.new) }
 {
     match row {
-        Row::Push(word) => push_word(p, word, next),
-        Row::Calculate(calculation) => calculate_two(p, calculation, next),
-        Row::Compare(relation) => compare_two(p, relation, next),
-        Row::Combine(kind) => combine_two(p, kind, next),
-        Row::Top(row) => change_top(p, row, next),
-        Row::Mark => mark_stack(p, next),
-        Row::MakeCells => make_cells(p, next),
+        Row::Push(word) => push_word(regs, words, word, next),
+        Row::Calculate(calculation) => calculate_two(regs, words, calculation, next),
+        Row::Compare(relation) => compare_two(regs, words, relation, next),
+        Row::Combine(kind) => combine_two(regs, words, kind, next),
+        Row::Top(row) => change_top(regs, words, row, next),
+        Row::Mark => mark_stack(regs, words, next),
+        Row::MakeCells => make_cells(regs, next),
         Row::GoOn => {
-            go_on(p, next);
+            go_on(regs, next);
             Ok(())
         }
-        Row::Branch(kind, target) => branch_to(p, kind, target, next),
+        Row::Branch(kind, target) => branch_to(regs, words, kind, target, next),
         Row::Foreign => Err(FOREIGN),
     }
 }
 
 /// Performs an operator that stands at the pointer of a private part, given the place after it: what the table says, or
 /// the stop that it gives, which changes nothing. An action is `BadCode`: it is no operator of a private part.
-pub fn operate(p: &mut Private, op: &Operator, next: u16) -> Result<(), Stop>
-    requires part { IsPart p.old }
-    requires fits { Fits p.old.regs.ll op.now }
-    ensures { Performs (own_outcome op.now next p.old) p.old result p.new }
+pub fn operate(
+    regs: &mut Registers,
+    words: &mut Words,
+    op: &Operator,
+    next: u16,
+) -> Result<(), Stop>
+    requires part { IsPart (part_with regs.old words.old) }
+    requires fits { Fits regs.old.ll op.now }
+    ensures { Performs (own_outcome op.now next (part_with regs.old words.old)) (part_with regs.old words.old) result (part_with regs.new words.new) }
 {
-    let row = row_of(op, p.regs.place);
-    perform(p, row, next)
+    let row = row_of(op, regs.place);
+    perform(regs, words, row, next)
 }

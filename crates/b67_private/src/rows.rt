@@ -1,12 +1,14 @@
 // What the private operators do, each by its row of the table.
-ghost use Rattle.std.specs.Prelude.{◌≡◌, ◌<◌, ◌^◌, ◌∷◌, Option, Some, None, Ok, IfSome};
+ghost use Rattle.std.specs.Prelude.{◌≡◌, ◌<◌, ◌≤◌, ◌^◌, ◌∷◌, List, Option, Some, None, Ok, IfSome};
 ghost use Rattle.b67_num.specs.Whole.{calculated, related};
-ghost use Rattle.b67_word.specs.Word.{word};
+ghost use Rattle.b67_word.specs.Word.{word, Word};
+ghost use Rattle.b67_control.specs.Display.{levels};
+ghost use Rattle.b67_store.specs.Store.{stack_limit};
 ghost use Rattle.b67_table.specs.Effect.{gives};
 ghost use Rattle.b67_table.specs.Outcome.{limited};
 ghost use Rattle.b67_table.specs.Private.{push};
 ghost use Rattle.b67_table.specs.PrivateRows.{complement, by_bit, arithmetic, relation as relations, negated, logic, complemented, dropped, exchanged, doubled, stuffed, stuff, mark, make_cells, branch, is_taken};
-ghost use Rattle.b67_private.specs.Parts.{IsPart, length_of};
+ghost use Rattle.b67_private.specs.Parts.{IsPart, length_of, part_with};
 ghost use Rattle.b67_private.specs.Performing.{Performs, own_row, bits_by, Stuffs, Holds, AreSeen, stuffed_in};
 
 use crate::Stop;
@@ -15,7 +17,7 @@ use b67_control::{Irw, Mscw, Registers, Sirw};
 use b67_num::{Calculation, Relation, calculate, compare, neg};
 use b67_ops::BranchKind;
 use b67_store::MOST_STACK_WORDS;
-use b67_table::{InterruptKind, Private, frame, wide};
+use b67_table::{InterruptKind, Words, frame, wide};
 use b67_word::{Word, make_word, operand, truth};
 
 // The most cells of a frame, which a control word can hold.
@@ -37,11 +39,16 @@ pub enum Logic {
 // Whole y and x are replaced by what is calculated of them.
 #[tactic(auto, using(crate::proofs::Underflow::wholes_stop))]
 #[inline(always)]
-pub fn calculate_two(p: &mut Private, calculation: Calculation, next: u16) -> Result<(), Stop>
-    requires { IsPart p.old }
-    ensures { Performs (own_row (arithmetic (calculated calculation)) next p.old) p.old result p.new }
+pub fn calculate_two(
+    regs: &mut Registers,
+    words: &mut Words,
+    calculation: Calculation,
+    next: u16,
+) -> Result<(), Stop>
+    requires { IsPart (part_with regs.old words.old) }
+    ensures { Performs (own_row (arithmetic (calculated calculation)) next (part_with regs.old words.old)) (part_with regs.old words.old) result (part_with regs.new words.new) }
 {
-    let Some((x, y)) = two(p) else {
+    let Some((x, y)) = two(regs, words) else {
         return Err(UNDERFLOW);
     };
     let Some(a) = y.as_whole() else {
@@ -51,18 +58,23 @@ pub fn calculate_two(p: &mut Private, calculation: Calculation, next: u16) -> Re
         return Err(INVALID);
     };
     let z = calculate(calculation, a, b)?;
-    replace(p, 2, operand(z), next);
+    replace(regs, words, 2, operand(z), next);
     Ok(())
 }
 
 // Whole y and x are replaced by the truth of a relation.
 #[tactic(auto, using(crate::proofs::Underflow::wholes_stop))]
 #[inline(always)]
-pub fn compare_two(p: &mut Private, relation: Relation, next: u16) -> Result<(), Stop>
-    requires { IsPart p.old }
-    ensures { Performs (own_row (relations (related relation)) next p.old) p.old result p.new }
+pub fn compare_two(
+    regs: &mut Registers,
+    words: &mut Words,
+    relation: Relation,
+    next: u16,
+) -> Result<(), Stop>
+    requires { IsPart (part_with regs.old words.old) }
+    ensures { Performs (own_row (relations (related relation)) next (part_with regs.old words.old)) (part_with regs.old words.old) result (part_with regs.new words.new) }
 {
-    let Some((x, y)) = two(p) else {
+    let Some((x, y)) = two(regs, words) else {
         return Err(UNDERFLOW);
     };
     let Some(a) = y.as_whole() else {
@@ -71,82 +83,82 @@ pub fn compare_two(p: &mut Private, relation: Relation, next: u16) -> Result<(),
     let Some(b) = x.as_whole() else {
         return Err(INVALID);
     };
-    replace(p, 2, truth(compare(relation, a, b)), next);
+    replace(regs, words, 2, truth(compare(relation, a, b)), next);
     Ok(())
 }
 
 // Whole x is replaced by its negation.
 #[inline(always)]
-pub fn negate(p: &mut Private, next: u16) -> Result<(), Stop>
-    requires { IsPart p.old }
-    ensures { Performs (own_row negated next p.old) p.old result p.new }
+pub fn negate(regs: &mut Registers, words: &mut Words, next: u16) -> Result<(), Stop>
+    requires { IsPart (part_with regs.old words.old) }
+    ensures { Performs (own_row negated next (part_with regs.old words.old)) (part_with regs.old words.old) result (part_with regs.new words.new) }
 {
-    let x = top(p)?;
+    let x = top(regs, words)?;
     let Some(a) = x.as_whole() else {
         return Err(INVALID);
     };
-    replace(p, 1, operand(neg(a)), next);
+    replace(regs, words, 1, operand(neg(a)), next);
     Ok(())
 }
 
 // A word is pushed.
 #[inline(always)]
-pub fn push_word(p: &mut Private, word: Word, next: u16) -> Result<(), Stop>
-    requires { IsPart p.old }
-    ensures { Performs (own_row (λ q. gives (push word q)) next p.old) p.old result p.new }
+pub fn push_word(regs: &mut Registers, words: &mut Words, word: Word, next: u16) -> Result<(), Stop>
+    requires { IsPart (part_with regs.old words.old) }
+    ensures { Performs (own_row (λ q. gives (push word q)) next (part_with regs.old words.old)) (part_with regs.old words.old) result (part_with regs.new words.new) }
 {
-    if p.regs.s >= MOST_STACK_WORDS as u32 {
+    if regs.s >= MOST_STACK_WORDS as u32 {
         return Err(Stop::StackLimit);
     }
-    replace(p, 0, word, next);
+    replace(regs, words, 0, word, next);
     Ok(())
 }
 
 // The word on top goes.
 #[inline(always)]
-pub fn drop_top(p: &mut Private, next: u16) -> Result<(), Stop>
-    requires { IsPart p.old }
-    ensures { Performs (own_row dropped next p.old) p.old result p.new }
+pub fn drop_top(regs: &mut Registers, words: &mut Words, next: u16) -> Result<(), Stop>
+    requires { IsPart (part_with regs.old words.old) }
+    ensures { Performs (own_row dropped next (part_with regs.old words.old)) (part_with regs.old words.old) result (part_with regs.new words.new) }
 {
-    let _x = top(p)?;
-    lower(p, 1, next);
+    let _x = top(regs, words)?;
+    lower(regs, words, 1, next);
     Ok(())
 }
 
 // The two words on top change places.
 #[tactic(auto, using(crate::proofs::Underflow::exchanged_stops))]
 #[inline(always)]
-pub fn exchange(p: &mut Private, next: u16) -> Result<(), Stop>
-    requires { IsPart p.old }
-    ensures { Performs (own_row exchanged next p.old) p.old result p.new }
+pub fn exchange(regs: &mut Registers, words: &mut Words, next: u16) -> Result<(), Stop>
+    requires { IsPart (part_with regs.old words.old) }
+    ensures { Performs (own_row exchanged next (part_with regs.old words.old)) (part_with regs.old words.old) result (part_with regs.new words.new) }
 {
-    let Some((x, y)) = two(p) else {
+    let Some((x, y)) = two(regs, words) else {
         return Err(UNDERFLOW);
     };
-    p.words.cut(2);
-    p.words.push(x);
-    p.words.push(y);
-    p.regs.place = next;
+    words.cut(2);
+    words.push(x);
+    words.push(y);
+    regs.place = next;
     Ok(())
 }
 
 // The word on top is pushed again.
 #[inline(always)]
-pub fn double(p: &mut Private, next: u16) -> Result<(), Stop>
-    requires { IsPart p.old }
-    ensures { Performs (own_row doubled next p.old) p.old result p.new }
+pub fn double(regs: &mut Registers, words: &mut Words, next: u16) -> Result<(), Stop>
+    requires { IsPart (part_with regs.old words.old) }
+    ensures { Performs (own_row doubled next (part_with regs.old words.old)) (part_with regs.old words.old) result (part_with regs.new words.new) }
 {
-    let x = top(p)?;
-    push_word(p, x, next)
+    let x = top(regs, words)?;
+    push_word(regs, words, x, next)
 }
 
 // Only the pointer goes on.
 #[inline(always)]
-pub fn go_on(p: &mut Private, next: u16)
-    requires { IsPart p.old }
-    ensures { Performs (own_row gives next p.old) p.old (Ok tt) p.new }
+pub fn go_on(regs: &mut Registers, next: u16)
+    requires { regs.old.s ≤ stack_limit }
+    ensures { (words : List Word) → Performs (own_row gives next (part_with regs.old words)) (part_with regs.old words) (Ok tt) (part_with regs.new words) }
 {
-    p.regs.place = next;
+    regs.place = next;
 }
 
 // The bits of an operand.
@@ -199,11 +211,16 @@ fn operand_of(bits: u64) -> Word
 // The operands y and x are replaced by what is made of their bits.
 #[tactic(auto, using(crate::proofs::Underflow::logic_stops))]
 #[inline(always)]
-pub fn combine_two(p: &mut Private, kind: Logic, next: u16) -> Result<(), Stop>
-    requires { IsPart p.old }
-    ensures { Performs (own_row (logic (bits_by kind)) next p.old) p.old result p.new }
+pub fn combine_two(
+    regs: &mut Registers,
+    words: &mut Words,
+    kind: Logic,
+    next: u16,
+) -> Result<(), Stop>
+    requires { IsPart (part_with regs.old words.old) }
+    ensures { Performs (own_row (logic (bits_by kind)) next (part_with regs.old words.old)) (part_with regs.old words.old) result (part_with regs.new words.new) }
 {
-    let Some((x, y)) = two(p) else {
+    let Some((x, y)) = two(regs, words) else {
         return Err(UNDERFLOW);
     };
     let Some(a) = bits_of(y) else {
@@ -212,21 +229,21 @@ pub fn combine_two(p: &mut Private, kind: Logic, next: u16) -> Result<(), Stop>
     let Some(b) = bits_of(x) else {
         return Err(INVALID);
     };
-    replace(p, 2, operand_of(combined(kind, a, b)), next);
+    replace(regs, words, 2, operand_of(combined(kind, a, b)), next);
     Ok(())
 }
 
 // The operand x is replaced by the bits that it does not have.
 #[inline(always)]
-pub fn complement_top(p: &mut Private, next: u16) -> Result<(), Stop>
-    requires { IsPart p.old }
-    ensures { Performs (own_row complemented next p.old) p.old result p.new }
+pub fn complement_top(regs: &mut Registers, words: &mut Words, next: u16) -> Result<(), Stop>
+    requires { IsPart (part_with regs.old words.old) }
+    ensures { Performs (own_row complemented next (part_with regs.old words.old)) (part_with regs.old words.old) result (part_with regs.new words.new) }
 {
-    let x = top(p)?;
+    let x = top(regs, words)?;
     let Some(a) = bits_of(x) else {
         return Err(INVALID);
     };
-    replace(p, 1, operand_of(complement(a)), next);
+    replace(regs, words, 1, operand_of(complement(a)), next);
     Ok(())
 }
 
@@ -254,62 +271,69 @@ fn stuffed(regs: &Registers, word: Word) -> Result<Word, Stop>
 
 // The reference on top is stuffed.
 #[inline(always)]
-pub fn stuff_top(p: &mut Private, next: u16) -> Result<(), Stop>
-    requires { IsPart p.old }
-    ensures { Performs (own_row stuff next p.old) p.old result p.new }
+pub fn stuff_top(regs: &mut Registers, words: &mut Words, next: u16) -> Result<(), Stop>
+    requires { IsPart (part_with regs.old words.old) }
+    ensures { Performs (own_row stuff next (part_with regs.old words.old)) (part_with regs.old words.old) result (part_with regs.new words.new) }
 {
-    let x = top(p)?;
-    let word = stuffed(&p.regs, x)?;
-    replace(p, 1, word, next);
+    let x = top(regs, words)?;
+    let word = stuffed(regs, x)?;
+    replace(regs, words, 1, word, next);
     Ok(())
 }
 
 // A mark is pushed, which is not entered, with the distance to the mark below it.
 #[inline(always)]
-pub fn mark_stack(p: &mut Private, next: u16) -> Result<(), Stop>
-    requires { IsPart p.old }
-    ensures { Performs (own_row mark next p.old) p.old result p.new }
+pub fn mark_stack(regs: &mut Registers, words: &mut Words, next: u16) -> Result<(), Stop>
+    requires { IsPart (part_with regs.old words.old) }
+    ensures { Performs (own_row mark next (part_with regs.old words.old)) (part_with regs.old words.old) result (part_with regs.new words.new) }
 {
-    let below = wide(p.regs.f);
-    if below >= p.regs.s {
+    let below = wide(regs.f);
+    if below >= regs.s {
         return Err(INVALID);
     }
-    if p.regs.s >= MOST_STACK_WORDS as u32 {
+    if regs.s >= MOST_STACK_WORDS as u32 {
         return Err(Stop::StackLimit);
     }
     let word = Mscw {
         entered: false,
         stack: 0,
         displacement: 0,
-        df: (p.regs.s - below) as u16,
+        df: (regs.s - below) as u16,
     };
-    p.regs.f = p.regs.s as u16;
-    replace(p, 0, word.pack(), next);
+    regs.f = regs.s as u16;
+    replace(regs, words, 0, word.pack(), next);
     Ok(())
 }
 
 // The words up to here become cells.
 #[inline(always)]
-pub fn make_cells(p: &mut Private, next: u16) -> Result<(), Stop>
-    requires { IsPart p.old }
-    ensures { Performs (own_row make_cells next p.old) p.old result p.new }
+pub fn make_cells(regs: &mut Registers, next: u16) -> Result<(), Stop>
+    requires level { regs.old.ll < levels }
+    requires room { regs.old.s ≤ stack_limit }
+    ensures { (words : List Word) → Performs (own_row make_cells next (part_with regs.old words)) (part_with regs.old words) result (part_with regs.new words) }
 {
-    let cells = p.regs.s.saturating_sub(frame(&p.regs) + 2);
+    let cells = regs.s.saturating_sub(frame(regs) + 2);
     if cells > u32::from(MOST_CELLS) {
         return Err(INVALID);
     }
-    p.regs.cells = cells as u16;
-    p.regs.place = next;
+    regs.cells = cells as u16;
+    regs.place = next;
     Ok(())
 }
 
 // Bit 0 of the operand on top, which is taken off, says whether the branch goes.
 #[inline(always)]
-fn branch_by(p: &mut Private, kind: BranchKind, target: u16, next: u16) -> Result<(), Stop>
-    requires { IsPart p.old }
-    ensures { Performs (limited length_of (by_bit kind target next p.old)) p.old result p.new }
+fn branch_by(
+    regs: &mut Registers,
+    words: &mut Words,
+    kind: BranchKind,
+    target: u16,
+    next: u16,
+) -> Result<(), Stop>
+    requires { IsPart (part_with regs.old words.old) }
+    ensures { Performs (limited length_of (by_bit kind target next (part_with regs.old words.old))) (part_with regs.old words.old) result (part_with regs.new words.new) }
 {
-    let x = top(p)?;
+    let x = top(regs, words)?;
     let Some(bits) = bits_of(x) else {
         return Err(INVALID);
     };
@@ -318,21 +342,27 @@ fn branch_by(p: &mut Private, kind: BranchKind, target: u16, next: u16) -> Resul
         BranchKind::Brtr => bits % 2 == 1,
         BranchKind::Brun => true,
     };
-    lower(p, 1, if goes { target } else { next });
+    lower(regs, words, 1, if goes { target } else { next });
     Ok(())
 }
 
 // The pointer goes to the place, always or by bit 0 of the operand on top.
 #[inline(always)]
-pub fn branch_to(p: &mut Private, kind: BranchKind, target: u16, next: u16) -> Result<(), Stop>
-    requires { IsPart p.old }
-    ensures { Performs (limited length_of (branch kind target next p.old)) p.old result p.new }
+pub fn branch_to(
+    regs: &mut Registers,
+    words: &mut Words,
+    kind: BranchKind,
+    target: u16,
+    next: u16,
+) -> Result<(), Stop>
+    requires { IsPart (part_with regs.old words.old) }
+    ensures { Performs (limited length_of (branch kind target next (part_with regs.old words.old))) (part_with regs.old words.old) result (part_with regs.new words.new) }
 {
     match kind {
         BranchKind::Brun => {
-            p.regs.place = target;
+            regs.place = target;
             Ok(())
         }
-        _ => branch_by(p, kind, target, next),
+        _ => branch_by(regs, words, kind, target, next),
     }
 }

@@ -1,12 +1,12 @@
 // The words on top of a private part, and words in their place.
-ghost use Rattle.std.specs.Prelude.{◌≡◌, ◌+◌, ◌<◌, ◌≤◌, length};
+ghost use Rattle.std.specs.Prelude.{◌≡◌, ◌+◌, ◌-◌, ◌∷◌, ◌<◌, ◌≤◌, drop, length};
 ghost use Rattle.b67_control.specs.Display.{levels};
 ghost use Rattle.b67_store.specs.Store.{stack_limit};
-ghost use Rattle.b67_private.specs.Parts.{IsPart, is_short};
-ghost use Rattle.b67_private.specs.Performing.{TakesOne, TakesTwo, replaced, lowered};
+ghost use Rattle.b67_private.specs.Parts.{IsPart, is_short, part_with};
+ghost use Rattle.b67_private.specs.Performing.{TakesOne, TakesTwo, set_to};
 
 use crate::{REACH, Stop};
-use b67_table::{InterruptKind, Private, floor};
+use b67_table::{InterruptKind, Registers, Words, floor};
 use b67_word::Word;
 
 /// No word lies in the private part.
@@ -14,14 +14,14 @@ pub const UNDERFLOW: Stop = Stop::Interrupt(InterruptKind::StackUnderflow);
 
 // The word on top.
 #[inline(always)]
-pub fn top(p: &Private) -> Result<Word, Stop>
-    requires { IsPart p.now }
-    ensures { TakesOne p.now result }
+pub fn top(regs: &Registers, words: &Words) -> Result<Word, Stop>
+    requires { IsPart (part_with regs.now words.now) }
+    ensures { TakesOne (part_with regs.now words.now) result }
 {
-    if floor(&p.regs) >= p.regs.s {
+    if floor(regs) >= regs.s {
         return Err(UNDERFLOW);
     }
-    match p.words.from_top(0) {
+    match words.from_top(0) {
         Some(word) => Ok(word),
         None => Err(UNDERFLOW),
     }
@@ -29,14 +29,14 @@ pub fn top(p: &Private) -> Result<Word, Stop>
 
 // The two words on top, the top one first.
 #[inline(always)]
-pub fn two(p: &Private) -> Option<(Word, Word)>
-    requires { IsPart p.now }
-    ensures { TakesTwo p.now result }
+pub fn two(regs: &Registers, words: &Words) -> Option<(Word, Word)>
+    requires { IsPart (part_with regs.now words.now) }
+    ensures { TakesTwo (part_with regs.now words.now) result }
 {
-    if floor(&p.regs) + 1 >= p.regs.s {
+    if floor(regs) + 1 >= regs.s {
         return None;
     }
-    match (p.words.from_top(0), p.words.from_top(1)) {
+    match (words.from_top(0), words.from_top(1)) {
         (Some(x), Some(y)) => Some((x, y)),
         _ => None,
     }
@@ -44,37 +44,39 @@ pub fn two(p: &Private) -> Option<(Word, Word)>
 
 // A word takes the place of so many on top.
 #[inline(always)]
-pub fn replace(p: &mut Private, count: u32, word: Word, next: u16)
-    requires some { count ≤ length p.old.words }
-    requires within { count ≤ p.old.regs.s }
-    requires room { length p.old.words + 1 ≤ stack_limit + count }
-    requires small { p.old.regs.s ≤ stack_limit }
-    ensures { p.new ≡ replaced count word next p.old }
+pub fn replace(regs: &mut Registers, words: &mut Words, count: u32, word: Word, next: u16)
+    requires some { count ≤ length words.old }
+    requires within { count ≤ regs.old.s }
+    requires room { length words.old + 1 ≤ stack_limit + count }
+    requires small { regs.old.s ≤ stack_limit }
+    ensures registers { regs.new ≡ set_to (regs.old.s + 1 - count) next regs.old }
+    ensures words { words.new ≡ word ∷ drop count words.old }
 {
-    p.words.cut(count);
-    p.words.push(word);
-    p.regs.s = p.regs.s + 1 - count;
-    p.regs.place = next;
+    words.cut(count);
+    words.push(word);
+    regs.s = regs.s + 1 - count;
+    regs.place = next;
 }
 
 // So many words on top go.
 #[inline(always)]
-pub fn lower(p: &mut Private, count: u32, next: u16)
-    requires some { count ≤ length p.old.words }
-    requires within { count ≤ p.old.regs.s }
-    ensures { p.new ≡ lowered count next p.old }
+pub fn lower(regs: &mut Registers, words: &mut Words, count: u32, next: u16)
+    requires some { count ≤ length words.old }
+    requires within { count ≤ regs.old.s }
+    ensures registers { regs.new ≡ set_to (regs.old.s - count) next regs.old }
+    ensures words { words.new ≡ drop count words.old }
 {
-    p.words.cut(count);
-    p.regs.s -= count;
-    p.regs.place = next;
+    words.cut(count);
+    regs.s -= count;
+    regs.place = next;
 }
 
 /// Tests that an operator may miss a word that its process has: fewer are there than it may take off, and they do not reach down
 /// to the floor.
-pub fn is_short(p: &Private) -> bool
-    requires { p.now.regs.ll < levels }
-    ensures { result ≡ is_short p.now }
+pub fn is_short(regs: &Registers, words: &Words) -> bool
+    requires { regs.now.ll < levels }
+    ensures { result ≡ is_short (part_with regs.now words.now) }
 {
-    let length = p.words.len();
-    length < REACH && floor(&p.regs) + length < p.regs.s
+    let length = words.len();
+    length < REACH && floor(regs) + length < regs.s
 }

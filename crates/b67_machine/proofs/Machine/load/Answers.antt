@@ -1,5 +1,5 @@
 use Rattle.std.specs.Prelude.{replicate}
-use Rattle.std.proofs.Common.{◌≡◌, ◌≤◌, refl, sym, subst, ap, ◌∙◌, ℕ, List, All, length, arith}
+use Rattle.std.proofs.Common.{◌≡◌, ◌≤◌, refl, sym, subst, ap, ◌∙◌, ℕ, List, All, length}
 use Rattle.std.proofs.lemmas.List.{length-replicate}
 use Rattle.b67_events.specs.Events.{Events}
 use Rattle.b67_segment.specs.declared.code.Segment.{Segment}
@@ -23,12 +23,6 @@ loaded : (code : Code) (stacks : Stacks) (rows : Rows) (kernel : Events) (parts 
 loaded code stacks rows kernel parts short image same =
     subst (λ (x : Image). IsValid parts.code x) (sym image)
     (first_is_valid parts.code (subst (λ (k : Code). All (λ (s : Segment). length s.words ≤ segment_limit) k.segments) (sym same) short))
-
-pub index-requires : goal.index-requires
-index-requires g c =
-    let valid = loaded c.args.code (g.C.Core.stacks c.load.new.core) (g.C.Core.rows c.load.new.core) c.in_ok-kernel.kernel c.in_ok-kernel.parts c.requires.segments
-    c.in_ok-kernel.ensures.image c.in_ok-kernel.ensures.code in
-    omega (arith, valid.registers, valid.some)
 
 pub invariant_of-result : goal.invariant_of-result
 invariant_of-result g c =

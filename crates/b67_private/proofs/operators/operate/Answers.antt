@@ -1,9 +1,11 @@
+use Rattle.b67_private.specs.Parts.{part_with}
 use Rattle.b67_private.proofs.Stepping.{held_operand, performed}
 use Rattle.b67_private.proofs.operators.operate.Goals as goal
 
 pub row_of-row-requires : goal.row_of-row-requires
-row_of-row-requires c = held_operand c.args.p.now.regs.ll c.args.op.now c.requires.part.level c.requires.fits
+row_of-row-requires c = held_operand c.args.regs.now.ll c.args.op.now c.requires.part.level c.requires.fits
 
 pub returns : goal.returns
 returns c =
-    performed c.args.op.now c.args.next c.row_of-row.result c.args.p.now c.perform.new.p c.perform.result c.row_of-row.ensures c.perform.ensures
+    performed c.args.op.now c.args.next c.row_of-row.result (part_with c.args.regs.now c.args.words.now) (part_with c.perform.new.regs c.perform.new.words)
+    c.perform.result c.row_of-row.ensures c.perform.ensures

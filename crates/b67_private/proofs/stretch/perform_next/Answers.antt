@@ -1,14 +1,18 @@
-use Rattle.std.proofs.Common.{sym, ◌∙◌, Bool, subst}
-use Rattle.b67_private.specs.Parts.{own_next}
+use Rattle.std.proofs.Common.{sym, Bool, subst}
+use Rattle.b67_segment.specs.Decoded.{found}
+use Rattle.b67_private.specs.Parts.{own_next, part_with}
 use Rattle.b67_private.specs.Performing.{Steps}
-use Rattle.b67_private.proofs.Stepping.{steps_found, steps_none}
+use Rattle.b67_private.specs.Prepared.{IsRowOf}
+use Rattle.b67_private.proofs.PlacedRows.{steps_by_row}
+use Rattle.b67_private.proofs.Stepping.{some_is}
 use Rattle.b67_private.proofs.stretch.perform_next.Goals as goal
 
 pub returns-in-Some : goal.returns-in-Some
 returns-in-Some c =
-    subst (λ (b : Bool). Steps (own_next c.args.code.now c.args.p.now) c.args.p.now b c.operate.new.p) (sym c.is_ok.ensures.value)
-    (steps_found c.args.code.now c.args.p.now c.operate.new.p (c.in-Some.operator, c.in-Some.next) c.operate.result
-    (sym c.next_operator.ensures.value ∙ c.in-Some.is) c.operate.ensures)
-
-pub returns-in-None : goal.returns-in-None
-returns-in-None c = steps_none c.args.code.now c.args.p.now (sym c.next_operator.ensures.value ∙ c.in-None.is)
+    let r = c.args.regs.now in
+    let old = part_with c.args.regs.now c.args.words.now in
+    let new = part_with c.perform.new.regs c.perform.new.words in
+    let is_row = some_is (λ r'. IsRowOf r.place (found c.args.code.now r.segment r.ll r.place) r') c.row_at.result (c.in-Some.row, c.in-Some.next)
+    (c.row_at.ensures c.args.code.now r.segment r.ll c.requires.table) c.in-Some.is in
+    subst (λ (b : Bool). Steps (own_next c.args.code.now old) old b new) (sym c.is_ok.ensures.value)
+    (steps_by_row c.args.code.now old new c.in-Some.row c.in-Some.next c.perform.result is_row c.perform.ensures)

@@ -1,7 +1,7 @@
 use Rattle.std.proofs.Common.{◌-◌, ◌+◌}
 use Rattle.std.specs.Prelude.{length}
 use Rattle.b67_machine.specs.Tables.{AreTables}
-use Rattle.b67_machine.proofs.tables.prepare.Given as goal
+use Rattle.b67_machine.proofs.tables.add.Given as goal
 
 abbrev pub invariant-segments : goal.invariant-segments
 invariant-segments l = AreTables l.code l.segments.items
