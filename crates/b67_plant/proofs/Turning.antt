@@ -7,7 +7,6 @@ use Rattle.b67_action.specs.Able.{one_if}
 use Rattle.b67_machine.specs.declared.entry.Performed.{Performed}
 use Rattle.b67_machine.specs.declared.replay.Replayed.{Replayed}
 use Rattle.b67_machine.specs.declared.replay.Replayed.TheVariants.{Ended, BudgetSpent, NoMemory}
-use Rattle.b67_processors.specs.declared.Acted.{Acted}
 use Rattle.b67_stands.specs.Running.{Running, answer_of}
 use Rattle.b67_stands.specs.Placing.{holder_of}
 use Rattle.b67_stands.specs.Picked.{Pick}
@@ -20,7 +19,7 @@ use Rattle.b67_stands.proofs.Places.{holder_own}
 use Rattle.b67_stands.proofs.Taking.{taken_number}
 use Rattle.b67_plant.specs.declared.taking.Taken.{Taken}
 use Rattle.b67_plant.specs.declared.taking.Taken.TheVariants as taken
-use Rattle.b67_plant.specs.Calls.{IsOver, Takes, refusal, Acts}
+use Rattle.b67_plant.specs.Calls.{IsOver, Takes}
 
 -- how many operators are left of the budget, none where the run has ended
 abbrev pub left_by : Option Replayed → ℕ → ℕ → ℕ
@@ -39,35 +38,25 @@ less_by : (o : Option Replayed) (budget spent old : ℕ) → old < budget → (o
 less_by None budget spent old less more = omega (arith, less, more refl)
 less_by (Some a) budget spent old less more = omega (arith, less)
 
--- a run that goes on and in which somebody waits gives a process
+-- a run that goes on is not over
 not_over : (budget : ℕ) (s : Running) → answer_of budget s ≡ None → IsOver budget s → ⊥
 not_over budget s e (inl o) = let no : None ≡ Some Ended = sym e ∙ o in cc
 not_over budget s e (inr o) = let no : None ≡ Some BudgetSpent = sym e ∙ o in cc
 
-takes_some : (pick : Pick) (budget me : ℕ) (old : Running) (t : Taken) (p : ℕ) (new : Running) → answer_of budget old ≡ None → old.waiting ≢ [] → Takes pick budget me old t p new
-    → TakesOne pick me old p new
-takes_some pick budget me old taken.Work p new going some k = k.1
-takes_some pick budget me old taken.Idle p new going some k = absurd (some k.1)
-takes_some pick budget me old taken.Over p new going some k = absurd (not_over budget old going k.0)
-takes_some pick budget me old taken.Lacked p new going some k = let no : None ≡ Some NoMemory = sym going ∙ k.0 in cc
+-- where nobody was taken nothing has changed, and the run has ended
+pub nobody_taken : (pick : Pick) (budget me : ℕ) (old : Running) (t : Taken) (p : ℕ) (new : Running) → (answer_of budget old ≡ None → old.waiting ≢ []) → t ≢ taken.Work
+    → Takes pick budget me old t p new → (new ≡ old) × (answer_of budget new ≢ None)
+nobody_taken pick budget me old taken.Work p new some other k = absurd (other refl)
+nobody_taken pick budget me old taken.Idle p new some other k = absurd (some k.0 k.1)
+nobody_taken pick budget me old taken.Over p new some other k =
+    (k.1, λ (none : answer_of budget new ≡ None). not_over budget old (ap (answer_of budget) (sym k.1) ∙ none) k.0)
+nobody_taken pick budget me old taken.Lacked p new some other k =
+    (k.1, λ (none : answer_of budget new ≡ None). let no : None ≡ Some NoMemory = sym none ∙ ap (answer_of budget) k.1 ∙ k.0 in cc)
 
-no_refusal : (o : Option Replayed) (a : Acted) → o ≡ None → refusal o ≡ Some a → ⊥
-no_refusal None a e r = cc
-no_refusal (Some x) a e r = cc
-
-acts_some : (budget me p : ℕ) (old : Running) (a : Acted) (new : Running) → answer_of budget old ≡ None → holder_of old.out p ≡ me → Acts budget me p old a new
-    → (performed : Performed) × ActsOnce budget old p performed new
-acts_some budget me p old a new going held (inl k) = absurd (no_refusal (answer_of budget old) a going k.0)
-acts_some budget me p old a new going held (inr (inl k)) = absurd (k.1 held)
-acts_some budget me p old a new going held (inr (inr k)) = (k.2.0, k.2.1)
-
-module _ (code : Code) (budget : ℕ) (pick : Pick) (old between new : Running) (p : ℕ) (t : Taken) (a : Acted) (sound : Sound code) (small : budget ≤ MOST_BUDGET)
+module _ (code : Code) (budget : ℕ) (pick : Pick) (old between : Running) (p : ℕ) (sound : Sound code) (small : budget ≤ MOST_BUDGET)
     (stands : Stands code budget old) (one : ByOne code budget pick old) (going : answer_of budget old ≡ None)
-    (takes : Takes pick budget 1 old t p between) (acts : Acts budget 1 p between a new) where
-  takes_one : TakesOne pick 1 old p between
-  takes_one = takes_some pick budget 1 old t p between going (turns_keep_by_one.some code budget pick old stands one going) takes
-
-  going_between : answer_of budget between ≡ None
+    (takes_one : TakesOne pick 1 old p between) where
+  pub going_between : answer_of budget between ≡ None
   going_between = subst (λ (s : Running). answer_of budget s ≡ None) (sym takes_one.new_is) going
 
   held : holder_of between.out p ≡ 1
@@ -75,24 +64,26 @@ module _ (code : Code) (budget : ℕ) (pick : Pick) (old between new : Running) 
       let n = taken_number code budget old stands (pick (length old.waiting) old.takes) p going takes_one.picked in
       ap (λ (s : Running). holder_of s.out p) takes_one.new_is ∙ holder_own old.out p 1 n.0 (omega (arith, n.1, stands.holders))
 
-  once : (performed : Performed) × ActsOnce budget between p performed new
-  once = acts_some budget 1 p between a new going_between held acts
+  -- who was taken is out, and may act
+  pub out : 1 ≤ holder_of between.out p
+  out = omega (arith, held)
 
-  keeps : KeepsByOne code budget pick once.0 new
-  keeps = turns_keep_by_one.turn code budget pick old between new 1 p once.0 sound small stands one going takes_one once.1
+  module _ (new : Running) (once : (performed : Performed) × ActsOnce budget between p performed new) where
+    keeps : KeepsByOne code budget pick once.0 new
+    keeps = turns_keep_by_one.turn code budget pick old between new 1 p once.0 sound small stands one going takes_one once.1
 
-  pub turn_by_one : ByOne code budget pick new
-  turn_by_one = keeps.by_one
+    pub turn_by_one : ByOne code budget pick new
+    turn_by_one = keeps.by_one
 
-  spent_more : (b : Bool) → is_action once.0.done ≡ b → answer_of budget new ≡ None → old.spent < new.spent
-  spent_more false e none = absurd (keeps.ended e none)
-  spent_more true e none =
-      let same : between.spent ≡ old.spent = ap (λ (s : Running). s.spent) takes_one.new_is in
-      let one_more : new.spent ≡ between.spent + once.0.plain + 1 = once.1.spent ∙ ap (λ (x : Bool). between.spent + once.0.plain + one_if x) e in
-      omega (arith, same, one_more)
+    spent_more : (b : Bool) → is_action once.0.done ≡ b → answer_of budget new ≡ None → old.spent < new.spent
+    spent_more false e none = absurd (keeps.ended e none)
+    spent_more true e none =
+        let same : between.spent ≡ old.spent = ap (λ (s : Running). s.spent) takes_one.new_is in
+        let one_more : new.spent ≡ between.spent + once.0.plain + 1 = once.1.spent ∙ ap (λ (x : Bool). between.spent + once.0.plain + one_if x) e in
+        omega (arith, same, one_more)
 
-  pub turn_less : left_of budget new < left_of budget old
-  turn_less =
-      let was : left_of budget old ≡ budget - old.spent = left_going (answer_of budget old) budget old.spent going in
-      let less = less_by (answer_of budget new) budget new.spent old.spent (goes_on budget old going).less (spent_more (is_action once.0.done) refl) in
-      omega (arith, was, less)
+    pub turn_less : left_of budget new < left_of budget old
+    turn_less =
+        let was : left_of budget old ≡ budget - old.spent = left_going (answer_of budget old) budget old.spent going in
+        let less = less_by (answer_of budget new) budget new.spent old.spent (goes_on budget old going).less (spent_more (is_action once.0.done) refl) in
+        omega (arith, was, less)

@@ -13,7 +13,7 @@ ghost use Rattle.b67_stands.specs.Running.{answer_of};
 ghost use Rattle.b67_stands.specs.Stands.{Stands};
 
 use crate::joins::{gather, run_all};
-use crate::{Named, Plant, Post};
+use crate::{Named, Plant, Post, Taken};
 use b67_machine::{Machine, Replayed};
 use b67_processors::Gate;
 use b67_ready::{Order, Rule};
@@ -65,14 +65,14 @@ fn work_alone<N: Named, L: Ledger, C: Core, P: Rule>(
     ensures answered { answer_of N.budget plant.new ≡ Some result }
     ensures stands { Stands N.code N.budget plant.new }
 {
-    'turns: loop {
-        if let Some(answer) = plant.answer() {
-            return answer;
-        }
-        let _taken = plant.take(1, &mut post.parcel);
+    'turns: while let Taken::Work = plant.take(1, &mut post.parcel) {
         let process = post.parcel.process();
-        let _acted = plant.act(1, process, &mut post.seat);
+        let _acted = plant.enter(process, &mut post.seat);
     }
+    let Some(answer) = plant.answer() else {
+        unreachable!()
+    };
+    answer
 }
 
 // The run of a named plant by the caller.

@@ -103,6 +103,7 @@ impl<N: Named, L: Ledger, C: Core, P: Rule> Plant<N, L, C, P> {
         requires { 1 ≤ me }
         ensures taken { Takes N.pick N.budget me self.old result parcel.new.process self.new }
         ensures other { result ≢ Taken.Work → parcel.new ≡ parcel.old }
+        ensures stands { Stands N.code N.budget self.old }
     {
         match self.answer() {
             Some(Replayed::NoMemory) => return Taken::Lacked,
@@ -156,7 +157,7 @@ impl<N: Named, L: Ledger, C: Core, P: Rule> Plant<N, L, C, P> {
     }
 
     // The entry of a process that is out.
-    fn enter(&mut self, process: u32, seat: &mut Seat<N, L>) -> Acted
+    pub fn enter(&mut self, process: u32, seat: &mut Seat<N, L>) -> Acted
         requires going { answer_of N.budget self.old ≡ None }
         requires out { 1 ≤ holder_of self.old.out process }
         ensures acts { (performed : ThePerformed) × ActsOnce N.budget self.old process performed self.new × (result ≡ answer_to performed.done) }
