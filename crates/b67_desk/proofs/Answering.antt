@@ -8,8 +8,6 @@ use Rattle.algol_tree.specs.declared.token.Spot.{Spot}
 use Rattle.algol_tree.specs.declared.refusal.Code.{Code as SourceCode}
 use Rattle.algol_tree.specs.Plain.{PProgram}
 use Rattle.algol_tree.specs.First.{Source, First}
-use Rattle.b67_fitting.specs.Built.{IsBuilt}
-use Rattle.algol_tree.specs.declared.refusal.Code.TheVariants.{Unbuilt}
 use Rattle.b67_io.specs.Faults.{Rose}
 use Rattle.b67_io.specs.Writing.{WroteFront}
 use Rattle.b67_io.specs.declared.writing.WriteAll.{WriteAll}
@@ -37,7 +35,7 @@ use Rattle.b67_desk.specs.declared.asking.Unanswered.TheVariants as why
 use Rattle.b67_desk.specs.declared.asking.Job.{Job}
 use Rattle.b67_desk.specs.declared.asking.Asked.{Asked}
 use Rattle.b67_desk.specs.declared.asking.Asked.TheVariants as asked
-use Rattle.b67_desk.specs.Answers.{usage_text, refused_text, bad_schedule_text, listing_text, status_of, at_start, Workers, by_one, by_all, Runs, ran, Lists, listed, IsBadSchedule, AreGiven, Replays, bad_schedule, replayed, SaysAccepted, IsBuiltFor, BuiltOr, unbuilt, built, AnswersBuilt, AnswersTree, IsRefusedAt, RefusedOr, refused, accepted, IsDivided, AnswersBytes, IsOfSource, AnswersInput, long_part, divided, most_bytes, AnswersSource, too_long, too_long_text, read, Reading, Untouched, Answers, usage, answered, Writing, HasAnswer, write_fault}
+use Rattle.b67_desk.specs.Answers.{usage_text, refused_text, bad_schedule_text, listing_text, status_of, Workers, by_one, by_all, Runs, ran, Lists, listed, IsBadSchedule, AreGiven, Replays, bad_schedule, replayed, SaysAccepted, AnswersTree, IsRefusedAt, RefusedOr, refused, accepted, IsDivided, AnswersBytes, IsOfSource, AnswersInput, long_part, divided, most_bytes, AnswersSource, too_long, too_long_text, read, Reading, Untouched, Answers, usage, answered, Writing, HasAnswer, write_fault}
 use Rattle.b67_desk.specs.Calls.{IsReported, Asks, settled, InRange, SourceAsked, CallAsked, CallAnswered, IsUsage, IsRefusal, IsReportAnswer, IsRunAnswer, IsBadAt, IsTooLong}
 
 -- ---- what is asked for
@@ -98,63 +96,35 @@ pub listed_is : (tree : PProgram) (code : Code) (lines : List (List ℕ)) (text 
     Lists tree text status.Finished
 listed_is tree code lines text faithful are is = subst (λ (t : List ℕ). Lists tree t status.Finished) (sym is) (listed code lines faithful are)
 
--- a source that is not built for a command, and one that is
-module _ (command : Words) (tree : PProgram) (Its : List ℕ → Status → Type 0) where
-  unbuilt_is : (a : Answer) → (IsBuiltFor command tree → ⊥) → IsRefusal at_start (OfSource Unbuilt) a → BuiltOr command tree Its a.text.items a.status
-  unbuilt_is a none is =
-      subst (λ (t : List ℕ). BuiltOr command tree Its t a.status) (sym is.text)
-      (subst (λ (s : Status). BuiltOr command tree Its (refused_text at_start (OfSource Unbuilt)) s) (sym is.status) (unbuilt none))
-
-  pub unbuilt_answered : (result : Result Answer AllocError) → (IsBuiltFor command tree → ⊥) → IfOk result (IsRefusal at_start (OfSource Unbuilt)) →
-      IfOk result (λ a. BuiltOr command tree Its a.text.items a.status)
-  unbuilt_answered (Ok a) none is = unbuilt_is a none is
-  unbuilt_answered (Err e) none is = is
-
-  pub built_answered : (result : Result Answer AllocError) → IsBuiltFor command tree → IfOk result (λ a. Its a.text.items a.status) →
-      IfOk result (λ a. BuiltOr command tree Its a.text.items a.status)
-  built_answered (Ok a) is_built is = built a.text.items a.status is_built is
-  built_answered (Err e) is_built is = is
-
--- for every command but `check` those that are built
-for_one : (command : Words) (tree : PProgram) → command ≢ commands.Check → IsBuiltFor command tree → IsBuilt tree
-for_one (commands.Run processors budget rule) tree other is = is
-for_one commands.Check tree other is = absurd (other refl)
-for_one commands.List tree other is = is
-for_one (commands.Replay budget) tree other is = is
-for_one (commands.Exec budget) tree other is = absurd is
-
+-- what answers a command answers a source under it
 module _ (by : Workers) (command : Words) (schedule : Option (List ℕ)) (input : ℕ) (tree : PProgram) (result : Result Answer AllocError) where
   Told : Words → Type 0
   Told w = IfOk result (λ a. AnswersTree by w schedule input tree a.text.items a.status)
 
-  pub unbuilt_tree : command ≢ commands.Check → (IsBuilt tree → ⊥) → IfOk result (IsRefusal at_start (OfSource Unbuilt)) →
-      IfOk result (λ a. AnswersTree by command schedule input tree a.text.items a.status)
-  unbuilt_tree other none is =
-      unbuilt_answered command tree (AnswersBuilt by command schedule input tree) result (λ fits. none (for_one command tree other fits)) is
-
-  built_tree : (w : Words) → command ≡ w → IsBuiltFor w tree → IfOk result (λ a. AnswersBuilt by w schedule input tree a.text.items a.status) →
-      IfOk result (λ a. AnswersTree by command schedule input tree a.text.items a.status)
-  unfolding Told
-  built_tree w is is_built told = subst Told (sym is) (built_answered w tree (AnswersBuilt by w schedule input tree) result is_built told)
+  told_tree : (w : Words) → command ≡ w → Told w → Told command
+  told_tree w is told = subst Told (sym is) told
 
   pub check_tree : command ≡ commands.Check → IfOk result (λ a. SaysAccepted a.text.items a.status) →
       IfOk result (λ a. AnswersTree by command schedule input tree a.text.items a.status)
-  check_tree is told = built_tree commands.Check is tt told
+  unfolding Told
+  check_tree is told = told_tree commands.Check is told
 
-  pub list_tree : command ≡ commands.List → IsBuilt tree → IfOk result (λ a. Lists tree a.text.items a.status) →
+  pub list_tree : command ≡ commands.List → IfOk result (λ a. Lists tree a.text.items a.status) →
       IfOk result (λ a. AnswersTree by command schedule input tree a.text.items a.status)
-  list_tree is is_built told = built_tree commands.List is is_built told
+  unfolding Told
+  list_tree is told = told_tree commands.List is told
 
-  pub replay_tree : (budget : ℕ) → command ≡ commands.Replay budget → IsBuilt tree →
+  pub replay_tree : (budget : ℕ) → command ≡ commands.Replay budget →
       IfOk result (λ a. Replays budget schedule input tree a.text.items a.status) → IfOk result (λ a. AnswersTree by command schedule input tree a.text.items a.status)
-  replay_tree budget is is_built told = built_tree (commands.Replay budget) is is_built told
+  unfolding Told
+  replay_tree budget is told = told_tree (commands.Replay budget) is told
 
--- what answers a run of a built source answers the source
+-- what answers a run of a source answers the source
 pub run_out : (command : Words) (schedule : Option (List ℕ)) (input : ℕ) (tree : PProgram) (processors budget : ℕ) (rule : Rule) →
-    command ≡ commands.Run processors budget rule → IsBuilt tree → (by : Workers) (text : List ℕ) (s : Status) → Runs by processors budget rule tree text s →
+    command ≡ commands.Run processors budget rule → (by : Workers) (text : List ℕ) (s : Status) → Runs by processors budget rule tree text s →
     AnswersTree by command schedule input tree text s
-run_out command schedule input tree processors budget rule is is_built by text s runs =
-    subst (λ (w : Words). AnswersTree by w schedule input tree text s) (sym is) (built text s is_built runs)
+run_out command schedule input tree processors budget rule is by text s runs =
+    subst (λ (w : Words). AnswersTree by w schedule input tree text s) (sym is) runs
 
 -- a text that is refused, and one that is accepted
 module _ (bytes : List ℕ) (Its : PProgram → List ℕ → Status → Type 0) where

@@ -8,7 +8,7 @@ use Rattle.b67_asm.proofs.One.{one_code, not_both, one_refusal}
 use Rattle.b67_segment.specs.declared.code.Code.{Code}
 use Rattle.b67_exec.specs.declared.Stopped.{Stopped}
 use Rattle.b67_exec.specs.Turns.{exec_run}
-use Rattle.b67_exec_report.specs.Texts.{exec_text}
+use Rattle.b67_exec.specs.Texts.{exec_text}
 use Rattle.b67_desk.specs.declared.status.Code.TheVariants.{OfText}
 use Rattle.b67_desk.specs.declared.status.Status.{Status}
 use Rattle.b67_desk.specs.declared.status.Status.TheVariants as status

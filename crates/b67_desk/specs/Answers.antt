@@ -5,7 +5,6 @@ use Rattle.std.specs.Io.KnownBytes.{Appends, IsAtEnd}
 use Rattle.algol_tree.specs.declared.TheConstants.{MOST_SOURCE_BYTES}
 use Rattle.algol_tree.specs.declared.token.Spot.{Spot}
 use Rattle.algol_tree.specs.declared.refusal.Code.{Code as SourceCode}
-use Rattle.algol_tree.specs.declared.refusal.Code.TheVariants.{Unbuilt}
 use Rattle.algol_tree.specs.Codes.{rule_letter, rule_number}
 use Rattle.algol_tree.specs.Plain.{PProgram}
 use Rattle.algol_tree.specs.First.{Source, First}
@@ -32,7 +31,6 @@ use Rattle.b67_report.specs.Texts.{ReportText, line_text, lines_text}
 use Rattle.b67_listing.specs.Listings.{ListingText}
 use Rattle.b67_segment.specs.declared.code.Code.{Code}
 use Rattle.b67_faithful.specs.Faithful.{Faithful}
-use Rattle.b67_fitting.specs.Built.{IsBuilt}
 use Rattle.b67_parts.specs.declared.TheConstants.{MOST_INPUT_BYTES}
 use Rattle.b67_parts.specs.Parts.{Parts}
 use Rattle.b67_explain.specs.Explaining.{ExplainsRun, ExplainsReplay}
@@ -43,7 +41,7 @@ use Rattle.b67_asm.specs.Assembling.{Assembles, IsRefusedText}
 use Rattle.b67_exec.specs.declared.Stopped.{Stopped}
 use Rattle.b67_exec.specs.declared.Stopped.TheVariants as stopped
 use Rattle.b67_exec.specs.Turns.{exec_run}
-use Rattle.b67_exec_report.specs.Texts.{exec_text}
+use Rattle.b67_exec.specs.Texts.{exec_text}
 use Rattle.b67_desk.specs.declared.status.Code.{Code as RefusalCode}
 use Rattle.b67_desk.specs.declared.status.Code.TheVariants.{OfSource, OfText}
 use Rattle.b67_desk.specs.declared.status.Status.{Status}
@@ -145,36 +143,13 @@ pub data Replays (budget : ℕ) (schedule : Option (List ℕ)) (input : ℕ) (tr
   replayed : (given : List ℕ) (report : Report) → AreGiven schedule given → ExplainsReplay tree given budget report →
       Replays budget schedule input tree (ReportText report) (status_of report.end)
 
--- the start of a source
-abbrev pub at_start : Spot
-at_start = record { line = 1; column = 1 }
-
--- The trees that are built for a command. For one that wants the code of a source those are built that start no process.
-abbrev pub IsBuiltFor : Words → PProgram → Type 0
-IsBuiltFor (Run processors budget rule) tree = IsBuilt tree
-IsBuiltFor Check tree = Unit {0}
-IsBuiltFor ListCode tree = IsBuilt tree
-IsBuiltFor (Replay budget) tree = IsBuilt tree
-IsBuiltFor (Exec budget) tree = ⊥
-
--- What a source with this tree is answered by under that command: a refusal at 1:1 exactly where the tree is not built for it, else what
--- answers a built one.
-pub data BuiltOr (command : Words) (tree : PProgram) (AnswersIt : List ℕ → Status → Type 0) : List ℕ → Status → Type 0 where
-  unbuilt : (IsBuiltFor command tree → ⊥) →
-      BuiltOr command tree AnswersIt (refused_text at_start (OfSource Unbuilt)) (status.Refused at_start (OfSource Unbuilt))
-  built : (text : List ℕ) (s : Status) → IsBuiltFor command tree → AnswersIt text s → BuiltOr command tree AnswersIt text s
-
--- what a source whose tree is built for that command is answered by, with the schedule text beside it and the bytes of both
-abbrev pub AnswersBuilt : Workers → Words → Option (List ℕ) → ℕ → PProgram → List ℕ → Status → Type 0
-AnswersBuilt by (Run processors budget rule) schedule input tree = Runs by processors budget rule tree
-AnswersBuilt by Check schedule input tree = SaysAccepted
-AnswersBuilt by ListCode schedule input tree = Lists tree
-AnswersBuilt by (Replay budget) schedule input tree = Replays budget schedule input tree
-AnswersBuilt by (Exec budget) schedule input tree = λ text s. ⊥
-
--- what a source with this tree is answered by under that command
+-- what a source with this tree is answered by under that command, with the schedule text beside it and the bytes of both
 abbrev pub AnswersTree : Workers → Words → Option (List ℕ) → ℕ → PProgram → List ℕ → Status → Type 0
-AnswersTree by command schedule input tree = BuiltOr command tree (AnswersBuilt by command schedule input tree)
+AnswersTree by (Run processors budget rule) schedule input tree = Runs by processors budget rule tree
+AnswersTree by Check schedule input tree = SaysAccepted
+AnswersTree by ListCode schedule input tree = Lists tree
+AnswersTree by (Replay budget) schedule input tree = Replays budget schedule input tree
+AnswersTree by (Exec budget) schedule input tree = λ text s. ⊥
 
 -- The bytes are a source with this tree, and with no other.
 pub record IsSourceOf (bytes : List ℕ) (tree : PProgram) : Type 0 where

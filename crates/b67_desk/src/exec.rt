@@ -10,8 +10,7 @@ use crate::status::{Code, Status};
 use crate::tree::refuse;
 use algol_tree::Spot;
 use b67_asm::{NotAssembled, assemble};
-use b67_exec::Stopped;
-use b67_exec_report::exec_told;
+use b67_exec::{Stopped, exec_told};
 use std::alloc::{AllocError, Global};
 
 /// The status under which a run by turns is told.

@@ -253,8 +253,7 @@ fn write_answer<K: Sink>(sink: &mut K, answer: Result<Answer, Unanswered>) -> St
 /// The first of these that holds is the answer. `Usage` comes exactly where the words break the grammar, names the first word
 /// that does, and nothing is read. `ReadFault` comes only where the source's count of faults rose, and nothing is written.
 /// `TooLong` comes exactly where there are too many bytes, or too many of the source part. `Refused` comes exactly where the
-/// source is not accepted, with the first place that breaks a rule and the rule's code, and on `run`, `list` and `replay` also
-/// exactly where it is one that is not built, at 1:1 with `Unbuilt`: all are built that start no process.
+/// source is not accepted, with the first place that breaks a rule and the rule's code.
 /// `BadSchedule` comes on `replay` exactly where there is no such record, at the length of the input, or where the schedule text
 /// is none, at the length of its longest front that begins one. Else `check` and `list` end with `Finished`, and `run` and
 /// `replay` are reported: `Finished`, `Fault` or `AllWaiting` where the run has that end, and on `replay` no entry is left;

@@ -3,7 +3,6 @@
 ghost use Rattle.std.specs.Prelude.{◌≡◌, ◌≤◌, IfOk, option_copied};
 ghost use Rattle.algol_tree.specs.Image.{program as plain};
 ghost use Rattle.b67_words.specs.declared.TheConstants.{MOST_BUDGET, MOST_PROCESSORS};
-ghost use Rattle.b67_fitting.specs.Built.{IsBuilt};
 ghost use Rattle.b67_desk.specs.Answers.{AnswersTree, IsOfSource, SaysAccepted, Runs, Lists, Replays, status_of};
 ghost use Rattle.b67_desk.specs.Calls.{Asks, InRange, IsRefusal, IsBadAt, IsReportAnswer};
 
@@ -12,8 +11,8 @@ use crate::running::replay_report;
 use crate::status::{Code, Status};
 use crate::texts::{accepted_line, bad_schedule_line, listing_lines, refused_line};
 use algol_front::Checked;
-use algol_tree::{Code as SourceCode, Spot};
-use b67_compile::{compile, is_built};
+use algol_tree::Spot;
+use b67_compile::compile;
 use b67_listing::listing;
 use b67_report::{EndWords, Report, text as report_text};
 use b67_schedule::{ReadSchedule, read as read_schedule};
@@ -65,7 +64,7 @@ fn accept_source(alloc: Global) -> Result<Answer, AllocError>
     })
 }
 
-/// What a built source asks for that is to be run, on so many processors under a budget and a rule.
+/// What an accepted source asks for that is to be run, on so many processors under a budget and a rule.
 fn ask_run(
     alloc: Global,
     processors: u32,
@@ -75,7 +74,6 @@ fn ask_run(
 ) -> Result<Asked, AllocError>
     requires some { (1 ≤ processors) × (processors ≤ MOST_PROCESSORS) }
     requires budget { (1 ≤ budget) × (budget ≤ MOST_BUDGET) }
-    requires built { IsBuilt (plain checked.now.program) }
     ensures { IfOk result (Asks (λ by. Runs by processors budget rule (plain checked.now.program))) }
 {
     let code = compile(alloc, checked)?;
@@ -87,9 +85,8 @@ fn ask_run(
     }))
 }
 
-/// The answer to a built source whose code is listed.
+/// The answer to an accepted source whose code is listed.
 fn answer_list(alloc: Global, checked: &Checked) -> Result<Answer, AllocError>
-    requires built { IsBuilt (plain checked.now.program) }
     ensures { IfOk result (λ answer. Lists (plain checked.now.program) answer.text.items answer.status) }
 {
     let code = compile(alloc, checked)?;
@@ -110,7 +107,7 @@ fn refuse_schedule(alloc: Global, byte: u64) -> Result<Answer, AllocError>
     })
 }
 
-/// The answer to a built source that follows the schedule of a text, in an input of so many bytes.
+/// The answer to an accepted source that follows the schedule of a text, in an input of so many bytes.
 fn answer_replay(
     alloc: Global,
     budget: u64,
@@ -119,7 +116,6 @@ fn answer_replay(
     checked: &Checked,
 ) -> Result<Answer, AllocError>
     requires most { budget ≤ MOST_BUDGET }
-    requires built { IsBuilt (plain checked.now.program) }
     ensures { IfOk result (λ answer. Replays budget (option_copied schedule.entry) input (plain checked.now.program) answer.text.items answer.status) }
 {
     let Some(text) = schedule else {
@@ -147,13 +143,6 @@ pub fn ask_tree(
     requires source { IsOfSource command }
     ensures { IfOk result (Asks (λ by. AnswersTree by command (option_copied schedule.entry) input (plain checked.now.program))) }
 {
-    if let Words::Check = command {
-        return settled(accept_source(alloc));
-    }
-    if !is_built(checked) {
-        let start = Spot { line: 1, column: 1 };
-        return settled(refuse(alloc, start, Code::OfSource(SourceCode::Unbuilt)));
-    }
     match command {
         Words::Run {
             processors,

@@ -5,3 +5,4 @@ pub mod Queues
 pub mod Turning
 pub mod Running
 pub mod Working
+mod Telling

@@ -12,7 +12,7 @@ use Rattle.b67_table.specs.Limits.{most_processes}
 use Rattle.b67_table.specs.Valid.{IsValid}
 use Rattle.b67_table.proofs.EventKept.{within_of}
 use Rattle.b67_action.specs.Able.{times, one_if, able_in, AbleAfter}
-use Rattle.b67_alone.proofs.Firsts.{not_above, one_able}
+use Rattle.b67_joining.proofs.Able.{not_above, one_able}
 use Rattle.b67_joining.specs.Joining.{IsQueue, joining}
 use Rattle.b67_joining.proofs.Times.{here, elsewhere, one_at_most, is_none, is_one, times_both, few_of}
 use Rattle.b67_joining.proofs.Joining.{joining_own, joining_other}

@@ -2,3 +2,4 @@ pub mod Turns
 pub mod Exec
 pub mod Turning
 pub mod Worked
+pub mod Texts

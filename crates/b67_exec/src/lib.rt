@@ -4,6 +4,7 @@
 #![tactic(auto)]
 
 mod queue;
+mod report;
 mod turns;
 
 ghost use Rattle.std.specs.Prelude.{◌≡◌, IfOk, IfErr};
@@ -17,6 +18,7 @@ use b67_num::FaultKind;
 use b67_ready::{Dispatcher, Order};
 use b67_store::Core;
 use b67_table::InterruptKind;
+pub use report::{Told, exec_told};
 use std::alloc::{AllocError, Global};
 use turns::{end_of, turn};
 

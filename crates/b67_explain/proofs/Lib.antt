@@ -7,3 +7,4 @@ mod Outputs
 mod Printed
 pub mod Explained
 pub mod Ran
+pub mod Turning

@@ -34,13 +34,13 @@ use Rattle.b67_machine.specs.declared.reads.End.TheVariants as ends_of
 use Rattle.b67_machine.specs.Kept.{Kept, or_none, counted}
 use Rattle.b67_machine.specs.Reads.{machine_end, shown, end_by, limit_end}
 use Rattle.b67_machine.specs.Replaying.{Answers, Stands as Shows}
-use Rattle.b67_tails.specs.Tails.{at_place, tail_of}
+use Rattle.b67_stands.specs.Tails.{at_place, tail_of}
 use Rattle.b67_stands.specs.Running.{Running, spends, ends, answer_by, answer_of}
 use Rattle.b67_stands.specs.Stands.{Stands}
 use Rattle.b67_stands.specs.Alone.{ByOne}
 use Rattle.b67_stands.specs.Picked.{Pick}
 use Rattle.b67_stands.specs.Ran.{HasRun, HasRunAlone}
-use Rattle.b67_turns.proofs.Turning.{picked_runs_are_turns}
+use Rattle.b67_explain.proofs.Turning.{picked_runs_are_turns}
 use Rattle.b67_explain.specs.Explaining.{EndIs, Explains, IsOwnEnd, ExplainsRun}
 use Rattle.b67_explain.specs.Alone.{ExplainsAlone}
 use Rattle.b67_explain.specs.Telling.{words_of_end, CanBeTold, Tells, IsReportOf}

@@ -4,7 +4,7 @@ use Rattle.algol_tree.specs.Plain.{PProgram}
 use Rattle.b67_schedule.specs.Schedules.{entries}
 use Rattle.b67_report.specs.declared.Report.{Report}
 use Rattle.b67_stands.specs.Picked.{Pick}
-use Rattle.b67_turns.specs.Laws.{IsByTurns}
+use Rattle.b67_explain.specs.Turning.{IsByTurns}
 use Rattle.b67_explain.specs.Explaining.{ExplainsRun}
 
 -- The report is one of a run of this source in which one processor did all the work. Its schedule is that of the turns of the source under

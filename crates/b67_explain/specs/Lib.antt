@@ -1,3 +1,4 @@
 pub mod Explaining
 pub mod Telling
 pub mod Alone
+pub mod Turning

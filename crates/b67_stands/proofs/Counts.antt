@@ -8,7 +8,7 @@ use Rattle.b67_segment.specs.declared.code.Code.{Code}
 use Rattle.b67_table.specs.Image.{Image}
 use Rattle.b67_table.specs.Runs.{Runs, begin, entry, count_of}
 use Rattle.b67_machine.specs.Kept.{Counts, counted}
-use Rattle.b67_tails.specs.Tails.{with_more, without, tail_of}
+use Rattle.b67_stands.specs.Tails.{with_more, without, tail_of}
 use Rattle.b67_stands.proofs.Tails.{tail_more_own, tail_more_other, tail_without_own, tail_without_other}
 
 -- ---- one process's number in a sum

@@ -11,7 +11,7 @@ use Rattle.b67_table.specs.Runs.{begin, none}
 use Rattle.b67_table.specs.Valid.{IsValid}
 use Rattle.b67_action.specs.Able.{times}
 use Rattle.b67_machine.specs.Kept.{or_none}
-use Rattle.b67_tails.specs.Tails.{tail_of}
+use Rattle.b67_stands.specs.Tails.{tail_of}
 use Rattle.b67_joining.proofs.Joining.{first_queue}
 use Rattle.b67_stands.specs.Running.{Running}
 use Rattle.b67_stands.specs.Placing.{some_holder, holder_of, Placed}

@@ -8,7 +8,7 @@ use Rattle.b67_table.specs.Ending.{some_able}
 use Rattle.b67_table.specs.Image.{is_able}
 use Rattle.b67_action.specs.Able.{times, one_if, able_in}
 use Rattle.b67_machine.proofs.Ends as machine
-use Rattle.b67_alone.proofs.Firsts.{one_able}
+use Rattle.b67_joining.proofs.Able.{one_able}
 use Rattle.b67_stands.specs.Running.{Running, answer_of}
 use Rattle.b67_stands.specs.Placing.{some_holder, holder_of, IsOut}
 use Rattle.b67_stands.specs.Stands.{Stands}

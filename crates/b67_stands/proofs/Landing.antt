@@ -15,11 +15,11 @@ use Rattle.b67_machine.specs.Kept.{Kept}
 use Rattle.b67_machine.specs.Stepping.{Goes}
 use Rattle.b67_machine.proofs.Ends.{same_end}
 use Rattle.b67_machine.proofs.Ends as machine
-use Rattle.b67_tails.specs.Tails.{with_more, tail_of}
-use Rattle.b67_tails.specs.Going.{LeadsOn}
-use Rattle.b67_tails.proofs.Steps.{Same, number_from, number_within}
-use Rattle.b67_tails.proofs.Past.{plains_same}
-use Rattle.b67_tails.proofs.Acting.{runs_take_operators, able_lives}
+use Rattle.b67_stands.specs.Tails.{with_more, tail_of}
+use Rattle.b67_stands.specs.Going.{LeadsOn}
+use Rattle.b67_stands.proofs.Steps.{Same, number_from, number_within}
+use Rattle.b67_stands.proofs.Past.{plains_same}
+use Rattle.b67_stands.proofs.Advancing.{runs_take_operators, able_lives}
 use Rattle.b67_stands.specs.Running.{Running, answer_of}
 use Rattle.b67_stands.specs.Placing.{IsOut, Placed}
 use Rattle.b67_stands.specs.Stands.{Stands}

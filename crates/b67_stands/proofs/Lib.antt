@@ -1,3 +1,7 @@
+pub mod Steps
+pub mod Past
+pub mod Tailing
+pub mod Advancing
 pub mod Tails
 pub mod Counts
 pub mod Places

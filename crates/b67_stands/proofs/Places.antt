@@ -9,7 +9,7 @@ use Rattle.b67_table.proofs.Lists.{numbered_set}
 use Rattle.b67_table.proofs.Stacks.{get_numbered_other}
 use Rattle.b67_action.specs.Able.{times, one_if, able_in, AbleAfter}
 use Rattle.b67_machine.specs.Kept.{or_none}
-use Rattle.b67_tails.specs.Tails.{with_more, without, tail_of}
+use Rattle.b67_stands.specs.Tails.{with_more, without, tail_of}
 use Rattle.b67_joining.specs.Joining.{joining}
 use Rattle.b67_joining.proofs.Times.{here, elsewhere, one_at_most, is_one, times_both}
 use Rattle.b67_joining.proofs.Joining.{joining_own, joining_other}

@@ -2,7 +2,7 @@
 use Rattle.std.specs.Prelude.{sum}
 use Rattle.std.proofs.Common.{◌≡◌, ◌≢◌, refl, ap, ℕ, zero, suc, ◌+◌, ◌≤◌, ◌<◌, List, [], ◌∷◌, length, arith}
 use Rattle.std.proofs.lemmas.List.Sums.{sum_by-cons}
-use Rattle.b67_tails.specs.Tails.{more_at, none_at, at_place, with_more, without, tail_of}
+use Rattle.b67_stands.specs.Tails.{more_at, none_at, at_place, with_more, without, tail_of}
 
 -- ---- more in a tail
 

@@ -1,3 +1,5 @@
+pub mod Tails
+pub mod Going
 pub mod Running
 pub mod Placing
 pub mod Stands

@@ -13,8 +13,8 @@ use Rattle.b67_table.specs.Valid.{IsValid}
 use Rattle.b67_action.specs.Able.{able_in}
 use Rattle.b67_machine.specs.Kept.{counted}
 use Rattle.b67_machine.specs.Replaying.{Stands as Shows}
-use Rattle.b67_tails.specs.Tails.{tail_of}
-use Rattle.b67_tails.specs.Going.{Leads}
+use Rattle.b67_stands.specs.Tails.{tail_of}
+use Rattle.b67_stands.specs.Going.{Leads}
 use Rattle.b67_stands.specs.Running.{Running, answer_of}
 use Rattle.b67_stands.specs.Placing.{Placed}
 

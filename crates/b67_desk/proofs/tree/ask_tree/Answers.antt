@@ -1,9 +1,8 @@
-use Rattle.std.proofs.Common.{◌≡◌, true, false, sym, ◌∙◌}
+use Rattle.std.proofs.Common.{◌≡◌}
 use Rattle.std.specs.Prelude.{option_copied}
 use Rattle.algol_tree.specs.Image.{program as plain}
-use Rattle.b67_fitting.specs.Built.{IsBuilt}
 use Rattle.b67_desk.specs.Answers.{Runs, AnswersTree}
-use Rattle.b67_desk.proofs.Answering.{settled_asks, asks_out, check_tree, unbuilt_tree, run_out, list_tree, replay_tree}
+use Rattle.b67_desk.proofs.Answering.{settled_asks, asks_out, check_tree, run_out, list_tree, replay_tree}
 use Rattle.b67_desk.proofs.tree.ask_tree.Goals as goal
 
 pub returns-in-Check : goal.returns-in-Check
@@ -13,22 +12,13 @@ returns-in-Check c =
     settled_asks (λ by. AnswersTree by c.args.command schedule c.args.input tree) c.accept_source.result c.settled.result c.settled.ensures
     (λ by. check_tree by c.args.command schedule c.args.input tree c.accept_source.result c.in-Check.is c.accept_source.ensures)
 
-pub returns-then-not-is_built : goal.returns-then-not-is_built
-returns-then-not-is_built c =
-    let schedule = option_copied c.args.schedule in
-    let tree = plain c.args.checked.now.program in
-    settled_asks (λ by. AnswersTree by c.args.command schedule c.args.input tree) c.refuse.result c.settled-then-not-is_built.result c.settled-then-not-is_built.ensures
-    (λ by. unbuilt_tree by c.args.command schedule c.args.input tree c.refuse.result c.in_default.not-Check
-    (λ (fits : IsBuilt tree). let both : true ≡ false = sym (c.is_built.ensures.1 fits) ∙ c.if-not-is_built.true in cc)
-    c.refuse.ensures)
-
 pub returns-in-Run : goal.returns-in-Run
 returns-in-Run c =
     let schedule = option_copied c.args.schedule in
     let tree = plain c.args.checked.now.program in
     let run = c.in-Run in
     asks_out (λ by. Runs by run.processors run.budget run.rule tree) (λ by. AnswersTree by c.args.command schedule c.args.input tree)
-    (run_out c.args.command schedule c.args.input tree run.processors run.budget run.rule run.is (c.is_built.ensures.0 c.if-not-is_built.false))
+    (run_out c.args.command schedule c.args.input tree run.processors run.budget run.rule run.is)
     c.ask_run.result c.ask_run.ensures
 
 pub returns-in-List : goal.returns-in-List
@@ -36,12 +26,11 @@ returns-in-List c =
     let schedule = option_copied c.args.schedule in
     let tree = plain c.args.checked.now.program in
     settled_asks (λ by. AnswersTree by c.args.command schedule c.args.input tree) c.answer_list.result c.settled-in-List.result c.settled-in-List.ensures
-    (λ by. list_tree by c.args.command schedule c.args.input tree c.answer_list.result c.in-List.is (c.is_built.ensures.0 c.if-not-is_built.false) c.answer_list.ensures)
+    (λ by. list_tree by c.args.command schedule c.args.input tree c.answer_list.result c.in-List.is c.answer_list.ensures)
 
 pub returns-in-Replay : goal.returns-in-Replay
 returns-in-Replay c =
     let schedule = option_copied c.args.schedule in
     let tree = plain c.args.checked.now.program in
     settled_asks (λ by. AnswersTree by c.args.command schedule c.args.input tree) c.answer_replay.result c.settled-in-Replay.result c.settled-in-Replay.ensures
-    (λ by. replay_tree by c.args.command schedule c.args.input tree c.answer_replay.result c.in-Replay.budget c.in-Replay.is
-    (c.is_built.ensures.0 c.if-not-is_built.false) c.answer_replay.ensures)
+    (λ by. replay_tree by c.args.command schedule c.args.input tree c.answer_replay.result c.in-Replay.budget c.in-Replay.is c.answer_replay.ensures)

@@ -1,6 +1,0 @@
-use Rattle.std.proofs.Common.{◌≡◌}
-use Rattle.b67_exec_report.specs.Texts.{counts_in}
-use Rattle.b67_exec_report.proofs.operators_of.Given as goal
-
-abbrev pub invariant-processes : goal.invariant-processes
-invariant-processes g l = l.operators.items ≡ counts_in l.machine.counts 1 l.before

@@ -1,5 +1,0 @@
-use Rattle.b67_turns.proofs.Turning.{picked_runs_are_turns}
-use Rattle.b67_turns.proofs.picked_runs_are_turns.Goals as goal
-
-pub returns : goal.returns
-returns g = picked_runs_are_turns
