@@ -9,13 +9,12 @@ ghost use Rattle.b67_action.specs.Done.{HasRoom};
 use crate::told::{bits, done_words, lines, number, say};
 use crate::turns::numbers_of;
 use b67_action::{Done, action};
-use b67_control::{Display, Registers};
 use b67_events::Kernel;
 use b67_load::load;
 use b67_reach::{Parts, ProcessState};
 use b67_segment::Code;
 use b67_store::{Core, ListCore};
-use b67_table::{Private, Words, first_image_is_valid};
+use b67_table::{Words, first_image_is_valid};
 use b67_word::Place;
 use std::alloc::{AllocError, Global};
 
@@ -25,7 +24,7 @@ fn perform<C: Core>(
     core: &mut C,
     kernel: &mut Kernel,
     parts: &mut Parts,
-    part: &mut Private,
+    held: &mut Words,
     turn: (u32, u32),
 ) -> Option<Done>
     requires valid { IsValid parts.old.code (image_of (C.Core.stacks core.old) (C.Core.rows core.old) kernel.old.events parts.old) }
@@ -43,7 +42,7 @@ fn perform<C: Core>(
         if parts.states[process as usize - 1] != ProcessState::Able {
             return None;
         }
-        let done = action(core, kernel, parts, process, None, part);
+        let done = action(core, kernel, parts, process, None, held);
         if performed > 0 && all != Some(done) {
             return None;
         }
@@ -63,24 +62,6 @@ fn begin<C: Core>(alloc: Global, core: &mut C, code: Code) -> Result<(Kernel, Pa
 {
     first_image_is_valid();
     load(alloc, core, code)
-}
-
-/// Where private operators are performed, with nothing in it.
-fn blank(alloc: Global) -> Result<Private, AllocError> {
-    let regs = Registers {
-        stack: 0,
-        s: 0,
-        f: 0,
-        ll: 0,
-        display: Display::new(),
-        cells: 0,
-        segment: 0,
-        place: 0,
-        task: None,
-        critical: None,
-    };
-    let words = Words::new(alloc)?;
-    Ok(Private { regs, words })
 }
 
 /// What is there of a process: S, F, the place, and the tag and the bits on top of its stack.
@@ -138,12 +119,12 @@ fn push_turns<C: Core>(
     requires rows { C.Core.rows core.old ≡ [] }
     requires short { All (λ segment. length segment.words ≤ segment_limit) code.segments }
 {
-    let mut part = blank(alloc)?;
+    let mut held = Words::new(alloc)?;
     let (mut kernel, mut parts) = begin(alloc, core, code)?;
     let mut last = 1;
     'turns: for word in words {
         let (process, count, _) = numbers_of(word.as_str());
-        let turned = perform(core, &mut kernel, &mut parts, &mut part, (process, count));
+        let turned = perform(core, &mut kernel, &mut parts, &mut held, (process, count));
         push_turn(text, word.as_str(), turned);
         last = process;
     }
