@@ -1,15 +1,15 @@
 -- An action of a process leaves the other processes alone.
-use Rattle.std.proofs.Common.{◌≡◌, ◌≢◌, ◌⊎◌, inl, inr, refl, sym, ap, ◌∙◌, subst, ℕ, zero, suc, ◌+◌, ◌≤◌, List, [], ◌∷◌, Option, Some, None, Bool, true, false}
+use Rattle.std.proofs.Common.{◌≡◌, ◌≢◌, inl, inr, refl, sym, ap, ◌∙◌, subst, ℕ, zero, suc, ◌+◌, ◌≤◌, List, [], ◌∷◌, Some, None, Bool, true, false}
 use Rattle.std.specs.Prelude.{◌&&◌, ◌||◌, slice_get, slice_set, map}
 use Rattle.b67_list.specs.Numbered.{numbered, set_numbered}
 use Rattle.algol_tree.specs.Blocks.{block_numbered}
 use Rattle.algol_tree.specs.Cells.{level_of}
 use Rattle.algol_tree.specs.Scopes.{Scopes}
 use Rattle.algol_meaning.specs.Value.{Reference}
-use Rattle.algol_meaning.specs.World.{NamedCell, Instance, Part, Process, State, able, lives, World, instance_at, or_no_instance, ancestor, set_able, set_all_able}
+use Rattle.algol_meaning.specs.World.{Instance, Part, Process, State, able, lives, World, instance_at, or_no_instance, ancestor, set_able, set_all_able}
 use Rattle.algol_meaning.specs.Critical.{is_this, some_depends, own_instances}
 use Rattle.algol_meaning.specs.Choice.{choice}
-use Rattle.algol_standing.specs.Skeleton.{Home, Stack, Skeleton, IsIn, Stands, OnPath}
+use Rattle.algol_standing.specs.Skeleton.{Stack, Skeleton, IsIn, Stands, OnPath}
 use Rattle.algol_standing.specs.Worlds.{IsListed, referred_in_cells, held_by, IsAmong, IsStanding, IsOnPath, home_of, stack_of, skeleton}
 use Rattle.algol_standing.specs.Lows.{LeadsLow, PartLow, WorldLow, IsLow}
 use Rattle.b67_word.specs.declared.Place.{Place}

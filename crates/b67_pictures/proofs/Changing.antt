@@ -1,5 +1,5 @@
 -- An action changes a cell of an instance whose frame lies in the stack of whatever process: the image after it pictures the world after it.
-use Rattle.std.proofs.Common.{◌≡◌, ◌≢◌, ◌⊎◌, inl, inr, refl, sym, ap, ◌∙◌, subst, ℕ, ◌+◌, ◌<◌, ◌≤◌, List, ◌∷◌, ◌++◌, length, Option, Some, None, Bool, false, arith, true, []}
+use Rattle.std.proofs.Common.{◌≡◌, ◌≢◌, ◌⊎◌, inl, inr, refl, sym, ap, ◌∙◌, subst, ℕ, ◌+◌, ◌<◌, ◌≤◌, List, ◌∷◌, ◌++◌, length, Option, Some, Bool, false, arith, true, []}
 use Rattle.std.specs.Prelude.{if◌then◌else◌, slice_get}
 use Rattle.b67_list.specs.Numbered.{numbered}
 use Rattle.algol_tree.specs.Blocks.{block_numbered}
@@ -9,7 +9,7 @@ use Rattle.algol_meaning.specs.Critical.{referred_in}
 use Rattle.algol_meaning.specs.Rest.{done}
 use Rattle.algol_meaning.specs.Value.{Cell}
 use Rattle.algol_tree.specs.Sorts.{same_name}
-use Rattle.algol_meaning.specs.World.{NamedCell, Instance, Process, Part, State, lives, World, instance_at, or_no_instance, with_process, cells_with}
+use Rattle.algol_meaning.specs.World.{NamedCell, Instance, Process, Part, State, lives, World, or_no_instance, with_process, cells_with}
 use Rattle.algol_meaning.specs.Asks.{resume}
 use Rattle.algol_paths.specs.Arrays.{Made, all_to_make, all_left_to_make}
 use Rattle.algol_paths.specs.Laws.{RestsKeepToTheirText, AllIsMadeInOrder}
@@ -41,9 +41,9 @@ use Rattle.b67_frames.proofs.Facts.{HasFacts, facts_of}
 use Rattle.b67_frames.proofs.Knowing.{KeepsArrays, keeps_same}
 use Rattle.b67_frames.proofs.Linked.{begins_core}
 use Rattle.b67_frames.proofs.Onward.{StandOn}
-use Rattle.b67_scenes.specs.Pictures.{Living, Pictured, living, PicturesBy}
+use Rattle.b67_scenes.specs.Pictures.{Living, living, PicturesBy}
 use Rattle.b67_scenes.specs.States.{StateIs}
-use Rattle.b67_scenes.proofs.Ancestors.{AreLaid, all_laid}
+use Rattle.b67_scenes.proofs.Ancestors.{all_laid}
 use Rattle.b67_scenes.proofs.Finding.{Found, found_laid}
 use Rattle.b67_scenes.proofs.Kept.{LeavesAlone, alike_but}
 use Rattle.b67_scenes.proofs.Scene.{Scene}

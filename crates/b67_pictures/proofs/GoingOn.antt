@@ -1,5 +1,5 @@
 -- A process goes on in its innermost part, in a world in which its own instances, and the rows of their arrays, are what they were.
-use Rattle.std.proofs.Common.{◌≡◌, refl, sym, ap, ◌∙◌, subst, ℕ, ◌+◌, ◌<◌, ◌≤◌, List, ◌∷◌, length, Some, arith, true}
+use Rattle.std.proofs.Common.{◌≡◌, refl, sym, ap, ◌∙◌, subst, ℕ, ◌+◌, ◌<◌, ◌≤◌, List, ◌∷◌, length, Some, arith}
 use Rattle.b67_list.specs.Numbered.{numbered}
 use Rattle.algol_tree.specs.Blocks.{block_numbered}
 use Rattle.algol_tree.specs.Cells.{level_of}

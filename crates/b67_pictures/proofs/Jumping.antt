@@ -22,7 +22,6 @@ use Rattle.b67_segment.specs.declared.code.Segment.{Segment}
 use Rattle.b67_table.specs.Chains.{place}
 use Rattle.b67_table.specs.Image.{Image}
 use Rattle.b67_table.specs.Limits.{segment_limit}
-use Rattle.b67_table.specs.Private.{frame}
 use Rattle.b67_table.specs.Table.{operator_at}
 use Rattle.b67_templates.specs.Programs.{Texts}
 use Rattle.b67_standing.specs.Laws.{JumpsStand}

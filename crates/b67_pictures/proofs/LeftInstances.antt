@@ -1,5 +1,5 @@
 -- Instances that are left keep all but that they stand: what others have of them is as it was.
-use Rattle.std.proofs.Common.{◌≡◌, refl, ap, ◌∙◌, ℕ, List}
+use Rattle.std.proofs.Common.{refl, ap, ◌∙◌, ℕ, List}
 use Rattle.algol_tree.specs.Scopes.{Scopes}
 use Rattle.algol_meaning.specs.World.{NamedCell, World, instance_at, cell_in, by_cell}
 use Rattle.b67_rows.proofs.Parting.{IsSameBut}

@@ -34,7 +34,6 @@ use Rattle.b67_table.specs.Limits.{most_cells}
 use Rattle.b67_table.specs.Outcome as outcomes
 use Rattle.b67_table.specs.Private.{frame}
 use Rattle.b67_table.specs.Table.{table, raw, plain, operator_at}
-use Rattle.b67_table.specs.Chains.{place}
 use Rattle.b67_templates.specs.Cells.{made_base}
 use Rattle.b67_templates.specs.Code.{in_routine}
 use Rattle.b67_templates.specs.Fragments.{Has}

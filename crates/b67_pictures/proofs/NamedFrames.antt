@@ -1,6 +1,6 @@
 -- The frames that the words of parameters name are those of the instances to which their cells refer.
-use Rattle.std.proofs.Common.{◌≡◌, ◌⊎◌, inl, inr, refl, sym, ap, ◌∙◌, subst, ℕ, ◌+◌, ◌^◌, ◌<◌, ◌≤◌, List, [], ◌∷◌, ◌++◌, length, Option, Some, None, Bool, true, false, arith}
-use Rattle.std.specs.Prelude.{if◌then◌else◌, slice_get}
+use Rattle.std.proofs.Common.{◌≡◌, inl, inr, refl, sym, ap, ◌∙◌, subst, ℕ, ◌+◌, ◌^◌, ◌<◌, ◌≤◌, List, [], ◌∷◌, ◌++◌, length, Option, Some, Bool, true, false, arith}
+use Rattle.std.specs.Prelude.{if◌then◌else◌}
 use Rattle.b67_list.specs.Numbered.{numbered}
 use Rattle.algol_tree.specs.declared.TheConstants.{MOST_BLOCK_CELLS}
 use Rattle.algol_tree.specs.Blocks.{block_numbered}
@@ -10,7 +10,7 @@ use Rattle.algol_tree.specs.Sorts.{Parameter, same_name}
 use Rattle.algol_meaning.specs.Critical.{referred_in, referred_by}
 use Rattle.algol_meaning.specs.Instances as instances
 use Rattle.algol_meaning.specs.Value.{Cell, simple, event, array, reference, named}
-use Rattle.algol_meaning.specs.World.{Instance, NamedCell, World, instance_at, or_no_instance}
+use Rattle.algol_meaning.specs.World.{Instance, World, instance_at, or_no_instance}
 use Rattle.algol_paths.specs.Arrays.{an_array, an_event}
 use Rattle.algol_standing.specs.Skeleton.{IsIn}
 use Rattle.algol_standing.specs.Worlds.{IsStanding, IsWhole}
@@ -32,7 +32,7 @@ use Rattle.b67_fitting.specs.Nested.{AreNested}
 use Rattle.b67_rows.proofs.CriticalRow.{IsAmongPlaces}
 use Rattle.b67_rows.proofs.Numbers.{get_below}
 use Rattle.b67_rows.proofs.Words.{value_tag, no_sirw}
-use Rattle.b67_frames.specs.Arrays.{Layout, LeadsTo, LeadsToVariable, LeadsToEvent, IsActual, Denotes}
+use Rattle.b67_frames.specs.Arrays.{Layout, Denotes}
 use Rattle.b67_frames.specs.Frames.{CellIs, Refers, CellsAre}
 use Rattle.b67_frames.proofs.ControlWords.{block_few}
 use Rattle.b67_frames.proofs.Formals.{LeadAll}

@@ -1,6 +1,5 @@
 -- The frame of an instance that stands, from which another instance is entered: it lies in whatever stack, as low as stacks are, and its display can be rebuilt.
-use Rattle.std.proofs.Common.{◌≡◌, sym, ap, ◌∙◌, subst, ℕ, ◌+◌, ◌<◌, ◌≤◌, length, Some, arith}
-use Rattle.b67_list.specs.Numbered.{numbered}
+use Rattle.std.proofs.Common.{◌≡◌, sym, ap, ◌∙◌, subst, ℕ, ◌<◌, ◌≤◌, length, arith}
 use Rattle.algol_tree.specs.Plain.{PProgram}
 use Rattle.algol_tree.specs.Scopes.{Scopes, scopes_of}
 use Rattle.algol_meaning.specs.World.{Instance, World}
@@ -13,7 +12,6 @@ use Rattle.b67_table.specs.Chains.{place}
 use Rattle.b67_table.specs.Image.{Image}
 use Rattle.b67_table.specs.Limits.{most_processes}
 use Rattle.b67_templates.specs.Programs.{Texts}
-use Rattle.b67_cores.specs.Cores.{Core}
 use Rattle.b67_faithful.proofs.Contradictions.{some_same}
 use Rattle.b67_frames.specs.Arrays.{Layout}
 use Rattle.b67_frames.proofs.Linked.{Linked, linked}

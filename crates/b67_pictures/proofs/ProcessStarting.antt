@@ -1,16 +1,14 @@
 -- A process is started, or there are as many as there may be.
-use Rattle.std.proofs.Common.{◌≡◌, ◌≢◌, ◌⊎◌, inl, inr, refl, sym, ap, ◌∙◌, subst, ℕ, ◌+◌, ◌<◌, ◌≤◌, List, [], ◌∷◌, ◌++◌, length, Option, Some, None, Bool, true, false, Ok, arith, length-append}
+use Rattle.std.proofs.Common.{◌≡◌, ◌≢◌, ◌⊎◌, inl, inr, refl, sym, ap, ◌∙◌, subst, ℕ, ◌+◌, ◌<◌, ◌≤◌, List, [], ◌∷◌, ◌++◌, length, Option, Some, Bool, true, false, Ok, arith, length-append}
 use Rattle.std.specs.Prelude.{if◌then◌else◌, nat_lt}
 use Rattle.b67_list.specs.Numbered.{numbered, set_numbered}
 use Rattle.b67_num.specs.declared.FaultKind.TheVariants.{ProcessLimit}
 use Rattle.algol_tree.specs.declared.tree.Named.{Named}
-use Rattle.algol_tree.specs.Blocks.{Block, block_numbered}
-use Rattle.algol_tree.specs.Cells.{level_of}
+use Rattle.algol_tree.specs.Blocks.{block_numbered}
 use Rattle.algol_tree.specs.Plain.{PProgram}
-use Rattle.algol_tree.specs.Scopes.{Scopes, scopes_of, use_of}
+use Rattle.algol_tree.specs.Scopes.{Scopes, scopes_of}
 use Rattle.algol_tree.specs.Sorts.{Sort}
 use Rattle.algol_meaning.specs.declared.TheConstants.{MOST_STARTED}
-use Rattle.algol_meaning.specs.Actions as act
 use Rattle.algol_meaning.specs.Asks.{Ask, starts, ask, resume}
 use Rattle.algol_meaning.specs.Choice.{Choice, choice, choice_of, home, given_cells, task_of, with_new_instance, next_process, new_part}
 use Rattle.algol_meaning.specs.Choice as choices
@@ -20,9 +18,7 @@ use Rattle.algol_meaning.specs.Rest.{Answer, Given, done}
 use Rattle.algol_meaning.specs.Settle.{block_of}
 use Rattle.algol_meaning.specs.Value.{Reference, Cell}
 use Rattle.algol_meaning.specs.World.{Instance, Process, Part, able, lives, started, World}
-use Rattle.algol_meaning.specs.World as worlds
 use Rattle.algol_paths.specs.Laws.{RestsKeepToTheirText, AllIsMadeInOrder}
-use Rattle.algol_paths.specs.Segments.{segment_of}
 use Rattle.algol_standing.specs.Skeleton.{IsIn}
 use Rattle.algol_standing.specs.Worlds.{newest_own, skeleton, IsOnPath, IsWhole}
 use Rattle.algol_standing.specs.Fitting.{IsOk}
@@ -47,14 +43,14 @@ use Rattle.b67_table.specs.Image.{Image}
 use Rattle.b67_table.specs.Limits.{most_processes}
 use Rattle.b67_table.specs.Effect as effects
 use Rattle.b67_table.specs.Outcome as outcomes
-use Rattle.b67_table.specs.Table.{raw, table, plain, operator_at}
+use Rattle.b67_table.specs.Table.{raw, table, operator_at}
 use Rattle.b67_templates.specs.Cells.{parameter_wants, simple_cells}
 use Rattle.b67_templates.specs.Programs.{Texts}
 use Rattle.b67_standing.specs.Stepping.{Slot}
 use Rattle.b67_standing.specs.Standing.{ActionAt, Acted, ComesTo, StartsAt, given_slots, start_begun}
 use Rattle.b67_cores.specs.Cores.{Core, size, HasCore, with_core}
 use Rattle.b67_cores.specs.Stretches.{FragmentsArePerformed}
-use Rattle.b67_faithful.specs.Correspondence.{as_action, operator_action}
+use Rattle.b67_faithful.specs.Correspondence.{as_action}
 use Rattle.b67_faithful.proofs.Choices.{length_set_numbered}
 use Rattle.b67_frames.specs.Arrays.{Layout}
 use Rattle.b67_frames.specs.Frames.{CellsAre}
@@ -67,7 +63,7 @@ use Rattle.b67_rows.proofs.Begun.{with_process, others_stay, set_numbered_front,
 use Rattle.b67_rows.proofs.Cored.{has_now, others_have, system_stays}
 use Rattle.b67_rows.proofs.EnterRow.{below_is}
 use Rattle.b67_rows.proofs.Growing.{numbered_before, numbered_earlier}
-use Rattle.b67_rows.proofs.IntrinsicRows.{CallsIntrinsic, without_call, enter_class}
+use Rattle.b67_rows.proofs.IntrinsicRows.{without_call, enter_class}
 use Rattle.b67_rows.proofs.Numbers.{most_or_more, numbered_set}
 use Rattle.b67_rows.proofs.Rows.{action_not_plain, fault_not_plain, action_is}
 use Rattle.b67_rows.proofs.StartRow.{StartsProcess, begins_with, first_stack, start_limit, start_raw}
@@ -86,7 +82,7 @@ use Rattle.b67_scenes.proofs.StartCalling.{Refers}
 use Rattle.b67_scenes.proofs.StartingProcess.{started_world, started_layout, rows_before, HasGoneOn, starts_by}
 use Rattle.b67_scenes.proofs.Tasks.{events_before}
 use Rattle.b67_scenes.proofs.Staying.{text_in, level_in, context_in, most_in}
-use Rattle.b67_pictures.specs.Acting.{MayAct, Does, counted_gave, failed_by}
+use Rattle.b67_pictures.specs.Acting.{Does, counted_gave, failed_by}
 use Rattle.b67_pictures.proofs.Alone.{IsAfter, after_choice}
 use Rattle.b67_pictures.proofs.GoingOn.{goes_along}
 use Rattle.b67_pictures.proofs.StartingFree.{all_stand_on, left_alone}

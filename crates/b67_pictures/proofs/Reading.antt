@@ -1,6 +1,5 @@
 -- A read of a variable, or of the variable that a parameter by name stands for.
-use Rattle.std.proofs.Common.{◌≡◌, refl, sym, ap, ◌∙◌, ℕ, ◌+◌, List, ◌∷◌, length, Option, Some, Ok, arith, true}
-use Rattle.std.specs.Prelude.{slice_get}
+use Rattle.std.proofs.Common.{◌≡◌, refl, ap, ◌∙◌, ℕ, ◌+◌, List, ◌∷◌, length, Option, Some, Ok, arith, true}
 use Rattle.b67_list.specs.Numbered.{numbered}
 use Rattle.algol_tree.specs.declared.tree.Named.{Named}
 use Rattle.algol_tree.specs.Plain.{PProgram}
@@ -20,7 +19,6 @@ use Rattle.b67_segment.specs.declared.code.Code.{Code}
 use Rattle.b67_templates.specs.Fragments.{HasKind}
 use Rattle.b67_templates.specs.Cells.{IsVariable, IsFormalName}
 use Rattle.b67_templates.specs.Programs.{Texts}
-use Rattle.b67_store.specs.Store.{word_at}
 use Rattle.b67_table.specs.Chains.{place}
 use Rattle.b67_table.specs.declared.Cell as cells
 use Rattle.b67_table.specs.References.{cell_in, couple_cell}
@@ -35,8 +33,7 @@ use Rattle.b67_cores.specs.Cores.{Core, IsCore, with_core}
 use Rattle.b67_cores.specs.Stretches.{CoreAt, FragmentsArePerformed}
 use Rattle.b67_faithful.specs.Correspondence.{as_action}
 use Rattle.b67_rows.proofs.Asked.{reads_seen}
-use Rattle.b67_rows.proofs.Rows.{action_not_plain, action_is, words_are}
-use Rattle.b67_rows.proofs.StackWords.{get-front}
+use Rattle.b67_rows.proofs.Rows.{action_not_plain, action_is}
 use Rattle.b67_frames.specs.Arrays.{Layout, named_from}
 use Rattle.b67_scenes.proofs.Finding.{Found}
 use Rattle.b67_scenes.proofs.Homes.{operator_there, named_at, Home, home}

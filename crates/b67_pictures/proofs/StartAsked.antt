@@ -1,7 +1,6 @@
 -- Who starts a process has nothing to make.
 use Rattle.std.proofs.Common.{◌≡◌, refl, List, [], ◌∷◌, Option}
 use Rattle.algol_tree.specs.declared.tree.Named.{Named}
-use Rattle.algol_tree.specs.Plain.{PBody}
 use Rattle.algol_meaning.specs.Rest.{Given, valued, passed, refers, names, Hole, read, element, index, happens, broken, enter, inside, subscript, argument, left, right, negated, inverted, condition, Actuals, pass, in_value, Rest, arrays, event, bounding}
 use Rattle.algol_meaning.specs.Asks.{starts, ask, ask_hole, ask_actuals}
 use Rattle.algol_paths.specs.Arrays.{all_to_make}

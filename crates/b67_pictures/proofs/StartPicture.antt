@@ -1,5 +1,5 @@
 -- A process that is started has what its starter gives it, and lives.
-use Rattle.std.proofs.Common.{◌≡◌, ◌≢◌, ◌⊎◌, inl, inr, refl, sym, ap, ◌∙◌, subst, ℕ, zero, suc, ◌+◌, ◌*◌, ◌≤◌, ◌<◌, ◌^◌, List, [], ◌∷◌, ◌++◌, length, Option, Some, None, Bool, true, false, arith, length-append}
+use Rattle.std.proofs.Common.{◌≡◌, ◌≢◌, inl, inr, refl, sym, ap, ◌∙◌, subst, ℕ, zero, suc, ◌+◌, ◌*◌, ◌≤◌, ◌<◌, List, [], ◌∷◌, ◌++◌, length, Option, Some, true, false, arith, length-append}
 use Rattle.std.specs.Prelude.{slice_get, replicate}
 use Rattle.b67_list.specs.Numbered.{numbered, set_numbered}
 use Rattle.algol_tree.specs.declared.tree.Named.{Named}
@@ -16,7 +16,6 @@ use Rattle.algol_meaning.specs.Value.{Cell}
 use Rattle.algol_meaning.specs.World.{NamedCell, Instance, Process, Part, lives, World, instance_at, or_no_instance, ancestor}
 use Rattle.algol_paths.specs.Laws.{RestsKeepToTheirText, AllIsMadeInOrder}
 use Rattle.algol_paths.specs.Segments.{segment_of}
-use Rattle.algol_standing.specs.Skeleton.{IsIn}
 use Rattle.algol_standing.specs.Worlds.{IsStanding, IsOnPath, IsWhole, newest_own, skeleton}
 use Rattle.algol_standing.specs.Laws.{referred_by_start}
 use Rattle.algol_standing.proofs.Criticals.{starts_lie_on_paths}
@@ -27,13 +26,10 @@ use Rattle.b67_word.specs.Word.{Word}
 use Rattle.b67_control.specs.declared.Pcw.{Pcw}
 use Rattle.b67_segment.specs.declared.code.Code.{Code}
 use Rattle.b67_scenes.specs.States.{StateIs}
-use Rattle.b67_table.specs.declared.Cell.{Cell as MachineCell}
 use Rattle.b67_table.specs.Chains.{place}
 use Rattle.b67_table.specs.Image.{Image}
-use Rattle.b67_table.specs.Limits.{most_processes}
-use Rattle.b67_table.specs.Private.{frame}
 use Rattle.b67_table.specs.Starting.{place_of, frames_with, named_frames}
-use Rattle.b67_templates.specs.Cells.{Simple, Wanted, parameter_cells, simple_cells, zero_cells}
+use Rattle.b67_templates.specs.Cells.{Simple, parameter_cells, zero_cells}
 use Rattle.b67_templates.specs.Depths.{decls_depth, stmts_depth}
 use Rattle.b67_templates.specs.Programs.{Texts, context_of, BodyAt, ProgramAt}
 use Rattle.b67_templates.proofs.Few.{actuals_are_few}
@@ -51,7 +47,7 @@ use Rattle.b67_rows.proofs.CriticalRow.{FirstDown}
 use Rattle.b67_rows.proofs.Growing.{numbered_last, numbered_before, numbered_low}
 use Rattle.b67_rows.proofs.Numbers.{get_within}
 use Rattle.b67_rows.proofs.StartRow.{begins_with, first_stack, begins_is}
-use Rattle.b67_frames.specs.Arrays.{Layout, Denotes}
+use Rattle.b67_frames.specs.Arrays.{Layout}
 use Rattle.b67_frames.specs.Frames.{block_controls, controls_count, most_around, IsInReach, home_of}
 use Rattle.b67_frames.proofs.ArraysKept.{rows_there}
 use Rattle.b67_frames.proofs.ControlWords.{controls_fit}
@@ -62,16 +58,14 @@ use Rattle.b67_frames.proofs.Knowing.{Remain, denotes_lasts}
 use Rattle.b67_frames.proofs.Linked.{Linked, all_each}
 use Rattle.b67_frames.proofs.Onward.{StandOn}
 use Rattle.b67_frames.proofs.Zeros.{zero_word}
-use Rattle.b67_scenes.specs.Depending.{CriticalIs, TaskIs}
 use Rattle.b67_scenes.specs.Pictures.{Living}
 use Rattle.b67_scenes.proofs.Ancestors.{AreLaid, all_laid}
-use Rattle.b67_scenes.proofs.BeginningProcess as beginning
 use Rattle.b67_scenes.proofs.BeginningProcess.{HasCode, Begun, begun_lives}
 use Rattle.b67_scenes.proofs.Led.{reached_stands}
-use Rattle.b67_scenes.proofs.Scene.{Scene, frame_is}
+use Rattle.b67_scenes.proofs.Scene.{Scene}
 use Rattle.b67_scenes.proofs.StartCalling as calling
 use Rattle.b67_scenes.proofs.StartCalling.{Refers}
-use Rattle.b67_scenes.proofs.StartingProcess.{started_world, started_layout}
+use Rattle.b67_scenes.proofs.StartingProcess.{started_layout}
 use Rattle.b67_scenes.proofs.Staying.{text_in, level_in, context_in, most_in}
 use Rattle.b67_scenes.proofs.Tasks.{events_before, task_stays}
 use Rattle.b67_pictures.specs.Acting.{Does}

@@ -1,28 +1,24 @@
 -- What a process is started with, where its starter stands at the call: the frame that holds the procedure, the cells of what is given, the task,
 -- and the critical frame.
-use Rattle.std.proofs.Common.{◌≡◌, ◌⊎◌, inl, inr, refl, sym, ap, ◌∙◌, subst, ℕ, suc, ◌+◌, ◌-◌, ◌*◌, ◌≤◌, ◌<◌, ◌^◌, List, [], ◌∷◌, ◌++◌, length, Option, Some, None, Bool, true, false, arith}
-use Rattle.std.specs.Prelude.{slice_get, ℤ, pos}
+use Rattle.std.proofs.Common.{◌≡◌, ◌⊎◌, inl, inr, refl, sym, ap, ◌∙◌, subst, ℕ, suc, ◌+◌, ◌≤◌, ◌<◌, ◌^◌, List, [], ◌∷◌, ◌++◌, length, Option, Some, None, Bool, true, arith}
+use Rattle.std.specs.Prelude.{slice_get, pos}
 use Rattle.b67_list.specs.Numbered.{numbered}
 use Rattle.algol_tree.specs.declared.tree.Kind.{Kind}
 use Rattle.algol_tree.specs.declared.tree.Named.{Named}
-use Rattle.algol_tree.specs.Plain.{PProgram, PBody}
+use Rattle.algol_tree.specs.Plain.{PProgram}
 use Rattle.algol_tree.specs.Sorts.{Parameter}
 use Rattle.algol_tree.specs.Blocks.{Block, block_numbered, number_at, around}
 use Rattle.algol_tree.specs.Cells.{level_of}
 use Rattle.algol_tree.specs.Scopes.{Scopes, scopes_of, use_of}
 use Rattle.algol_meaning.specs.Rest.{Given}
-use Rattle.algol_meaning.specs.Value.{Reference, Cell}
 use Rattle.algol_meaning.specs.World.{Instance, Process, Part, lives, World, instance_at, or_no_instance, ancestor, cell_in as world_cell}
 use Rattle.algol_meaning.specs.Asks.{starts, ask}
 use Rattle.algol_meaning.specs.Choice.{home, given_cells, task_of}
-use Rattle.algol_meaning.specs.Settle.{block_of}
 use Rattle.algol_paths.specs.Blocks.{IsSeen, IsSeenAround, IsInner}
-use Rattle.algol_paths.specs.Laws.{RestsKeepToTheirText, AllIsMadeInOrder}
 use Rattle.algol_paths.specs.Segments.{is_procedure, segment_of}
 use Rattle.b67_word.specs.Word.{Word}
 use Rattle.b67_control.specs.declared.Pcw.{Pcw}
 use Rattle.b67_control.specs.Control.{Fits_pcw, as_irw, as_sirw, pcw_word, event_word}
-use Rattle.b67_control.proofs.ControlLaws.{as_sirw-other, as_pcw-pcw_word, kind_of-pcw_word}
 use Rattle.b67_ops.specs.declared.Couple.{Couple}
 use Rattle.b67_ops.specs.declared.TheConstants.{OUTER_LEVEL}
 use Rattle.b67_segment.specs.declared.code.Code.{Code}
@@ -33,30 +29,25 @@ use Rattle.b67_word.specs.declared.Place.{Place}
 use Rattle.b67_table.specs.Chains.{place}
 use Rattle.b67_table.specs.Image.{Image}
 use Rattle.b67_table.specs.Private.{frame, display_at}
-use Rattle.b67_templates.specs.Contexts.{Yields, yields_of, Context}
+use Rattle.b67_templates.specs.Contexts.{Context}
 use Rattle.b67_templates.specs.Cells.{Simple, parameter_cells, parameter_wants, simple_cells, procedures, made_base, made_from, made_of, Agrees, IsVariable, IsDeclaredArray, IsDeclaredEvent, IsProcedure}
-use Rattle.b67_templates.specs.Depths.{decls_depth, stmts_depth}
 use Rattle.b67_templates.specs.Fragments.{code_at}
-use Rattle.b67_templates.proofs.Few.{actuals_are_few}
-use Rattle.b67_templates.specs.Programs.{Texts, context_of, BodyAt, ProgramAt}
-use Rattle.b67_standing.specs.Laws.{BlocksStart}
+use Rattle.b67_templates.specs.Programs.{Texts, ProgramAt}
 use Rattle.b67_standing.specs.Stepping.{Slot, reference, operand, intrinsic, mark}
-use Rattle.b67_standing.specs.Standing.{IsTask, StartsAt, given_slots, start_begun}
+use Rattle.b67_standing.specs.Standing.{IsTask, StartsAt}
 use Rattle.b67_cores.specs.Cores.{Core}
 use Rattle.b67_cores.specs.Slots.{SlotIs}
-use Rattle.b67_cores.specs.Stretches.{BlocksBegin, FragmentsArePerformed, control_words}
-use Rattle.b67_faithful.specs.Faithful.{IsShort}
-use Rattle.b67_faithful.specs.Weight.{tokens_around}
+use Rattle.b67_cores.specs.Stretches.{control_words}
 use Rattle.b67_fitting.specs.Nested.{LiesNested, IsDeclared, AreTold, AreParameters}
-use Rattle.b67_rows.proofs.GivenWords.{AreFit, are_fit, fit_many, ActualsAre}
+use Rattle.b67_rows.proofs.GivenWords.{AreFit, are_fit, fit_many}
 use Rattle.b67_rows.proofs.Numbers.{get_within, get_below}
 use Rattle.b67_rows.proofs.Segmented.{before_whole, segment_low, procedure_segment, get_mapped, length_mapped}
 use Rattle.b67_rows.proofs.StackWords.{get-front, get-behind}
 use Rattle.b67_rows.proofs.Parents.{length_around}
 use Rattle.b67_rows.proofs.Words.{reference_read, event_read, event_refers_nothing}
 use Rattle.b67_frames.specs.Arrays.{Layout, named_from, LeadsTo, LeadsToEvent, LeadsToVariable, IsNamed}
-use Rattle.b67_frames.specs.Frames.{IsInReach, ArePlaced, block_controls, controls_count, most_around, IsComplete}
-use Rattle.b67_frames.proofs.ControlWords.{get_control, controls_fit}
+use Rattle.b67_frames.specs.Frames.{IsInReach, ArePlaced, block_controls, IsComplete}
+use Rattle.b67_frames.proofs.ControlWords.{get_control}
 use Rattle.b67_frames.proofs.Formals.{AreGivenCells, given_are}
 use Rattle.b67_frames.proofs.FreshCells.{simple_many, words_long}
 use Rattle.b67_frames.proofs.Linked.{Linked, level_around}
@@ -66,11 +57,10 @@ use Rattle.b67_frames.proofs.StaticParents.{IsParent}
 use Rattle.b67_scenes.proofs.Finding.{Found, found_laid}
 use Rattle.b67_scenes.proofs.Led.{part_there, named_parent, named_reached, named_seen, named_shown, scene_placed}
 use Rattle.b67_scenes.proofs.Sights.{Seen, cell_below, cell_lies as seen_word}
-use Rattle.b67_pictures.proofs.ParentPlaces.{standing_linked, standing_cells, found_linked, linked_few, linked_low}
+use Rattle.b67_pictures.proofs.ParentPlaces.{standing_linked, standing_cells, found_linked}
 use Rattle.algol_standing.specs.Worlds.{IsStanding}
 use Rattle.b67_frames.proofs.NamedEvents.{event_leads}
-use Rattle.b67_frames.proofs.NamedArrays.{IsSeenMade, both_seen, up_complete, named_leads}
-use Rattle.b67_frames.proofs.Segmenting.{needs}
+use Rattle.b67_frames.proofs.NamedArrays.{IsSeenMade, both_seen, named_leads}
 use Rattle.b67_frames.proofs.VariablesGiven.{variable_leads}
 use Rattle.b67_scenes.proofs.Narrowing.{made_or_around}
 use Rattle.b67_scenes.proofs.Scene.{Scene}
@@ -79,8 +69,8 @@ use Rattle.algol_meaning.specs.Critical.{newest_first, first_on_path, referred_b
 use Rattle.algol_meaning.specs.Value.{number}
 use Rattle.algol_paths.specs.Texts.{InGivens, InName, InRest}
 use Rattle.algol_standing.specs.Skeleton.{IsIn}
-use Rattle.algol_standing.specs.Worlds.{IsNoBlock, newest_own, skeleton}
-use Rattle.algol_standing.specs.Laws.{StartsOnPath, referred_by_start}
+use Rattle.algol_standing.specs.Worlds.{IsNoBlock, newest_own}
+use Rattle.algol_standing.specs.Laws.{referred_by_start}
 use Rattle.algol_standing.proofs.Asking.{Sees, rest_sees}
 use Rattle.algol_standing.proofs.Criticals.{starts_lie_on_paths}
 use Rattle.algol_standing.proofs.Seen.{in_either}
@@ -95,7 +85,7 @@ use Rattle.b67_control.specs.declared.Sirw.{Sirw}
 use Rattle.b67_table.specs.declared.Reached.{Reached}
 use Rattle.b67_table.specs.Arguments.{if_open, event_in, event_of}
 use Rattle.b67_table.specs.Look.{◌>->◌, valid}
-use Rattle.b67_events.specs.Events.{Event, is_open, event_at}
+use Rattle.b67_events.specs.Events.{Event, is_open}
 use Rattle.b67_events.proofs.EventLaws.{one_event}
 use Rattle.b67_table.specs.declared.Cell.{Cell as MachineCell}
 use Rattle.b67_table.specs.Effect.{gives}
@@ -111,7 +101,7 @@ use Rattle.b67_rows.proofs.Described.{whole_read}
 use Rattle.b67_rows.proofs.Displays.{Links}
 use Rattle.b67_rows.proofs.StartRow as rows
 use Rattle.b67_frames.proofs.EventRows.{FindsEvent, directly, by_reference}
-use Rattle.b67_frames.proofs.Linked.{Begins_with, begins_core, begins_front, mark_lies, all_linked, all_each}
+use Rattle.b67_frames.proofs.Linked.{Begins_with, begins_core, begins_front, mark_lies, all_linked}
 use Rattle.b67_scenes.specs.Depending.{IsEventAt, TaskIs}
 use Rattle.b67_scenes.proofs.EventHomes.{EventHome, declared_home, declared_number, cell_there, has_there}
 use Rattle.b67_scenes.proofs.Led.{reached_stands}

@@ -3,8 +3,8 @@ use Rattle.std.proofs.Common.{◌≡◌, ◌≢◌, inl, refl, sym, ap, ◌∙�
 use Rattle.std.specs.Prelude.{Bool, ◌==◌, ◌&&◌, ◌||◌, slice_get}
 use Rattle.std.proofs.lemmas.Bool.Decides.{nat_tests}
 use Rattle.b67_list.specs.Numbered.{numbered, set_numbered}
-use Rattle.algol_tree.specs.Scopes.{Scopes, scopes_of}
-use Rattle.algol_meaning.specs.World.{Instance, Process, lives, World, instance_at, or_no_instance}
+use Rattle.algol_tree.specs.Scopes.{Scopes}
+use Rattle.algol_meaning.specs.World.{Instance, Process, lives, World, or_no_instance}
 use Rattle.algol_meaning.specs.Critical.{is_this, some_depends, own_instances}
 use Rattle.algol_standing.specs.Skeleton.{Home, IsIn}
 use Rattle.algol_standing.specs.Worlds.{stack_of, skeleton, IsOnPath, IsStanding, IsWhole}
@@ -12,7 +12,6 @@ use Rattle.algol_standing.specs.Fitting.{IsOk}
 use Rattle.algol_standing.proofs.Lists.{some_same}
 use Rattle.algol_standing.proofs.Pairs.{stack_forth}
 use Rattle.algol_standing.proofs.Standing.{home_stands}
-use Rattle.b67_word.specs.declared.Place.{Place}
 use Rattle.b67_table.specs.Chains.{place}
 use Rattle.b67_frames.specs.Arrays.{Layout}
 use Rattle.b67_frames.proofs.Facts.{HasFacts, facts_of}

@@ -1,5 +1,5 @@
 -- A store into a variable that the part names.
-use Rattle.std.proofs.Common.{◌≡◌, refl, sym, ap, ◌∙◌, ℕ, ◌+◌, ◌<◌, ◌^◌, List, ◌∷◌, length, Option, Some, Ok, true}
+use Rattle.std.proofs.Common.{◌≡◌, refl, ap, ◌∙◌, ℕ, ◌+◌, ◌<◌, ◌^◌, List, ◌∷◌, length, Option, Some, Ok, true}
 use Rattle.b67_list.specs.Numbered.{numbered}
 use Rattle.algol_tree.specs.declared.tree.Named.{Named}
 use Rattle.algol_tree.specs.Blocks.{block_numbered}
@@ -27,7 +27,7 @@ use Rattle.b67_scenes.specs.States.{StateIs}
 use Rattle.b67_table.specs.Arrays.{as_indexed}
 use Rattle.b67_table.specs.Chains.{place}
 use Rattle.b67_table.specs.Image.{Image}
-use Rattle.b67_table.specs.Private.{frame, display_at}
+use Rattle.b67_table.specs.Private.{frame}
 use Rattle.b67_table.specs.PrivateRows as rows
 use Rattle.b67_table.specs.Table.{operator_at}
 use Rattle.b67_templates.specs.Programs.{Texts}

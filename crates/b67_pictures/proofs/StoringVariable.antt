@@ -9,7 +9,7 @@ use Rattle.algol_tree.specs.declared.tree.Kind.{Kind}
 use Rattle.algol_meaning.specs.Value.{Value, Reference, simple}
 use Rattle.algol_meaning.specs.Rest as meant
 use Rattle.algol_meaning.specs.Rest.{done}
-use Rattle.algol_meaning.specs.World.{NamedCell, Instance, Process, Part, lives, World, instance_at, or_no_instance, with_instance, with_process, cell_in, cells_with, set_cell}
+use Rattle.algol_meaning.specs.World.{NamedCell, Instance, Process, Part, lives, World, or_no_instance, with_instance, with_process, cell_in, cells_with, set_cell}
 use Rattle.algol_meaning.specs.Actions.{Store}
 use Rattle.algol_meaning.specs.Asks.{Ask, stores, ask, resume}
 use Rattle.algol_meaning.specs.Choice.{Choice, choice, choice_of, goes}

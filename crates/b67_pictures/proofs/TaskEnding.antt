@@ -13,7 +13,7 @@ use Rattle.algol_meaning.specs.Events.{event_at, set_event, released, caused_by_
 use Rattle.algol_meaning.specs.Instances.{leave}
 use Rattle.algol_meaning.specs.Rest.{done}
 use Rattle.algol_meaning.specs.Value.{Reference, EventCell, event}
-use Rattle.algol_meaning.specs.World.{NamedCell, Instance, Process, Part, State, waits_for, is_able, lives, World, instance_at, or_no_instance, process_at, with_process, cell_in, cell_at, event_in, cells_with, set_all_able}
+use Rattle.algol_meaning.specs.World.{NamedCell, Instance, Process, Part, waits_for, is_able, lives, World, instance_at, or_no_instance, process_at, with_process, cell_in, cell_at, event_in, cells_with, set_all_able}
 use Rattle.algol_standing.specs.Skeleton.{IsIn}
 use Rattle.algol_standing.specs.Skeleton as skeletons
 use Rattle.algol_standing.specs.Worlds.{IsListed, AreListed, IsOwn, IsStanding, IsOnPath, referred_in_cells}
@@ -33,7 +33,7 @@ use Rattle.b67_table.specs.Outcome.{Outcome}
 use Rattle.b67_table.specs.Questions.{live_criticals}
 use Rattle.b67_table.specs.Table.{table}
 use Rattle.b67_table.specs.Writes.{able_again}
-use Rattle.b67_templates.specs.Cells.{made_of, made_from, made_base}
+use Rattle.b67_templates.specs.Cells.{made_base}
 use Rattle.b67_templates.specs.Programs.{Texts}
 use Rattle.b67_letters.specs.Releases.{registers_releases, released_by, releases}
 use Rattle.b67_standing.specs.Standing.{ActionAt}

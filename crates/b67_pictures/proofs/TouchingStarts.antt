@@ -2,7 +2,6 @@
 use Rattle.std.proofs.Common.{◌≡◌, ◌⊎◌, inl, inr, refl, sym, ap, ◌∙◌, subst, ℕ, ◌+◌, ◌<◌, ◌≤◌, ◌^◌, List, [], ◌∷◌, ◌++◌, length, Option, Some, None, true, false, arith, lit<, append_assoc}
 use Rattle.std.specs.Prelude.{slice_get, reverse, pos}
 use Rattle.std.proofs.lemmas.List.{reverse-reverse}
-use Rattle.algol_tree.specs.declared.tree.Kind.{Kind}
 use Rattle.algol_tree.specs.declared.tree.Named.{Named}
 use Rattle.algol_tree.specs.Plain.{PProgram}
 use Rattle.algol_tree.specs.Scopes.{Scopes, scopes_of, use_of}
@@ -12,7 +11,7 @@ use Rattle.algol_meaning.specs.Rest.{Given}
 use Rattle.algol_meaning.specs.Value as cells
 use Rattle.algol_meaning.specs.Value.{Reference, Cell, number}
 use Rattle.algol_meaning.specs.World.{Process, Part, World, instance_at}
-use Rattle.algol_paths.specs.Arrays.{DeclaredArray, Shape, shape_of}
+use Rattle.algol_paths.specs.Arrays.{DeclaredArray, Shape}
 use Rattle.algol_paths.specs.Blocks.{IsSeen, IsSeenAround}
 use Rattle.algol_paths.specs.Texts.{InGivens, InName, InRest}
 use Rattle.algol_standing.specs.Worlds.{held_in_rest, held_in_givens, IsStanding, IsAmong, IsNoBlock}
@@ -45,8 +44,8 @@ use Rattle.b67_templates.specs.Cells as wants
 use Rattle.b67_templates.specs.Cells.{Wanted, Agrees, IsDeclaredArray, parameter_wants}
 use Rattle.b67_templates.specs.Contexts.{Context}
 use Rattle.b67_templates.specs.Programs.{Texts}
-use Rattle.b67_standing.specs.Stepping.{Slot, operand, reference, intrinsic, mark, cell_named, passed as passed_held, actual as actual_held}
-use Rattle.b67_standing.specs.Standing.{ActionAt, StartsAt, IsTask, given_slots, start_begun}
+use Rattle.b67_standing.specs.Stepping.{Slot, reference, intrinsic, mark, cell_named, passed as passed_held, actual as actual_held}
+use Rattle.b67_standing.specs.Standing.{ActionAt, StartsAt, IsTask, start_begun}
 use Rattle.b67_cores.specs.Cores.{Core}
 use Rattle.b67_cores.specs.Slots.{newest, SlotIs}
 use Rattle.b67_cores.proofs.Moving.{slots_length}
@@ -56,14 +55,14 @@ use Rattle.b67_footprints.proofs.Lists.{Each, each_turned, each_both}
 use Rattle.b67_rows.proofs.GivenWords.{AreFit, none_wanted, a_value, a_name, a_cell, an_event_name, an_event_cell, a_variable, an_actual, a_name_cell, are_fit, Taken, ActualsAre}
 use Rattle.b67_rows.proofs.Rows.{words_are}
 use Rattle.b67_rows.proofs.Slotted.{Top, top_slot}
-use Rattle.b67_rows.proofs.Touching.{NearCell, system_cell, NamesNear}
+use Rattle.b67_rows.proofs.Touching.{NearCell, system_cell}
 use Rattle.b67_rows.proofs.TouchingNames.{one_word, one_cell, entry_names_above}
 use Rattle.b67_rows.proofs.TouchingOperators.{StandsNear}
 use Rattle.b67_rows.proofs.Words.{no_sirw, value_tag, event_refers_nothing, reference_read}
-use Rattle.b67_frames.specs.Arrays.{Allotted, Layout, DescriptorIs, LeadsTo, LeadsToEvent, LeadsToVariable, IsActual, Denotes, IsNamed, named_from}
+use Rattle.b67_frames.specs.Arrays.{Allotted, Layout, DescriptorIs, LeadsTo, LeadsToEvent, Denotes, named_from}
 use Rattle.b67_frames.specs.Frames.{IsComplete, IsInReach, ArePlaced}
 use Rattle.b67_frames.proofs.Knowing.{known_is}
-use Rattle.b67_frames.proofs.NamedArrays.{IsSeenMade, named_leads}
+use Rattle.b67_frames.proofs.NamedArrays.{named_leads}
 use Rattle.b67_frames.proofs.NamedEvents.{far_event, event_leads}
 use Rattle.b67_frames.proofs.OwnCells.{HasCells}
 use Rattle.b67_frames.proofs.TouchingCalls.{above_others, lies_there, no_further, under_top}

@@ -1,5 +1,5 @@
 -- An image with another word at a place of the stack of a process: that process has it in its core, and the others have their cores.
-use Rattle.std.proofs.Common.{◌≡◌, ◌≢◌, refl, sym, ap, ◌∙◌, subst, ℕ, zero, suc, ◌+◌, ◌<◌, List, [], ◌∷◌, ◌++◌, length, Option, Some, None, arith}
+use Rattle.std.proofs.Common.{◌≡◌, ◌≢◌, refl, sym, ap, ◌∙◌, ℕ, zero, suc, ◌<◌, List, [], ◌∷◌, length, Option, Some, None, arith}
 use Rattle.std.specs.Prelude.{slice_set, reverse}
 use Rattle.b67_list.specs.Numbered.{numbered}
 use Rattle.b67_word.specs.declared.Place.{Place}

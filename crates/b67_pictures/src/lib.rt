@@ -4,7 +4,7 @@
 
 ghost use Rattle.b67_pictures.specs.Programs.{NestedProgramsAreFaithful};
 
-/// Law: wherever the code of a program stands whose blocks lie in one another, as those of an accepted one that is built, whose procedures
+/// Law: wherever the code of a program stands whose blocks lie in one another, as those of an accepted one, whose procedures
 /// have names, and whose names are seen and calls fit, and is short and can be listed, it is faithful to the program. Every run of it under
 /// the operator table is one of the program under the same schedule, with the same output, end, able processes and actions, on stacks
 /// within their weights, and meets no ill-tagged word. For each entry and each tail it has at most as many operators as the longest segment

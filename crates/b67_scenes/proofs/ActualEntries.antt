@@ -1,13 +1,12 @@
 -- The entry of an actual's code by the machine, where a process stands at VALC or EVAL.
 use Rattle.std.proofs.Common.{◌≡◌, refl, sym, ap, ◌∙◌, subst, ℕ, ◌+◌, ◌-◌, ◌*◌, ◌/◌, ◌%◌, ◌≤◌, ◌<◌, ◌^◌, List, [], ◌∷◌, ◌++◌, length, Option, Some, Ok, Bool, true, false, arith, length-append}
 use Rattle.std.specs.Prelude.{◌==◌, ◌&&◌, nat_le}
-use Rattle.b67_list.specs.Numbered.{numbered}
 use Rattle.algol_tree.specs.declared.tree.Kind.{Kind}
 use Rattle.algol_tree.specs.Blocks.{block_numbered, around}
 use Rattle.algol_tree.specs.Cells.{level_of}
 use Rattle.algol_tree.specs.Plain.{PExpr, PProgram}
 use Rattle.algol_tree.specs.Scopes.{Scopes, scopes_of}
-use Rattle.algol_meaning.specs.World.{Instance, Process, Part, World, instance_at, or_no_instance}
+use Rattle.algol_meaning.specs.World.{Process, Part, World, instance_at}
 use Rattle.algol_paths.specs.Segments.{segment_of}
 use Rattle.b67_word.specs.declared.Place.{Place}
 use Rattle.b67_word.specs.Word as words
@@ -50,7 +49,7 @@ use Rattle.b67_rows.proofs.StackWords.{length-stack}
 use Rattle.b67_frames.specs.Arrays.{Layout, IsActual}
 use Rattle.b67_frames.specs.Frames.{IsInReach}
 use Rattle.b67_frames.proofs.Linked.{Linked, Begins_with, begins_core, all_linked, linked as linked_down}
-use Rattle.b67_frames.proofs.Lying.{lies_low, runs_low}
+use Rattle.b67_frames.proofs.Lying.{runs_low}
 use Rattle.b67_scenes.proofs.ActualHomes.{ActualHome, routine_of}
 use Rattle.b67_scenes.proofs.Entries.{frame_few, home_level}
 use Rattle.b67_scenes.proofs.Finding.{Found, found_laid, entered_of}

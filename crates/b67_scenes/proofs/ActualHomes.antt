@@ -1,7 +1,6 @@
 -- Where a process finds the control word of an actual's code: in the frame of the actual's instance, in whatever stack, and where that code stands.
-use Rattle.std.proofs.Common.{◌≡◌, refl, sym, ap, ◌∙◌, subst, ℕ, suc, ◌+◌, List, ◌∷◌, ◌++◌, length, Some, arith, ◌<◌}
+use Rattle.std.proofs.Common.{◌≡◌, refl, sym, ap, ◌∙◌, subst, ℕ, ◌+◌, List, ◌∷◌, ◌++◌, length, Some, arith, ◌<◌}
 use Rattle.std.specs.Prelude.{slice_get}
-use Rattle.b67_list.specs.Numbered.{numbered}
 use Rattle.algol_tree.specs.declared.tree.Kind.{Kind}
 use Rattle.algol_tree.specs.Blocks.{block_numbered}
 use Rattle.algol_tree.specs.Cells.{level_of}

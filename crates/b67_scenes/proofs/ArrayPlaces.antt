@@ -1,13 +1,13 @@
 -- Where the descriptor of an array lies: in the frame of the instance that has made it. A reference to its cell is read back.
-use Rattle.std.proofs.Common.{◌≡◌, refl, sym, ap, ◌∙◌, subst, ℕ, zero, suc, ◌+◌, ◌<◌, ◌≤◌, ◌^◌, List, ◌∷◌, ◌++◌, length, Some, None, arith}
+use Rattle.std.proofs.Common.{◌≡◌, refl, sym, ap, ◌∙◌, subst, ℕ, zero, suc, ◌+◌, ◌<◌, ◌≤◌, ◌^◌, List, ◌++◌, length, Some, None, arith}
 use Rattle.std.specs.Prelude.{slice_get, map}
 use Rattle.b67_list.specs.Numbered.{numbered}
 use Rattle.algol_tree.specs.Blocks.{block_numbered}
 use Rattle.algol_tree.specs.Plain.{PProgram}
 use Rattle.algol_tree.specs.Scopes.{Scopes, scopes_of}
-use Rattle.algol_meaning.specs.Value.{Reference, Bounds, ArrayCell, array}
+use Rattle.algol_meaning.specs.Value.{Bounds, ArrayCell, array}
 use Rattle.algol_meaning.specs.World.{NamedCell, Instance, Part, Process, World, instance_at, or_no_instance, cell_in}
-use Rattle.algol_paths.specs.Arrays.{DeclaredArray, an_array, lows_of}
+use Rattle.algol_paths.specs.Arrays.{DeclaredArray, lows_of}
 use Rattle.b67_word.specs.declared.Place.{Place}
 use Rattle.b67_word.specs.Word.{Word}
 use Rattle.b67_control.specs.Control.{as_sirw}

@@ -28,12 +28,11 @@ use Rattle.b67_segment.specs.Operators.{Placed}
 use Rattle.b67_segment.specs.Syllables.{Spells}
 use Rattle.b67_segment.specs.declared.code.Code.{Code}
 use Rattle.b67_segment.specs.declared.code.Segment.{Segment}
-use Rattle.b67_store.specs.Store.{stack_limit}
 use Rattle.b67_table.specs.declared.Cell.{Cell as MachineCell}
 use Rattle.b67_table.specs.Chains.{place}
 use Rattle.b67_table.specs.Image.{Image}
 use Rattle.b67_table.specs.Linkage.{entered_mark, base_control}
-use Rattle.b67_table.specs.Private.{frame, at_or}
+use Rattle.b67_table.specs.Private.{at_or}
 use Rattle.b67_table.specs.Starting.{place_of}
 use Rattle.b67_templates.specs.Cells.{parameter_cells, zero_cells, simple_cells, actuals_of, made_of}
 use Rattle.b67_templates.specs.Code.{CellsAt, in_routine}
@@ -64,7 +63,7 @@ use Rattle.b67_scenes.proofs.Ancestors.{AreLaid}
 use Rattle.b67_scenes.proofs.Landing.{living_of}
 use Rattle.b67_scenes.proofs.Paths.{CanClimb}
 use Rattle.b67_scenes.proofs.Stage.{weight_of}
-use Rattle.b67_scenes.proofs.Staying.{text_in, context_in, level_in, most_in, names_in}
+use Rattle.b67_scenes.proofs.Staying.{level_in, names_in}
 
 module _ (tree : PProgram) (code : Code) (texts : Texts) (nested : LiesNested tree) (fragments : FragmentsArePerformed) (begins_so : BlocksBegin) (keeps : RestsKeepToTheirText) (order : AllIsMadeInOrder)
     (w : World) (lay : Layout) (img : Image) (climb : CanClimb (scopes_of tree) w) (all_laid : AreLaid w lay)

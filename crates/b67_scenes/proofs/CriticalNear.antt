@@ -1,29 +1,23 @@
 -- The critical place of a process that lives is below the floor of the stack in which it lies: the frame of the critical instance has its two words there.
-use Rattle.std.proofs.Common.{◌≡◌, inl, inr, refl, sym, ap, ◌∙◌, subst, ℕ, ◌+◌, ◌≤◌, List, [], ◌∷◌, length, Option, Some, None, arith}
-use Rattle.b67_list.specs.Numbered.{numbered}
+use Rattle.std.proofs.Common.{◌≡◌, refl, sym, ◌∙◌, subst, ℕ, Option, Some, None}
 use Rattle.algol_tree.specs.Plain.{PProgram}
 use Rattle.algol_tree.specs.Scopes.{scopes_of}
-use Rattle.algol_meaning.specs.World.{Process, Part, State, lives, World}
-use Rattle.algol_standing.specs.Skeleton.{IsIn}
-use Rattle.algol_standing.specs.Worlds.{IsStanding, IsWhole, stack_of}
+use Rattle.algol_meaning.specs.World.{World}
+use Rattle.algol_standing.specs.Worlds.{IsWhole, stack_of}
 use Rattle.algol_standing.specs.Fitting.{IsOk}
 use Rattle.algol_standing.proofs.Pairs.{stack_forth}
-use Rattle.algol_standing.specs.Worlds.{IsOwn}
 use Rattle.b67_word.specs.declared.Place.{Place}
 use Rattle.b67_control.specs.declared.Registers.{Registers}
 use Rattle.b67_segment.specs.declared.code.Code.{Code}
-use Rattle.b67_table.specs.Chains.{place}
 use Rattle.b67_table.specs.Image.{Image}
-use Rattle.b67_table.specs.Private.{floor}
 use Rattle.b67_table.specs.Sound.{Lives}
 use Rattle.b67_templates.specs.Programs.{Texts}
 use Rattle.b67_faithful.proofs.Contradictions.{none_some}
 use Rattle.b67_fitting.specs.Nested.{AreNested}
 use Rattle.b67_rows.proofs.Touching.{NearFrame}
 use Rattle.b67_frames.specs.Arrays.{Layout}
-use Rattle.b67_frames.specs.Frames.{Stands, Around, Frames}
 use Rattle.b67_scenes.specs.Depending.{CriticalIs}
-use Rattle.b67_scenes.specs.Pictures.{Living, Pictured, living, dead, PicturesBy}
+use Rattle.b67_scenes.specs.Pictures.{PicturesBy}
 use Rattle.b67_scenes.proofs.TouchingOthers.{LivesThere, lives_there}
 use Rattle.b67_scenes.proofs.Finding.{standing_near}
 

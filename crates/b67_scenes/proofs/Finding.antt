@@ -1,5 +1,5 @@
 -- Where the frame of an instance that stands lies, in whatever stack, and how much of it lies below the floor of the process whose stack that is.
-use Rattle.std.proofs.Common.{◌≡◌, ◌⊎◌, inl, inr, refl, sym, ap, ◌∙◌, subst, ℕ, suc, ◌+◌, ◌-◌, ◌<◌, ◌≤◌, Bool, true, false, List, [], ◌∷◌, ◌++◌, length, Some, arith, append_assoc, append-nil}
+use Rattle.std.proofs.Common.{◌≡◌, inl, inr, refl, sym, ap, ◌∙◌, subst, ℕ, ◌+◌, ◌<◌, ◌≤◌, Bool, false, List, [], ◌∷◌, ◌++◌, length, Some, arith, append_assoc, append-nil}
 use Rattle.std.specs.Prelude.{if◌then◌else◌, slice_get}
 use Rattle.b67_list.specs.Numbered.{numbered}
 use Rattle.algol_tree.specs.Blocks.{block_numbered}
@@ -23,7 +23,7 @@ use Rattle.b67_templates.specs.Programs.{Texts}
 use Rattle.b67_cores.specs.Cores.{Core, size, HasCore}
 use Rattle.b67_cores.specs.Stretches.{Above}
 use Rattle.b67_cores.proofs.Staying.{steps_stay_above}
-use Rattle.b67_faithful.proofs.Contradictions.{some_same, true_false}
+use Rattle.b67_faithful.proofs.Contradictions.{some_same}
 use Rattle.b67_rows.proofs.Numbers.{get_within}
 use Rattle.b67_rows.proofs.StackWords.{get-front, get-behind}
 use Rattle.b67_rows.proofs.Touching.{Near, below_floor, NearFrame}

@@ -1,5 +1,5 @@
 -- Where a process finds the cell of a parameter that stands for an array: in a frame that its display names. It leads to the array's cell.
-use Rattle.std.proofs.Common.{◌≡◌, sym, ap, ◌∙◌, ℕ, ◌+◌, ◌<◌, ◌^◌, List, ◌∷◌, Some, refl}
+use Rattle.std.proofs.Common.{◌≡◌, sym, ap, ◌∙◌, ℕ, List, ◌∷◌, Some, refl}
 use Rattle.algol_tree.specs.declared.tree.Named.{Named}
 use Rattle.algol_tree.specs.Plain.{PProgram}
 use Rattle.algol_tree.specs.Scopes.{Scopes, scopes_of}
@@ -8,14 +8,10 @@ use Rattle.algol_meaning.specs.World.{Part, Process, World, instance_at, cell_at
 use Rattle.algol_paths.specs.Arrays.{Shape}
 use Rattle.algol_paths.specs.Blocks.{IsSeen}
 use Rattle.b67_word.specs.declared.Place.{Place}
-use Rattle.b67_word.specs.Word.{Word}
 use Rattle.b67_control.specs.Control.{as_sirw}
 use Rattle.b67_ops.specs.declared.Couple.{Couple}
 use Rattle.b67_segment.specs.declared.code.Code.{Code}
-use Rattle.b67_store.specs.Store.{word_at}
-use Rattle.b67_table.specs.Chains.{place}
 use Rattle.b67_table.specs.Image.{Image}
-use Rattle.b67_table.specs.Private.{display_at}
 use Rattle.b67_table.specs.References.{cell_word}
 use Rattle.b67_templates.specs.Cells as wants
 use Rattle.b67_templates.specs.Cells.{Agrees, IsFormalArray}

@@ -1,10 +1,8 @@
 -- Where a process finds a variable: in the frame of its instance or of a static parent of that.
-use Rattle.std.proofs.Common.{◌≡◌, sym, ap, ◌∙◌, ℕ, ◌+◌, ◌-◌, ◌≤◌, List, ◌∷◌, length, Some, Ok, arith}
-use Rattle.std.specs.Prelude.{slice_get}
-use Rattle.b67_list.specs.Numbered.{numbered}
+use Rattle.std.proofs.Common.{◌≡◌, ap, ◌∙◌, ℕ, ◌+◌, List, ◌∷◌, length, Some, Ok, arith}
 use Rattle.algol_tree.specs.declared.tree.Kind.{Kind}
 use Rattle.algol_tree.specs.declared.tree.Named.{Named}
-use Rattle.algol_tree.specs.Blocks.{block_numbered, around}
+use Rattle.algol_tree.specs.Blocks.{block_numbered}
 use Rattle.algol_tree.specs.Plain.{PProgram}
 use Rattle.algol_tree.specs.Scopes.{Scopes, scopes_of, use_of}
 use Rattle.algol_meaning.specs.Value.{Reference}
@@ -12,7 +10,6 @@ use Rattle.algol_meaning.specs.World.{Part, Process, World, instance_at, ancesto
 use Rattle.algol_paths.specs.Blocks.{IsSeen}
 use Rattle.b67_ops.specs.declared.Couple.{Couple}
 use Rattle.b67_ops.specs.declared.Operator.{Operator}
-use Rattle.b67_ops.specs.declared.TheConstants.{OUTER_LEVEL}
 use Rattle.b67_segment.specs.Operators.{Placed}
 use Rattle.b67_segment.specs.Fetching.{fetched}
 use Rattle.b67_segment.specs.declared.code.Code.{Code}
@@ -29,8 +26,6 @@ use Rattle.b67_standing.specs.Stepping.{Slot}
 use Rattle.b67_cores.specs.Cores.{Core}
 use Rattle.b67_cores.specs.Slots.{Known}
 use Rattle.b67_cores.specs.Stretches.{CoreAt}
-use Rattle.b67_rows.proofs.Numbers.{get_below}
-use Rattle.b67_rows.proofs.Parents.{length_around}
 use Rattle.b67_frames.specs.Arrays.{Layout}
 use Rattle.b67_frames.specs.Frames.{IsInReach}
 use Rattle.b67_frames.proofs.StaticParents.{IsParent}

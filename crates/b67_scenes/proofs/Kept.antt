@@ -1,5 +1,5 @@
 -- What an action of one process leaves of the picture of another.
-use Rattle.std.proofs.Common.{◌≡◌, ◌≢◌, Bool, refl, sym, ap, ◌∙◌, subst, ℕ, suc, ◌+◌, ◌-◌, ◌≤◌, false, List, [], ◌∷◌, length, Option, Some, arith}
+use Rattle.std.proofs.Common.{◌≡◌, ◌≢◌, Bool, refl, sym, ap, ◌∙◌, subst, ℕ, suc, ◌+◌, ◌≤◌, false, List, [], ◌∷◌, length, Option, Some, arith}
 use Rattle.std.specs.Prelude.{if◌then◌else◌}
 use Rattle.b67_list.specs.Numbered.{numbered, set_numbered}
 use Rattle.algol_tree.specs.Blocks.{block_numbered}
@@ -8,7 +8,6 @@ use Rattle.algol_tree.specs.Scopes.{Scopes, scopes_of}
 use Rattle.algol_meaning.specs.World.{Instance, Part, Process, World, instance_at, or_no_instance, process_at, or_no_process}
 use Rattle.algol_meaning.specs.Critical.{is_evaluation, own_instances, some_depends}
 use Rattle.algol_standing.specs.Lows.{IsLow}
-use Rattle.b67_word.specs.declared.Place.{Place}
 use Rattle.b67_word.specs.Word.{Word}
 use Rattle.b67_segment.specs.declared.code.Code.{Code}
 use Rattle.b67_templates.specs.Cells.{made_base}

@@ -1,13 +1,12 @@
 -- Where a process that stands at its action is led by names and by cells: the frames that its display names, and what it may look at there.
-use Rattle.std.proofs.Common.{◌≡◌, ◌⊎◌, inl, inr, refl, sym, ap, ◌∙◌, subst, ℕ, zero, suc, ◌+◌, ◌-◌, ◌<◌, ◌≤◌, Bool, true, false, List, [], ◌∷◌, length, Some, None, arith}
+use Rattle.std.proofs.Common.{◌≡◌, inl, refl, sym, ap, ◌∙◌, subst, ℕ, zero, suc, ◌+◌, ◌-◌, ◌<◌, ◌≤◌, Bool, true, false, List, [], ◌∷◌, length, Some, None, arith}
 use Rattle.std.specs.Prelude.{slice_get}
 use Rattle.b67_list.specs.Numbered.{numbered}
 use Rattle.algol_tree.specs.declared.tree.Named.{Named}
 use Rattle.algol_tree.specs.Blocks.{block_numbered, around}
 use Rattle.algol_tree.specs.Plain.{PProgram}
 use Rattle.algol_tree.specs.Scopes.{Scopes, scopes_of, use_of}
-use Rattle.algol_meaning.specs.Value.{Reference, Cell, NameCell, reference}
-use Rattle.algol_meaning.specs.Value as meant
+use Rattle.algol_meaning.specs.Value.{Reference, Cell, reference}
 use Rattle.algol_meaning.specs.World.{NamedCell, Instance, Part, Process, World, instance_at, or_no_instance, ancestor}
 use Rattle.algol_meaning.specs.Critical.{is_evaluation, referred_in}
 use Rattle.algol_paths.specs.Blocks.{IsSeen, IsSeenAround}
@@ -34,7 +33,7 @@ use Rattle.b67_frames.specs.Arrays.{Layout, named_from}
 use Rattle.b67_frames.specs.Frames.{IsInReach, ArePlaced}
 use Rattle.b67_frames.proofs.Facts.{HasFacts, facts_of, referred_there}
 use Rattle.b67_frames.proofs.StaticParents.{IsParent, parents}
-use Rattle.b67_scenes.proofs.Finding.{Found, found_laid}
+use Rattle.b67_scenes.proofs.Finding.{found_laid}
 use Rattle.b67_scenes.proofs.Paths.{path_stands, path_further, up_path}
 use Rattle.b67_scenes.proofs.Scene.{Scene}
 use Rattle.b67_scenes.proofs.Sights.{Seen, seen, made_below}

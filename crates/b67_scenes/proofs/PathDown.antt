@@ -1,5 +1,5 @@
 -- The first instance on a path of those that are referred to has the first frame on the path down of those that are referred to.
-use Rattle.std.proofs.Common.{◌≡◌, ◌⊎◌, inl, inr, refl, sym, ap, ◌∙◌, subst, ℕ, zero, suc, ◌+◌, ◌<◌, ◌≤◌, List, [], ◌∷◌, ◌++◌, Option, Some, None, Bool, true, false, Ok, arith, append_assoc}
+use Rattle.std.proofs.Common.{◌≡◌, ◌⊎◌, inl, inr, refl, sym, ap, ◌∙◌, subst, ℕ, ◌<◌, ◌≤◌, List, [], ◌∷◌, ◌++◌, Option, Some, Bool, true, false, arith, append_assoc}
 use Rattle.std.specs.Prelude.{if◌then◌else◌, slice_get}
 use Rattle.b67_list.specs.Numbered.{numbered}
 use Rattle.algol_meaning.specs.World.{Part, Process, lives, World}
@@ -12,7 +12,7 @@ use Rattle.algol_standing.proofs.Standing.{home_stands, lives as stack_lives}
 use Rattle.b67_word.specs.declared.Place.{Place}
 use Rattle.b67_table.specs.Chains.{place}
 use Rattle.b67_table.specs.Image.{Image, critical_of}
-use Rattle.b67_faithful.proofs.Contradictions.{some_same, none_some}
+use Rattle.b67_faithful.proofs.Contradictions.{some_same}
 use Rattle.b67_frames.specs.Arrays.{Layout}
 use Rattle.b67_rows.proofs.CriticalRow.{IsAmongPlaces, LeadsDown, under, across, FirstDown, this_frame, lower_frame}
 use Rattle.b67_scenes.proofs.Towers.{Tower, base, above, Under, parted, AreHigher, none_higher, laid_at, tower_owns, own_under, whose_frame, higher_next, Seat, seat_in, own_first}

@@ -1,6 +1,6 @@
 -- The frames of each process that lives lie one on the other in an image, and the walk down the path of a process finds the frame of the first
 -- instance there that is referred to.
-use Rattle.std.proofs.Common.{◌≡◌, ◌⊎◌, inl, inr, refl, sym, ap, ◌∙◌, subst, ℕ, zero, suc, ◌+◌, ◌<◌, ◌≤◌, Bool, true, false, List, [], ◌∷◌, ◌++◌, length, Option, Some, arith, append_assoc}
+use Rattle.std.proofs.Common.{◌≡◌, inl, refl, sym, ap, ◌∙◌, subst, ℕ, ◌+◌, ◌<◌, ◌≤◌, Bool, true, false, List, [], ◌∷◌, ◌++◌, length, Option, Some, arith, append_assoc}
 use Rattle.std.specs.Prelude.{if◌then◌else◌, slice_get}
 use Rattle.b67_list.specs.Numbered.{numbered}
 use Rattle.algol_tree.specs.Plain.{PProgram}
@@ -14,13 +14,11 @@ use Rattle.algol_standing.proofs.Left.{references_lie_on_paths}
 use Rattle.algol_standing.proofs.Pairs.{stack_forth}
 use Rattle.b67_word.specs.declared.Place.{Place}
 use Rattle.b67_word.specs.Word.{Word}
-use Rattle.b67_control.specs.declared.Registers.{Registers}
 use Rattle.b67_segment.specs.declared.code.Code.{Code}
-use Rattle.b67_store.specs.Store.{word_at, stack_limit}
+use Rattle.b67_store.specs.Store.{word_at}
 use Rattle.b67_table.specs.Chains.{place}
 use Rattle.b67_table.specs.Image.{Image, critical_in}
 use Rattle.b67_templates.specs.Programs.{Texts}
-use Rattle.b67_cores.specs.Cores.{Core, size}
 use Rattle.b67_cores.specs.Stretches.{Above}
 use Rattle.b67_cores.proofs.Staying.{steps_stay_above}
 use Rattle.b67_faithful.proofs.Contradictions.{some_same, true_false}

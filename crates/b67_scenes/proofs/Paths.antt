@@ -1,12 +1,11 @@
 -- What lies in reach of a part: its instance, and the static parents of that.
-use Rattle.std.proofs.Common.{◌≡◌, refl, sym, subst, ℕ, ◌+◌, ◌≤◌, Bool, true, List, ◌∷◌, length, arith}
+use Rattle.std.proofs.Common.{sym, subst, ℕ, ◌+◌, ◌≤◌, Bool, List, ◌∷◌, length, arith}
 use Rattle.std.specs.Prelude.{if◌then◌else◌}
 use Rattle.algol_tree.specs.Blocks.{block_numbered, around}
 use Rattle.algol_tree.specs.Cells.{level_of}
 use Rattle.algol_tree.specs.Plain.{PProgram}
-use Rattle.algol_tree.specs.Scopes.{Scopes, scopes_of}
+use Rattle.algol_tree.specs.Scopes.{Scopes}
 use Rattle.algol_meaning.specs.World.{Part, World, instance_at, ancestor}
-use Rattle.algol_meaning.specs.Critical.{is_evaluation}
 use Rattle.algol_standing.specs.Skeleton.{here, down}
 use Rattle.algol_standing.specs.Worlds.{IsStanding, IsOnPath, IsWhole, newest_own, skeleton}
 use Rattle.algol_standing.specs.Fitting.{IsOk}

@@ -1,7 +1,7 @@
 -- What a process that starts another names: all of it is seen from the text of its part.
 use Rattle.std.proofs.Common.{◌≡◌, ◌⊎◌, inl, inr, subst, ℕ, List, [], Option}
 use Rattle.algol_tree.specs.declared.tree.Named.{Named}
-use Rattle.algol_tree.specs.Plain.{PProgram, PBody}
+use Rattle.algol_tree.specs.Plain.{PProgram}
 use Rattle.algol_tree.specs.Scopes.{Scopes, scopes_of}
 use Rattle.algol_meaning.specs.Asks.{Ask, starts, ask}
 use Rattle.algol_meaning.specs.Rest.{Given}

@@ -1,9 +1,7 @@
 -- A process that stands at its action: near are the frames to which marks and its display lead.
 use Rattle.algol_meaning.specs.Critical.{is_evaluation}
-use Rattle.std.proofs.Common.{◌≡◌, ◌⊎◌, inl, inr, refl, sym, ap, ◌∙◌, ℕ, ◌+◌, ◌-◌, ◌<◌, ◌≤◌, List, ◌∷◌, length, Some, Ok, arith}
+use Rattle.std.proofs.Common.{◌≡◌, ◌⊎◌, inl, inr, sym, ap, ◌∙◌, ℕ, ◌+◌, ◌-◌, ◌<◌, ◌≤◌, List, Some, Ok, arith}
 use Rattle.std.specs.Prelude.{slice_get}
-use Rattle.b67_list.specs.Numbered.{numbered}
-use Rattle.algol_tree.specs.Blocks.{around}
 use Rattle.algol_tree.specs.Plain.{PProgram}
 use Rattle.algol_tree.specs.Scopes.{Scopes, scopes_of}
 use Rattle.algol_meaning.specs.World.{Process, Part, World, instance_at, ancestor}
@@ -18,7 +16,7 @@ use Rattle.b67_segment.specs.declared.code.Code.{Code}
 use Rattle.b67_table.specs.declared.Class.TheVariants as classes
 use Rattle.b67_store.specs.Store.{words_or, words_of, word_at}
 use Rattle.b67_table.specs.Beginning.{system_stack}
-use Rattle.b67_table.specs.Chains.{place, link_of}
+use Rattle.b67_table.specs.Chains.{link_of}
 use Rattle.b67_table.specs.Image.{Image, critical_in, critical_of}
 use Rattle.b67_table.specs.Private.{display_at, floor}
 use Rattle.b67_table.specs.Table.{operator_at, class_at}
@@ -27,8 +25,7 @@ use Rattle.b67_templates.specs.Programs.{Texts}
 use Rattle.b67_cores.specs.Cores.{Core, stack_of}
 use Rattle.b67_faithful.proofs.Contradictions.{some_same, none_some}
 use Rattle.b67_fitting.specs.Nested.{AreNested}
-use Rattle.b67_rows.proofs.Numbers.{get_within, most_or_more}
-use Rattle.b67_rows.proofs.Parents.{length_around}
+use Rattle.b67_rows.proofs.Numbers.{most_or_more}
 use Rattle.b67_rows.proofs.Rows.{words_are}
 use Rattle.b67_rows.proofs.Touching.{Near, own_stack, system, below_floor, NearFrame, FrameAt, system_frame, own_frame, IsNear, NamesNear}
 use Rattle.b67_rows.proofs.TouchingOperators.{StandsNear, privately, acting}

@@ -1,5 +1,5 @@
 -- The frames of a process's parts, one on the other, along which the marks lead down.
-use Rattle.std.proofs.Common.{◌≡◌, ◌⊎◌, inl, inr, refl, sym, ap, ◌∙◌, subst, ℕ, zero, suc, ◌+◌, ◌<◌, ◌≤◌, List, [], ◌∷◌, ◌++◌, Option, Some, None, Bool, true, false, Ok, arith, append_assoc}
+use Rattle.std.proofs.Common.{◌≡◌, ◌⊎◌, inl, inr, refl, sym, ap, ◌∙◌, subst, ℕ, ◌<◌, ◌≤◌, List, [], ◌∷◌, ◌++◌, Some, Bool, true, false, Ok, arith, append_assoc}
 use Rattle.std.specs.Prelude.{if◌then◌else◌}
 use Rattle.b67_list.specs.Numbered.{numbered}
 use Rattle.algol_meaning.specs.World.{Part}
@@ -9,7 +9,7 @@ use Rattle.b67_word.specs.declared.Place.{Place}
 use Rattle.b67_store.specs.Store.{Stacks}
 use Rattle.b67_table.specs.Chains.{place, frame_below}
 use Rattle.b67_table.specs.Look.{seen}
-use Rattle.b67_faithful.proofs.Contradictions.{some_same, true_false}
+use Rattle.b67_faithful.proofs.Contradictions.{some_same}
 use Rattle.b67_frames.specs.Arrays.{Layout}
 
 -- the instances of some parts and of those around them

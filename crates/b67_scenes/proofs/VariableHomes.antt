@@ -1,5 +1,5 @@
 -- Where a process finds the variable to whose cell a reference leads: in the frame of an instance in reach, in whatever stack.
-use Rattle.std.proofs.Common.{◌≡◌, sym, ap, ◌∙◌, subst, ℕ, suc, ◌+◌, List, ◌∷◌, length, Some, arith, ◌<◌}
+use Rattle.std.proofs.Common.{◌≡◌, sym, ap, ◌∙◌, subst, ℕ, ◌+◌, List, ◌∷◌, length, Some, arith, ◌<◌}
 use Rattle.std.specs.Prelude.{slice_get}
 use Rattle.algol_tree.specs.declared.tree.Kind.{Kind}
 use Rattle.algol_tree.specs.Blocks.{block_numbered}
