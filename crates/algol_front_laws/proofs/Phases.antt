@@ -38,7 +38,7 @@ use Rattle.algol_told.proofs.Lists.{all-append}
 -- ---- the text
 
 abbrev IsOf : Phase → Code → Type 0
-IsOf p code = phase_of code ≡ Some p
+IsOf p code = phase_of code ≡ p
 
 -- what is wrong at the front of columns is of the text
 abbrev FitsText : Front → Type 0
@@ -163,8 +163,8 @@ first-of p (x ∷ fs) f h e = noted-of p x fs f h.0 h.1 e
 
 -- ---- the whole
 
-abbrev told : (bytes : List ℕ) (spot : Spot) (code : Code) (p : Phase) → IsOf p code → RefusedIn (Some p) bytes spot code → RefusedIn (phase_of code) bytes spot code
-told bytes spot code p e r = subst (λ (o : Option Phase). RefusedIn o bytes spot code) (sym e) r
+abbrev told : (bytes : List ℕ) (spot : Spot) (code : Code) (p : Phase) → IsOf p code → RefusedIn p bytes spot code → RefusedIn (phase_of code) bytes spot code
+told bytes spot code p e r = subst (λ (q : Phase). RefusedIn q bytes spot code) (sym e) r
 
 tree-told : (bytes : List ℕ) (fault : Fault) (tokens : List Token) (tree : PProgram) → Lexes bytes tokens → Reads tokens tree →
     (scoped checked : Option Fault) → first_fault (scope_faults tree) ≡ scoped → first_fault (check_faults tree) ≡ checked →
@@ -200,12 +200,11 @@ checks-first bytes spot code r =
     in_tree (record { spot = spot; code = code }) r.tokens r.tree r.lexes r.reads
     (ap (λ (fs : List Fault). refusal_after (first_fault fs) (first_fault (check_faults r.tree))) r.scoped ∙ r.refused)
 
-part-first : (p : Option Phase) (bytes : List ℕ) (spot : Spot) (code : Code) → RefusedIn p bytes spot code → First bytes spot code
-part-first (Some text) bytes spot code r = in_text spot code r.refused
-part-first (Some grammar) bytes spot code r = in_grammar spot code r.tokens r.lexes r.refused
-part-first (Some names) bytes spot code r = names-first bytes spot code r
-part-first (Some checks) bytes spot code r = checks-first bytes spot code r
-part-first None bytes spot code r = absurd r
+part-first : (p : Phase) (bytes : List ℕ) (spot : Spot) (code : Code) → RefusedIn p bytes spot code → First bytes spot code
+part-first text bytes spot code r = in_text spot code r.refused
+part-first grammar bytes spot code r = in_grammar spot code r.tokens r.lexes r.refused
+part-first names bytes spot code r = names-first bytes spot code r
+part-first checks bytes spot code r = checks-first bytes spot code r
 
 pub parts_told : (bytes : List ℕ) (spot : Spot) (code : Code) →
     (First bytes spot code → RefusedIn (phase_of code) bytes spot code) × (RefusedIn (phase_of code) bytes spot code → First bytes spot code)

@@ -1,5 +1,5 @@
 -- Which part of the front end refuses a text. The parts follow one another, and each reads what the one before it made.
-use Rattle.std.specs.Prelude.{◌≡◌, ℕ, List, [], Option, Some, None}
+use Rattle.std.specs.Prelude.{◌≡◌, ℕ, List, [], Some}
 use Rattle.algol_tree.specs.declared.token.Spot.{Spot}
 use Rattle.algol_tree.specs.declared.token.Token.{Token}
 use Rattle.algol_tree.specs.declared.refusal.Code.{Code}
@@ -21,29 +21,28 @@ pub data Phase : Type 0 where
   names : Phase
   checks : Phase
 
--- The part that has this reason. None has that of an accepted source which is not built.
-abbrev pub phase_of : Code → Option Phase
-phase_of codes.BadCharacter = Some text
-phase_of codes.LineTooLong = Some text
-phase_of codes.OpenString = Some text
-phase_of codes.NumberTooWide = Some text
-phase_of codes.NameTooLong = Some text
-phase_of codes.Unexpected = Some grammar
-phase_of codes.TooDeep = Some grammar
-phase_of codes.TextAfterEnd = Some grammar
-phase_of codes.UnknownName = Some names
-phase_of codes.DeclaredTwice = Some names
-phase_of codes.TooManyLevels = Some names
-phase_of codes.TooManyCells = Some names
-phase_of codes.TooManyProcedures = Some names
-phase_of codes.SegmentTooLong = Some names
-phase_of codes.WrongType = Some checks
-phase_of codes.WrongCount = Some checks
-phase_of codes.NotAssignable = Some checks
-phase_of codes.WriteList = Some checks
-phase_of codes.LineTooWide = Some checks
-phase_of codes.BadLabel = Some checks
-phase_of codes.Unbuilt = None
+-- the part that has this reason
+abbrev pub phase_of : Code → Phase
+phase_of codes.BadCharacter = text
+phase_of codes.LineTooLong = text
+phase_of codes.OpenString = text
+phase_of codes.NumberTooWide = text
+phase_of codes.NameTooLong = text
+phase_of codes.Unexpected = grammar
+phase_of codes.TooDeep = grammar
+phase_of codes.TextAfterEnd = grammar
+phase_of codes.UnknownName = names
+phase_of codes.DeclaredTwice = names
+phase_of codes.TooManyLevels = names
+phase_of codes.TooManyCells = names
+phase_of codes.TooManyProcedures = names
+phase_of codes.SegmentTooLong = names
+phase_of codes.WrongType = checks
+phase_of codes.WrongCount = checks
+phase_of codes.NotAssignable = checks
+phase_of codes.WriteList = checks
+phase_of codes.LineTooWide = checks
+phase_of codes.BadLabel = checks
 
 -- the text is refused, and the bytes are no tokens
 pub record InText (bytes : List ℕ) (spot : Spot) (code : Code) : Type 0 where
@@ -76,12 +75,11 @@ pub record InChecks (bytes : List ℕ) (spot : Spot) (code : Code) : Type 0 wher
   pub refused : first_fault (check_faults tree) ≡ Some (record { spot = spot; code = code })
 
 -- that part refuses there, for that reason, and those before it pass
-abbrev pub RefusedIn : Option Phase → List ℕ → Spot → Code → Type 0
-RefusedIn (Some text) bytes spot code = InText bytes spot code
-RefusedIn (Some grammar) bytes spot code = InGrammar bytes spot code
-RefusedIn (Some names) bytes spot code = InNames bytes spot code
-RefusedIn (Some checks) bytes spot code = InChecks bytes spot code
-RefusedIn None bytes spot code = ⊥
+abbrev pub RefusedIn : Phase → List ℕ → Spot → Code → Type 0
+RefusedIn text bytes spot code = InText bytes spot code
+RefusedIn grammar bytes spot code = InGrammar bytes spot code
+RefusedIn names bytes spot code = InNames bytes spot code
+RefusedIn checks bytes spot code = InChecks bytes spot code
 
 -- A text is refused exactly where the part that the reason tells refuses it.
 abbrev pub RefusalsTellTheirPart : Type 0

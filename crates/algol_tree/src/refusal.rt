@@ -27,7 +27,6 @@ pub enum Code {
     WriteList,
     LineTooWide,
     BadLabel,
-    Unbuilt,
 }
 
 /// A rule that is broken at a place.

@@ -9,8 +9,8 @@ use crate::refusal::Code;
 type Row = (Code, u8, u8);
 
 /// The row of each refusal, in the order in which the refusals are declared: L1 to L5 are of the text, S1 to S3 of the
-/// grammar, N1 to N6 of names and limits, C7 to C12 of types, counts, lines and labels. U0 is a source that is not built.
-const TABLE: [Row; 21] = [
+/// grammar, N1 to N6 of names and limits, C7 to C12 of types, counts, lines and labels.
+const TABLE: [Row; 20] = [
     (Code::BadCharacter, b'L', 1),
     (Code::LineTooLong, b'L', 2),
     (Code::OpenString, b'L', 3),
@@ -31,13 +31,12 @@ const TABLE: [Row; 21] = [
     (Code::WriteList, b'C', 10),
     (Code::LineTooWide, b'C', 11),
     (Code::BadLabel, b'C', 12),
-    (Code::Unbuilt, b'U', 0),
 ];
 
 /// Where the row of a refusal stands in the table.
 fn index(code: Code) -> usize
     ensures value { result ≡ index code }
-    ensures within { result < 21 }
+    ensures within { result < 20 }
 {
     code as usize
 }
