@@ -84,11 +84,6 @@ module _ {T : Type 0} (r : Result T Stop) (tree : T → Value) (end : T → List
       IfOk r (λ x. Extends m mid left (tree x) (end x)) → IfOk r (λ x. Finds s tokens (tree x) (end x))
   extends_to a b h = IfOk-weaker r _ _ (λ x f. record { run = (extending a f).run; behind = record { ended = f.ended; shorter = omega (arith, f.no_longer) } }) h
 
-  pub extends_on : {m : Due} {tokens mid : List Token} {left more : Value} → Reaches (m ∷ []) (left ∷ []) tokens (m ∷ []) (more ∷ []) mid →
-      length mid < length tokens →
-      IfOk r (λ x. Extends m mid more (tree x) (end x)) → IfOk r (λ x. Extends m tokens left (tree x) (end x))
-  extends_on a b h = IfOk-weaker r _ _ (λ x f. record { run = (extending a f).run; ended = f.ended; no_longer = omega (arith, f.no_longer) }) h
-
   pub completes_to : {s n : Due} {tokens mid : List Token} → Reaches (s ∷ []) [] tokens (n ∷ []) [] mid → length mid < length tokens →
       IfOk r (λ x. Completes n mid (tree x) (end x)) → IfOk r (λ x. Finds s tokens (tree x) (end x))
   completes_to a b h = IfOk-weaker r _ _ (λ x f. record { run = (completing a f).run; behind = record { ended = f.ended; shorter = omega (arith, f.no_longer) } }) h

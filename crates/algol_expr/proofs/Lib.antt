@@ -14,6 +14,9 @@ pub mod Chain
 pub mod Taken
 pub mod Starts
 pub mod Lists
+mod Operands
+mod Climbing
+mod Relations
 pub mod Lift
 pub mod Public
 mod Places

@@ -12,8 +12,6 @@ use Rattle.algol_tree.specs.declared.token.Token.{Token}
 use Rattle.algol_tree.specs.declared.token.Symbol.{Symbol}
 use Rattle.algol_tree.specs.declared.tree.Expr.{Expr}
 use Rattle.algol_tree.specs.Plain.{PExpr, none, more}
-use Rattle.algol_tree.specs.declared.level.Level.{Level}
-use Rattle.algol_tree.specs.declared.level.Level.TheVariants as levels
 use Rattle.algol_tree.specs.Image as image
 use Rattle.algol_tree.specs.Image.{listed_exprs as listed, exprs as plain_list}
 use Rattle.std.proofs.lemmas.List.{map-append}
@@ -22,23 +20,6 @@ use Rattle.algol_tree.specs.declared.token.Symbol.TheVariants as symbols
 use Rattle.algol_tree.specs.declared.refusal.Refusal.{Refusal}
 use Rattle.algol_expr.proofs.Turns.{symbol_from}
 use Rattle.algol_expr.proofs.Chain.{Reaches, via, past, making, turning, failing, takes_first, skips_first, from_tokens, behind_first}
-
--- how far up a level stands among the functions that read
-abbrev pub rank : Level → ℕ
-rank levels.Eqv = 24
-rank levels.Imp = 22
-rank levels.Or = 20
-rank levels.And = 18
-rank levels.Sum = 12
-rank levels.Term = 8
-
-abbrev pub operand_rank : Level → ℕ
-operand_rank levels.Eqv = 23
-operand_rank levels.Imp = 21
-operand_rank levels.Or = 19
-operand_rank levels.And = 17
-operand_rank levels.Sum = 9
-operand_rank levels.Term = 7
 
 -- Reading the list from `tokens` is reading it from `rest` with the items found.
 pub record GoesOn (d : ℕ) (closing : Symbol) (tokens : List Token) (items : List Expr) (rest : List Token) : Type 0 where

@@ -10,7 +10,7 @@ ghost use Rattle.algol_tree.specs.Due as due;
 ghost use Rattle.algol_tree.specs.Due.{part, one, event_named};
 ghost use Rattle.algol_tree.specs.Found.{Finds, Completes, Fails};
 
-use crate::make::{happened, named};
+use crate::make::{boxed, happened, named};
 use crate::stop::Stop;
 use crate::take::{
     expect_opening, expect_spelled, expect_symbol, first_of, is_symbol, name_in, refused,
@@ -19,21 +19,22 @@ use algol_tree::{Code, EventName, Expr, Named, Symbol, Token};
 use std::alloc::Global;
 
 /// HAPPENED "(" event ")", after the HAPPENED
+#[inline(never)]
 pub(crate) fn read_happened<'a>(
     alloc: Global,
     first: &Token,
     rest: &'a [Token],
     depth: u32,
-) -> Result<(Expr, &'a [Token]), Stop>
+) -> Result<(Box<Expr>, &'a [Token]), Stop>
     requires ended { EndsOnce (first.now ∷ rest.now) }
     requires word { is_word reserved.Happened first.now.kind ≡ true }
-    ensures found { IfOk result (λ r. Finds (part primary depth) (first.now ∷ rest.now) (one (plain r.0)) r.1.now) }
+    ensures found { IfOk result (λ r. Finds (part primary depth) (first.now ∷ rest.now) (one (plain r.0.value)) r.1.now) }
     ensures refused { IfErr result (λ e. Fails (part primary depth ∷ []) [] (first.now ∷ rest.now) e.left e.refusal) }
 {
     let rest = expect_opening(rest, Symbol::OpenRound, depth)?;
     let (event, rest) = read_event(alloc, rest)?;
     let rest = expect_symbol(rest, Symbol::CloseRound)?;
-    Ok((happened(event, first.spot), rest))
+    Ok((boxed(alloc, happened(event, first.spot))?, rest))
 }
 
 /// event = name [ "." EXCEPTIONEVENT ]. Its refusal is `Unexpected`, at the first token that it does not go through.

@@ -8,6 +8,7 @@ mod event;
 mod make;
 mod operator;
 mod reader;
+mod step;
 mod stop;
 mod take;
 mod whole;

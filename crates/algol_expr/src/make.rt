@@ -1,6 +1,7 @@
-//! Expressions of smaller ones.
+//! Expressions of smaller ones. They are in boxes, and each is made by a call of its own, so that the frames of the reader's levels have no room
+//! for a whole one.
 
-ghost use Rattle.std.specs.Prelude.{◌≡◌, IfOk, IfErr, IfSome, IfNone, Some, None};
+ghost use Rattle.std.specs.Prelude.{◌≡◌, [], ◌∷◌, ◌++◌, IfOk, IfErr, OnOk, IfSome, IfNone, Some, None};
 ghost use Rattle.algol_tree.specs.declared.refusal.Refusal.TheVariants.{NoMemory};
 ghost use Rattle.algol_tree.specs.Plain as plain_trees;
 ghost use Rattle.algol_tree.specs.Image.{expr as plain, exprs as plain_list};
@@ -13,58 +14,80 @@ use algol_tree::{
 };
 use std::alloc::Global;
 
-pub(crate) fn two(alloc: Global, op: Op, left: Expr, right: Expr) -> Result<Expr, Stop>
-    ensures built { IfOk result (λ e. plain e ≡ plain_trees.two op (plain left) (plain right)) }
+/// That expression, in a box.
+#[inline(never)]
+pub(crate) fn boxed(alloc: Global, expr: Expr) -> Result<Box<Expr>, Stop>
+    ensures built { IfOk result (λ e. plain e.value ≡ plain expr) }
     ensures memory { IfErr result (λ e. e.refusal ≡ NoMemory) }
 {
-    let left = Box::new(alloc, left)?;
-    let right = Box::new(alloc, right)?;
-    Ok(Expr::Two(op, left, right))
+    let whole = Box::new(alloc, expr)?;
+    Ok(whole)
 }
 
+#[inline(never)]
+pub(crate) fn two(
+    alloc: Global,
+    op: Op,
+    left: Box<Expr>,
+    right: Box<Expr>,
+) -> Result<Box<Expr>, Stop>
+    ensures built { IfOk result (λ e. plain e.value ≡ plain_trees.two op (plain left.value) (plain right.value)) }
+    ensures memory { IfErr result (λ e. e.refusal ≡ NoMemory) }
+{
+    let whole = Box::new(alloc, Expr::Two(op, left, right))?;
+    Ok(whole)
+}
+
+#[inline(never)]
 pub(crate) fn choice(
     alloc: Global,
-    condition: Expr,
-    yes: Expr,
-    otherwise: Expr,
+    condition: Box<Expr>,
+    yes: Box<Expr>,
+    otherwise: Box<Expr>,
     spot: Spot,
-) -> Result<Expr, Stop>
-    ensures built { IfOk result (λ e. plain e ≡ plain_trees.if (plain condition) (plain yes) (plain otherwise) spot) }
+) -> Result<Box<Expr>, Stop>
+    ensures built { IfOk result (λ e. plain e.value ≡ plain_trees.if (plain condition.value) (plain yes.value) (plain otherwise.value) spot) }
     ensures memory { IfErr result (λ e. e.refusal ≡ NoMemory) }
 {
-    let condition = Box::new(alloc, condition)?;
-    let yes = Box::new(alloc, yes)?;
-    let otherwise = Box::new(alloc, otherwise)?;
-    Ok(Expr::If(condition, yes, otherwise, spot))
+    let whole = Box::new(alloc, Expr::If(condition, yes, otherwise, spot))?;
+    Ok(whole)
 }
 
-pub(crate) fn negated(alloc: Global, operand: Expr, spot: Spot) -> Result<Expr, Stop>
-    ensures built { IfOk result (λ e. plain e ≡ plain_trees.not (plain operand) spot) }
+#[inline(never)]
+pub(crate) fn negated(alloc: Global, operand: Box<Expr>, spot: Spot) -> Result<Box<Expr>, Stop>
+    ensures built { IfOk result (λ e. plain e.value ≡ plain_trees.not (plain operand.value) spot) }
     ensures memory { IfErr result (λ e. e.refusal ≡ NoMemory) }
 {
-    let operand = Box::new(alloc, operand)?;
-    Ok(Expr::Not(operand, spot))
+    let whole = Box::new(alloc, Expr::Not(operand, spot))?;
+    Ok(whole)
 }
 
-pub(crate) fn grouped(alloc: Global, inner: Expr, spot: Spot) -> Result<Expr, Stop>
-    ensures built { IfOk result (λ e. plain e ≡ plain_trees.paren (plain inner) spot) }
+#[inline(never)]
+pub(crate) fn grouped(alloc: Global, inner: Box<Expr>, spot: Spot) -> Result<Box<Expr>, Stop>
+    ensures built { IfOk result (λ e. plain e.value ≡ plain_trees.paren (plain inner.value) spot) }
     ensures memory { IfErr result (λ e. e.refusal ≡ NoMemory) }
 {
-    let inner = Box::new(alloc, inner)?;
-    Ok(Expr::Paren(inner, spot))
+    let whole = Box::new(alloc, Expr::Paren(inner, spot))?;
+    Ok(whole)
 }
 
 /// A term with the sign before it, `+` or `-`.
-pub(crate) fn signed(alloc: Global, sign: &Token, term: Expr) -> Result<Expr, Stop>
-    ensures built { IfOk result (λ e. plain e ≡ sign_of sign.now.kind (plain term) sign.now.spot) }
+fn with_sign(sign: &Token, term: Box<Expr>) -> Expr
+    ensures { plain result ≡ sign_of sign.now.kind (plain term.value) sign.now.spot }
+{
+    match sign.kind {
+        TokenKind::Symbol(Symbol::Minus) => Expr::Neg(term, sign.spot),
+        _ => Expr::Plus(term, sign.spot),
+    }
+}
+
+#[inline(never)]
+pub(crate) fn signed(alloc: Global, sign: &Token, term: Box<Expr>) -> Result<Box<Expr>, Stop>
+    ensures built { IfOk result (λ e. plain e.value ≡ sign_of sign.now.kind (plain term.value) sign.now.spot) }
     ensures memory { IfErr result (λ e. e.refusal ≡ NoMemory) }
 {
-    let spot = sign.spot;
-    let term = Box::new(alloc, term)?;
-    match sign.kind {
-        TokenKind::Symbol(Symbol::Minus) => Ok(Expr::Neg(term, spot)),
-        _ => Ok(Expr::Plus(term, spot)),
-    }
+    let whole = Box::new(alloc, with_sign(sign, term))?;
+    Ok(whole)
 }
 
 /// The number or the truth value that the token is.
@@ -81,16 +104,44 @@ pub(crate) fn literal(token: &Token) -> Option<Expr>
     }
 }
 
-pub(crate) fn variable(name: Named, subs: List<Expr>) -> Expr
+fn variable_of(name: Named, subs: List<Expr>) -> Expr
     ensures { plain result ≡ plain_trees.variable (plain_trees.subscripted name (plain_list subs)) }
 {
     Expr::Variable(Variable { name, subs })
 }
 
-pub(crate) fn call(name: Named, actuals: List<Expr>) -> Expr
+#[inline(never)]
+pub(crate) fn variable(alloc: Global, name: Named, subs: List<Expr>) -> Result<Box<Expr>, Stop>
+    ensures built { IfOk result (λ e. plain e.value ≡ plain_trees.variable (plain_trees.subscripted name (plain_list subs))) }
+    ensures memory { IfErr result (λ e. e.refusal ≡ NoMemory) }
+{
+    let whole = Box::new(alloc, variable_of(name, subs))?;
+    Ok(whole)
+}
+
+fn call_of(name: Named, actuals: List<Expr>) -> Expr
     ensures { plain result ≡ plain_trees.call (plain_trees.called name (plain_list actuals)) }
 {
     Expr::Call(Call { name, actuals })
+}
+
+#[inline(never)]
+pub(crate) fn call(alloc: Global, name: Named, actuals: List<Expr>) -> Result<Box<Expr>, Stop>
+    ensures built { IfOk result (λ e. plain e.value ≡ plain_trees.call (plain_trees.called name (plain_list actuals))) }
+    ensures memory { IfErr result (λ e. e.refusal ≡ NoMemory) }
+{
+    let whole = Box::new(alloc, call_of(name, actuals))?;
+    Ok(whole)
+}
+
+/// One item more, after those before.
+#[inline(never)]
+pub(crate) fn add(items: &mut Vec<Expr>, item: Box<Expr>) -> Result<(), Stop>
+    ensures added { OnOk result (items.new.items ≡ items.old.items ++ item.value ∷ []) }
+    ensures memory { IfErr result (λ e. e.refusal ≡ NoMemory) }
+{
+    items.push(Box::into_inner(item))?;
+    Ok(())
 }
 
 /// That name, at that place.

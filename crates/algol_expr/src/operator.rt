@@ -2,9 +2,7 @@
 
 ghost use Rattle.std.specs.Prelude.{◌≡◌};
 ghost use Rattle.algol_tree.specs.Operators as grammar;
-ghost use Rattle.algol_tree.specs.DueExpr.{signs};
 
-use crate::take::is_symbol;
 use algol_tree::{Level, Op, Reserved, Symbol, Token, TokenKind};
 
 /// The operator of that level that the token is.
@@ -45,11 +43,4 @@ pub(crate) fn relation(token: &Token) -> Option<Op>
         TokenKind::Symbol(Symbol::Greater) => Some(Op::Gtr),
         _ => None,
     }
-}
-
-/// The token is a sign, `+` or `-`, which only a sum begins with.
-pub(crate) fn has_sign(level: Level, token: &Token) -> bool
-    ensures { result ≡ signs level token.now.kind }
-{
-    level == Level::Sum && (is_symbol(token, Symbol::Plus) || is_symbol(token, Symbol::Minus))
 }

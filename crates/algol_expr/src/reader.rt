@@ -1,23 +1,32 @@
 //! Expressions from tokens.
+//!
+//! A bracket passes through few functions with small frames, so that the levels of an expression need little of the C stack: the operators
+//! are read in loops, what is read stands in boxes, and what a bracket does not pass through stands out of line.
 
 ghost use Rattle.std.specs.Prelude.{◌≡◌, [], ◌∷◌, true, false, Some, None, IfOk, IfErr};
 ghost use Rattle.algol_tree.specs.Ended.{EndsOnce};
 ghost use Rattle.algol_tree.specs.declared.token.Reserved.TheVariants as reserved;
 ghost use Rattle.algol_tree.specs.Operators as grammar;
-ghost use Rattle.algol_tree.specs.Operators.{expr, not_part, rel, primary, operand};
+ghost use Rattle.algol_tree.specs.Operators.{expr, not_part, primary, operand};
 ghost use Rattle.algol_tree.specs.Image.{expr as plain, exprs as plain_list};
 ghost use Rattle.algol_tree.specs.declared.level.Level.TheVariants as levels;
 ghost use Rattle.algol_tree.specs.declared.token.TokenKind.TheVariants as kinds;
 ghost use Rattle.algol_tree.specs.declared.token.Symbol.TheVariants as symbols;
 ghost use Rattle.algol_tree.specs.Tokens.{is_word, is_symbol};
 ghost use Rattle.algol_tree.specs.Due.{part, more_of, behind_name, one, many, make, word};
-ghost use Rattle.algol_tree.specs.DueExpr.{list_in, chosen};
+ghost use Rattle.algol_tree.specs.DueExpr.{list_in, chosen, is_sign};
+ghost use Rattle.algol_tree.specs.Due as dues;
 ghost use Rattle.algol_tree.specs.Found.{Finds, Extends, Completes, Fails, Lists};
 ghost use Rattle.algol_tree.specs.Plain.{none};
+ghost use Rattle.algol_expr.specs.Steps.{IsStart, Begins, begins_with, part_of, due_of};
+ghost use Rattle.algol_expr.specs.declared.step.Start.TheVariants as starts;
 
 use crate::event::read_happened;
-use crate::make::{call, choice, grouped, literal, named, negated, signed, two, variable};
-use crate::operator::{has_sign, operator, relation};
+use crate::make::{
+    add, boxed, call, choice, grouped, literal, named, negated, signed, two, variable,
+};
+use crate::operator::{operator, relation};
+use crate::step::{Start, Step, start_of, steps};
 use crate::stop::Stop;
 use crate::take::{
     expect_symbol, expect_word, first_of, is_symbol, is_word, name_in, opened, refused,
@@ -26,35 +35,37 @@ use algol_tree::{Code, Expr, Level, List, Named, Reserved, Spot, Symbol, Token};
 use std::alloc::Global;
 
 /// expr = IF expr THEN eqv ELSE expr | eqv
+#[inline(always)]
 #[cycle(expressions)]
 pub(crate) fn read_expression(
     alloc: Global,
     tokens: &[Token],
     depth: u32,
-) -> Result<(Expr, &[Token]), Stop>
+) -> Result<(Box<Expr>, &[Token]), Stop>
     requires ended { EndsOnce tokens.now }
-    ensures found { IfOk result (λ r. Finds (part expr depth) tokens.now (one (plain r.0)) r.1.now) }
+    ensures found { IfOk result (λ r. Finds (part expr depth) tokens.now (one (plain r.0.value)) r.1.now) }
     ensures refused { IfErr result (λ e. Fails (part expr depth ∷ []) [] tokens.now e.left e.refusal) }
 {
     let (first, rest) = first_of(tokens);
     if is_word(first, Reserved::If) {
         read_choice(alloc, first, rest, depth)
     } else {
-        read_level(alloc, tokens, Level::Eqv, depth)
+        read_up_to(alloc, tokens, Step::Operators(Level::Eqv), depth)
     }
 }
 
 /// IF expr THEN eqv ELSE expr, after the IF
+#[inline(never)]
 #[cycle(expressions)]
 fn read_choice<'a>(
     alloc: Global,
     first: &Token,
     rest: &'a [Token],
     depth: u32,
-) -> Result<(Expr, &'a [Token]), Stop>
+) -> Result<(Box<Expr>, &'a [Token]), Stop>
     requires ended { EndsOnce (first.now ∷ rest.now) }
     requires word { is_word reserved.If first.now.kind ≡ true }
-    ensures found { IfOk result (λ r. Finds (part expr depth) (first.now ∷ rest.now) (one (plain r.0)) r.1.now) }
+    ensures found { IfOk result (λ r. Finds (part expr depth) (first.now ∷ rest.now) (one (plain r.0.value)) r.1.now) }
     ensures refused { IfErr result (λ e. Fails (part expr depth ∷ []) [] (first.now ∷ rest.now) e.left e.refusal) }
 {
     let inner = opened(first, rest, depth)?;
@@ -68,41 +79,118 @@ fn read_choice<'a>(
 #[cycle(expressions)]
 fn read_arms(
     alloc: Global,
-    condition: Expr,
+    condition: Box<Expr>,
     spot: Spot,
     tokens: &[Token],
     depth: u32,
-) -> Result<(Expr, &[Token]), Stop>
+) -> Result<(Box<Expr>, &[Token]), Stop>
     requires ended { EndsOnce tokens.now }
-    ensures found { IfOk result (λ r. Lists (part (grammar.level levels.Eqv) depth ∷ word reserved.Else ∷ part expr depth ∷ make (chosen spot) ∷ []) tokens.now (one (plain condition)) (one (plain r.0)) r.1.now) }
-    ensures refused { IfErr result (λ e. Fails (part (grammar.level levels.Eqv) depth ∷ word reserved.Else ∷ part expr depth ∷ make (chosen spot) ∷ []) (one (plain condition) ∷ []) tokens.now e.left e.refusal) }
+    ensures found { IfOk result (λ r. Lists (part (grammar.level levels.Eqv) depth ∷ word reserved.Else ∷ part expr depth ∷ make (chosen spot) ∷ []) tokens.now (one (plain condition.value)) (one (plain r.0.value)) r.1.now) }
+    ensures refused { IfErr result (λ e. Fails (part (grammar.level levels.Eqv) depth ∷ word reserved.Else ∷ part expr depth ∷ make (chosen spot) ∷ []) (one (plain condition.value) ∷ []) tokens.now e.left e.refusal) }
 {
-    let (yes, rest) = read_level(alloc, tokens, Level::Eqv, depth)?;
+    let (yes, rest) = read_up_to(alloc, tokens, Step::Operators(Level::Eqv), depth)?;
     let rest = expect_word(rest, Reserved::Else)?;
     let (otherwise, rest) = read_expression(alloc, rest, depth)?;
     Ok((choice(alloc, condition, yes, otherwise, spot)?, rest))
 }
 
-/// A level of binary operators: operand { operator operand }, in a sum with a sign before it or none
+/// An expression up to that step: what it begins with, and what follows step by step
 #[cycle(expressions)]
-fn read_level(
+fn read_up_to(
     alloc: Global,
     tokens: &[Token],
-    level: Level,
+    last: Step,
     depth: u32,
-) -> Result<(Expr, &[Token]), Stop>
+) -> Result<(Box<Expr>, &[Token]), Stop>
     requires ended { EndsOnce tokens.now }
-    ensures found { IfOk result (λ r. Finds (part (grammar.level level) depth) tokens.now (one (plain r.0)) r.1.now) }
-    ensures refused { IfErr result (λ e. Fails (part (grammar.level level) depth ∷ []) [] tokens.now e.left e.refusal) }
+    ensures found { IfOk result (λ r. Finds (part (part_of last) depth) tokens.now (one (plain r.0.value)) r.1.now) }
+    ensures refused { IfErr result (λ e. Fails (part (part_of last) depth ∷ []) [] tokens.now e.left e.refusal) }
 {
-    let (sign, behind) = first_of(tokens);
-    if has_sign(level, sign) {
-        let (operand, rest) = read_operand(alloc, behind, level, depth)?;
-        let first = signed(alloc, sign, operand)?;
-        read_more(alloc, first, rest, level, depth)
-    } else {
-        let (first, rest) = read_operand(alloc, tokens, level, depth)?;
-        read_more(alloc, first, rest, level, depth)
+    let (first, _behind) = first_of(tokens);
+    let start = start_of(last, first);
+    let (mut left, mut rest) = read_beginning(alloc, tokens, start, depth)?;
+    'steps: for step in steps(start, last) {
+        let (whole, after) = read_step(alloc, left, rest, *step, depth)?;
+        left = whole;
+        rest = after;
+    }
+    Ok((left, rest))
+}
+
+/// What an expression begins with
+#[cycle(expressions)]
+fn read_beginning(
+    alloc: Global,
+    tokens: &[Token],
+    start: Start,
+    depth: u32,
+) -> Result<(Box<Expr>, &[Token]), Stop>
+    requires ended { EndsOnce tokens.now }
+    requires start { IsStart start tokens.now }
+    ensures found { IfOk result (λ r. Begins start depth tokens.now (one (plain r.0.value)) r.1.now) }
+    ensures refused { IfErr result (λ e. Fails (part (begins_with start) depth ∷ []) [] tokens.now e.left e.refusal) }
+{
+    let (first, behind) = first_of(tokens);
+    match start {
+        Start::Not => read_not(alloc, first, behind, depth),
+        Start::Sign => read_signed(alloc, first, behind, depth),
+        Start::Primary => read_primary(alloc, tokens, depth),
+    }
+}
+
+/// NOT not, after the NOT
+#[inline(never)]
+#[cycle(expressions)]
+fn read_not<'a>(
+    alloc: Global,
+    first: &Token,
+    behind: &'a [Token],
+    depth: u32,
+) -> Result<(Box<Expr>, &'a [Token]), Stop>
+    requires ended { EndsOnce (first.now ∷ behind.now) }
+    requires word { is_word reserved.Not first.now.kind ≡ true }
+    ensures found { IfOk result (λ r. Finds (part not_part depth) (first.now ∷ behind.now) (one (plain r.0.value)) r.1.now) }
+    ensures refused { IfErr result (λ e. Fails (part not_part depth ∷ []) [] (first.now ∷ behind.now) e.left e.refusal) }
+{
+    let inner = opened(first, behind, depth)?;
+    let (operand, rest) = read_up_to(alloc, behind, Step::Relation, inner)?;
+    Ok((negated(alloc, operand, first.spot)?, rest))
+}
+
+/// The first operand of a sum with a sign before it, after the sign
+#[inline(never)]
+#[cycle(expressions)]
+fn read_signed<'a>(
+    alloc: Global,
+    sign: &Token,
+    behind: &'a [Token],
+    depth: u32,
+) -> Result<(Box<Expr>, &'a [Token]), Stop>
+    requires ended { EndsOnce (sign.now ∷ behind.now) }
+    requires sign { is_sign sign.now.kind ≡ true }
+    ensures found { IfOk result (λ r. Begins starts.Sign depth (sign.now ∷ behind.now) (one (plain r.0.value)) r.1.now) }
+    ensures refused { IfErr result (λ e. Fails (part (grammar.level levels.Sum) depth ∷ []) [] (sign.now ∷ behind.now) e.left e.refusal) }
+{
+    let (operand, rest) = read_up_to(alloc, behind, Step::Operators(Level::Term), depth)?;
+    Ok((signed(alloc, sign, operand)?, rest))
+}
+
+/// What is due of a step, after the expression `left`
+#[cycle(expressions)]
+fn read_step(
+    alloc: Global,
+    left: Box<Expr>,
+    tokens: &[Token],
+    step: Step,
+    depth: u32,
+) -> Result<(Box<Expr>, &[Token]), Stop>
+    requires ended { EndsOnce tokens.now }
+    ensures found { IfOk result (λ r. Extends (due_of depth step) tokens.now (one (plain left.value)) (one (plain r.0.value)) r.1.now) }
+    ensures refused { IfErr result (λ e. Fails (due_of depth step ∷ []) (one (plain left.value) ∷ []) tokens.now e.left e.refusal) }
+{
+    match step {
+        Step::Operators(level) => read_more(alloc, left, tokens, level, depth),
+        Step::Relation => read_relation(alloc, left, tokens, depth),
     }
 }
 
@@ -113,17 +201,17 @@ fn read_operand(
     tokens: &[Token],
     level: Level,
     depth: u32,
-) -> Result<(Expr, &[Token]), Stop>
+) -> Result<(Box<Expr>, &[Token]), Stop>
     requires ended { EndsOnce tokens.now }
-    ensures found { IfOk result (λ r. Finds (part (operand level) depth) tokens.now (one (plain r.0)) r.1.now) }
+    ensures found { IfOk result (λ r. Finds (part (operand level) depth) tokens.now (one (plain r.0.value)) r.1.now) }
     ensures refused { IfErr result (λ e. Fails (part (operand level) depth ∷ []) [] tokens.now e.left e.refusal) }
 {
     match level {
-        Level::Eqv => read_level(alloc, tokens, Level::Imp, depth),
-        Level::Imp => read_level(alloc, tokens, Level::Or, depth),
-        Level::Or => read_level(alloc, tokens, Level::And, depth),
-        Level::And => read_not(alloc, tokens, depth),
-        Level::Sum => read_level(alloc, tokens, Level::Term, depth),
+        Level::Eqv => read_up_to(alloc, tokens, Step::Operators(Level::Imp), depth),
+        Level::Imp => read_up_to(alloc, tokens, Step::Operators(Level::Or), depth),
+        Level::Or => read_up_to(alloc, tokens, Step::Operators(Level::And), depth),
+        Level::And => read_up_to(alloc, tokens, Step::Relation, depth),
+        Level::Sum => read_up_to(alloc, tokens, Step::Operators(Level::Term), depth),
         Level::Term => read_primary(alloc, tokens, depth),
     }
 }
@@ -132,71 +220,61 @@ fn read_operand(
 #[cycle(expressions)]
 fn read_more(
     alloc: Global,
-    left: Expr,
+    mut left: Box<Expr>,
     tokens: &[Token],
     level: Level,
     depth: u32,
-) -> Result<(Expr, &[Token]), Stop>
+) -> Result<(Box<Expr>, &[Token]), Stop>
     requires ended { EndsOnce tokens.now }
-    ensures found { IfOk result (λ r. Extends (more_of level depth) tokens.now (one (plain left)) (one (plain r.0)) r.1.now) }
-    ensures refused { IfErr result (λ e. Fails (more_of level depth ∷ []) (one (plain left) ∷ []) tokens.now e.left e.refusal) }
+    ensures found { IfOk result (λ r. Extends (more_of level depth) tokens.now (one (plain left.value)) (one (plain r.0.value)) r.1.now) }
+    ensures refused { IfErr result (λ e. Fails (more_of level depth ∷ []) (one (plain left.value) ∷ []) tokens.now e.left e.refusal) }
+{
+    let mut rest = tokens;
+    'operands: loop {
+        let (first, behind) = first_of(rest);
+        match operator(level, first) {
+            Some(op) => {
+                let (right, after) = read_operand(alloc, behind, level, depth)?;
+                left = two(alloc, op, left, right)?;
+                rest = after;
+            }
+            None => return Ok((left, rest)),
+        }
+    }
+}
+
+/// [ relop sum ], after the sum `left`
+#[cycle(expressions)]
+fn read_relation(
+    alloc: Global,
+    left: Box<Expr>,
+    tokens: &[Token],
+    depth: u32,
+) -> Result<(Box<Expr>, &[Token]), Stop>
+    requires ended { EndsOnce tokens.now }
+    ensures found { IfOk result (λ r. Extends (dues.relation depth) tokens.now (one (plain left.value)) (one (plain r.0.value)) r.1.now) }
+    ensures refused { IfErr result (λ e. Fails (dues.relation depth ∷ []) (one (plain left.value) ∷ []) tokens.now e.left e.refusal) }
 {
     let (first, behind) = first_of(tokens);
-    match operator(level, first) {
+    match relation(first) {
         Some(op) => {
-            let (right, rest) = read_operand(alloc, behind, level, depth)?;
-            let left = two(alloc, op, left, right)?;
-            read_more(alloc, left, rest, level, depth)
+            let (right, rest) = read_up_to(alloc, behind, Step::Operators(Level::Sum), depth)?;
+            Ok((two(alloc, op, left, right)?, rest))
         }
         None => Ok((left, tokens)),
     }
 }
 
-/// not = NOT not | rel
-#[cycle(expressions)]
-fn read_not(alloc: Global, tokens: &[Token], depth: u32) -> Result<(Expr, &[Token]), Stop>
-    requires ended { EndsOnce tokens.now }
-    ensures found { IfOk result (λ r. Finds (part not_part depth) tokens.now (one (plain r.0)) r.1.now) }
-    ensures refused { IfErr result (λ e. Fails (part not_part depth ∷ []) [] tokens.now e.left e.refusal) }
-{
-    let (first, behind) = first_of(tokens);
-    if is_word(first, Reserved::Not) {
-        let inner = opened(first, behind, depth)?;
-        let (operand, rest) = read_not(alloc, behind, inner)?;
-        Ok((negated(alloc, operand, first.spot)?, rest))
-    } else {
-        read_relation(alloc, tokens, depth)
-    }
-}
-
-/// rel = sum [ relop sum ]
-#[cycle(expressions)]
-fn read_relation(alloc: Global, tokens: &[Token], depth: u32) -> Result<(Expr, &[Token]), Stop>
-    requires ended { EndsOnce tokens.now }
-    ensures found { IfOk result (λ r. Finds (part rel depth) tokens.now (one (plain r.0)) r.1.now) }
-    ensures refused { IfErr result (λ e. Fails (part rel depth ∷ []) [] tokens.now e.left e.refusal) }
-{
-    let (left, rest) = read_level(alloc, tokens, Level::Sum, depth)?;
-    let (first, behind) = first_of(rest);
-    match relation(first) {
-        Some(op) => {
-            let (right, rest) = read_level(alloc, behind, Level::Sum, depth)?;
-            Ok((two(alloc, op, left, right)?, rest))
-        }
-        None => Ok((left, rest)),
-    }
-}
-
 /// primary = number | TRUE | FALSE | variable | name "(" expr { "," expr } ")" | HAPPENED "(" event ")" | "(" expr ")"
 #[cycle(expressions)]
-fn read_primary(alloc: Global, tokens: &[Token], depth: u32) -> Result<(Expr, &[Token]), Stop>
+fn read_primary(alloc: Global, tokens: &[Token], depth: u32) -> Result<(Box<Expr>, &[Token]), Stop>
     requires ended { EndsOnce tokens.now }
-    ensures found { IfOk result (λ r. Finds (part primary depth) tokens.now (one (plain r.0)) r.1.now) }
+    ensures found { IfOk result (λ r. Finds (part primary depth) tokens.now (one (plain r.0.value)) r.1.now) }
     ensures refused { IfErr result (λ e. Fails (part primary depth ∷ []) [] tokens.now e.left e.refusal) }
 {
     let (first, behind) = first_of(tokens);
     if let Some(value) = literal(first) {
-        return Ok((value, behind));
+        return Ok((boxed(alloc, value)?, behind));
     }
     if let Some(name) = name_in(first) {
         let name = named(alloc, name, first.spot)?;
@@ -219,10 +297,10 @@ fn read_group<'a>(
     first: &Token,
     rest: &'a [Token],
     depth: u32,
-) -> Result<(Expr, &'a [Token]), Stop>
+) -> Result<(Box<Expr>, &'a [Token]), Stop>
     requires ended { EndsOnce (first.now ∷ rest.now) }
     requires symbol { is_symbol symbols.OpenRound first.now.kind ≡ true }
-    ensures found { IfOk result (λ r. Finds (part primary depth) (first.now ∷ rest.now) (one (plain r.0)) r.1.now) }
+    ensures found { IfOk result (λ r. Finds (part primary depth) (first.now ∷ rest.now) (one (plain r.0.value)) r.1.now) }
     ensures refused { IfErr result (λ e. Fails (part primary depth ∷ []) [] (first.now ∷ rest.now) e.left e.refusal) }
 {
     let inner = opened(first, rest, depth)?;
@@ -232,28 +310,29 @@ fn read_group<'a>(
 }
 
 /// A variable or a call, after its name: [ "[" expr { "," expr } "]" | "(" expr { "," expr } ")" ]
+#[inline(never)]
 #[cycle(expressions)]
 fn read_behind_name(
     alloc: Global,
     name: Named,
     tokens: &[Token],
     depth: u32,
-) -> Result<(Expr, &[Token]), Stop>
+) -> Result<(Box<Expr>, &[Token]), Stop>
     requires ended { EndsOnce tokens.now }
-    ensures found { IfOk result (λ r. Completes (behind_name name depth) tokens.now (one (plain r.0)) r.1.now) }
+    ensures found { IfOk result (λ r. Completes (behind_name name depth) tokens.now (one (plain r.0.value)) r.1.now) }
     ensures refused { IfErr result (λ e. Fails (behind_name name depth ∷ []) [] tokens.now e.left e.refusal) }
 {
     let (first, behind) = first_of(tokens);
     if is_symbol(first, Symbol::OpenSquare) {
         let inner = opened(first, behind, depth)?;
         let (subs, rest) = read_list(alloc, behind, inner, Symbol::CloseSquare)?;
-        Ok((variable(name, subs), rest))
+        Ok((variable(alloc, name, subs)?, rest))
     } else if is_symbol(first, Symbol::OpenRound) {
         let inner = opened(first, behind, depth)?;
         let (actuals, rest) = read_list(alloc, behind, inner, Symbol::CloseRound)?;
-        Ok((call(name, actuals), rest))
+        Ok((call(alloc, name, actuals)?, rest))
     } else {
-        Ok((variable(name, List::of(Vec::new(alloc))), tokens))
+        Ok((variable(alloc, name, List::of(Vec::new(alloc)))?, tokens))
     }
 }
 
@@ -274,7 +353,7 @@ fn read_list(
     let mut rest = tokens;
     'items: loop {
         let (item, after) = read_expression(alloc, rest, depth)?;
-        items.push(item)?;
+        add(&mut items, item)?;
         let (first, behind) = first_of(after);
         if is_symbol(first, Symbol::Comma) {
             rest = behind;

@@ -8,12 +8,13 @@ ghost use Rattle.algol_tree.specs.Image.{expr as plain};
 ghost use Rattle.algol_tree.specs.Operators.{expr};
 ghost use Rattle.algol_tree.specs.Expressions.{IsWhole};
 ghost use Rattle.algol_tree.specs.Refused.{RefusedExpression, IsLongest};
-ghost use Rattle.algol_tree.specs.Due.{whole, one};
-ghost use Rattle.algol_tree.specs.Found.{Finds, Refuses};
+ghost use Rattle.algol_tree.specs.Due.{part, whole, one};
+ghost use Rattle.algol_tree.specs.Found.{Finds, Fails, Refuses};
 ghost use Rattle.algol_tree.specs.declared.token.Token as token;
 ghost use Rattle.algol_expr.specs.Long.{IsLong};
 
 use crate::reader::read_expression;
+use crate::stop::Stop;
 use algol_tree::{Code, Expr, MOST_EXPRESSION_TOKENS, Refusal, Token};
 use std::alloc::Global;
 
@@ -31,6 +32,17 @@ fn overlong(tokens: &[Token], left: usize) -> Option<Refusal>
         spot: first.spot,
         code: Code::TooDeep,
     })
+}
+
+/// The longest expression that the tokens begin with, out of its box, and what follows it
+#[inline(never)]
+fn read_out(alloc: Global, tokens: &[Token], depth: u32) -> Result<(Expr, &[Token]), Stop>
+    requires ended { EndsOnce tokens.now }
+    ensures found { IfOk result (λ r. Finds (part expr depth) tokens.now (one (plain r.0)) r.1.now) }
+    ensures refused { IfErr result (λ e. Fails (part expr depth ∷ []) [] tokens.now e.left e.refusal) }
+{
+    let (expr, rest) = read_expression(alloc, tokens, depth)?;
+    Ok((Box::into_inner(expr), rest))
 }
 
 /// The longest expression that the tokens begin with, and what follows it. It stands in no other expression, so that
@@ -51,7 +63,7 @@ pub fn read_whole(alloc: Global, tokens: &[Token], depth: u32) -> Result<(Expr, 
     ensures found { IfOk result (λ r. Finds (whole depth) tokens.now (one (plain r.0)) r.1.now) }
     ensures fails { IfErr result (λ e. Refuses (whole depth ∷ []) [] tokens.now e) }
 {
-    match read_expression(alloc, tokens, depth) {
+    match read_out(alloc, tokens, depth) {
         Ok((expr, rest)) => match overlong(tokens, rest.len()) {
             Some(refusal) => Err(refusal),
             None => Ok((expr, rest)),

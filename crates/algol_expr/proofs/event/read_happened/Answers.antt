@@ -1,6 +1,6 @@
-use Rattle.std.proofs.Common.{ap, refl}
+use Rattle.std.proofs.Common.{ap, refl, ◌∙◌}
 use Rattle.algol_tree.specs.Due.{one}
-use Rattle.algol_expr.proofs.Chain.{left_as, failing, via, past, making, done, rest_of, rest_cons}
+use Rattle.algol_expr.proofs.Chain.{left_as, no_memory, failing, via, past, making, done, rest_of, rest_cons}
 use Rattle.algol_expr.proofs.Starts.{happened_starts}
 use Rattle.algol_expr.proofs.event.read_happened.Goals as goal
 
@@ -14,7 +14,10 @@ pub returns-in_err-rest-2-clause-refused : goal.returns-in_err-rest-2-clause-ref
 returns-in_err-rest-2-clause-refused c = left_as _ _ _ c.from_residual-in_err-rest-2.ensures.1
     (failing (via (past (happened_starts _ _ _ c.requires.word) c.in_ok-rest.ensures.passes) c.in_ok-event.ensures.found) c.in_err-rest-2.ensures.fails)
 
+pub returns-in_err-boxed-clause-refused : goal.returns-in_err-boxed-clause-refused
+returns-in_err-boxed-clause-refused c = no_memory _ _ _ _ _ c.from_residual-in_err-boxed.ensures.1 c.in_err-boxed.ensures.memory
+
 pub returns-clause-found : goal.returns-clause-found
 returns-clause-found c = done
     (making (past (via (past (happened_starts _ _ _ c.requires.word) c.in_ok-rest.ensures.passes) c.in_ok-event.ensures.found) c.in_ok-rest-2.ensures.passes) (λ vs. refl))
-    (ap one c.happened.ensures) (rest_cons (rest_of c.in_ok-rest.ensures.passes.behind (rest_of c.in_ok-event.ensures.found.behind c.in_ok-rest-2.ensures.passes.behind)))
+    (ap one (c.in_ok-boxed.ensures.built ∙ c.happened.ensures)) (rest_cons (rest_of c.in_ok-rest.ensures.passes.behind (rest_of c.in_ok-event.ensures.found.behind c.in_ok-rest-2.ensures.passes.behind)))
