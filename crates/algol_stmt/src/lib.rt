@@ -1,6 +1,7 @@
 //! Programs from tokens.
 #![tactic(auto)]
 
+mod begun;
 mod make;
 mod program;
 mod statement;

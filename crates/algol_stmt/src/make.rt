@@ -1,6 +1,7 @@
-//! Statements, declarations and programs of smaller ones.
+//! Statements, declarations and programs of smaller ones. The statements are in boxes, and each is made by a call of its own, so that the frames
+//! of the reader's levels have no room for a whole one.
 
-ghost use Rattle.std.specs.Prelude.{◌≡◌, IfOk, IfErr};
+ghost use Rattle.std.specs.Prelude.{◌≡◌, [], ◌∷◌, ◌++◌, IfOk, IfErr, OnOk};
 ghost use Rattle.algol_tree.specs.declared.refusal.Refusal.TheVariants.{NoMemory};
 ghost use Rattle.algol_tree.specs.Plain as trees;
 ghost use Rattle.algol_tree.specs.Image as image;
@@ -11,101 +12,161 @@ use algol_part::Lead;
 use algol_tree::{Body, Decl, Expr, Heading, List, Named, Program, Refusal, Spot, Stmt};
 use std::alloc::Global;
 
-fn labelled(alloc: Global, name: Named, statement: Stmt) -> Result<Stmt, Refusal>
-    ensures built { IfOk result (λ s. plain s ≡ trees.label name (plain statement)) }
-    ensures memory { IfErr result (λ e. e ≡ NoMemory) }
+fn labelled(name: Named, statement: Box<Stmt>) -> Stmt
+    ensures { plain result ≡ trees.label name (plain statement.value) }
 {
-    let statement = Box::new(alloc, statement)?;
-    Ok(Stmt::Label(name, statement))
+    Stmt::Label(name, statement)
 }
 
-pub(crate) fn one_armed(alloc: Global, condition: Expr, yes: Stmt) -> Result<Stmt, Refusal>
-    ensures built { IfOk result (λ s. plain s ≡ trees.if_then (image.expr condition) (plain yes)) }
-    ensures memory { IfErr result (λ e. e ≡ NoMemory) }
+fn if_then(condition: Expr, yes: Box<Stmt>) -> Stmt
+    ensures { plain result ≡ trees.if_then (image.expr condition) (plain yes.value) }
 {
-    let yes = Box::new(alloc, yes)?;
-    Ok(Stmt::If(condition, yes, None))
+    Stmt::If(condition, yes, None)
 }
 
+#[inline(never)]
+pub(crate) fn one_armed(
+    alloc: Global,
+    condition: Box<Expr>,
+    yes: Box<Stmt>,
+) -> Result<Box<Stmt>, Refusal>
+    ensures built { IfOk result (λ s. plain s.value ≡ trees.if_then (image.expr condition.value) (plain yes.value)) }
+    ensures memory { IfErr result (λ e. e ≡ NoMemory) }
+{
+    let statement = Box::new(alloc, if_then(Box::into_inner(condition), yes))?;
+    Ok(statement)
+}
+
+fn if_else(condition: Expr, yes: Box<Stmt>, otherwise: Box<Stmt>) -> Stmt
+    ensures { plain result ≡ trees.if_else (image.expr condition) (plain yes.value) (plain otherwise.value) }
+{
+    Stmt::If(condition, yes, Some(otherwise))
+}
+
+#[inline(never)]
 pub(crate) fn two_armed(
     alloc: Global,
+    condition: Box<Expr>,
+    yes: Box<Stmt>,
+    otherwise: Box<Stmt>,
+) -> Result<Box<Stmt>, Refusal>
+    ensures built { IfOk result (λ s. plain s.value ≡ trees.if_else (image.expr condition.value) (plain yes.value) (plain otherwise.value)) }
+    ensures memory { IfErr result (λ e. e ≡ NoMemory) }
+{
+    let statement = Box::new(alloc, if_else(Box::into_inner(condition), yes, otherwise))?;
+    Ok(statement)
+}
+
+fn looping(condition: Expr, statement: Box<Stmt>) -> Stmt
+    ensures { plain result ≡ trees.while (image.expr condition) (plain statement.value) }
+{
+    Stmt::While(condition, statement)
+}
+
+fn repeated(statement: Box<Stmt>, condition: Expr) -> Stmt
+    ensures { plain result ≡ trees.until (plain statement.value) (image.expr condition) }
+{
+    Stmt::Until(statement, condition)
+}
+
+#[inline(never)]
+pub(crate) fn repeating(
+    alloc: Global,
+    statement: Box<Stmt>,
     condition: Expr,
-    yes: Stmt,
-    otherwise: Stmt,
-) -> Result<Stmt, Refusal>
-    ensures built { IfOk result (λ s. plain s ≡ trees.if_else (image.expr condition) (plain yes) (plain otherwise)) }
+) -> Result<Box<Stmt>, Refusal>
+    ensures built { IfOk result (λ s. plain s.value ≡ trees.until (plain statement.value) (image.expr condition)) }
     ensures memory { IfErr result (λ e. e ≡ NoMemory) }
 {
-    let yes = Box::new(alloc, yes)?;
-    let otherwise = Box::new(alloc, otherwise)?;
-    Ok(Stmt::If(condition, yes, Some(otherwise)))
+    let statement = Box::new(alloc, repeated(statement, condition))?;
+    Ok(statement)
 }
 
-fn looping(alloc: Global, condition: Expr, statement: Stmt) -> Result<Stmt, Refusal>
-    ensures built { IfOk result (λ s. plain s ≡ trees.while (image.expr condition) (plain statement)) }
-    ensures memory { IfErr result (λ e. e ≡ NoMemory) }
+fn so_often(count: Expr, statement: Box<Stmt>) -> Stmt
+    ensures { plain result ≡ trees.thru (image.expr count) (plain statement.value) }
 {
-    let statement = Box::new(alloc, statement)?;
-    Ok(Stmt::While(condition, statement))
-}
-
-pub(crate) fn repeating(alloc: Global, statement: Stmt, condition: Expr) -> Result<Stmt, Refusal>
-    ensures built { IfOk result (λ s. plain s ≡ trees.until (plain statement) (image.expr condition)) }
-    ensures memory { IfErr result (λ e. e ≡ NoMemory) }
-{
-    let statement = Box::new(alloc, statement)?;
-    Ok(Stmt::Until(statement, condition))
-}
-
-fn so_often(alloc: Global, count: Expr, statement: Stmt) -> Result<Stmt, Refusal>
-    ensures built { IfOk result (λ s. plain s ≡ trees.thru (image.expr count) (plain statement)) }
-    ensures memory { IfErr result (λ e. e ≡ NoMemory) }
-{
-    let statement = Box::new(alloc, statement)?;
-    Ok(Stmt::Thru(count, statement))
+    Stmt::Thru(count, statement)
 }
 
 /// A FOR over that name, from a first value by a step up to a limit.
-fn counting(
-    alloc: Global,
-    name: Named,
-    from: Expr,
-    step: Expr,
-    limit: Expr,
-    statement: Stmt,
-) -> Result<Stmt, Refusal>
-    ensures built { IfOk result (λ s. plain s ≡ trees.for name (image.expr from) (image.expr step) (image.expr limit) (plain statement)) }
-    ensures memory { IfErr result (λ e. e ≡ NoMemory) }
+fn counting(name: Named, from: Expr, step: Expr, limit: Expr, statement: Box<Stmt>) -> Stmt
+    ensures { plain result ≡ trees.for name (image.expr from) (image.expr step) (image.expr limit) (plain statement.value) }
 {
-    let statement = Box::new(alloc, statement)?;
-    Ok(Stmt::For(name, from, step, limit, statement))
+    Stmt::For(name, from, step, limit, statement)
 }
 
 /// The statement, led by what stands before it.
-pub(crate) fn led(alloc: Global, lead: Lead, statement: Stmt) -> Result<Stmt, Refusal>
-    ensures built { IfOk result (λ s. plain s ≡ led lead (plain statement)) }
-    ensures memory { IfErr result (λ e. e ≡ NoMemory) }
+fn led_by(lead: Lead, statement: Box<Stmt>) -> Stmt
+    ensures { plain result ≡ led lead (plain statement.value) }
 {
     match lead {
-        Lead::Label(name) => labelled(alloc, name, statement),
-        Lead::While(condition) => looping(alloc, condition, statement),
-        Lead::Thru(count) => so_often(alloc, count, statement),
-        Lead::For(name, from, step, limit) => {
-            counting(alloc, name, from, step, limit, statement)
-        }
+        Lead::Label(name) => labelled(name, statement),
+        Lead::While(condition) => looping(condition, statement),
+        Lead::Thru(count) => so_often(count, statement),
+        Lead::For(name, from, step, limit) => counting(name, from, step, limit, statement),
     }
 }
 
-pub(crate) fn choosing(choice: Expr, stmts: List<Stmt>) -> Stmt
+#[inline(never)]
+pub(crate) fn led(
+    alloc: Global,
+    lead: Box<Lead>,
+    statement: Box<Stmt>,
+) -> Result<Box<Stmt>, Refusal>
+    ensures built { IfOk result (λ s. plain s.value ≡ led lead.value (plain statement.value)) }
+    ensures memory { IfErr result (λ e. e ≡ NoMemory) }
+{
+    let statement = Box::new(alloc, led_by(Box::into_inner(lead), statement))?;
+    Ok(statement)
+}
+
+fn chosen(choice: Expr, stmts: List<Stmt>) -> Stmt
     ensures { plain result ≡ trees.case (image.expr choice) (image.stmts stmts) }
 {
     Stmt::Case(choice, stmts)
 }
 
-pub(crate) fn block(spot: Spot, decls: List<Decl>, stmts: List<Stmt>) -> Stmt
+#[inline(never)]
+pub(crate) fn choosing(
+    alloc: Global,
+    choice: Box<Expr>,
+    stmts: List<Stmt>,
+) -> Result<Box<Stmt>, Refusal>
+    ensures built { IfOk result (λ s. plain s.value ≡ trees.case (image.expr choice.value) (image.stmts stmts)) }
+    ensures memory { IfErr result (λ e. e ≡ NoMemory) }
+{
+    let statement = Box::new(alloc, chosen(Box::into_inner(choice), stmts))?;
+    Ok(statement)
+}
+
+fn compound(spot: Spot, decls: List<Decl>, stmts: List<Stmt>) -> Stmt
     ensures { plain result ≡ trees.block (trees.body spot (image.decls decls) (image.stmts stmts)) }
 {
     Stmt::Block(Body { spot, decls, stmts })
+}
+
+#[inline(never)]
+pub(crate) fn block(
+    alloc: Global,
+    spot: Spot,
+    decls: List<Decl>,
+    stmts: List<Stmt>,
+) -> Result<Box<Stmt>, Refusal>
+    ensures built { IfOk result (λ s. plain s.value ≡ trees.block (trees.body spot (image.decls decls) (image.stmts stmts))) }
+    ensures memory { IfErr result (λ e. e ≡ NoMemory) }
+{
+    let statement = Box::new(alloc, compound(spot, decls, stmts))?;
+    Ok(statement)
+}
+
+/// One statement more, after those before.
+#[inline(never)]
+pub(crate) fn add(stmts: &mut Vec<Stmt>, statement: Box<Stmt>) -> Result<(), Refusal>
+    ensures added { OnOk result (stmts.new.items ≡ stmts.old.items ++ statement.value ∷ []) }
+    ensures memory { IfErr result (λ e. e ≡ NoMemory) }
+{
+    stmts.push(Box::into_inner(statement))?;
+    Ok(())
 }
 
 pub(crate) fn program(spot: Spot, decls: List<Decl>, stmts: List<Stmt>) -> Program
@@ -116,12 +177,10 @@ pub(crate) fn program(spot: Spot, decls: List<Decl>, stmts: List<Stmt>) -> Progr
     }
 }
 
-pub(crate) fn procedure(alloc: Global, heading: Heading, statement: Stmt) -> Result<Decl, Refusal>
-    ensures built { IfOk result (λ d. image.decl d ≡ trees.procedure heading (plain statement)) }
-    ensures memory { IfErr result (λ e. e ≡ NoMemory) }
+pub(crate) fn procedure(heading: Heading, statement: Box<Stmt>) -> Decl
+    ensures { image.decl result ≡ trees.procedure heading (plain statement.value) }
 {
-    let statement = Box::new(alloc, statement)?;
-    Ok(Decl::Procedure(heading, statement))
+    Decl::Procedure(heading, statement)
 }
 
 pub(crate) fn forward(heading: Heading) -> Decl

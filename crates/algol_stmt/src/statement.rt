@@ -15,12 +15,14 @@ ghost use Rattle.algol_part.specs.Brings.{Brings, Adds, AddsNone};
 ghost use Rattle.algol_part.specs.declared.opening.Opening.TheVariants as openings;
 ghost use Rattle.algol_part.specs.Openings.{still_due, so_far, ComesTo};
 ghost use Rattle.algol_part.specs.Phrases.{statements_in};
+ghost use Rattle.algol_stmt.specs.Begun.{opening_of};
 
-use crate::make::{block, choosing, forward, led, one_armed, procedure, repeating, two_armed};
+use crate::begun::{Begun, Opened, read_begun};
+use crate::make::{add, block, choosing, forward, led, one_armed, procedure, repeating, two_armed};
 use algol_expr::{expect_symbol, expect_word, first_of, is_symbol, is_word, opened};
 use algol_part::{
-    Beginning, Lead, Opening, begins_body, lists_names, read_arrays, read_beginning, read_heading,
-    read_listed, read_simples, read_until, type_of, unexpected,
+    Lead, begins_body, lists_names, read_arrays, read_heading, read_listed, read_simples,
+    read_until, type_of, unexpected,
 };
 use algol_tree::{Decl, Expr, Heading, Kind, List, Refusal, Reserved, Spot, Stmt, Symbol, Token};
 use std::alloc::Global;
@@ -31,15 +33,15 @@ pub(crate) fn read_statement(
     alloc: Global,
     tokens: &[Token],
     depth: u32,
-) -> Result<(Stmt, &[Token]), Refusal>
+) -> Result<(Box<Stmt>, &[Token]), Refusal>
     requires ended { EndsOnce tokens.now }
-    ensures found { IfOk result (λ r. Completes (due.statement depth) tokens.now (stmt (plain r.0)) r.1.now) }
+    ensures found { IfOk result (λ r. Completes (due.statement depth) tokens.now (stmt (plain r.0.value)) r.1.now) }
     ensures refused { IfErr result (λ e. Refuses (due.statement depth ∷ []) [] tokens.now e) }
 {
-    let (beginning, rest) = read_beginning(alloc, tokens, depth)?;
-    match beginning {
-        Beginning::Whole(statement) => Ok((statement, rest)),
-        Beginning::Open(opening, inner) => read_opened(alloc, opening, rest, inner),
+    let (begun, rest) = read_begun(alloc, tokens, depth)?;
+    match begun {
+        Begun::Whole(statement) => Ok((statement, rest)),
+        Begun::Open(opened, inner) => read_opened(alloc, opened, rest, inner),
     }
 }
 
@@ -47,20 +49,20 @@ pub(crate) fn read_statement(
 #[cycle(statements)]
 fn read_opened(
     alloc: Global,
-    opening: Opening,
+    opened: Opened,
     tokens: &[Token],
     depth: u32,
-) -> Result<(Stmt, &[Token]), Refusal>
+) -> Result<(Box<Stmt>, &[Token]), Refusal>
     requires ended { EndsOnce tokens.now }
-    ensures found { IfOk result (λ r. ComesTo (still_due opening depth) (so_far opening) tokens.now [] (stmt (plain r.0) ∷ []) r.1.now) }
-    ensures refused { IfErr result (λ e. Refuses (still_due opening depth) (so_far opening) tokens.now e) }
+    ensures found { IfOk result (λ r. ComesTo (still_due (opening_of opened) depth) (so_far (opening_of opened)) tokens.now [] (stmt (plain r.0.value) ∷ []) r.1.now) }
+    ensures refused { IfErr result (λ e. Refuses (still_due (opening_of opened) depth) (so_far (opening_of opened)) tokens.now e) }
 {
-    match opening {
-        Opening::Led(lead) => read_led(alloc, lead, tokens, depth),
-        Opening::Begin(spot) => read_block(alloc, spot, tokens, depth),
-        Opening::If(condition) => read_arms(alloc, condition, tokens, depth),
-        Opening::Do => read_repeated(alloc, tokens, depth),
-        Opening::Case(choice) => read_cases(alloc, choice, tokens, depth),
+    match opened {
+        Opened::Led(lead) => read_led(alloc, lead, tokens, depth),
+        Opened::Begin(spot) => read_block(alloc, spot, tokens, depth),
+        Opened::If(condition) => read_arms(alloc, condition, tokens, depth),
+        Opened::Do => read_repeated(alloc, tokens, depth),
+        Opened::Case(choice) => read_cases(alloc, choice, tokens, depth),
     }
 }
 
@@ -68,13 +70,13 @@ fn read_opened(
 #[cycle(statements)]
 fn read_led(
     alloc: Global,
-    lead: Lead,
+    lead: Box<Lead>,
     tokens: &[Token],
     depth: u32,
-) -> Result<(Stmt, &[Token]), Refusal>
+) -> Result<(Box<Stmt>, &[Token]), Refusal>
     requires ended { EndsOnce tokens.now }
-    ensures found { IfOk result (λ r. ComesTo (still_due (openings.Led lead) depth) (so_far (openings.Led lead)) tokens.now [] (stmt (plain r.0) ∷ []) r.1.now) }
-    ensures refused { IfErr result (λ e. Refuses (still_due (openings.Led lead) depth) (so_far (openings.Led lead)) tokens.now e) }
+    ensures found { IfOk result (λ r. ComesTo (still_due (openings.Led lead.value) depth) (so_far (openings.Led lead.value)) tokens.now [] (stmt (plain r.0.value) ∷ []) r.1.now) }
+    ensures refused { IfErr result (λ e. Refuses (still_due (openings.Led lead.value) depth) (so_far (openings.Led lead.value)) tokens.now e) }
 {
     let (statement, rest) = read_statement(alloc, tokens, depth)?;
     Ok((led(alloc, lead, statement)?, rest))
@@ -87,21 +89,25 @@ fn read_block(
     spot: Spot,
     tokens: &[Token],
     depth: u32,
-) -> Result<(Stmt, &[Token]), Refusal>
+) -> Result<(Box<Stmt>, &[Token]), Refusal>
     requires ended { EndsOnce tokens.now }
-    ensures found { IfOk result (λ r. ComesTo (still_due (openings.Begin spot) depth) (so_far (openings.Begin spot)) tokens.now [] (stmt (plain r.0) ∷ []) r.1.now) }
+    ensures found { IfOk result (λ r. ComesTo (still_due (openings.Begin spot) depth) (so_far (openings.Begin spot)) tokens.now [] (stmt (plain r.0.value) ∷ []) r.1.now) }
     ensures refused { IfErr result (λ e. Refuses (still_due (openings.Begin spot) depth) (so_far (openings.Begin spot)) tokens.now e) }
 {
     let (decls, rest) = read_declarations(alloc, tokens, depth)?;
     let (stmts, rest) = read_statements(alloc, rest, depth)?;
-    Ok((block(spot, decls, stmts), rest))
+    Ok((block(alloc, spot, decls, stmts)?, rest))
 }
 
 /// statement UNTIL expr, after DO
 #[cycle(statements)]
-fn read_repeated(alloc: Global, tokens: &[Token], depth: u32) -> Result<(Stmt, &[Token]), Refusal>
+fn read_repeated(
+    alloc: Global,
+    tokens: &[Token],
+    depth: u32,
+) -> Result<(Box<Stmt>, &[Token]), Refusal>
     requires ended { EndsOnce tokens.now }
-    ensures found { IfOk result (λ r. ComesTo (still_due openings.Do depth) (so_far openings.Do) tokens.now [] (stmt (plain r.0) ∷ []) r.1.now) }
+    ensures found { IfOk result (λ r. ComesTo (still_due openings.Do depth) (so_far openings.Do) tokens.now [] (stmt (plain r.0.value) ∷ []) r.1.now) }
     ensures refused { IfErr result (λ e. Refuses (still_due openings.Do depth) (so_far openings.Do) tokens.now e) }
 {
     let (body, rest) = read_statement(alloc, tokens, depth)?;
@@ -113,29 +119,29 @@ fn read_repeated(alloc: Global, tokens: &[Token], depth: u32) -> Result<(Stmt, &
 #[cycle(statements)]
 fn read_cases(
     alloc: Global,
-    choice: Expr,
+    choice: Box<Expr>,
     tokens: &[Token],
     depth: u32,
-) -> Result<(Stmt, &[Token]), Refusal>
+) -> Result<(Box<Stmt>, &[Token]), Refusal>
     requires ended { EndsOnce tokens.now }
-    ensures found { IfOk result (λ r. ComesTo (still_due (openings.Case choice) depth) (so_far (openings.Case choice)) tokens.now [] (stmt (plain r.0) ∷ []) r.1.now) }
-    ensures refused { IfErr result (λ e. Refuses (still_due (openings.Case choice) depth) (so_far (openings.Case choice)) tokens.now e) }
+    ensures found { IfOk result (λ r. ComesTo (still_due (openings.Case choice.value) depth) (so_far (openings.Case choice.value)) tokens.now [] (stmt (plain r.0.value) ∷ []) r.1.now) }
+    ensures refused { IfErr result (λ e. Refuses (still_due (openings.Case choice.value) depth) (so_far (openings.Case choice.value)) tokens.now e) }
 {
     let (cases, rest) = read_statements(alloc, tokens, depth)?;
-    Ok((choosing(choice, cases), rest))
+    Ok((choosing(alloc, choice, cases)?, rest))
 }
 
 /// statement [ ELSE statement ], after IF, this condition and THEN
 #[cycle(statements)]
 fn read_arms(
     alloc: Global,
-    condition: Expr,
+    condition: Box<Expr>,
     tokens: &[Token],
     depth: u32,
-) -> Result<(Stmt, &[Token]), Refusal>
+) -> Result<(Box<Stmt>, &[Token]), Refusal>
     requires ended { EndsOnce tokens.now }
-    ensures found { IfOk result (λ r. ComesTo (statement depth ∷ else_part depth ∷ []) (one (image.expr condition) ∷ []) tokens.now [] (stmt (plain r.0) ∷ []) r.1.now) }
-    ensures refused { IfErr result (λ e. Refuses (statement depth ∷ else_part depth ∷ []) (one (image.expr condition) ∷ []) tokens.now e) }
+    ensures found { IfOk result (λ r. ComesTo (statement depth ∷ else_part depth ∷ []) (one (image.expr condition.value) ∷ []) tokens.now [] (stmt (plain r.0.value) ∷ []) r.1.now) }
+    ensures refused { IfErr result (λ e. Refuses (statement depth ∷ else_part depth ∷ []) (one (image.expr condition.value) ∷ []) tokens.now e) }
 {
     let (yes, rest) = read_statement(alloc, tokens, depth)?;
     let (next, after) = first_of(rest);
@@ -162,7 +168,7 @@ pub(crate) fn read_statements(
     let mut rest = tokens;
     'statements: loop {
         let (statement, after) = read_statement(alloc, rest, depth)?;
-        stmts.push(statement)?;
+        add(&mut stmts, statement)?;
         let (first, behind) = first_of(after);
         if is_symbol(first, Symbol::Semicolon) {
             rest = behind;
@@ -248,7 +254,7 @@ fn read_procedure(
     } else if begins_body(first) {
         let inner = opened(first, behind, depth)?;
         let (statement, rest) = read_statement(alloc, rest, inner)?;
-        closed_procedure(alloc, heading, statement, rest)
+        closed_procedure(heading, statement, rest)
     } else {
         Err(unexpected(first))
     }
@@ -267,16 +273,15 @@ fn closed_forward(heading: Heading, tokens: &[Token]) -> Result<(Decl, &[Token])
 
 /// The procedure of that heading and statement, where a semicolon follows
 fn closed_procedure(
-    alloc: Global,
     heading: Heading,
-    statement: Stmt,
+    statement: Box<Stmt>,
     tokens: &[Token],
 ) -> Result<(Decl, &[Token]), Refusal>
     requires ended { EndsOnce tokens.now }
     ensures passes { IfOk result (λ r. Passes (due.symbol symbols.Semicolon) tokens.now r.1.now) }
-    ensures built { IfOk result (λ r. image.decl r.0 ≡ trees.procedure heading (plain statement)) }
+    ensures built { IfOk result (λ r. image.decl r.0 ≡ trees.procedure heading (plain statement.value)) }
     ensures refused { IfErr result (λ e. Refuses (due.symbol symbols.Semicolon ∷ []) [] tokens.now e) }
 {
     let rest = expect_symbol(tokens, Symbol::Semicolon)?;
-    Ok((procedure(alloc, heading, statement)?, rest))
+    Ok((procedure(heading, statement), rest))
 }
