@@ -6,7 +6,7 @@ ghost use Rattle.algol_tree.specs.Names.{names_of_spec};
 ghost use Rattle.algol_rules.specs.Opened.{opened};
 ghost use Rattle.algol_tree.specs.Image.{expr, variable, call, exprs, pairs, stmt, stmts, decl, decls, body, program};
 
-use crate::parts::{boxed_stmt, decls_in, exprs_in, stmts_in};
+use crate::parts::{boxed_expr, boxed_stmt, decls_in, exprs_in, stmts_in};
 use algol_tree::{
     Body, Call, Decl, EventName, Expr, Heading, Kind, Named, Pair, Program, Spec, Stmt, Variable,
 };
@@ -34,28 +34,46 @@ fn opening(es: &[Expr]) -> usize
     }
 }
 
+/// The last part of an expression, the left operand of two, is counted in its place, so that the length of a sum needs no room on
+/// the stack.
 #[cycle(expressions)]
 fn expr_tokens(e: &Expr) -> usize
     ensures { result ≡ min (counts.expr_tokens (expr e.now)) (2 ^ 64 - 1) }
 {
-    match e {
-        Expr::Number(_, _) => 1,
-        Expr::Truth(_, _) => 1,
-        Expr::Variable(v) => variable_tokens(v),
-        Expr::Call(c) => call_tokens(c),
-        Expr::Happened(e, _) => event_tokens(e).saturating_add(3),
-        Expr::Paren(e, _) => expr_tokens(e).saturating_add(2),
-        Expr::Plus(e, _) => expr_tokens(e).saturating_add(1),
-        Expr::Neg(e, _) => expr_tokens(e).saturating_add(1),
-        Expr::Not(e, _) => expr_tokens(e).saturating_add(1),
-        Expr::Two(_, a, b) => expr_tokens(a)
-            .saturating_add(expr_tokens(b))
-            .saturating_add(1),
-        Expr::If(c, a, b, _) => {
-            expr_tokens(c)
-                .saturating_add(expr_tokens(a))
-                .saturating_add(expr_tokens(b))
-                .saturating_add(3)
+    let mut count: usize = 0;
+    let mut at = e;
+    'parts: loop {
+        match at {
+            Expr::Number(_, _) => return count.saturating_add(1),
+            Expr::Truth(_, _) => return count.saturating_add(1),
+            Expr::Variable(v) => return count.saturating_add(variable_tokens(v)),
+            Expr::Call(c) => return count.saturating_add(call_tokens(c)),
+            Expr::Happened(e, _) => return sum(count, event_tokens(e), 3),
+            Expr::Paren(e, _) => {
+                count = count.saturating_add(2);
+                at = boxed_expr(e);
+            }
+            Expr::Plus(e, _) => {
+                count = count.saturating_add(1);
+                at = boxed_expr(e);
+            }
+            Expr::Neg(e, _) => {
+                count = count.saturating_add(1);
+                at = boxed_expr(e);
+            }
+            Expr::Not(e, _) => {
+                count = count.saturating_add(1);
+                at = boxed_expr(e);
+            }
+            Expr::Two(_, a, b) => {
+                count = sum(count, expr_tokens(boxed_expr(b)), 1);
+                at = boxed_expr(a);
+            }
+            Expr::If(c, a, b, _) => {
+                let before = sum(expr_tokens(boxed_expr(c)), expr_tokens(boxed_expr(a)), 3);
+                count = count.saturating_add(before);
+                at = boxed_expr(b);
+            }
         }
     }
 }

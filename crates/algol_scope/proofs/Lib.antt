@@ -1,4 +1,6 @@
 pub mod Walking
+pub mod Sizes
+pub mod Waiting
 pub mod Visiting
 pub mod Bodies
 pub mod Opening

@@ -103,7 +103,7 @@ leads-end blocks old now all l = l now (adds-none now)
 pub record Follows (k : Around) (seen : Seen) (old now : Findings) (all rest : Surroundings → List Site) : Type 0 where
   pub leads : (blocks : List Block) (a : Surroundings) → Sees k seen a → Leads blocks old (all a) now (rest a)
 
-follows-step : (k : Around) (seen : Seen) (old now new : Findings) (all f g : Surroundings → List Site) →
+pub follows-step : (k : Around) (seen : Seen) (old now new : Findings) (all f g : Surroundings → List Site) →
     Follows k seen old now all (λ a. f a ++ g a) → Walks k seen now new f → Follows k seen old new all g
 follows-step k seen old now new all f g l w =
     record { leads = λ blocks a s. leads-step blocks old now new (all a) (f a) (g a) (l.leads blocks a s) (w.finds blocks a s) }

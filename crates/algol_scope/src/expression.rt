@@ -152,33 +152,49 @@ impl Findings {
         Ok(())
     }
 
+    /// An expression, part by part in the order of the text. The right operand of two waits while the left one is gone over in its
+    /// place, so that the length of a sum needs no room on the stack.
     #[cycle(expressions)]
     pub fn expr(&mut self, e: &Expr, around: &Around, seen: Seen) -> Result<(), AllocError>
         ensures { OnOk result (Walks around.now seen self.old self.new (sites (expr e.now))) }
     {
-        match e {
-            Expr::Number(_, _) => Ok(()),
-            Expr::Truth(_, _) => Ok(()),
-            Expr::Variable(v) => self.variable(v, around, seen),
-            Expr::Call(c) => self.call(c, around, seen),
-            Expr::Happened(event, _) => {
-                self.name(&event.name, around, seen)?;
-                Ok(())
-            }
-            Expr::Paren(e, _) => self.expr(boxed_expr(e), around, seen),
-            Expr::Plus(e, _) => self.expr(boxed_expr(e), around, seen),
-            Expr::Neg(e, _) => self.expr(boxed_expr(e), around, seen),
-            Expr::Not(e, _) => self.expr(boxed_expr(e), around, seen),
-            Expr::Two(_, a, b) => {
-                self.expr(boxed_expr(a), around, seen)?;
-                self.expr(boxed_expr(b), around, seen)
-            }
-            Expr::If(c, a, b, _) => {
-                self.expr(boxed_expr(c), around, seen)?;
-                self.expr(boxed_expr(a), around, seen)?;
-                self.expr(boxed_expr(b), around, seen)
+        let mut waiting = Vec::new(*self.cells.allocator());
+        let mut at = e;
+        'parts: loop {
+            match at {
+                Expr::Number(_, _) => break,
+                Expr::Truth(_, _) => break,
+                Expr::Variable(v) => {
+                    self.variable(v, around, seen)?;
+                    break;
+                }
+                Expr::Call(c) => {
+                    self.call(c, around, seen)?;
+                    break;
+                }
+                Expr::Happened(event, _) => {
+                    self.name(&event.name, around, seen)?;
+                    break;
+                }
+                Expr::Paren(e, _) => at = boxed_expr(e),
+                Expr::Plus(e, _) => at = boxed_expr(e),
+                Expr::Neg(e, _) => at = boxed_expr(e),
+                Expr::Not(e, _) => at = boxed_expr(e),
+                Expr::Two(_, a, b) => {
+                    waiting.push(boxed_expr(b))?;
+                    at = boxed_expr(a);
+                }
+                Expr::If(c, a, b, _) => {
+                    self.expr(boxed_expr(c), around, seen)?;
+                    self.expr(boxed_expr(a), around, seen)?;
+                    at = boxed_expr(b);
+                }
             }
         }
+        'waiting: while let Some(right) = waiting.pop() {
+            self.expr(right, around, seen)?;
+        }
+        Ok(())
     }
 
     /// The name of a task, where there is one.

@@ -39,6 +39,12 @@ swapped first gs [] r s = refl
 swapped first gs (fs ∷ fss) r s =
     ap (λ o. noted_many o fss) (noted_all-swap first gs fs r s.0) ∙ swapped (noted_all first fs) gs fss r s.1
 
+many_swapped : (first : Option Fault) (fss gss : List (List Fault)) → AllRules fss → AllRules gss →
+    noted_many (noted_many first fss) gss ≡ noted_many (noted_many first gss) fss
+many_swapped first [] gss r s = refl
+many_swapped first (fs ∷ fss) gss r s =
+    many_swapped (noted_all first fs) fss gss r.1 s ∙ ap (λ o. noted_many o fss) (swapped first fs gss r.0 s)
+
 apart : (first : Option Fault) (fss gss : List (List Fault)) → AllRules fss → AllRules gss → noted_many first (joined fss gss) ≡ noted_many (noted_many first fss) gss
 apart first [] gss r s = refl
 apart first (fs ∷ fss) [] r s = refl
@@ -130,3 +136,15 @@ noted_later blocks first spots xs =
     ∙ swapped first wrong (by_all blocks xs) (broken_rules codes.WrongType spots (λ spot. refl))
     (by_rule_rules (flat_map (wrong_types blocks) xs) (flat_map wrong_counts xs) (flat_map (not_assignable blocks) xs) (flat_map bad_lists xs) (flat_map wide_lines xs))
     ∙ ap (λ o. noted_all o wrong) (along blocks first xs)
+
+-- parts are noted before or after others
+pub either_first : (blocks : List Block) (first : Option Fault) (xs ys : List Site) →
+    noted_along blocks (noted_along blocks first xs) ys ≡ noted_along blocks (noted_along blocks first ys) xs
+either_first blocks first xs ys =
+    let are_rules : (zs : List Site) → AllRules (by_all blocks zs) = λ zs.
+    by_rule_rules (flat_map (wrong_types blocks) zs) (flat_map wrong_counts zs) (flat_map (not_assignable blocks) zs) (flat_map bad_lists zs) (flat_map wide_lines zs) in
+    sym (along blocks (noted_along blocks first xs) ys)
+    ∙ ap (λ o. noted_many o (by_all blocks ys)) (sym (along blocks first xs))
+    ∙ many_swapped first (by_all blocks xs) (by_all blocks ys) (are_rules xs) (are_rules ys)
+    ∙ ap (λ o. noted_many o (by_all blocks xs)) (along blocks first ys)
+    ∙ along blocks (noted_along blocks first ys) xs

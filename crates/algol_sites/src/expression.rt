@@ -243,56 +243,60 @@ pub fn expressions(scopes: &Scopes, es: &[Expr], faults: &mut Faults)
     }
 }
 
-/// An expression.
+/// An expression. Its last part, the left operand of two, is gone over in its place, so that the length of a sum needs no room on
+/// the stack: which fault is the first does not depend on which part is gone over first.
 #[cycle(expressions)]
 pub fn expression(scopes: &Scopes, e: &Expr, faults: &mut Faults)
     ensures { (a : Surroundings) → TellsIn scopes.now a (expr e.now) → faults.new.first ≡ noted_in faults.old.first (sites.sites (expr e.now) a) }
 {
-    match e {
-        Expr::Number(_, _) => {}
-        Expr::Truth(_, _) => {}
-        Expr::Variable(v) => {
-            read_variable(scopes, v, faults);
-            subscripts(scopes, v, faults);
-        }
-        Expr::Call(c) => {
-            called(scopes, c, Wanted::Function, faults);
-            actuals(scopes, c, faults);
-        }
-        Expr::Happened(event, _) => want_event(scopes, event, faults),
-        Expr::Paren(e, _) => expression(scopes, boxed_expr(e), faults),
-        Expr::Plus(e, _) => {
-            let operand = boxed_expr(e);
-            want(scopes, Kind::Number, operand, faults);
-            expression(scopes, operand, faults);
-        }
-        Expr::Neg(e, _) => {
-            let operand = boxed_expr(e);
-            want(scopes, Kind::Number, operand, faults);
-            expression(scopes, operand, faults);
-        }
-        Expr::Not(e, _) => {
-            let operand = boxed_expr(e);
-            want(scopes, Kind::Truth, operand, faults);
-            expression(scopes, operand, faults);
-        }
-        Expr::Two(op, x, y) => {
-            let left = boxed_expr(x);
-            let right = boxed_expr(y);
-            want(scopes, taken_by(*op), left, faults);
-            want(scopes, taken_by(*op), right, faults);
-            expression(scopes, left, faults);
-            expression(scopes, right, faults);
-        }
-        Expr::If(c, x, y, _) => {
-            let condition = boxed_expr(c);
-            let yes = boxed_expr(x);
-            let otherwise = boxed_expr(y);
-            want(scopes, Kind::Truth, condition, faults);
-            want_if(scopes, type_of(scopes, yes), otherwise, faults);
-            expression(scopes, condition, faults);
-            expression(scopes, yes, faults);
-            expression(scopes, otherwise, faults);
+    let mut at = e;
+    'parts: loop {
+        match at {
+            Expr::Number(_, _) => return,
+            Expr::Truth(_, _) => return,
+            Expr::Variable(v) => {
+                read_variable(scopes, v, faults);
+                return subscripts(scopes, v, faults);
+            }
+            Expr::Call(c) => {
+                called(scopes, c, Wanted::Function, faults);
+                return actuals(scopes, c, faults);
+            }
+            Expr::Happened(event, _) => return want_event(scopes, event, faults),
+            Expr::Paren(e, _) => at = boxed_expr(e),
+            Expr::Plus(e, _) => {
+                let operand = boxed_expr(e);
+                want(scopes, Kind::Number, operand, faults);
+                at = operand;
+            }
+            Expr::Neg(e, _) => {
+                let operand = boxed_expr(e);
+                want(scopes, Kind::Number, operand, faults);
+                at = operand;
+            }
+            Expr::Not(e, _) => {
+                let operand = boxed_expr(e);
+                want(scopes, Kind::Truth, operand, faults);
+                at = operand;
+            }
+            Expr::Two(op, x, y) => {
+                let left = boxed_expr(x);
+                let right = boxed_expr(y);
+                want(scopes, taken_by(*op), left, faults);
+                want(scopes, taken_by(*op), right, faults);
+                expression(scopes, right, faults);
+                at = left;
+            }
+            Expr::If(c, x, y, _) => {
+                let condition = boxed_expr(c);
+                let yes = boxed_expr(x);
+                let otherwise = boxed_expr(y);
+                want(scopes, Kind::Truth, condition, faults);
+                want_if(scopes, type_of(scopes, yes), otherwise, faults);
+                expression(scopes, condition, faults);
+                expression(scopes, yes, faults);
+                at = otherwise;
+            }
         }
     }
 }

@@ -1,4 +1,4 @@
-use Rattle.std.proofs.Common.{◌∙◌, sym, ap, refl, map, drop}
+use Rattle.std.proofs.Common.{[], ◌∙◌, sym, ap, refl, map, drop, arith}
 use Rattle.std.proofs.lemmas.List.{drop_all}
 use Rattle.algol_tree.specs.Image.{expr, exprs}
 use Rattle.algol_rules.specs.declared.fault.Faults.{Faults}
@@ -11,6 +11,8 @@ use Rattle.algol_tree.specs.Surroundings.{formals_at}
 use Rattle.algol_tree.specs.declared.tree.Kind.TheVariants as kinds
 use Rattle.algol_sites.proofs.Parts.{call_noted, two_noted, if_noted, wanted_as, wanted_for_as, through_as, typed_as}
 use Rattle.algol_sites.proofs.Noted.{neg_noted, not_noted, paren_noted, plus_noted, tested_noted, variable_noted}
+use Rattle.algol_scope.proofs.Sizes.{in_paren, in_plus, in_neg, in_not, in_left, in_otherwise}
+use Rattle.algol_sites.proofs.Whole.{either_first}
 use Rattle.algol_sites.proofs.Forms.{told_call, told_if, told_neg, told_not, told_paren, told_plus, told_tested, told_two, told_variable}
 use Rattle.algol_sites.proofs.Seen.{formals_told}
 use Rattle.algol_sites.proofs.Actuals.{each_split, list_end, list_step, actual_step, valued, alone, alike, none_left}
@@ -55,73 +57,118 @@ actuals-returns t c = λ a n u.
 
 pub expression-returns-in-Variable : goal.expression-returns-in-Variable
 expression-returns-in-Variable t c = λ a u.
-    let told = told_variable c.args.scopes.now a c.args.e.now u c.in-Variable.v c.in-Variable.is in
-    variable_noted c.args.e.now a c.args.faults.now.first c.in-Variable.v c.read_variable.new.faults.first c.subscripts.new.faults.first c.in-Variable.is
+    let inv = c.parts.invariant.0 a u in
+    let told = told_variable c.args.scopes.now a c.parts.at.now inv.1 c.in-Variable.v c.in-Variable.is in
+    variable_noted c.parts.at.now a c.parts.faults.first c.in-Variable.v c.read_variable.new.faults.first c.subscripts.new.faults.first c.in-Variable.is
     (c.read_variable.ensures a told.0 told.1) (c.subscripts.ensures a told.1)
+    ∙ inv.0
 
 pub expression-returns-in-Call : goal.expression-returns-in-Call
 expression-returns-in-Call t c = λ a u.
-    let told = told_call c.args.scopes.now a c.args.e.now u c.in-Call.c c.in-Call.is in
-    call_noted c.args.e.now c.in-Call.c a c.args.faults.now.first c.called.new.faults.first c.actuals.new.faults.first c.in-Call.is
+    let inv = c.parts.invariant.0 a u in
+    let told = told_call c.args.scopes.now a c.parts.at.now inv.1 c.in-Call.c c.in-Call.is in
+    call_noted c.parts.at.now c.in-Call.c a c.parts.faults.first c.called.new.faults.first c.actuals.new.faults.first c.in-Call.is
     (c.called.ensures a told.0) (c.actuals.ensures a told.0 told.1)
+    ∙ inv.0
 
 pub expression-returns-in-Happened : goal.expression-returns-in-Happened
 expression-returns-in-Happened t c = λ a u.
-    tested_noted c.args.e.now a c.args.faults.now.first c.in-Happened.event c.in-Happened.field-1 c.want_event.new.faults.first c.in-Happened.is
-    (c.want_event.ensures a (told_tested c.args.scopes.now a c.args.e.now u c.in-Happened.event c.in-Happened.field-1 c.in-Happened.is))
+    let inv = c.parts.invariant.0 a u in
+    tested_noted c.parts.at.now a c.parts.faults.first c.in-Happened.event c.in-Happened.field-1 c.want_event.new.faults.first c.in-Happened.is
+    (c.want_event.ensures a (told_tested c.args.scopes.now a c.parts.at.now inv.1 c.in-Happened.event c.in-Happened.field-1 c.in-Happened.is))
+    ∙ inv.0
 
-pub expression-returns-in-Paren : goal.expression-returns-in-Paren
-expression-returns-in-Paren t c = λ a u.
-    paren_noted c.args.e.now a c.args.faults.now.first c.in-Paren.e c.in-Paren.field-1 c.boxed_expr.result.now c.expression.new.faults.first c.in-Paren.is
-    c.boxed_expr.ensures
-    (c.expression.ensures a (told_paren c.args.scopes.now a c.args.e.now u c.in-Paren.e c.in-Paren.field-1 c.boxed_expr.result.now c.in-Paren.is c.boxed_expr.ensures))
+pub expression-parts-preserved-in-Paren : goal.expression-parts-preserved-in-Paren
+expression-parts-preserved-in-Paren t c = (
+  λ a u.
+      let inv = c.parts.invariant.0 a u in
+      let told = told_paren c.args.scopes.now a c.parts.at.now inv.1 c.in-Paren.e c.in-Paren.field-1 c.boxed_expr-at.result.now c.in-Paren.is c.boxed_expr-at.ensures in (
+        paren_noted c.parts.at.now a c.parts.faults.first c.in-Paren.e c.in-Paren.field-1 c.boxed_expr-at.result.now _ c.in-Paren.is c.boxed_expr-at.ensures refl ∙ inv.0,
+        told,
+      ),
+  omega (arith, c.parts.invariant.1, in_paren c.parts.at.now c.boxed_expr-at.result.now c.in-Paren.e c.in-Paren.field-1 c.in-Paren.is c.boxed_expr-at.ensures),
+)
 
-pub expression-returns-in-Plus : goal.expression-returns-in-Plus
-expression-returns-in-Plus t c = λ a u.
-    let told = told_plus c.args.scopes.now a c.args.e.now u c.in-Plus.e c.in-Plus.field-1 c.boxed_expr-operand.result.now c.in-Plus.is c.boxed_expr-operand.ensures in
-    plus_noted c.args.e.now a c.args.faults.now.first c.in-Plus.e c.in-Plus.field-1 c.boxed_expr-operand.result.now c.want.new.faults.first
-    c.expression-in-Plus.new.faults.first c.in-Plus.is c.boxed_expr-operand.ensures (c.want.ensures a told) (c.expression-in-Plus.ensures a told)
+pub expression-parts-preserved-in-Plus : goal.expression-parts-preserved-in-Plus
+expression-parts-preserved-in-Plus t c = (
+  λ a u.
+      let inv = c.parts.invariant.0 a u in
+      let told = told_plus c.args.scopes.now a c.parts.at.now inv.1 c.in-Plus.e c.in-Plus.field-1 c.boxed_expr-operand.result.now c.in-Plus.is c.boxed_expr-operand.ensures in (
+        plus_noted c.parts.at.now a c.parts.faults.first c.in-Plus.e c.in-Plus.field-1 c.boxed_expr-operand.result.now c.want.new.faults.first _
+            c.in-Plus.is c.boxed_expr-operand.ensures (c.want.ensures a told) refl ∙ inv.0,
+        told,
+      ),
+  omega (arith, c.parts.invariant.1, in_plus c.parts.at.now c.boxed_expr-operand.result.now c.in-Plus.e c.in-Plus.field-1 c.in-Plus.is c.boxed_expr-operand.ensures),
+)
 
-pub expression-returns-in-Neg : goal.expression-returns-in-Neg
-expression-returns-in-Neg t c = λ a u.
-    let told = told_neg c.args.scopes.now a c.args.e.now u c.in-Neg.e c.in-Neg.field-1 c.boxed_expr-operand-in-Neg.result.now c.in-Neg.is c.boxed_expr-operand-in-Neg.ensures in
-    neg_noted c.args.e.now a c.args.faults.now.first c.in-Neg.e c.in-Neg.field-1 c.boxed_expr-operand-in-Neg.result.now c.want-in-Neg.new.faults.first
-    c.expression-in-Neg.new.faults.first c.in-Neg.is c.boxed_expr-operand-in-Neg.ensures (c.want-in-Neg.ensures a told) (c.expression-in-Neg.ensures a told)
+pub expression-parts-preserved-in-Neg : goal.expression-parts-preserved-in-Neg
+expression-parts-preserved-in-Neg t c = (
+  λ a u.
+      let inv = c.parts.invariant.0 a u in
+      let told = told_neg c.args.scopes.now a c.parts.at.now inv.1 c.in-Neg.e c.in-Neg.field-1 c.boxed_expr-operand-in-Neg.result.now c.in-Neg.is c.boxed_expr-operand-in-Neg.ensures in (
+        neg_noted c.parts.at.now a c.parts.faults.first c.in-Neg.e c.in-Neg.field-1 c.boxed_expr-operand-in-Neg.result.now c.want-in-Neg.new.faults.first _
+            c.in-Neg.is c.boxed_expr-operand-in-Neg.ensures (c.want-in-Neg.ensures a told) refl ∙ inv.0,
+        told,
+      ),
+  omega (arith, c.parts.invariant.1, in_neg c.parts.at.now c.boxed_expr-operand-in-Neg.result.now c.in-Neg.e c.in-Neg.field-1 c.in-Neg.is c.boxed_expr-operand-in-Neg.ensures),
+)
 
-pub expression-returns-in-Not : goal.expression-returns-in-Not
-expression-returns-in-Not t c = λ a u.
-    let told = told_not c.args.scopes.now a c.args.e.now u c.in-Not.e c.in-Not.field-1 c.boxed_expr-operand-in-Not.result.now c.in-Not.is c.boxed_expr-operand-in-Not.ensures in
-    not_noted c.args.e.now a c.args.faults.now.first c.in-Not.e c.in-Not.field-1 c.boxed_expr-operand-in-Not.result.now c.want-in-Not.new.faults.first
-    c.expression-in-Not.new.faults.first c.in-Not.is c.boxed_expr-operand-in-Not.ensures (c.want-in-Not.ensures a told) (c.expression-in-Not.ensures a told)
+pub expression-parts-preserved-in-Not : goal.expression-parts-preserved-in-Not
+expression-parts-preserved-in-Not t c = (
+  λ a u.
+      let inv = c.parts.invariant.0 a u in
+      let told = told_not c.args.scopes.now a c.parts.at.now inv.1 c.in-Not.e c.in-Not.field-1 c.boxed_expr-operand-in-Not.result.now c.in-Not.is c.boxed_expr-operand-in-Not.ensures in (
+        not_noted c.parts.at.now a c.parts.faults.first c.in-Not.e c.in-Not.field-1 c.boxed_expr-operand-in-Not.result.now c.want-in-Not.new.faults.first _
+            c.in-Not.is c.boxed_expr-operand-in-Not.ensures (c.want-in-Not.ensures a told) refl ∙ inv.0,
+        told,
+      ),
+  omega (arith, c.parts.invariant.1, in_not c.parts.at.now c.boxed_expr-operand-in-Not.result.now c.in-Not.e c.in-Not.field-1 c.in-Not.is c.boxed_expr-operand-in-Not.ensures),
+)
 
-pub expression-returns-in-Two : goal.expression-returns-in-Two
-expression-returns-in-Two t c = λ a u.
-    let told =
-    told_two c.args.scopes.now a c.args.e.now u c.in-Two.op c.in-Two.x c.in-Two.y c.boxed_expr-left.result.now c.boxed_expr-right.result.now c.in-Two.is
-    c.boxed_expr-left.ensures c.boxed_expr-right.ensures in
-    two_noted c.args.e.now c.in-Two.op c.in-Two.x c.in-Two.y a c.args.faults.now.first c.want-in-Two.new.faults.first
-    c.want-in-Two-2.new.faults.first c.expression-in-Two.new.faults.first c.expression-in-Two-2.new.faults.first c.in-Two.is
-    (wanted_as c.taken_by.result (taken_by c.in-Two.op) c.boxed_expr-left.result.now c.in-Two.x.value _ _ _ c.taken_by.ensures c.boxed_expr-left.ensures
-    (c.want-in-Two.ensures a told.0))
-    (wanted_as c.taken_by-in-Two.result (taken_by c.in-Two.op) c.boxed_expr-right.result.now c.in-Two.y.value _ _ _ c.taken_by-in-Two.ensures c.boxed_expr-right.ensures
-    (c.want-in-Two-2.ensures a told.1))
-    (through_as c.boxed_expr-left.result.now c.in-Two.x.value _ _ _ c.boxed_expr-left.ensures (c.expression-in-Two.ensures a told.0))
-    (through_as c.boxed_expr-right.result.now c.in-Two.y.value _ _ _ c.boxed_expr-right.ensures (c.expression-in-Two-2.ensures a told.1))
+pub expression-parts-preserved-in-Two : goal.expression-parts-preserved-in-Two
+expression-parts-preserved-in-Two t c = (
+  λ a u.
+      let inv = c.parts.invariant.0 a u in
+      let told =
+      told_two c.args.scopes.now a c.parts.at.now inv.1 c.in-Two.op c.in-Two.x c.in-Two.y c.boxed_expr-left.result.now c.boxed_expr-right.result.now c.in-Two.is
+      c.boxed_expr-left.ensures c.boxed_expr-right.ensures in (
+        ap (λ o. noted_in o (sites (expr c.boxed_expr-left.result.now) a)) (c.expression.ensures a told.1)
+            ∙ either_first [] c.want-in-Two-2.new.faults.first (sites (expr c.boxed_expr-right.result.now) a) (sites (expr c.boxed_expr-left.result.now) a)
+            ∙ two_noted c.parts.at.now c.in-Two.op c.in-Two.x c.in-Two.y a c.parts.faults.first c.want-in-Two.new.faults.first
+            c.want-in-Two-2.new.faults.first _ _ c.in-Two.is
+            (wanted_as c.taken_by.result (taken_by c.in-Two.op) c.boxed_expr-left.result.now c.in-Two.x.value _ _ _ c.taken_by.ensures c.boxed_expr-left.ensures
+            (c.want-in-Two.ensures a told.0))
+            (wanted_as c.taken_by-in-Two.result (taken_by c.in-Two.op) c.boxed_expr-right.result.now c.in-Two.y.value _ _ _ c.taken_by-in-Two.ensures c.boxed_expr-right.ensures
+            (c.want-in-Two-2.ensures a told.1))
+            (through_as c.boxed_expr-left.result.now c.in-Two.x.value _ _ _ c.boxed_expr-left.ensures refl)
+            (through_as c.boxed_expr-right.result.now c.in-Two.y.value _ _ _ c.boxed_expr-right.ensures refl)
+            ∙ inv.0,
+        told.0,
+      ),
+  omega (arith, c.parts.invariant.1, in_left c.parts.at.now c.boxed_expr-left.result.now c.in-Two.op c.in-Two.x c.in-Two.y c.in-Two.is c.boxed_expr-left.ensures),
+)
 
-pub expression-returns-in-If : goal.expression-returns-in-If
-expression-returns-in-If t c = λ a u.
-    let told =
-    told_if c.args.scopes.now a c.args.e.now u c.in-If.c c.in-If.x c.in-If.y c.in-If.field-3 c.boxed_expr-condition.result.now c.boxed_expr-yes.result.now
-    c.boxed_expr-otherwise.result.now c.in-If.is c.boxed_expr-condition.ensures c.boxed_expr-yes.ensures c.boxed_expr-otherwise.ensures in
-    if_noted c.args.e.now c.in-If.c c.in-If.x c.in-If.y c.in-If.field-3 a c.args.faults.now.first c.want-in-If.new.faults.first
-    c.want_if.new.faults.first c.expression-in-If.new.faults.first c.expression-in-If-2.new.faults.first c.expression-in-If-3.new.faults.first c.in-If.is
-    (wanted_as kinds.Truth kinds.Truth c.boxed_expr-condition.result.now c.in-If.c.value _ _ _ refl c.boxed_expr-condition.ensures (c.want-in-If.ensures a told.0))
-    (wanted_for_as c.type_of.result (type_of (expr c.in-If.x.value) a) c.boxed_expr-otherwise.result.now c.in-If.y.value _ _ _
-    (typed_as c.type_of.result c.boxed_expr-yes.result.now c.in-If.x.value a c.boxed_expr-yes.ensures (c.type_of.ensures a told.1.0)) c.boxed_expr-otherwise.ensures
-    (c.want_if.ensures a told.1.1))
-    (through_as c.boxed_expr-condition.result.now c.in-If.c.value _ _ _ c.boxed_expr-condition.ensures (c.expression-in-If.ensures a told.0))
-    (through_as c.boxed_expr-yes.result.now c.in-If.x.value _ _ _ c.boxed_expr-yes.ensures (c.expression-in-If-2.ensures a told.1.0))
-    (through_as c.boxed_expr-otherwise.result.now c.in-If.y.value _ _ _ c.boxed_expr-otherwise.ensures (c.expression-in-If-3.ensures a told.1.1))
+pub expression-parts-preserved : goal.expression-parts-preserved
+expression-parts-preserved t c = (
+  λ a u.
+      let inv = c.parts.invariant.0 a u in
+      let told =
+      told_if c.args.scopes.now a c.parts.at.now inv.1 c.in-If.c c.in-If.x c.in-If.y c.in-If.field-3 c.boxed_expr-condition.result.now c.boxed_expr-yes.result.now
+      c.boxed_expr-otherwise.result.now c.in-If.is c.boxed_expr-condition.ensures c.boxed_expr-yes.ensures c.boxed_expr-otherwise.ensures in (
+        if_noted c.parts.at.now c.in-If.c c.in-If.x c.in-If.y c.in-If.field-3 a c.parts.faults.first c.want-in-If.new.faults.first
+            c.want_if.new.faults.first c.expression-in-If.new.faults.first c.expression-in-If-2.new.faults.first _ c.in-If.is
+            (wanted_as kinds.Truth kinds.Truth c.boxed_expr-condition.result.now c.in-If.c.value _ _ _ refl c.boxed_expr-condition.ensures (c.want-in-If.ensures a told.0))
+            (wanted_for_as c.type_of.result (type_of (expr c.in-If.x.value) a) c.boxed_expr-otherwise.result.now c.in-If.y.value _ _ _
+            (typed_as c.type_of.result c.boxed_expr-yes.result.now c.in-If.x.value a c.boxed_expr-yes.ensures (c.type_of.ensures a told.1.0)) c.boxed_expr-otherwise.ensures
+            (c.want_if.ensures a told.1.1))
+            (through_as c.boxed_expr-condition.result.now c.in-If.c.value _ _ _ c.boxed_expr-condition.ensures (c.expression-in-If.ensures a told.0))
+            (through_as c.boxed_expr-yes.result.now c.in-If.x.value _ _ _ c.boxed_expr-yes.ensures (c.expression-in-If-2.ensures a told.1.0))
+            (through_as c.boxed_expr-otherwise.result.now c.in-If.y.value _ _ _ c.boxed_expr-otherwise.ensures refl)
+            ∙ inv.0,
+        told.1.1,
+      ),
+  omega (arith, c.parts.invariant.1, in_otherwise c.parts.at.now c.boxed_expr-otherwise.result.now c.in-If.c c.in-If.x c.in-If.y c.in-If.field-3 c.in-If.is c.boxed_expr-otherwise.ensures),
+)
 
 pub subscripts-subscripts-preserved : goal.subscripts-subscripts-preserved
 subscripts-subscripts-preserved t c = λ a u.

@@ -1,11 +1,16 @@
-use Rattle.std.proofs.Common.{[], ◌∷◌, ◌∙◌}
+use Rattle.std.proofs.Common.{◌≡◌, ◌<◌, ◌+◌, ◌*◌, [], ◌∷◌, ◌∙◌, arith}
 use Rattle.std.proofs.lemmas.List.{drop_all}
-use Rattle.algol_tree.specs.Image.{exprs}
-use Rattle.algol_tree.specs.Sites.{inside_list}
-use Rattle.algol_scope.specs.Noting.{at_name}
-use Rattle.algol_known.proofs.Plain.{expr_happened, expr_two, expr_if}
-use Rattle.algol_scope.proofs.Walking.{follows-item, follows-end, passing-item, passing-end, walks-then, walks-happened, walks-two, walks-if, walks-call, walks-of, on_ok, copied-get, get-within}
+use Rattle.algol_tree.specs.declared.tree.Expr.{size-Expr}
+use Rattle.algol_tree.specs.Image.{expr, exprs}
+use Rattle.algol_tree.specs.Sites.{sites, inside_list}
+use Rattle.algol_known.proofs.Plain.{expr_happened}
+use Rattle.algol_scope.specs.declared.findings.Findings.{Findings}
+use Rattle.algol_scope.specs.Noting.{Walks, at_name}
+use Rattle.algol_scope.proofs.Walking.{follows-item, follows-end, passing-item, passing-end, Follows, walks-then, walks-happened, walks-call, walks-of, on_ok, copied-get, get-within}
+use Rattle.algol_scope.proofs.Waiting.{waiting_parts, under_more, under_last, goes_in_paren, goes_in_plus, goes_in_neg, goes_in_not, goes_left, goes_last, comes_back_as, taken_up, none_waits, none_left, walks_number, walks_truth, walks_variable, walks_called}
+use Rattle.algol_scope.proofs.Sizes.{in_paren, in_plus, in_neg, in_not, in_left, in_right, in_otherwise}
 use Rattle.algol_scope.proofs.findings.Findings.+expressions.Goals as goal
+use Rattle.algol_scope.proofs.findings.Findings.+expressions.Goals.{expr-in-Number, expr-in-Truth, expr-in-Variable+in_ok-variable-in-Variable, expr-in-Call+in_ok-call-in-Call, expr-in-Happened+in_ok-name-in-Happened}
 
 pub list-expressions-preserved : goal.list-expressions-preserved
 list-expressions-preserved t c =
@@ -40,31 +45,106 @@ call-returns t c =
     (λ a s. c.modes.ensures ∙ (c.in_ok-class.ensures.class a s).modes))
     c.actuals.ensures
 
-pub expr-returns-in_ok-name-in-Happened : goal.expr-returns-in_ok-name-in-Happened
-expr-returns-in_ok-name-in-Happened t c =
-    walks-of c.args.around.now c.args.seen c.args.self.now c.name.new.self _ _ (expr_happened _ _ _ c.in-Happened.is)
-    (walks-happened c.args.around.now c.args.seen c.args.self.now c.name.new.self c.in-Happened.event c.in-Happened.field-1
-    c.in_ok-name-in-Happened.ensures.walks)
+pub expr-parts-preserved-in-Paren : goal.expr-parts-preserved-in-Paren
+expr-parts-preserved-in-Paren t c =
+    let d = c.boxed_expr-at in (
+      goes_in_paren c.args.around.now c.args.seen c.args.self.now c.parts.self (sites (expr c.args.e.now)) c.parts.waiting.items c.parts.at.now d.result.now
+          c.in-Paren.e c.in-Paren.field-1 c.in-Paren.is d.ensures c.parts.invariant.0,
+      omega (arith, c.parts.invariant.1, in_paren c.parts.at.now d.result.now c.in-Paren.e c.in-Paren.field-1 c.in-Paren.is d.ensures),
+      c.parts.invariant.2,
+    )
 
-pub expr-returns-in_ok-expr-in-Two : goal.expr-returns-in_ok-expr-in-Two
-expr-returns-in_ok-expr-in-Two t c =
-    on_ok c.expr-in-Two-2.result
-    (λ h.
-    walks-of c.args.around.now c.args.seen c.args.self.now c.expr-in-Two-2.new.self _ _
-    (expr_two _ _ _ _ _ _ c.in-Two.is c.boxed_expr-in-Two.ensures c.boxed_expr-in-Two-2.ensures)
-    (walks-two c.args.around.now c.args.seen c.args.self.now c.expr-in-Two.new.self c.expr-in-Two-2.new.self c.in-Two.field-0 _ _
-    c.in_ok-expr-in-Two.ensures h))
-    c.expr-in-Two-2.ensures
+pub expr-parts-preserved-in-Plus : goal.expr-parts-preserved-in-Plus
+expr-parts-preserved-in-Plus t c =
+    let d = c.boxed_expr-at-in-Plus in (
+      goes_in_plus c.args.around.now c.args.seen c.args.self.now c.parts.self (sites (expr c.args.e.now)) c.parts.waiting.items c.parts.at.now d.result.now
+          c.in-Plus.e c.in-Plus.field-1 c.in-Plus.is d.ensures c.parts.invariant.0,
+      omega (arith, c.parts.invariant.1, in_plus c.parts.at.now d.result.now c.in-Plus.e c.in-Plus.field-1 c.in-Plus.is d.ensures),
+      c.parts.invariant.2,
+    )
 
-pub expr-returns-in_ok-expr-in-If-2 : goal.expr-returns-in_ok-expr-in-If-2
-expr-returns-in_ok-expr-in-If-2 t c =
-    on_ok c.expr-in-If-3.result
-    (λ h.
-    walks-of c.args.around.now c.args.seen c.args.self.now c.expr-in-If-3.new.self _ _
-    (expr_if _ _ _ _ _ _ _ _ c.in-If.is c.boxed_expr-in-If.ensures c.boxed_expr-in-If-2.ensures c.boxed_expr-in-If-3.ensures)
-    (walks-if c.args.around.now c.args.seen c.args.self.now c.expr-in-If.new.self c.expr-in-If-2.new.self c.expr-in-If-3.new.self _ _ _
-    c.in-If.field-3 c.in_ok-expr-in-If.ensures c.in_ok-expr-in-If-2.ensures h))
-    c.expr-in-If-3.ensures
+pub expr-parts-preserved-in-Neg : goal.expr-parts-preserved-in-Neg
+expr-parts-preserved-in-Neg t c =
+    let d = c.boxed_expr-at-in-Neg in (
+      goes_in_neg c.args.around.now c.args.seen c.args.self.now c.parts.self (sites (expr c.args.e.now)) c.parts.waiting.items c.parts.at.now d.result.now
+          c.in-Neg.e c.in-Neg.field-1 c.in-Neg.is d.ensures c.parts.invariant.0,
+      omega (arith, c.parts.invariant.1, in_neg c.parts.at.now d.result.now c.in-Neg.e c.in-Neg.field-1 c.in-Neg.is d.ensures),
+      c.parts.invariant.2,
+    )
+
+pub expr-parts-preserved-in-Not : goal.expr-parts-preserved-in-Not
+expr-parts-preserved-in-Not t c =
+    let d = c.boxed_expr-at-in-Not in (
+      goes_in_not c.args.around.now c.args.seen c.args.self.now c.parts.self (sites (expr c.args.e.now)) c.parts.waiting.items c.parts.at.now d.result.now
+          c.in-Not.e c.in-Not.field-1 c.in-Not.is d.ensures c.parts.invariant.0,
+      omega (arith, c.parts.invariant.1, in_not c.parts.at.now d.result.now c.in-Not.e c.in-Not.field-1 c.in-Not.is d.ensures),
+      c.parts.invariant.2,
+    )
+
+pub expr-parts-preserved-in-Two : goal.expr-parts-preserved-in-Two
+expr-parts-preserved-in-Two t c =
+    let d = c.boxed_expr-at-in-Two in
+    let r = c.boxed_expr.result in (
+      goes_left c.args.around.now c.args.seen c.args.self.now c.parts.self (sites (expr c.args.e.now)) c.parts.waiting.items c.push.new.self.items r c.parts.at.now
+          d.result.now c.in-Two.field-0 c.in-Two.a c.in-Two.b c.in-Two.is d.ensures c.boxed_expr.ensures c.in_ok-push-in-Two.ensures.items c.parts.invariant.0,
+      omega (arith, c.parts.invariant.1, in_left c.parts.at.now d.result.now c.in-Two.field-0 c.in-Two.a c.in-Two.b c.in-Two.is d.ensures),
+      under_more c.args.e.now c.parts.waiting.items c.push.new.self.items r c.in_ok-push-in-Two.ensures.items c.parts.invariant.2
+          (omega (arith, c.parts.invariant.1, in_right c.parts.at.now r.now c.in-Two.field-0 c.in-Two.a c.in-Two.b c.in-Two.is c.boxed_expr.ensures)),
+    )
+
+pub expr-parts-preserved : goal.expr-parts-preserved
+expr-parts-preserved t c =
+    let d = c.boxed_expr-at-in-If in (
+      goes_last c.args.around.now c.args.seen c.args.self.now c.parts.self (sites (expr c.args.e.now)) c.expr.new.self c.expr-in-If.new.self c.parts.waiting.items
+          c.parts.at.now c.boxed_expr-in-If.result.now c.boxed_expr-in-If-2.result.now d.result.now c.in-If.c c.in-If.a c.in-If.b c.in-If.field-3 c.in-If.is
+          c.boxed_expr-in-If.ensures c.boxed_expr-in-If-2.ensures d.ensures c.in_ok-expr-in-If.ensures c.in_ok-expr-in-If-2.ensures c.parts.invariant.0,
+      omega (arith, c.parts.invariant.1, in_otherwise c.parts.at.now d.result.now c.in-If.c c.in-If.a c.in-If.b c.in-If.field-3 c.in-If.is d.ensures),
+      c.parts.invariant.2,
+    )
+
+pub expr-waiting-init : goal.expr-waiting-init
+expr-waiting-init t c =
+    let k = c.args.around.now in
+    let seen = c.args.seen in
+    let old = c.args.self.now in
+    let now = c.parts.self in
+    let all = sites (expr c.args.e.now) in
+    let rs = c.parts.waiting.items in
+    let back : (new : Findings) → Walks k seen now new (sites (expr c.parts.at.now)) → c.match-at.self ≡ new → Follows k seen old c.match-at.self all (waiting_parts rs) =
+    λ new w is. comes_back_as k seen old now all new c.match-at.self rs c.parts.at.now w c.parts.invariant.0 is in (
+      elim c.match-at.branch [
+        | expr-in-Number w ↦ back now (walks_number k seen now c.parts.at.now _ _ w.in-Number.is) w.self-is
+        | expr-in-Truth w ↦ back now (walks_truth k seen now c.parts.at.now _ _ w.in-Truth.is) w.self-is
+        | expr-in-Variable+in_ok-variable-in-Variable w ↦
+            back w.variable.new.self (walks_variable k seen now w.variable.new.self c.parts.at.now w.in-Variable.v w.in-Variable.is w.in_ok-variable-in-Variable.ensures) w.self-is
+        | expr-in-Call+in_ok-call-in-Call w ↦
+            back w.call.new.self (walks_called k seen now w.call.new.self c.parts.at.now w.in-Call.c w.in-Call.is w.in_ok-call-in-Call.ensures) w.self-is
+        | expr-in-Happened+in_ok-name-in-Happened w ↦
+            back w.name.new.self
+            (walks-of k seen now w.name.new.self _ _ (expr_happened _ _ _ w.in-Happened.is)
+            (walks-happened k seen now w.name.new.self w.in-Happened.event w.in-Happened.field-1 w.in_ok-name-in-Happened.ensures.walks))
+            w.self-is
+      ],
+      c.parts.invariant.2,
+    )
+
+pub expr-expr-requires-in-Some : goal.expr-expr-requires-in-Some
+expr-expr-requires-in-Some t c =
+    let last = under_last c.args.e.now c.waiting.waiting.items c.pop.new.self.items c.in-Some.right c.in-Some.ensures.items c.waiting.invariant.1 in
+    let smaller : 2 * size-Expr c.in-Some.right.now + 0 < t = omega (arith, last.0, c.decreases) in
+    (smaller, tt)
+
+pub expr-waiting-preserved : goal.expr-waiting-preserved
+expr-waiting-preserved t c = (
+  taken_up c.args.around.now c.args.seen c.args.self.now c.waiting.self (sites (expr c.args.e.now)) c.expr-in-Some.new.self c.waiting.waiting.items c.pop.new.self.items
+      c.in-Some.right c.in-Some.ensures.items c.in_ok-expr.ensures c.waiting.invariant.0,
+  (under_last c.args.e.now c.waiting.waiting.items c.pop.new.self.items c.in-Some.right c.in-Some.ensures.items c.waiting.invariant.1).1,
+)
+
+pub expr-returns : goal.expr-returns
+expr-returns t c =
+    none_waits c.args.around.now c.args.seen c.args.self.now c.waiting.self (sites (expr c.args.e.now)) c.waiting.waiting.items
+    (none_left c.waiting.waiting.items (omega (arith, c.waiting.waiting.ok.0, c.in_default.ensures.cases.0))) c.waiting.invariant.0
 
 pub variable-returns : goal.variable-returns
 variable-returns t c =
