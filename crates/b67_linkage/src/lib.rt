@@ -19,7 +19,7 @@ pub use cuts::cut_to;
 pub use entries::{control_word, enter, entering, go_in, mark, marked};
 pub use exits::{entered_below, exit, leave_base, leave_frame, leaving, left_to, return_value};
 pub use laws::{live_processes_are_linked, rows_close_as_the_table_has_it};
-pub use words::{cut_words, push_word};
+pub use words::{cut_words, exchange_words, push_word};
 
 /// Why a call of the linkage was refused.
 #[derive(Clone, Copy)]

@@ -1,6 +1,6 @@
 -- A private operator does the same where more words lie below those that it takes off, or it misses a word of which its process has one.
 use Rattle.std.proofs.Common.{◌≡◌, ◌⊎◌, inl, inr, refl, sym, ap, subst, ◌∙◌, ℕ, suc, ◌+◌, ◌-◌, ◌<◌, ◌≤◌, Bool, true, false, cond, ℤ, pos, List, [], ◌∷◌, ◌++◌, length, Option, Some, None, arith}
-use Rattle.std.specs.Prelude.{nat_lt, nat_le, bit_and, bit_or}
+use Rattle.std.specs.Prelude.{◌&&◌, nat_lt, nat_le, bit_and, bit_or}
 use Rattle.std.proofs.lemmas.Bool.{leb-true, lt-ltb, and_parts, and_from, false_from_ne_true, true≢false}
 use Rattle.b67_num.specs.declared.Calculation.{Calculation}
 use Rattle.b67_num.specs.declared.Relation.{Relation}
@@ -25,7 +25,10 @@ use Rattle.b67_table.specs.PrivateRows.{pointed, onward, wholes, arithmetic, rel
 use Rattle.b67_table.specs.Rows.{private_part, row, plain_row, acts, turn}
 use Rattle.b67_table.specs.Table.{part_by, private_op}
 use Rattle.b67_table.proofs.Keeping.{Gives}
-use Rattle.b67_private.specs.Parts.{is_short}
+
+-- An operator takes two words off at most. Fewer are there, and they do not reach down to the floor: so it may miss one that its process has.
+abbrev pub is_short : Private → Bool
+is_short p = nat_lt (length p.words) 2 && nat_lt (floor p.regs + length p.words) p.regs.s
 
 -- fewer words than so many are there, and they do not reach down to the floor
 abbrev pub Lacks : ℕ → Private → Type 0

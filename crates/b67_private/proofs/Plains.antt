@@ -1,7 +1,7 @@
 -- So many plain operators of a private part are so many plain operators of its process.
-use Rattle.std.proofs.Common.{◌≡◌, refl, sym, ap, subst, ◌∙◌, ℕ, zero, suc, ◌+◌, ◌-◌, ◌<◌, ◌≤◌, true, false, List, ◌++◌, length, take, drop, set, Option, Some, None, take-append-drop, arith}
+use Rattle.std.proofs.Common.{◌≡◌, inr, refl, sym, ap, subst, ◌∙◌, ℕ, zero, suc, ◌+◌, ◌-◌, ◌<◌, ◌≤◌, true, false, List, ◌++◌, length, take, drop, set, Option, Some, None, take-append-drop, arith}
 use Rattle.std.specs.Prelude.{reverse}
-use Rattle.std.proofs.lemmas.List.{reverse-reverse, length-drop, length-take-le}
+use Rattle.std.proofs.lemmas.List.{reverse-append, reverse-reverse, length-drop, length-take-le}
 use Rattle.b67_list.specs.Numbered.{numbered, set_numbered}
 use Rattle.b67_word.specs.Word.{Word}
 use Rattle.b67_control.specs.Display.{levels}
@@ -27,9 +27,9 @@ use Rattle.b67_table.proofs.PrivateAll.{private_op_kept}
 use Rattle.b67_table.proofs.PrivateKept as kept
 use Rattle.b67_table.proofs.PrivateValid.{part_is, put_valid}
 use Rattle.b67_table.proofs.Stacks.{set_set_here}
-use Rattle.b67_private.specs.Parts.{outcome_by, own_next, is_new, is_short, is_plain, PlainParts, stay, go}
+use Rattle.b67_private.specs.Parts.{outcome_by, own_next, is_new, is_plain, PlainParts, part_with, stay, go}
 use Rattle.b67_private.specs.Laws.{IsStretch, StretchesAreOwn}
-use Rattle.b67_private.proofs.Deeper.{deep, whole_is_enough}
+use Rattle.b67_private.proofs.Deeper.{is_short, deep, not_short, whole_is_enough}
 use Rattle.b67_private.proofs.Floors.{private_op_rises}
 use Rattle.b67_private.proofs.Own.{own_operator}
 use Rattle.b67_private.proofs.Stepping.{fits_of, given_of}
@@ -228,6 +228,42 @@ module _ (code : Code) (img : Image) (p : ℕ) (r : Registers) (v : IsValid code
             (subst (λ (x : Image). Plains code p (image_of (private_of img r)) k x) (put_again b f) (many (private_of img r) b k fine_first plains));
         next = ap (λ (x : Image). plain code x p) (sym (put_again b f)) ∙ plain_alike b f;
       }
+
+  -- ---- on all the words of its stack
+
+  enough : (a : Private) → Fine a → is_short a ≡ false
+  enough a f = not_short a (inr (omega (arith, f.low, f.part.size)))
+
+  -- a part after so many plain operators, and what they leave where these words lie below it
+  pub record Shallow (lower : List Word) (a b : Private) (k : ℕ) : Type 0 where
+    pub part : Private
+    pub plains : PlainParts code a k part
+    pub is : b ≡ deep lower part
+    pub fine : Fine part
+
+  shallow : (lower : List Word) (a x b : Private) (k : ℕ) → Fine a → x ≡ deep lower a → PlainParts code x k b → Shallow lower a b k
+  shallow lower a x b k f e stay = record { part = a; plains = stay; is = e; fine = f }
+  shallow lower a x b k f e (go {b = c} g rest) =
+      let one = from_deeper lower (own_next code a) c (sym (own_next_deep lower code a (enough a f)) ∙ ap (own_next code) (sym e) ∙ g) in
+      let more = shallow lower one.0 c b _ (fine_next a one.0 f one.1) (sym one.2) rest in
+      record { part = more.part; plains = go one.1 more.plains; is = more.is; fine = more.fine }
+
+  abbrev pub below : List Word
+  below = reverse (take (floor r) (words_of img.stacks r.stack))
+
+  whole_is : part_with r (reverse (words_of img.stacks r.stack)) ≡ deep below (private_of img r)
+  whole_is =
+      ap (part_with r)
+      (ap reverse (sym (take-append-drop (floor r) (words_of img.stacks r.stack)))
+      ∙ reverse-append (take (floor r) (words_of img.stacks r.stack)) (drop (floor r) (words_of img.stacks r.stack)))
+
+  -- so many plain operators on all of them are as many of the process's part
+  pub shallow_whole : (b : Private) (k : ℕ) → PlainParts code (part_with r (reverse (words_of img.stacks r.stack))) k b → Shallow below (private_of img r) b k
+  shallow_whole b k plains = shallow below (private_of img r) (part_with r (reverse (words_of img.stacks r.stack))) b k fine_first whole_is plains
+
+  -- and then the next operator is plain for both alike
+  pub shallow_plain : (b : Private) (k : ℕ) → (s : Shallow below (private_of img r) b k) → is_plain code b ≡ is_plain code s.part
+  shallow_plain b k s = ap (is_plain code) s.is ∙ plain_deep below code s.part (enough s.part s.fine)
 
 pub stretches_are_own : StretchesAreOwn
 stretches_are_own code img p r v live has b k plains = stretch code img p r v live has b k plains

@@ -1,4 +1,4 @@
--- Plain operators of a private part are as many where more words lie below.
+-- What a private operator does where more words lie below, and where the words of a part lie in its stack.
 use Rattle.std.proofs.Common.{◌≡◌, ◌⊎◌, inl, inr, refl, sym, ap, ◌∙◌, ℕ, ◌+◌, Bool, true, false, cond, List, ◌++◌, length, take, drop, Option, Some, None, append_assoc, length-append, arith}
 use Rattle.std.specs.Prelude.{reverse, nat_le}
 use Rattle.std.proofs.lemmas.List.{reverse-append, reverse-reverse, length-reverse}
@@ -14,9 +14,9 @@ use Rattle.b67_table.specs.Effect as effects
 use Rattle.b67_table.specs.declared.InterruptKind.TheVariants.{StackUnderflow}
 use Rattle.b67_table.specs.Outcome.{Outcome, gives, faults, interrupts, limit, limited}
 use Rattle.b67_table.specs.Table.{private_op}
-use Rattle.b67_table.proofs.PrivateWords.{cut_is}
-use Rattle.b67_private.specs.Parts.{length_of, own_outcome, outcome_by, own_next, is_new, is_short, is_plain, PlainParts, stay, go}
-use Rattle.b67_private.proofs.Deeper.{Lacks, deep, deepened, Deepens, private_op_deep, lacks_none}
+use Rattle.b67_store.proofs.TopFirst.{cut_is}
+use Rattle.b67_private.specs.Parts.{length_of, own_outcome, outcome_by, own_next, is_new, is_plain}
+use Rattle.b67_private.proofs.Deeper.{is_short, Lacks, deep, deepened, Deepens, private_op_deep, lacks_none}
 
 -- ---- more words below
 
@@ -82,12 +82,6 @@ module _ (lower : List Word) where
   -- the next operator is plain for both alike
   pub plain_deep : (code : Code) (m : Private) → is_short m ≡ false → is_plain code (deep lower m) ≡ is_plain code m
   plain_deep code m k = ap is_new (own_next_deep code m k) ∙ new_deeper (own_next code m)
-
-  -- so many plain operators are as many with more words below
-  pub plains_deep : (code : Code) (a b : Private) (n : ℕ) → PlainParts code a n b → PlainParts code (deep lower a) n (deep lower b)
-  plains_deep code a b n stay = stay
-  plains_deep code a b n (go {b = c} e rest) =
-      go (goes_by a c (own_next code (deep lower a)) (own_next code a) e (next_deep code a)) (plains_deep code c b _ rest)
 
   pub from_deeper : (o : Outcome Private) (b : Private) → deeper o ≡ gives b → (q : Private) × (o ≡ gives q) × (deep lower q ≡ b)
   from_deeper (gives q) b e = (q, refl, cc)

@@ -1,5 +1,5 @@
 -- Plain operators on a private part only.
-use Rattle.std.specs.Prelude.{◌≡◌, ℕ, ◌+◌, ◌^◌, ◌<◌, ◌≤◌, ◌&&◌, nat_lt, Bool, true, false, List, length, All, Option, Some, None}
+use Rattle.std.specs.Prelude.{◌≡◌, ℕ, ◌+◌, ◌^◌, ◌<◌, ◌≤◌, Bool, true, false, List, length, All, Option, Some, None}
 use Rattle.b67_word.specs.declared.Place.{Place}
 use Rattle.b67_word.specs.Word.{Word, IsWord}
 use Rattle.b67_control.specs.declared.Registers.{Registers}
@@ -47,10 +47,6 @@ is_new (gives p) = true
 is_new (faults kind) = false
 is_new (outcomes.interrupts kind) = false
 is_new limit = false
-
--- An operator takes two words off at most. Fewer are there, and they do not reach down to the floor: so it may miss one that its process has.
-abbrev pub is_short : Private → Bool
-is_short p = nat_lt (length p.words) 2 && nat_lt (floor p.regs + length p.words) p.regs.s
 
 -- the next operator of a part is plain
 abbrev pub is_plain : Code → Private → Bool

@@ -17,7 +17,6 @@ pub use laws::{operators_are_own, parts_of_valid_images, stretches_are_own};
 pub use operators::operate;
 pub use prepared::Prepared;
 pub use stretch::{burst, burst_in_place, next_operator};
-pub use taking::is_short;
 
 /// The most words that an operator of a private part takes off.
 pub const REACH: u32 = 2;

@@ -1,11 +1,10 @@
 // The words on top of a private part, and words in their place.
-ghost use Rattle.std.specs.Prelude.{◌≡◌, ◌+◌, ◌-◌, ◌∷◌, ◌<◌, ◌≤◌, drop, length};
-ghost use Rattle.b67_control.specs.Display.{levels};
+ghost use Rattle.std.specs.Prelude.{◌≡◌, ◌+◌, ◌-◌, ◌∷◌, ◌≤◌, drop, length};
 ghost use Rattle.b67_store.specs.Store.{stack_limit};
-ghost use Rattle.b67_private.specs.Parts.{IsPart, is_short, part_with};
+ghost use Rattle.b67_private.specs.Parts.{IsPart, part_with};
 ghost use Rattle.b67_private.specs.Performing.{TakesOne, TakesTwo, set_to};
 
-use crate::{REACH, Stop};
+use crate::Stop;
 use b67_table::{InterruptKind, Registers, Words, floor};
 use b67_word::Word;
 
@@ -69,14 +68,4 @@ pub fn lower(regs: &mut Registers, words: &mut Words, count: u32, next: u16)
     words.cut(count);
     regs.s -= count;
     regs.place = next;
-}
-
-/// Tests that an operator may miss a word that its process has: fewer are there than it may take off, and they do not reach down
-/// to the floor.
-pub fn is_short(regs: &Registers, words: &Words) -> bool
-    requires { regs.now.ll < levels }
-    ensures { result ≡ is_short (part_with regs.now words.now) }
-{
-    let length = words.len();
-    length < REACH && floor(regs) + length < regs.s
 }

@@ -2,3 +2,4 @@ pub mod Heaps
 pub mod Lists
 pub mod Tables
 pub mod StoreLaws
+pub mod TopFirst

@@ -5,7 +5,7 @@
 //! each stack and each row in a list of its own.
 #![tactic(auto)]
 
-ghost use Rattle.std.specs.Prelude.{◌≡◌, ℕ, ◌+◌, ◌-◌, ◌<◌, ◌≤◌, Bool, true, false, List, [], ◌∷◌, ◌++◌, length, take, Option, Some, None, slice_get, is_some, IfSome, is_ok, IfOk, IfErr, OnOk, OnErr, option_map, if◌then◌else◌, IsSome};
+ghost use Rattle.std.specs.Prelude.{◌≡◌, ℕ, ◌+◌, ◌-◌, ◌<◌, ◌≤◌, Bool, true, false, List, [], ◌∷◌, ◌++◌, length, reverse, take, Option, Some, None, slice_get, is_some, IfSome, is_ok, IfOk, IfErr, OnOk, OnErr, option_map, if◌then◌else◌, IsSome};
 ghost use Rattle.b67_store.specs.Laws.{IsByNumber, CountsOpenRows};
 ghost use Rattle.b67_word.specs.Word.{Word};
 ghost use Rattle.b67_store.specs.Store.{Row, Stacks, Rows, stack_at, words_of, word_at, with_stack, with_word, with_push, with_cut, opened_at, closed_at, least_free, stack_limit, PushFails, OpenFails, row_at, row_words, with_row_word, zero_row, counted_words, count_limit, row_limit, exceeds, RowFails};
@@ -17,10 +17,12 @@ mod row_table;
 mod slots;
 mod stack;
 mod stack_table;
+mod words;
 
 use b67_word::{Place, Word};
 pub use list_core::ListCore;
 use std::alloc::AllocError;
+pub use words::Words;
 
 /// The most words of a stack, by this project's profile.
 pub const MOST_STACK_WORDS: usize = 65_536;
@@ -107,6 +109,13 @@ pub trait Core: Drop {
     fn cut(&mut self, stack: u16, length: u32) -> Result<(), NoSuchPlace>
         ensures found { is_ok result ≡ is_some (stack_at (stacks self.old) stack) }
         ensures stacks { stacks self.new ≡ (if is_ok result then with_cut (stacks self.old) stack length else stacks self.old) }
+        ensures rows { rows self.new ≡ rows self.old };
+
+    /// The words of a stack and these change places, and none is copied. An error comes exactly where the stack is not open.
+    fn exchange(&mut self, stack: u16, words: &mut Words) -> Result<(), NoSuchPlace>
+        ensures found { is_ok result ≡ is_some (stack_at (stacks self.old) stack) }
+        ensures stacks { stacks self.new ≡ (if is_ok result then with_stack (stacks self.old) stack (reverse words.old) else stacks self.old) }
+        ensures words { words.new ≡ (if is_ok result then reverse (words_of (stacks self.old) stack) else words.old) }
         ensures rows { rows self.new ≡ rows self.old };
 
     /// Opens a stack without words, and takes the memory for [`MOST_STACK_WORDS`]. InUse comes exactly where

@@ -4,7 +4,7 @@ ghost use Rattle.b67_store.specs.Store.{Held};
 
 use crate::row_table::RowTable;
 use crate::stack_table::StackTable;
-use crate::{Core, NoSuchPlace, OpenFault, PushFault, RowFault};
+use crate::{Core, NoSuchPlace, OpenFault, PushFault, RowFault, Words};
 use b67_word::{Place, Word};
 use std::alloc::Global;
 use std::marker::Model;
@@ -68,6 +68,10 @@ impl Core for ListCore {
 
     fn cut(&mut self, stack: u16, length: u32) -> Result<(), NoSuchPlace> {
         self.stacks.cut(stack, length)
+    }
+
+    fn exchange(&mut self, stack: u16, words: &mut Words) -> Result<(), NoSuchPlace> {
+        self.stacks.exchange(stack, words)
     }
 
     fn open_stack(&mut self, stack: u16) -> Result<(), OpenFault> {

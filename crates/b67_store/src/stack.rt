@@ -1,7 +1,8 @@
 // The words of one stack, with room for all that it may have.
-ghost use Rattle.std.specs.Prelude.{◌≡◌, ℕ, ◌+◌, ◌-◌, ◌<◌, ◌≤◌, nat_lt, false, List, [], ◌∷◌, ◌++◌, length, take, Some, slice_get, slice_set, IsSome, is_some, is_ok, IfOk, IfErr, OnOk, if◌then◌else◌};
+ghost use Rattle.std.specs.Prelude.{◌≡◌, ℕ, ◌+◌, ◌-◌, ◌<◌, ◌≤◌, nat_lt, false, List, [], ◌∷◌, ◌++◌, length, reverse, take, Some, slice_get, slice_set, IsSome, is_some, is_ok, IfOk, IfErr, OnOk, if◌then◌else◌};
 ghost use Rattle.b67_store.specs.Store.{stack_limit, words_or, SlotFails};
 
+use crate::words::Words;
 use crate::{MOST_STACK_WORDS, NoSuchPlace, PushFault};
 use b67_word::Word;
 use std::alloc::{AllocError, Global};
@@ -80,6 +81,14 @@ impl Stack {
         self.words.pop()
     }
 
+    // The words change places with these.
+    pub fn exchange(&mut self, words: &mut Words)
+        ensures stack { self.new ≡ reverse words.old }
+        ensures words { words.new ≡ reverse self.old }
+    {
+        words.exchange(&mut self.words);
+    }
+
     // Longer than this it is not.
     pub fn cut(&mut self, length: u32)
         ensures { self.new ≡ take length self.old }
@@ -137,5 +146,17 @@ pub fn cut_words(slot: &mut Option<Stack>, length: u32) -> Result<(), NoSuchPlac
         return Err(NoSuchPlace);
     };
     stack.cut(length);
+    Ok(())
+}
+
+pub fn exchange_words(slot: &mut Option<Stack>, words: &mut Words) -> Result<(), NoSuchPlace>
+    ensures found { is_ok result ≡ is_some slot.old }
+    ensures stack { slot.new ≡ (if is_ok result then Some (reverse words.old) else slot.old) }
+    ensures words { words.new ≡ (if is_ok result then reverse (words_or slot.old) else words.old) }
+{
+    let Some(stack) = slot else {
+        return Err(NoSuchPlace);
+    };
+    stack.exchange(words);
     Ok(())
 }

@@ -1,11 +1,11 @@
 // The stacks by their numbers.
-ghost use Rattle.std.specs.Prelude.{◌^◌, ◌≡◌, ℕ, ◌+◌, ◌-◌, ◌<◌, ◌≤◌, Bool, true, false, List, [], ◌∷◌, ◌++◌, length, replicate, Option, Some, None, slice_get, is_some, IsSome, IfSome, is_ok, IfOk, IfErr, OnOk, OnErr, option_map, if◌then◌else◌};
+ghost use Rattle.std.specs.Prelude.{◌^◌, ◌≡◌, ℕ, ◌+◌, ◌-◌, ◌<◌, ◌≤◌, Bool, true, false, List, [], ◌∷◌, ◌++◌, length, replicate, reverse, Option, Some, None, slice_get, is_some, IsSome, IfSome, is_ok, IfOk, IfErr, OnOk, OnErr, option_map, if◌then◌else◌};
 ghost use Rattle.std.specs.Vec.{vec_len, vec_capacity};
 ghost use Rattle.b67_store.specs.Store.{stack_at, words_of, word_at, with_stack, with_word, with_push, with_cut, opened_at, closed_at, stack_limit, PushFails, OpenFails};
 
 use crate::slots::open_at;
-use crate::stack::{Stack, cut_words, pop_word, push_word, write_word};
-use crate::{NoSuchPlace, OpenFault, PushFault};
+use crate::stack::{Stack, cut_words, exchange_words, pop_word, push_word, write_word};
+use crate::{NoSuchPlace, OpenFault, PushFault, Words};
 use b67_word::{Place, Word};
 use std::alloc::{AllocError, Global};
 use std::marker::Model;
@@ -88,6 +88,18 @@ impl StackTable {
             return Err(NoSuchPlace);
         };
         cut_words(slot, length)
+    }
+
+    #[tactic(auto, using(crate::proofs::Lists::slots))]
+    pub fn exchange(&mut self, stack: u16, words: &mut Words) -> Result<(), NoSuchPlace>
+        ensures found { is_ok result ≡ is_some (stack_at self.old stack) }
+        ensures stacks { self.new ≡ (if is_ok result then with_stack self.old stack (reverse words.old) else self.old) }
+        ensures words { words.new ≡ (if is_ok result then reverse (words_of self.old stack) else words.old) }
+    {
+        let Some(slot) = self.stacks.get_mut(usize::from(stack)) else {
+            return Err(NoSuchPlace);
+        };
+        exchange_words(slot, words)
     }
 
     pub fn close(&mut self, stack: u16) -> Result<(), NoSuchPlace>

@@ -36,4 +36,3 @@ pub mod Making
 pub mod Begun
 pub mod AllValid
 pub mod Working
-pub mod PrivateWords

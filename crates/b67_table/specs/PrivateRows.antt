@@ -1,5 +1,5 @@
 -- The rows of the private operators: what each does to the private part, and where it leaves the pointer.
-use Rattle.std.specs.Prelude.{ℕ, ◌+◌, ◌-◌, ◌^◌, ◌%◌, ◌&&◌, not, nat_lt, nat_le, nat_eq, if◌then◌else◌, Bool, true, false, ℤ, Option, Some, None, Result, Ok, Err, int_lt, int_le, bit_xor}
+use Rattle.std.specs.Prelude.{ℕ, ◌+◌, ◌-◌, ◌^◌, ◌%◌, nat_lt, nat_le, nat_eq, if◌then◌else◌, Bool, true, false, ℤ, Option, Some, None, Result, Ok, Err, bit_xor}
 use Rattle.b67_num.specs.declared.NumFault.{NumFault}
 use Rattle.b67_num.specs.Whole.{negation_of, fault_of}
 use Rattle.b67_word.specs.declared.Place.{Place}

@@ -1,5 +1,5 @@
 -- The operator table: one row for each operator. A row is a function of the private part of its own process, or a program.
-use Rattle.std.specs.Prelude.{ℕ, ◌+◌, ◌-◌, ◌==◌, ◌&&◌, ◌||◌, not, nat_lt, nat_le, nat_eq, if◌then◌else◌, Bool, true, false, pos, [], ◌∷◌, Option, Some, None, is_some, bit_and, bit_or, int_lt, int_le}
+use Rattle.std.specs.Prelude.{ℕ, ◌+◌, ◌-◌, ◌==◌, ◌&&◌, ◌||◌, not, nat_lt, nat_le, nat_eq, if◌then◌else◌, Bool, true, false, pos, [], ◌∷◌, Option, Some, None, is_some, bit_and, bit_or}
 use Rattle.b67_num.specs.declared.FaultKind.TheVariants.{NotAVariable}
 use Rattle.b67_num.specs.declared.Calculation.TheVariants.{Sum, Difference, Product, WholeQuotient, TruncatedQuotient, Remainder}
 use Rattle.b67_num.specs.declared.Relation.TheVariants.{Less, LessOrEqual, Equal, NotEqual, GreaterOrEqual, Greater}

@@ -11,11 +11,11 @@ ghost use Rattle.b67_table.specs.Table.{class_at, class_by};
 
 mod floors;
 mod laws;
-mod private_words;
 
 pub use b67_control::Registers;
 use b67_control::{Display, Rcw};
 use b67_ops::{Operator, PlainKind};
+pub use b67_store::Words;
 use b67_word::{Place, Word};
 pub use floors::{floor, frame, wide};
 pub use laws::{
@@ -23,7 +23,6 @@ pub use laws::{
     plain_operators_commute, private_operators_stay_private, reading_decides,
     refusals_write_nothing, rows_at_work, valid_processes_stand,
 };
-use std::marker::Model;
 
 /// Why an operator can not be performed. Of an operator's interrupts `BadCode` comes first, then `StackUnderflow`,
 /// `InvalidOperand`, `BrokenChain`; faults come after interrupts (this project's profile).
@@ -145,25 +144,6 @@ pub struct Leaving {
     pub below: Below,
     /// The display of the frame below.
     pub display: Display,
-}
-
-/// The words of a private part, with room for as many as a stack can have. Contracts see the top word first.
-#[derive(Drop)]
-pub struct Words {
-    items: Vec<Word>,
-}
-
-impl Model for Words {
-    ghost use Rattle.std.specs.Prelude.{List, reverse, ◌≤◌};
-    ghost use Rattle.std.specs.Vec.{vec_len, vec_capacity};
-    ghost use Rattle.b67_word.specs.Word.{Word};
-    ghost use Rattle.b67_store.specs.Store.{stack_limit};
-
-    ghost Value = { List Word };
-
-    ghost view = { λ w. reverse w.items.items };
-
-    ghost invariant = { λ w. (stack_limit ≤ vec_capacity w.items) × (vec_len w.items ≤ stack_limit) };
 }
 
 /// The private part of a process: its registers, and the words at its floor and above.

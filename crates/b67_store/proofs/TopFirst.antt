@@ -1,5 +1,5 @@
--- The words of a private part, which a vector holds with the top word last.
-use Rattle.std.proofs.Common.{◌≡◌, sym, ap, ◌∙◌, ℕ, ◌+◌, ◌-◌, List, ◌++◌, length, take, drop, arith, take-append-drop}
+-- Words with the top one first, which a vector holds with the top one last.
+use Rattle.std.proofs.Common.{◌≡◌, sym, ap, ◌∙◌, ℕ, ◌+◌, List, ◌++◌, length, take, drop, arith, take-append-drop}
 use Rattle.std.specs.Prelude.{reverse}
 use Rattle.std.proofs.lemmas.List.{reverse-append, length-reverse, length-drop}
 use Rattle.std.proofs.Math.Seq.{drop-append_seam}

@@ -1,8 +1,8 @@
 use Rattle.std.proofs.Common.{◌-◌, ◌∙◌, ap, length, drop, arith}
 use Rattle.std.specs.Prelude.{reverse}
 use Rattle.std.proofs.lemmas.List.{length-reverse}
-use Rattle.b67_table.proofs.PrivateWords.{cut_is}
-use Rattle.b67_table.proofs.Words.cut.Goals as goal
+use Rattle.b67_store.proofs.TopFirst.{cut_is}
+use Rattle.b67_store.proofs.words.Words.cut.Goals as goal
 
 pub returns : goal.returns
 returns c =

@@ -1,11 +1,32 @@
-// What the words of a private part can do: none of it takes memory.
-ghost use Rattle.std.specs.Prelude.{◌≡◌, ◌<◌, ◌≤◌, List, [], ◌∷◌, length, drop, IfOk, slice_get};
+// Words that stand apart from the stacks, with room for all that a stack may have.
+ghost use Rattle.std.specs.Prelude.{◌≡◌, ◌<◌, ◌≤◌, List, [], ◌∷◌, length, drop, reverse, IfOk, slice_get};
+ghost use Rattle.std.specs.Vec.{vec_capacity, vec_len};
 ghost use Rattle.b67_store.specs.Store.{stack_limit};
 
-use crate::Words;
-use b67_store::MOST_STACK_WORDS;
+use crate::MOST_STACK_WORDS;
 use b67_word::Word;
 use std::alloc::{AllocError, Global};
+use std::marker::Model;
+use std::mem;
+
+/// Words, with room for as many as a stack can have. Contracts see the top word first.
+#[derive(Drop)]
+pub struct Words {
+    items: Vec<Word>,
+}
+
+impl Model for Words {
+    ghost use Rattle.std.specs.Prelude.{List, reverse, ◌≤◌};
+    ghost use Rattle.std.specs.Vec.{vec_len, vec_capacity};
+    ghost use Rattle.b67_word.specs.Word.{Word};
+    ghost use Rattle.b67_store.specs.Store.{stack_limit};
+
+    ghost Value = { List Word };
+
+    ghost view = { λ w. reverse w.items.items };
+
+    ghost invariant = { λ w. (stack_limit ≤ vec_capacity w.items) × (vec_len w.items ≤ stack_limit) };
+}
 
 impl Words {
     /// No words, with the memory for as many as a stack can have.
@@ -55,5 +76,17 @@ impl Words {
     {
         let length = self.len() - count;
         self.items.truncate(length as usize);
+    }
+
+    // They change places with others, whose bottom stands first and which have their room.
+    pub(crate) fn exchange(&mut self, items: &mut Vec<Word>)
+        requires room { stack_limit ≤ vec_capacity items.old }
+        requires few { vec_len items.old ≤ stack_limit }
+        ensures words { self.new ≡ reverse items.old.items }
+        ensures items { items.new.items ≡ reverse self.old }
+        ensures room { stack_limit ≤ vec_capacity items.new }
+        ensures few { vec_len items.new ≤ stack_limit }
+    {
+        mem::swap(&mut self.items, items);
     }
 }
