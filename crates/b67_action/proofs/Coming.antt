@@ -146,6 +146,12 @@ not_performed (Stopped (Fault kind)) e = cc
 not_performed (Stopped StackLimit) e = cc
 not_performed NoMemory e = cc
 
+pub went_performed : (s : ProcessState) → is_performed (went s) ≡ false → ⊥
+went_performed states.Able e = cc
+went_performed (states.WaitsFor event) e = cc
+went_performed (states.Procures event) e = cc
+went_performed states.Ended e = cc
+
 -- ---- states are not taken away
 
 grows_by : (p : ℕ) (w : Write) (img : Image) → length img.states ≤ length (written p w img).states

@@ -17,10 +17,10 @@ use Rattle.b67_table.specs.Private.{floor}
 use Rattle.b67_linkage.specs.Held.{IsLinked}
 use Rattle.b67_private.specs.declared.Stop.{Stop as PartStop}
 use Rattle.b67_private.specs.declared.Stop.TheVariants as parts
-use Rattle.b67_private.specs.Parts.{IsPart, own_outcome, is_short, is_plain, PlainParts}
+use Rattle.b67_private.specs.Parts.{IsPart, own_outcome, is_plain}
 use Rattle.b67_private.specs.Performing.{stopped as part_stopped}
-use Rattle.b67_private.proofs.Deeper.{deep, not_short}
-use Rattle.b67_private.proofs.Stretching.{deeper, own_outcome_goes, own_outcome_same, plain_deep, plains_deep}
+use Rattle.b67_private.proofs.Deeper.{is_short, deep, not_short}
+use Rattle.b67_private.proofs.Stretching.{deeper, own_outcome_goes, own_outcome_same, plain_deep}
 use Rattle.b67_reach.specs.Images.{Own, own}
 use Rattle.b67_action.specs.Own.{part_from, part_of, stop_by, DoesOwn}
 use Rattle.b67_action.proofs.OwnOutcome.{put_back, own_stops, own_goes, own_left}
@@ -89,14 +89,14 @@ module _ (st : Stacks) (r : Registers) (base : ℕ) (above : floor r ≤ base) (
   upper_enough most two enough = enough_by most two enough (cases_lt (floor r) base)
 
   -- what is put back above the base is put back above the floor
-  pub put_whole : (q : Private) (stacks : Stacks) → q.regs.stack ≡ r.stack → stacks ≡ put_back st base q → stacks ≡ put_back st (floor r) (deep (between st r base) q)
+  put_whole : (q : Private) (stacks : Stacks) → q.regs.stack ≡ r.stack → stacks ≡ put_back st base q → stacks ≡ put_back st (floor r) (deep (between st r base) q)
   put_whole q stacks same e =
       e
       ∙ ap (λ (ws : List Word). with_stack st q.regs.stack ws)
       (subst (λ (n : ℕ). take base (words_of st n) ++ reverse q.words ≡ take (floor r) (words_of st n) ++ reverse (q.words ++ between st r base)) (sym same)
       (sym (put_above (words_of st r.stack) q.words (floor r) base above low)))
 
-  pub room_above : (us : List Word) → floor r + length (us ++ between st r base) ≤ stack_limit → base + length us ≤ stack_limit
+  room_above : (us : List Word) → floor r + length (us ++ between st r base) ≤ stack_limit → base + length us ≤ stack_limit
   room_above us h =
       let ws = take base (words_of st r.stack) in
       omega (
@@ -113,10 +113,6 @@ module _ (st : Stacks) (r : Registers) (base : ℕ) (above : floor r ≤ base) (
   pub upper_plain : (code : Code) → is_short (part_from base st r) ≡ false → is_plain code (part_from base st r) ≡ is_plain code (part_of st r)
   upper_plain code enough =
       sym (ap (is_plain code) whole_is ∙ plain_deep (between st r base) code (part_from base st r) enough)
-
-  pub upper_plains : (code : Code) (q : Private) (n : ℕ) → PlainParts code (part_from base st r) n q → PlainParts code (part_of st r) n (deep (between st r base) q)
-  upper_plains code q n plains =
-      subst (λ (m : Private). PlainParts code m n (deep (between st r base) q)) (sym whole_is) (plains_deep (between st r base) code (part_from base st r) q n plains)
 
 -- ---- one operator
 

@@ -1,5 +1,5 @@
 // The next operator of a process.
-ghost use Rattle.std.specs.Prelude.{◌≡◌, IfSome, true};
+ghost use Rattle.std.specs.Prelude.{◌≡◌, IfSome, [], true, false};
 ghost use Rattle.b67_list.specs.Numbered.{numbered};
 ghost use Rattle.b67_segment.specs.Decoded.{AreDecoded};
 ghost use Rattle.b67_table.specs.Image.{is_able};
@@ -23,8 +23,8 @@ use b67_table::Words;
 /// Performs the next operator of a process, whatever its class, as the operator table says, and answers what it came to.
 /// Where the process's segment was decoded at its level, the table of its operators saves the decoding. A private operator
 /// is performed on `words`, whatever they are. After an operator that was performed `woken` has the processes that it
-/// released, in their order. NoMemory comes only from an intrinsic that makes something: arrays, an
-/// event, a process or a line.
+/// released, in their order, and after any other nobody. NoMemory comes only from an intrinsic that makes something: arrays, an
+/// event, a process or a line; then the image is as it was.
 pub fn action<C: Core>(
     core: &mut C,
     kernel: &mut Kernel,
@@ -39,9 +39,11 @@ pub fn action<C: Core>(
     requires table { IfSome (numbered parts.old.regs.items process) (λ r. IfSome table (λ t. AreDecoded parts.old.code r.segment r.ll t.now)) }
     ensures came { Came parts.old.code (image_of (C.Core.stacks core.old) (C.Core.rows core.old) kernel.old.events parts.old) process result (image_of (C.Core.stacks core.new) (C.Core.rows core.new) kernel.new.events parts.new) }
     ensures woken { is_performed result ≡ true → parts.new.woken.processes.items ≡ releases parts.old.code (image_of (C.Core.stacks core.old) (C.Core.rows core.old) kernel.old.events parts.old) process }
+    ensures nobody { is_performed result ≡ false → parts.new.woken.processes.items ≡ [] }
     ensures able { is_performed result ≡ true → AbleAfter (image_of (C.Core.stacks core.old) (C.Core.rows core.old) kernel.old.events parts.old) (image_of (C.Core.stacks core.new) (C.Core.rows core.new) kernel.new.events parts.new) process parts.new.woken.processes.items }
     ensures valid { IsValid parts.old.code (image_of (C.Core.stacks core.new) (C.Core.rows core.new) kernel.new.events parts.new) }
     ensures room { HasRoom kernel.new parts.new }
+    ensures processes { kernel.new.room ≡ kernel.old.room }
     ensures code { parts.new.code ≡ parts.old.code }
 {
     parts.woken.processes.clear();
@@ -59,6 +61,9 @@ pub fn action<C: Core>(
     let _ = core.counted();
     match answer {
         Ok(()) => went(parts.states[process as usize - 1]),
-        Err(hindrance) => hindered_by(hindrance),
+        Err(hindrance) => {
+            parts.woken.processes.clear();
+            hindered_by(hindrance)
+        }
     }
 }

@@ -17,18 +17,19 @@ two_opened old one two xs ys e f g h k =
     ∙ ap (λ (z : List Word). Some z ∷ Some ys ∷ []) h
     ∙ ap (λ (z : List Word). Some system_stack ∷ Some z ∷ []) k
 
-abbrev built : Stacks → Rows → List Event → List Registers → List ProcessState → List (List ℕ) → Image
-built stacks rows events regs states output =
-    record { stacks = stacks; rows = rows; events = events; regs = regs; states = states; output = output; started = 1; fault = None }
+abbrev built : Stacks → Rows → List Event → List Registers → List ProcessState → List (List ℕ) → ℕ → Image
+built stacks rows events regs states output started =
+    record { stacks = stacks; rows = rows; events = events; regs = regs; states = states; output = output; started = started; fault = None }
 
-pub is_first : (stacks : Stacks) (rows : Rows) (events : List Event) (regs : List Registers) (states : List ProcessState) (output : List (List ℕ))
-    → stacks ≡ Some system_stack ∷ Some base_frame ∷ [] → rows ≡ [] → events ≡ [] → regs ≡ first_registers ∷ [] → states ≡ Able ∷ [] → output ≡ []
-    → built stacks rows events regs states output ≡ first_image
+pub is_first : (stacks : Stacks) (rows : Rows) (events : List Event) (regs : List Registers) (states : List ProcessState) (output : List (List ℕ)) (started : ℕ)
+    → stacks ≡ Some system_stack ∷ Some base_frame ∷ [] → rows ≡ [] → events ≡ [] → regs ≡ first_registers ∷ [] → states ≡ Able ∷ [] → output ≡ [] → started ≡ 1
+    → built stacks rows events regs states output started ≡ first_image
 unfolding first_image
-is_first stacks rows events regs states output e f g h k o =
-    ap (λ (z : Stacks). built z rows events regs states output) e
-    ∙ ap (λ (z : Rows). built (Some system_stack ∷ Some base_frame ∷ []) z events regs states output) f
-    ∙ ap (λ (z : List Event). built (Some system_stack ∷ Some base_frame ∷ []) [] z regs states output) g
-    ∙ ap (λ (z : List Registers). built (Some system_stack ∷ Some base_frame ∷ []) [] [] z states output) h
-    ∙ ap (λ (z : List ProcessState). built (Some system_stack ∷ Some base_frame ∷ []) [] [] (first_registers ∷ []) z output) k
-    ∙ ap (λ (z : List (List ℕ)). built (Some system_stack ∷ Some base_frame ∷ []) [] [] (first_registers ∷ []) (Able ∷ []) z) o
+is_first stacks rows events regs states output started e f g h k o n =
+    ap (λ (z : Stacks). built z rows events regs states output started) e
+    ∙ ap (λ (z : Rows). built (Some system_stack ∷ Some base_frame ∷ []) z events regs states output started) f
+    ∙ ap (λ (z : List Event). built (Some system_stack ∷ Some base_frame ∷ []) [] z regs states output started) g
+    ∙ ap (λ (z : List Registers). built (Some system_stack ∷ Some base_frame ∷ []) [] [] z states output started) h
+    ∙ ap (λ (z : List ProcessState). built (Some system_stack ∷ Some base_frame ∷ []) [] [] (first_registers ∷ []) z output started) k
+    ∙ ap (λ (z : List (List ℕ)). built (Some system_stack ∷ Some base_frame ∷ []) [] [] (first_registers ∷ []) (Able ∷ []) z started) o
+    ∙ ap (λ (z : ℕ). built (Some system_stack ∷ Some base_frame ∷ []) [] [] (first_registers ∷ []) (Able ∷ []) [] z) n

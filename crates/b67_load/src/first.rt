@@ -1,6 +1,8 @@
 // The first image.
-ghost use Rattle.std.specs.Prelude.{◌≡◌, [], IfOk};
-ghost use Rattle.b67_table.specs.Beginning.{first_image};
+ghost use Rattle.std.specs.Prelude.{◌≡◌, ℕ, [], ◌∷◌, Some, None, IfOk, OnOk, OnErr};
+ghost use Rattle.b67_store.specs.Store.{stack_at};
+ghost use Rattle.b67_table.specs.declared.ProcessState.TheVariants.{Able};
+ghost use Rattle.b67_table.specs.Beginning.{base_frame, first_image, first_registers, system_stack};
 ghost use Rattle.b67_reach.specs.Images.{image_of};
 ghost use Rattle.b67_action.specs.Done.{HasRoom};
 
@@ -13,17 +15,16 @@ use b67_segment::Code;
 use b67_store::Core;
 use std::alloc::{AllocError, Global};
 
-/// Builds the first image of a code on a store in which nothing is open, with room for the most processes to wait and to be
-/// released. Without memory what the store holds is not told.
-pub fn load<C: Core>(alloc: Global, core: &mut C, code: Code) -> Result<(Kernel, Parts), AllocError>
-    requires stacks { C.Core.stacks core.old ≡ [] }
-    requires rows { C.Core.rows core.old ≡ [] }
-    ensures image { IfOk result (λ made. image_of (C.Core.stacks core.new) (C.Core.rows core.new) made.0.events made.1 ≡ first_image) }
+// What a machine has beside its store, before its first operator.
+fn parts_of(alloc: Global, code: Code) -> Result<(Kernel, Parts), AllocError>
+    ensures events { IfOk result (λ made. made.0.events ≡ []) }
+    ensures regs { IfOk result (λ made. made.1.regs.items ≡ first_registers ∷ []) }
+    ensures states { IfOk result (λ made. made.1.states.items ≡ Able ∷ []) }
+    ensures output { IfOk result (λ made. made.1.output.items ≡ []) }
+    ensures started { IfOk result (λ made. made.1.started ≡ 1) }
     ensures room { IfOk result (λ made. HasRoom made.0 made.1) }
     ensures code { IfOk result (λ made. made.1.code ≡ code) }
 {
-    open_with(core, 0, &system_words())?;
-    open_with(core, 1, &base_words())?;
     let kernel = Kernel::with_room(alloc, MOST_PROCESSES)?;
     let mut regs = Vec::new(alloc);
     regs.push(first_registers())?;
@@ -41,4 +42,35 @@ pub fn load<C: Core>(alloc: Global, core: &mut C, code: Code) -> Result<(Kernel,
         started: 1,
     };
     Ok((kernel, parts))
+}
+
+// The first two stacks. Without memory none is open.
+fn open_first<C: Core>(core: &mut C) -> Result<(), AllocError>
+    requires { C.Core.stacks core.old ≡ [] }
+    ensures opened { OnOk result (C.Core.stacks core.new ≡ Some system_stack ∷ Some base_frame ∷ []) }
+    ensures none { OnErr result ((n : ℕ) → stack_at (C.Core.stacks core.new) n ≡ None) }
+    ensures rows { C.Core.rows core.new ≡ C.Core.rows core.old }
+{
+    open_with(core, 0, &system_words())?;
+    let second = open_with(core, 1, &base_words());
+    if second.is_err() {
+        let _ = core.close_stack(0);
+    }
+    second
+}
+
+/// Builds the first image of a code on a store in which nothing is open, with room for the most processes to wait and to be
+/// released. Without memory nothing is open in the store.
+pub fn load<C: Core>(alloc: Global, core: &mut C, code: Code) -> Result<(Kernel, Parts), AllocError>
+    requires stacks { C.Core.stacks core.old ≡ [] }
+    requires rows { C.Core.rows core.old ≡ [] }
+    ensures image { IfOk result (λ made. image_of (C.Core.stacks core.new) (C.Core.rows core.new) made.0.events made.1 ≡ first_image) }
+    ensures room { IfOk result (λ made. HasRoom made.0 made.1) }
+    ensures code { IfOk result (λ made. made.1.code ≡ code) }
+    ensures no_stack { OnErr result ((n : ℕ) → stack_at (C.Core.stacks core.new) n ≡ None) }
+    ensures no_row { OnErr result (C.Core.rows core.new ≡ []) }
+{
+    let made = parts_of(alloc, code)?;
+    open_first(core)?;
+    Ok(made)
 }

@@ -9,3 +9,4 @@ pub mod Tailing
 pub mod Entering
 pub mod Finishing
 pub mod Following
+pub mod Lacking

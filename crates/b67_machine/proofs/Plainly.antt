@@ -1,15 +1,15 @@
 -- What plain operators of a process leave as it is.
 use Rattle.std.specs.Prelude.{◌&&◌}
-use Rattle.std.proofs.Common.{◌≡◌, true≢false, refl, sym, ap, subst, ◌∙◌, ℕ, zero, suc, ◌+◌, ◌-◌, ◌<◌, ◌≤◌, Bool, true, false, List, length, set, take, drop, get_or, ◌++◌, Option, Some, None, IsSome, arith, length-append}
+use Rattle.std.proofs.Common.{◌≡◌, refl, sym, ap, subst, ◌∙◌, ℕ, zero, suc, ◌-◌, ◌<◌, Bool, true, false, List, set, take, drop, get_or, ◌++◌, Option, Some, None, IsSome, arith}
 use Rattle.std.specs.Prelude.{reverse}
-use Rattle.std.proofs.lemmas.List.{length-reverse, length-take-le}
+use Rattle.std.proofs.lemmas.List.{reverse-append, reverse-reverse}
 use Rattle.std.proofs.lemmas.Option.{get_or_from_slice_get}
 use Rattle.b67_list.specs.Numbered.{numbered, set_numbered}
 use Rattle.b67_word.specs.Word.{Word}
 use Rattle.b67_control.specs.declared.Registers.{Registers}
 use Rattle.b67_segment.specs.declared.code.Code.{Code}
 use Rattle.b67_operators.proofs.Leaves.{set_here}
-use Rattle.b67_store.specs.Store.{Stacks, Rows, words_of, with_stack, stack_limit}
+use Rattle.b67_store.specs.Store.{Stacks, Rows, words_of, with_stack}
 use Rattle.b67_table.specs.declared.ProcessState.{ProcessState}
 use Rattle.b67_table.specs.declared.ProcessState.TheVariants as states
 use Rattle.b67_table.specs.declared.Private.{Private}
@@ -18,20 +18,18 @@ use Rattle.b67_table.specs.Outcome.{gives}
 use Rattle.b67_table.specs.Private.{floor}
 use Rattle.b67_table.specs.Runs.{Plains, stay, go}
 use Rattle.b67_table.specs.Table.{table, plain, private_next, is_new}
-use Rattle.b67_table.specs.Valid.{IsValid, IsProcess}
+use Rattle.b67_table.specs.Valid.{IsValid}
 use Rattle.b67_table.proofs.AllValid.{operators_keep_valid}
 use Rattle.b67_table.proofs.FirstValid.{valid_stands, counted}
 use Rattle.b67_table.proofs.Limit.{limit_comes_last}
-use Rattle.b67_table.proofs.Lists.{numbered_set, numbered_within}
-use Rattle.b67_table.proofs.OwnValid.{words_here}
+use Rattle.b67_table.proofs.Stacks.{set_set_here}
 use Rattle.b67_table.specs.Privacy.{Keeps as RegistersKeep}
 use Rattle.b67_table.proofs.Privacy.{private_is_private}
-use Rattle.b67_private.specs.Parts.{PlainParts, is_plain, is_short, part_with}
-use Rattle.b67_private.specs.Parts as parts
+use Rattle.b67_private.specs.Parts.{PlainParts, is_plain, part_with}
 use Rattle.b67_private.proofs.Plains.{stretches_are_own}
 use Rattle.b67_action.specs.Own.{part_from}
 use Rattle.b67_action.proofs.Ready.{registers_there}
-use Rattle.b67_machine.specs.Stepping.{IsPiece, IsStretched}
+use Rattle.b67_machine.specs.Stepping.{IsStretched}
 
 pub live_of : (o : Option ProcessState) → is_able o ≡ true → is_live o ≡ true
 live_of None e = cc
@@ -87,14 +85,11 @@ own_is all (suc k) r q e f =
 pub taken_is : (st : Stacks) (r q : Registers) (base : ℕ) (ws : List Word) → q ≡ r → ws ≡ reverse (drop base (words_of st r.stack)) → part_with q ws ≡ part_from base st r
 taken_is st r q base ws e f = ap (λ (x : Registers). part_with x ws) e ∙ ap (λ (xs : List Word). part_with r xs) f
 
--- the words that a stretch leaves have room above the floor before it
+-- what a stretch leaves is put back, and is the process's
 module _ (code : Code) (img : Image) (p : ℕ) (r : Registers) (v : IsValid code img) (able : is_able (numbered img.states p) ≡ true) (has : numbered img.regs p ≡ Some r)
-    (part : Private) (n : ℕ) (plains : PlainParts code (private_of img r) n part) (same : part.regs.stack ≡ r.stack) where
+    (part : Private) (n : ℕ) (plains : PlainParts code (private_of img r) n part) where
   live : is_live (numbered img.states p) ≡ true
   live = live_of (numbered img.states p) able
-
-  own : IsProcess img p r
-  own = v.processes p r live has
 
   new : Image
   new = with_private img p (floor r) part
@@ -102,72 +97,32 @@ module _ (code : Code) (img : Image) (p : ℕ) (r : Registers) (v : IsValid code
   pub kept : Keeps code img (with_private img p (floor r) part)
   kept = plains_keep code p img (with_private img p (floor r) part) n v able (stretches_are_own code img p r v live has part n plains).performed
 
-  abbrev words : List Word
-  words = take (floor r) (words_of img.stacks part.regs.stack) ++ reverse part.words
-
-  process : IsProcess (with_private img p (floor r) part) p part.regs
-  process = kept.valid.processes p part.regs live (numbered_set img.regs p part.regs (counted p r img.regs has) (numbered_within img.regs p r has))
-
-  here : words_of (with_stack img.stacks part.regs.stack (take (floor r) (words_of img.stacks part.regs.stack) ++ reverse part.words)) p ≡ take (floor r) (words_of img.stacks p) ++ reverse part.words
-  here =
-      ap (λ (k : ℕ). words_of (with_stack img.stacks k (take (floor r) (words_of img.stacks k) ++ reverse part.words)) p) (same ∙ own.stack)
-      ∙ words_here code img p r v live has (take (floor r) (words_of img.stacks p) ++ reverse part.words)
-
-  pub room : floor r + length part.words ≤ stack_limit
-  room = omega (
-    arith,
-    process.size,
-    process.room,
-    ap length here,
-    length-append (take (floor r) (words_of img.stacks p)) (reverse part.words),
-    length-reverse part.words,
-    length-take-le (floor r) (words_of img.stacks p) (subst (λ (k : ℕ). floor r ≤ k) own.size own.above),
-  )
-
-  pub put_is : (st : Stacks) (rows : Rows) (q : Registers) (base : ℕ) → base ≡ floor r
-      → st ≡ with_stack img.stacks part.regs.stack (take base (words_of img.stacks part.regs.stack) ++ reverse part.words) → rows ≡ img.rows → q ≡ part.regs
+  pub put_is : (st : Stacks) (rows : Rows) (q : Registers)
+      → st ≡ with_stack img.stacks part.regs.stack (take (floor r) (words_of img.stacks part.regs.stack) ++ reverse part.words) → rows ≡ img.rows → q ≡ part.regs
       → record img { stacks = st; rows = rows; regs = set img.regs (p - 1) q } ≡ with_private img p (floor r) part
   unfolding new
-  put_is st rows q base b s t u =
-      ap (λ (z : Stacks). record img { stacks = z; rows = rows; regs = set img.regs (p - 1) q })
-      (s ∙ ap (λ (n : ℕ). with_stack img.stacks part.regs.stack (take n (words_of img.stacks part.regs.stack) ++ reverse part.words)) b)
+  put_is st rows q s t u =
+      ap (λ (z : Stacks). record img { stacks = z; rows = rows; regs = set img.regs (p - 1) q }) s
       ∙ ap (λ (z : Rows). record img { stacks = new.stacks; rows = z; regs = set img.regs (p - 1) q }) t
       ∙ ap (λ (rs : List Registers). record img { stacks = new.stacks; regs = rs })
       (set_here img.regs p q (counted p r img.regs has) ∙ ap (λ (z : Registers). set_numbered img.regs p z) u)
 
-  -- what is put back is the process's stretch
-  pub piece_is : (put : Image) (most : ℕ) (short : Bool) → put ≡ with_private img p (floor r) part → (short ≡ false → n < most → is_plain code part ≡ false)
-      → IsPiece code p n most short img put
-  piece_is put most short e h =
+  pub stretched_is : (put : Image) (most : ℕ) → put ≡ with_private img p (floor r) part → (n < most → is_plain code part ≡ false) → IsStretched code p n most img put
+  stretched_is put most e h =
       let k = stretches_are_own code img p r v live has part n plains in
-      subst (λ (x : Image). IsPiece code p n most short img x) (sym e) (record {
+      subst (λ (x : Image). IsStretched code p n most img x) (sym e) (record {
         performed = k.performed;
-        stops = λ enough less. k.next ∙ h enough less;
+        stops = λ less. k.next ∙ h less;
         valid = kept.valid;
       })
 
--- ---- pieces, one after another
+-- ---- words that change places
 
--- where a word is missed that was not missed before, an operator was performed
-pub some_performed : (code : Code) (a b : Private) (n : ℕ) → is_short a ≡ false → is_short b ≡ true → PlainParts code a n b → 0 < n
-some_performed code a b n enough short parts.stay = absurd (true≢false (sym short ∙ enough))
-some_performed code a b n enough short (parts.go e rest) = omega arith
+-- where words have changed places with a stack's twice, the new ones are the stack's
+pub exchanged : (st one two : Stacks) (n : ℕ) (away back : List Word) → one ≡ with_stack st n away → two ≡ with_stack one n back → two ≡ with_stack st n back
+exchanged st one two n away back e f = f ∙ ap (λ (z : Stacks). with_stack z n back) e ∙ set_set_here st n (Some away) (Some back)
 
-plains_then : (code : Code) (p : ℕ) (a b c : Image) (m n : ℕ) → Plains code p a m b → Plains code p b n c → Plains code p a (m + n) c
-plains_then code p a b c m n stay more = subst (λ (k : ℕ). Plains code p a k c) (omega arith) more
-plains_then code p a b c m n (go {b = d} {n = l} e t rest) more =
-    let there : l + n + 1 ≡ l + 1 + n = omega arith in
-    subst (λ (k : ℕ). Plains code p a k c) there (go e t (plains_then code p d b c l n rest more))
-
-module _ (code : Code) (p : ℕ) (a b c : Image) (m n most : ℕ) (short : Bool) (s : IsStretched code p m m a b) (k : IsPiece code p n most short b c) where
-  -- another piece
-  pub piece_more : IsStretched code p (m + n) (m + n) a c
-  piece_more = record { performed = plains_then code p a b c m n s.performed k.performed; stops = λ less. absurd (omega (arith, less)); valid = k.valid }
-
-  -- the last piece
-  pub piece_last : (all : ℕ) → short ≡ false → most ≡ all - m → IsStretched code p (m + n) all a c
-  piece_last all enough left = record {
-    performed = plains_then code p a b c m n s.performed k.performed;
-    stops = λ less. k.stops enough (omega (arith, less, left));
-    valid = k.valid;
-  }
+-- the words below a place, and those that stand above it in place of others
+pub above_below : (ws us back : List Word) (n : ℕ) → back ≡ us ++ reverse (take n ws) → reverse back ≡ take n ws ++ reverse us
+above_below ws us back n e =
+    ap reverse e ∙ reverse-append us (reverse (take n ws)) ∙ ap (λ (z : List Word). z ++ reverse us) (reverse-reverse (take n ws))

@@ -5,3 +5,4 @@ pub mod Stepping
 pub mod Reads
 pub mod Beginning
 pub mod Replaying
+pub mod Lacking

@@ -85,12 +85,6 @@ pub record IsStretched (code : Code) (p n most : ℕ) (old new : Image) : Type 0
   pub stops : n < most → plain code new p ≡ false
   pub valid : IsValid code new
 
--- The same of operators on a part with few words: where it is not short, fewer than the most only where the next one is not plain.
-pub record IsPiece (code : Code) (p n most : ℕ) (short : Bool) (old new : Image) : Type 0 where
-  pub performed : Plains code p old n new
-  pub stops : short ≡ false → n < most → plain code new p ≡ false
-  pub valid : IsValid code new
-
 -- the process has performed so many plain operators, and all else is as it was
 pub record Goes (old : Kept) (p n : ℕ) (new : Kept) : Type 0 where
   pub performed : Plains old.code p old.image n new.image

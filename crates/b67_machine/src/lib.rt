@@ -22,6 +22,7 @@ pub use entry::Performed;
 pub use reads::End;
 pub use replay::{Replayed, within_entry};
 use std::marker::Model;
+pub use step::lacking_is_kept;
 use tables::Levels;
 
 /// The fault that ended a run, and whose it was.

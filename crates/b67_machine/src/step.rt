@@ -4,6 +4,7 @@ ghost use Rattle.b67_list.specs.Numbered.{numbered};
 ghost use Rattle.b67_table.specs.Image.{is_able};
 ghost use Rattle.b67_table.specs.Valid.{IsValid};
 ghost use Rattle.b67_machine.specs.Kept.{counted};
+ghost use Rattle.b67_machine.specs.Lacking.{LackingIsKept};
 ghost use Rattle.b67_machine.specs.Reads.{machine_end};
 ghost use Rattle.b67_machine.specs.Stepping.{Steps};
 
@@ -47,3 +48,9 @@ impl<C: Core> Machine<C> {
         done
     }
 }
+
+/// Law: an operator that finds no memory leaves the machine as it was, but that this is kept: then every operator says so, and changes
+/// nothing.
+pub fn lacking_is_kept()
+    ensures { LackingIsKept }
+{}

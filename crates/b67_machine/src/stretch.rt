@@ -3,69 +3,27 @@ ghost use Rattle.std.specs.Prelude.{◌≡◌, ◌+◌, ◌<◌, ◌≤◌, ◌^
 ghost use Rattle.b67_list.specs.Numbered.{numbered};
 ghost use Rattle.b67_events.specs.Events.{Event};
 ghost use Rattle.b67_table.specs.Image.{is_able};
-ghost use Rattle.b67_table.specs.Runs.{Plains};
 ghost use Rattle.b67_table.specs.Table.{plain};
 ghost use Rattle.b67_table.specs.Valid.{IsValid};
 ghost use Rattle.b67_reach.specs.Images.{image_of};
 ghost use Rattle.b67_machine.specs.Kept.{counted};
 ghost use Rattle.b67_machine.specs.Reads.{machine_end};
-ghost use Rattle.b67_machine.specs.Stepping.{Goes, IsPiece, IsStretched};
+ghost use Rattle.b67_machine.specs.Stepping.{Goes, IsStretched};
 ghost use Rattle.b67_machine.specs.Tables.{AreTables};
 
 use crate::Machine;
 use crate::counting::count;
 use crate::tables::{Levels, decoded, prepare};
-use b67_action::{base_of, put_words, take_words};
+use b67_action::{base_of, take_words};
 use b67_intrinsics::registers;
-use b67_private::{REACH, burst_in_place, is_short};
+use b67_linkage::exchange_words;
+use b67_private::{REACH, burst_in_place};
 use b67_reach::Parts;
 use b67_store::Core;
 use b67_table::Words;
 
-// The most words of a private part that are copied at once: more than an operator takes off, so that few stretches need a second copy.
-const MOST_COPIED: u32 = 8;
-
-// What was performed of a stretch.
-#[derive(Clone, Copy)]
-struct Piece {
-    // How many plain operators.
-    performed: u32,
-    // Whether the operator after them may have missed a word that was not copied.
-    is_short: bool,
-}
-
-// Plain operators that come next in a process, at most so many, performed on a copy of its upper words.
-fn perform_piece<C: Core>(
-    core: &mut C,
-    parts: &mut Parts,
-    process: u32,
-    tables: &Vec<Levels>,
-    words: &mut Words,
-    most: u32,
-) -> Piece
-    requires valid { (events : List Event) × IsValid parts.old.code (image_of (C.Core.stacks core.old) (C.Core.rows core.old) events parts.old) }
-    requires able { is_able (numbered parts.old.states.items process) ≡ true }
-    requires tables { AreTables parts.old.code tables.now.items }
-    ensures goes { (events : List Event) → IsValid parts.old.code (image_of (C.Core.stacks core.old) (C.Core.rows core.old) events parts.old) → IsPiece parts.old.code process result.performed most result.is_short (image_of (C.Core.stacks core.old) (C.Core.rows core.old) events parts.old) (image_of (C.Core.stacks core.new) (C.Core.rows core.new) events parts.new) }
-    ensures most { result.performed ≤ most }
-    ensures some { result.is_short ≡ true → 0 < result.performed }
-    ensures others { parts.new ≡ record parts.old { regs = parts.new.regs } }
-{
-    let regs = registers(&parts.regs, process);
-    let table = decoded(tables, regs.segment, regs.ll);
-    let base = base_of(regs, MOST_COPIED);
-    let stack = regs.stack;
-    take_words(core, regs, base, words);
-    let own = &mut parts.regs[process as usize - 1];
-    let performed = burst_in_place(own, words, &parts.code, table, most);
-    put_words(core, stack, base, words);
-    Piece {
-        performed,
-        is_short: is_short(own, words),
-    }
-}
-
-// The plain operators that come next in a process, at most so many. What lies below the words that they take off costs nothing.
+// The plain operators that come next in a process, at most so many, performed on the words of its stack where they are: how many there are
+// costs nothing.
 fn perform_stretch<C: Core>(
     core: &mut C,
     parts: &mut Parts,
@@ -81,14 +39,13 @@ fn perform_stretch<C: Core>(
     ensures most { result ≤ most }
     ensures others { parts.new ≡ record parts.old { regs = parts.new.regs } }
 {
-    let mut performed = 0;
-    'pieces: while performed < most {
-        let piece = perform_piece(core, parts, process, tables, words, most - performed);
-        performed += piece.performed;
-        if !piece.is_short {
-            return performed;
-        }
-    }
+    let regs = registers(&parts.regs, process);
+    let table = decoded(tables, regs.segment, regs.ll);
+    let stack = regs.stack;
+    exchange_words(core, stack, words);
+    let own = &mut parts.regs[process as usize - 1];
+    let performed = burst_in_place(own, words, &parts.code, table, most);
+    exchange_words(core, stack, words);
     performed
 }
 

@@ -7,7 +7,7 @@ use Rattle.b67_reach.specs.Images.{image_of}
 use Rattle.b67_action.specs.declared.done.Done.{Done}
 use Rattle.b67_action.specs.Acting.{row_effect, RowReleases, NextReleases}
 use Rattle.b67_action.specs.Done.{Came, is_performed}
-use Rattle.b67_action.proofs.Coming.{table_row, table_bad, operator_is, not_performed, makes_next, came_on, came_not, state_after}
+use Rattle.b67_action.proofs.Coming.{table_row, table_bad, operator_is, not_performed, went_performed, makes_next, came_on, came_not, state_after}
 use Rattle.b67_action.proofs.Kept.{stays_valid}
 use Rattle.b67_action.proofs.MakeAble.{performed_able}
 use Rattle.b67_action.proofs.Ready.{acting, level_known, part_known, state_at}
@@ -159,3 +159,6 @@ returns-in-Ok-clause-able g c = λ performed.
 pub returns-in-Err-clause-able : goal.returns-in-Err-clause-able
 returns-in-Err-clause-able g c = λ performed.
     absurd (not_performed c.in-Err.hindrance (ap is_performed (sym c.hindered_by.ensures) ∙ performed))
+
+pub returns-in-Ok-clause-nobody : goal.returns-in-Ok-clause-nobody
+returns-in-Ok-clause-nobody g c = λ none. absurd (went_performed c.index.result.now (ap is_performed (sym c.went.ensures) ∙ none))
