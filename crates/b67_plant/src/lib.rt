@@ -23,7 +23,7 @@ pub use running::{Ran, run_by_caller, run_by_processors};
 pub use shared::{Pass, SharedPlant};
 use std::marker::{Brand, Model};
 use std::sync::ledger::{Book, Ledger, Share};
-pub use taking::{PlantLanding, Taken};
+pub use taking::{PlantLanding, Taken, lacking_is_kept};
 
 /// Which run a plant is of: nothing of a plant is known across its lock but what its type says.
 pub trait Named: Ledger {

@@ -1,5 +1,5 @@
 // A plant before its first take.
-ghost use Rattle.std.specs.Prelude.{◌≡◌, ℕ, ◌+◌, ◌≤◌, [], ◌∷◌, All, IfOk, length, replicate, vec_capacity};
+ghost use Rattle.std.specs.Prelude.{◌≡◌, ℕ, ◌+◌, ◌≤◌, [], ◌∷◌, All, IfOk, OnErr, length, replicate, vec_capacity};
 ghost use Rattle.b67_segment.specs.declared.TheConstants.{MOST_SEGMENT_WORDS};
 ghost use Rattle.b67_table.specs.Limits.{most_processes};
 ghost use Rattle.b67_table.specs.Sound.{Sound};
@@ -81,7 +81,8 @@ fn rooms_of<P: Rule>(alloc: Global, rule: P, budget: u32) -> Result<Rooms<P>, Al
 }
 
 impl<N: Named, L: Ledger, C: Core, P: Rule> Plant<N, L, C, P> {
-    /// A plant of a machine that has performed nothing. There is a place for each of its processors among the posts, which have the room.
+    /// A plant of a machine that has performed nothing. There is a place for each of its processors among the posts, which have the
+    /// room, and none where memory lacks.
     pub fn new(
         alloc: Global,
         machine: Machine<C>,
@@ -104,6 +105,7 @@ impl<N: Named, L: Ledger, C: Core, P: Rule> Plant<N, L, C, P> {
         requires none { posts.old.items ≡ [] }
         requires room { processors ≤ vec_capacity posts.old }
         ensures posts { IfOk result (λ plant. length posts.new.items ≡ processors) }
+        ensures no_posts { OnErr result (posts.new.items ≡ []) }
         ensures first { IfOk result (IsFirst N.code) }
     {
         first_image_is_valid();

@@ -1,5 +1,5 @@
 // Whole runs, from a machine that has performed nothing to the end.
-ghost use Rattle.std.specs.Prelude.{◌≡◌, ◌≢◌, ℕ, ◌<◌, ◌≤◌, ◌^◌, [], All, IfOk, Some, None, length, sum, vec_capacity};
+ghost use Rattle.std.specs.Prelude.{◌≡◌, ◌≢◌, ℕ, ◌<◌, ◌≤◌, ◌^◌, [], All, IfOk, OnErr, Some, None, length, sum, vec_capacity};
 ghost use Rattle.std.specs.List.{sum_by};
 ghost use Rattle.b67_ready.specs.Orders.{place_of};
 ghost use Rattle.b67_schedule.specs.Schedules.{entries};
@@ -176,6 +176,7 @@ fn run_named<
     ensures each { IfOk result (λ ran. length counts.new.items ≡ processors) }
     ensures all { IfOk result (λ ran. sum counts.new.items ≡ length (entries ran.schedule.runs)) }
     ensures numbers { IfOk result (λ ran. All (λ count. count < 2 ^ 64) counts.new.items) }
+    ensures no_counts { OnErr result (counts.new.items ≡ []) }
 {
     let mut posts = Vec::with_capacity(alloc, processors as usize)?;
     let plant = Plant::<N, L, C, P>::new(
@@ -188,7 +189,7 @@ fn run_named<
 }
 
 /// The run of a machine that has performed nothing, by so many processors that share it, under a rule and a budget. How many acts each
-/// processor made is noted.
+/// processor made is noted, and none where memory lacks.
 pub fn run_by_processors<C: Core + Send, G: Gate + Sync, R: Threads + Wait + Sync>(
     rt: &R,
     alloc: Global,
@@ -210,6 +211,7 @@ pub fn run_by_processors<C: Core + Send, G: Gate + Sync, R: Threads + Wait + Syn
     ensures each { IfOk result (λ ran. length counts.new.items ≡ processors) }
     ensures all { IfOk result (λ ran. sum counts.new.items ≡ length (entries ran.schedule.runs)) }
     ensures numbers { IfOk result (λ ran. All (λ count. count < 2 ^ 64) counts.new.items) }
+    ensures no_counts { OnErr result (counts.new.items ≡ []) }
 {
     run_named::<Brand, Brand, C, Order, G, R>(
         rt,

@@ -3,7 +3,7 @@ ghost use Rattle.std.specs.Prelude.{◌≡◌, ◌≢◌, ℕ, ◌+◌, ◌-◌,
 ghost use Rattle.b67_machine.specs.declared.entry.Performed.{Performed as ThePerformed};
 ghost use Rattle.b67_processors.specs.Acts.{IsActed};
 ghost use Rattle.b67_table.specs.Limits.{most_processes};
-ghost use Rattle.b67_plant.specs.Calls.{Takes, Lands, Acts, answer_to};
+ghost use Rattle.b67_plant.specs.Calls.{Takes, Lands, Acts, LeavesOr, LackingIsKept, answer_to};
 ghost use Rattle.b67_stands.specs.Calls.{ActsOnce};
 ghost use Rattle.b67_stands.specs.Placing.{holder_of};
 ghost use Rattle.b67_stands.specs.Running.{answer_of, spends};
@@ -186,9 +186,10 @@ impl<N: Named, L: Ledger, C: Core, P: Rule> Plant<N, L, C, P> {
         answer
     }
 
-    /// A processor stops, since the run has an end or lacked memory. It does not where that can not be counted.
+    /// A processor stops, since the run has an end or lacked memory; the machine is as it was. It does not where that can not be counted.
     pub fn leave(&mut self, seat: &mut Seat<N, L>) -> bool
         requires { answer_of N.budget self.old ≢ None }
+        ensures leaves { LeavesOr result self.old self.new }
         ensures left { result ≡ true → seat.new.left ≡ seat.old.left + 1 }
         ensures refused { result ≡ false → seat.new.left ≡ seat.old.left }
         ensures count { seat.new.count ≡ seat.old.count }
@@ -202,3 +203,8 @@ impl<N: Named, L: Ledger, C: Core, P: Rule> Plant<N, L, C, P> {
         true
     }
 }
+
+/// Law: a plant that lacked memory says so from then on at each of its calls, and none of them changes its machine.
+pub fn lacking_is_kept()
+    ensures { LackingIsKept }
+{}
