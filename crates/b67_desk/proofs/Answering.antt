@@ -12,7 +12,7 @@ use Rattle.b67_io.specs.Faults.{Rose}
 use Rattle.b67_io.specs.Writing.{WroteFront}
 use Rattle.b67_io.specs.declared.writing.WriteAll.{WriteAll}
 use Rattle.b67_io.specs.declared.writing.WriteAll.TheVariants as writes
-use Rattle.b67_words.specs.Grammar.{WordsMean, run as run_command, check as check_command, list as list_command, replay as replay_command, exec as exec_command, meant}
+use Rattle.b67_words.specs.Grammar.{WordsMean, run as run_command, check as check_command, list as list_command, replay as replay_command, exec as exec_command, trial as trial_command, meant}
 use Rattle.b67_words.specs.declared.TheConstants.{MOST_BUDGET, MOST_PROCESSORS}
 use Rattle.b67_words.specs.declared.Rule.{Rule}
 use Rattle.b67_words.specs.declared.Words.{Words}
@@ -20,12 +20,16 @@ use Rattle.b67_words.specs.declared.Words.TheVariants as commands
 use Rattle.b67_words.specs.declared.BadWords.{BadWords}
 use Rattle.b67_report.specs.declared.Report.{Report}
 use Rattle.b67_report.specs.Texts.{ReportText}
+use Rattle.b67_make.specs.Made.{made}
 use Rattle.b67_schedule.specs.declared.Run.{Run}
 use Rattle.b67_schedule.specs.Schedules.{entries, IsSchedule, ScheduleText}
 use Rattle.b67_listing.specs.Listings.{ListingText}
 use Rattle.b67_segment.specs.declared.code.Code.{Code}
 use Rattle.b67_faithful.specs.Faithful.{Faithful}
 use Rattle.b67_explain.specs.Explaining.{ExplainsRun, ExplainsReplay}
+use Rattle.b67_explain.specs.Alone.{ExplainsAlone}
+use Rattle.b67_ready.specs.declared.order.Order.TheVariants as orders
+use Rattle.b67_ready.specs.Orders.{place_of}
 use Rattle.b67_desk.specs.declared.status.Code.TheVariants.{OfSource}
 use Rattle.b67_desk.specs.declared.status.Status.{Status}
 use Rattle.b67_desk.specs.declared.status.Status.TheVariants as status
@@ -35,8 +39,8 @@ use Rattle.b67_desk.specs.declared.asking.Unanswered.TheVariants as why
 use Rattle.b67_desk.specs.declared.asking.Job.{Job}
 use Rattle.b67_desk.specs.declared.asking.Asked.{Asked}
 use Rattle.b67_desk.specs.declared.asking.Asked.TheVariants as asked
-use Rattle.b67_desk.specs.Answers.{usage_text, refused_text, bad_schedule_text, listing_text, status_of, Workers, by_one, by_all, Runs, ran, Lists, listed, IsBadSchedule, AreGiven, Replays, bad_schedule, replayed, SaysAccepted, AnswersTree, IsRefusedAt, RefusedOr, refused, accepted, IsDivided, AnswersBytes, IsOfSource, AnswersInput, long_part, divided, most_bytes, AnswersSource, too_long, too_long_text, read, Reading, Untouched, Answers, usage, answered, Writing, HasAnswer, write_fault}
-use Rattle.b67_desk.specs.Calls.{IsReported, Asks, settled, InRange, SourceAsked, CallAsked, CallAnswered, IsUsage, IsRefusal, IsReportAnswer, IsRunAnswer, IsBadAt, IsTooLong}
+use Rattle.b67_desk.specs.Answers.{usage_text, refused_text, bad_schedule_text, listing_text, status_of, Workers, by_one, by_all, Runs, ran, Lists, listed, IsBadSchedule, AreGiven, Replays, bad_schedule, replayed, trial_text, Tries, tried, SaysAccepted, AnswersTree, IsRefusedAt, RefusedOr, refused, accepted, IsDivided, AnswersBytes, IsOfSource, ReadsInput, AnswersInput, long_part, divided, most_bytes, AnswersSource, too_long, too_long_text, read, Reading, Untouched, AnswersCommand, Answers, usage, answered, ReadsIfAsked, Writing, HasAnswer, write_fault}
+use Rattle.b67_desk.specs.Calls.{IsReported, Asks, settled, InRange, SourceAsked, CommandAsked, CallAsked, CallAnswered, IsUsage, IsRefusal, IsReportAnswer, IsTrialAnswer, IsRunAnswer, IsBadAt, IsTooLong}
 
 -- ---- what is asked for
 
@@ -91,6 +95,18 @@ pub bad_answered : (budget : ℕ) (schedule kept : Option (List ℕ)) (input : �
 bad_answered budget schedule kept input tree byte result same bad is =
     subst (λ (o : Option (List ℕ)). IfOk result (λ a. Replays budget o input tree a.text.items a.status)) (sym same) (bad_is budget kept input tree byte result bad is)
 
+-- the run of a source that was made
+tried_is : (bytes : ℕ) (tree : PProgram) (report : Report) (a : Answer) → ExplainsAlone tree (place_of orders.Fifo) 1 MOST_BUDGET report → IsTrialAnswer bytes report a →
+    Tries bytes tree a.text.items a.status
+tried_is bytes tree report a explains is =
+    subst (λ (t : List ℕ). Tries bytes tree t a.status) (sym is.text)
+    (subst (λ (s : Status). Tries bytes tree (trial_text bytes report) s) (sym is.status) (tried report explains))
+
+pub tried_answered : (bytes : ℕ) (tree : PProgram) (report : Report) (result : Result Answer AllocError) → ExplainsAlone tree (place_of orders.Fifo) 1 MOST_BUDGET report →
+    IfOk result (IsTrialAnswer bytes report) → IfOk result (λ a. Tries bytes tree a.text.items a.status)
+tried_answered bytes tree report (Ok a) explains is = tried_is bytes tree report a explains is
+tried_answered bytes tree report (Err e) explains is = is
+
 -- a listing
 pub listed_is : (tree : PProgram) (code : Code) (lines : List (List ℕ)) (text : List ℕ) → Faithful tree code → ListingText code lines → text ≡ listing_text lines →
     Lists tree text status.Finished
@@ -118,6 +134,11 @@ module _ (by : Workers) (command : Words) (schedule : Option (List ℕ)) (input 
       IfOk result (λ a. Replays budget schedule input tree a.text.items a.status) → IfOk result (λ a. AnswersTree by command schedule input tree a.text.items a.status)
   unfolding Told
   replay_tree budget is told = told_tree (commands.Replay budget) is told
+
+  pub trial_tree : (n : ℕ) → command ≡ commands.Trial n →
+      IfOk result (λ a. Tries input tree a.text.items a.status) → IfOk result (λ a. AnswersTree by command schedule input tree a.text.items a.status)
+  unfolding Told
+  trial_tree n is told = told_tree (commands.Trial n) is told
 
 -- what answers a run of a source answers the source
 pub run_out : (command : Words) (schedule : Option (List ℕ)) (input : ℕ) (tree : PProgram) (processors budget : ℕ) (rule : Rule) →
@@ -151,22 +172,66 @@ in_range words command (meant ws meaning check_command) = tt
 in_range words command (meant ws meaning list_command) = tt
 in_range words command (meant ws meaning (replay_command first b f)) = (f.least, f.greatest)
 in_range words command (meant ws meaning (exec_command first b f)) = (f.least, f.greatest)
+in_range words command (meant ws meaning (trial_command first n f)) = tt
+
+-- ---- a command that reads its input, and one that reads nothing
+
+pub reads_input : (command : Words) →
+    ((p : ℕ) × (b : ℕ) × (r : Rule) × (command ≡ commands.Run p b r))
+    ⊎ ((command ≡ commands.Check) ⊎ ((command ≡ commands.List) ⊎ (((b : ℕ) × (command ≡ commands.Replay b)) ⊎ ((b : ℕ) × (command ≡ commands.Exec b))))) →
+    ReadsInput command
+reads_input command (inl (p, b, r, is)) = subst ReadsInput (sym is) tt
+reads_input command (inr (inl is)) = subst ReadsInput (sym is) tt
+reads_input command (inr (inr (inl is))) = subst ReadsInput (sym is) tt
+reads_input command (inr (inr (inr (inl (b, is))))) = subst ReadsInput (sym is) tt
+reads_input command (inr (inr (inr (inr (b, is))))) = subst ReadsInput (sym is) tt
+
+source_out : (command : Words) (r : Reading) → ReadsInput command → (by : Workers) (text : List ℕ) (s : Status) → AnswersSource by command r.left r.left_after text s →
+    AnswersCommand by command r text s
+source_out (commands.Run processors budget rule) r reads by text s is = is
+source_out commands.Check r reads by text s is = is
+source_out commands.List r reads by text s is = is
+source_out (commands.Replay budget) r reads by text s is = is
+source_out (commands.Exec budget) r reads by text s is = is
+source_out (commands.Trial n) r reads by text s is = absurd reads
+
+pub source_asks : (command : Words) (r : Reading) (result : Result Asked Unanswered) → ReadsInput command → SourceAsked command r result → CommandAsked command r result
+source_asks command r (Ok a) reads asks =
+    (asks_so (λ by. AnswersSource by command r.left r.left_after) (λ by. AnswersCommand by command r) (source_out command r reads) a asks, inl reads)
+source_asks command r (Err why.ReadFault) reads rose = (reads, rose)
+source_asks command r (Err why.NoMemory) reads s = inl reads
+
+trial_so : (n : ℕ) (r : Reading) (a : Asked) → Untouched r → Asks (λ by. AnswersBytes by (commands.Trial n) (made n)) a →
+    CommandAsked (commands.Trial n) r (Ok a)
+trial_so n r a still asks =
+    (asks_so (λ by. AnswersBytes by (commands.Trial n) (made n)) (λ by. AnswersCommand by (commands.Trial n) r) (λ by text s answers. (still, answers)) a asks, inr still)
+
+pub trial_asks : (command : Words) (n : ℕ) (r : Reading) (a : Asked) → command ≡ commands.Trial n → Untouched r →
+    Asks (λ by. AnswersBytes by (commands.Trial n) (made n)) a → CommandAsked command r (Ok a)
+trial_asks command n r a is still asks = subst (λ (w : Words). CommandAsked w r (Ok a)) (sym is) (trial_so n r a still asks)
+
+reads_asked : (words : List (List ℕ)) (r : Reading) (command : Words) → WordsMean words (Ok command) → ReadsInput command ⊎ Untouched r → ReadsIfAsked words r
+reads_asked words r command m (inl reads) = inl (record { command = command; means = m; reads = reads })
+reads_asked words r command m (inr still) = inr still
 
 pub command_asks : (words : List (List ℕ)) (r : Reading) (command : Words) (result : Result Asked Unanswered) → WordsMean words (Ok command) →
-    SourceAsked command r result → CallAsked words r result
+    CommandAsked command r result → CallAsked words r result
 command_asks words r command (Ok a) m asks =
-    asks_so (λ by. AnswersSource by command r.left r.left_after) (λ by. Answers by words r) (λ by text s. answered command text s m) a asks
-command_asks words r command (Err why.ReadFault) m rose = record { command = command; means = m; rose = rose }
-command_asks words r command (Err why.NoMemory) m s = s
+    (asks_so (λ by. AnswersCommand by command r) (λ by. Answers by words r) (λ by text s. answered command text s m) a asks.0, reads_asked words r command m asks.1)
+command_asks words r command (Err why.ReadFault) m failed = record { asked = record { command = command; means = m; reads = failed.0 }; rose = failed.1 }
+command_asks words r command (Err why.NoMemory) m is = reads_asked words r command m is
 
 pub usage_asks : (words : List (List ℕ)) (r : Reading) (broken : BadWords) (result : Result Asked Unanswered) → Untouched r → WordsMean words (Err broken) →
     IsUsage broken result → CallAsked words r result
-usage_asks words r broken (Ok (asked.Settled a)) still m u = λ by.
-    subst (λ (t : List ℕ). Answers by words r t a.status) (sym u.3)
-    (subst (λ (s : Status). Answers by words r (usage_text u.0 u.1) s) (sym u.4) (usage u.0 u.1 (subst (λ b. WordsMean words (Err b)) u.2 m) still))
+usage_asks words r broken (Ok (asked.Settled a)) still m u = (
+  λ by.
+      subst (λ (t : List ℕ). Answers by words r t a.status) (sym u.3)
+      (subst (λ (s : Status). Answers by words r (usage_text u.0 u.1) s) (sym u.4) (usage u.0 u.1 (subst (λ b. WordsMean words (Err b)) u.2 m) still)),
+  inr still,
+)
 usage_asks words r broken (Ok (asked.Run job)) still m u = absurd u
 usage_asks words r broken (Err why.ReadFault) still m u = absurd u
-usage_asks words r broken (Err why.NoMemory) still m u = u
+usage_asks words r broken (Err why.NoMemory) still m u = inr still
 
 -- ---- a run that is made
 
@@ -234,14 +299,16 @@ pub divided_is : (by : Workers) (command : Words) (bytes source : List ℕ) (sch
 divided_is by command bytes source schedule (Ok a) parts small is = divided source schedule a.text.items a.status parts small is
 divided_is by command bytes source schedule (Err e) parts small is = is
 
--- the commands whose input is a source
+-- the commands that are answered by a source
 pub of_source : (command : Words) →
-    ((p : ℕ) × (b : ℕ) × (r : Rule) × (command ≡ commands.Run p b r)) ⊎ ((command ≡ commands.Check) ⊎ ((command ≡ commands.List) ⊎ ((b : ℕ) × (command ≡ commands.Replay b)))) →
+    ((p : ℕ) × (b : ℕ) × (r : Rule) × (command ≡ commands.Run p b r))
+    ⊎ ((command ≡ commands.Check) ⊎ ((command ≡ commands.List) ⊎ (((b : ℕ) × (command ≡ commands.Replay b)) ⊎ ((n : ℕ) × (command ≡ commands.Trial n))))) →
     IsOfSource command
 of_source command (inl (p, b, r, is)) = subst IsOfSource (sym is) tt
 of_source command (inr (inl is)) = subst IsOfSource (sym is) tt
 of_source command (inr (inr (inl is))) = subst IsOfSource (sym is) tt
-of_source command (inr (inr (inr (b, is)))) = subst IsOfSource (sym is) tt
+of_source command (inr (inr (inr (inl (b, is))))) = subst IsOfSource (sym is) tt
+of_source command (inr (inr (inr (inr (n, is))))) = subst IsOfSource (sym is) tt
 
 -- what answers the bytes of a source answers what was read
 pub bytes_out : (command : Words) (bytes : List ℕ) → IsOfSource command → (by : Workers) (text : List ℕ) (s : Status) → AnswersBytes by command bytes text s →
@@ -250,4 +317,5 @@ bytes_out (commands.Run processors budget rule) bytes of by text s is = is
 bytes_out commands.Check bytes of by text s is = is
 bytes_out commands.List bytes of by text s is = is
 bytes_out (commands.Replay budget) bytes of by text s is = is
+bytes_out (commands.Trial n) bytes of by text s is = is
 bytes_out (commands.Exec budget) bytes of by text s is = absurd of

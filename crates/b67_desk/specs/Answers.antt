@@ -1,5 +1,5 @@
 -- What the desk answers: the text that it writes and the status that it gives, for which words and which bytes.
-use Rattle.std.specs.Prelude.{◌≡◌, ℕ, ◌<◌, ◌≤◌, List, ◌∷◌, ◌++◌, length, codes, Option, Some, None, IfSome, Ok, Err, take}
+use Rattle.std.specs.Prelude.{◌≡◌, ◌⊎◌, ℕ, ◌<◌, ◌≤◌, List, ◌∷◌, ◌++◌, length, codes, Option, Some, None, IfSome, Ok, Err, take}
 use Rattle.std.specs.Fmt.{decimal}
 use Rattle.std.specs.Io.KnownBytes.{Appends, IsAtEnd}
 use Rattle.algol_tree.specs.declared.TheConstants.{MOST_SOURCE_BYTES}
@@ -9,10 +9,11 @@ use Rattle.algol_tree.specs.Codes.{rule_letter, rule_number}
 use Rattle.algol_tree.specs.Plain.{PProgram}
 use Rattle.algol_tree.specs.First.{Source, First}
 use Rattle.b67_io.specs.Faults.{Rose}
+use Rattle.b67_words.specs.declared.TheConstants.{MOST_BUDGET}
 use Rattle.b67_words.specs.declared.Rule.{Rule}
 use Rattle.b67_words.specs.declared.Rule.TheVariants as rules
 use Rattle.b67_words.specs.declared.Words.{Words}
-use Rattle.b67_words.specs.declared.Words.TheVariants.{Run, Check, Replay, Exec}
+use Rattle.b67_words.specs.declared.Words.TheVariants.{Run, Check, Replay, Exec, Trial}
 use Rattle.b67_words.specs.declared.Words.TheVariants.{List as ListCode}
 use Rattle.b67_words.specs.declared.BadWords.TheVariants as bad
 use Rattle.b67_words.specs.declared.UsageKind.{UsageKind}
@@ -27,12 +28,13 @@ use Rattle.b67_schedule.specs.Reading.{IsScheduleText}
 use Rattle.b67_report.specs.declared.Report.{Report}
 use Rattle.b67_report.specs.declared.EndWords.{EndWords}
 use Rattle.b67_report.specs.declared.EndWords.TheVariants as ends
-use Rattle.b67_report.specs.Texts.{ReportText, line_text, lines_text}
+use Rattle.b67_report.specs.Texts.{ReportText, line_text, head_text, lines_text, end_words}
 use Rattle.b67_listing.specs.Listings.{ListingText}
 use Rattle.b67_segment.specs.declared.code.Code.{Code}
 use Rattle.b67_faithful.specs.Faithful.{Faithful}
 use Rattle.b67_parts.specs.declared.TheConstants.{MOST_INPUT_BYTES}
 use Rattle.b67_parts.specs.Parts.{Parts}
+use Rattle.b67_make.specs.Made.{made}
 use Rattle.b67_explain.specs.Explaining.{ExplainsRun, ExplainsReplay}
 use Rattle.b67_explain.specs.Alone.{ExplainsAlone}
 use Rattle.b67_asm.specs.declared.refusal.Refusal.{Refusal}
@@ -78,6 +80,10 @@ accepted_text = line_text (codes "ACCEPTED")
 
 abbrev pub listing_text : List (List ℕ) → List ℕ
 listing_text lines = lines_text (codes "LISTING ") lines
+
+-- of a trial: how many bytes its source has, the output of its run, and how that ended
+abbrev pub trial_text : ℕ → Report → List ℕ
+trial_text bytes report = head_text (codes "SOURCE ") bytes ++ lines_text (codes "OUTPUT ") report.output ++ line_text (end_words report.end)
 
 -- ---- a source
 
@@ -143,6 +149,11 @@ pub data Replays (budget : ℕ) (schedule : Option (List ℕ)) (input : ℕ) (tr
   replayed : (given : List ℕ) (report : Report) → AreGiven schedule given → ExplainsReplay tree given budget report →
       Replays budget schedule input tree (ReportText report) (status_of report.end)
 
+-- `trial`: the output and the end of a report that explains a run of the source by one processor, first in, first out, under the greatest
+-- budget. Its listing, its counts and its schedule, which is that of the source's own turns, are not printed.
+pub data Tries (bytes : ℕ) (tree : PProgram) : List ℕ → Status → Type 0 where
+  tried : (report : Report) → ExplainsAlone tree (place_of orders.Fifo) 1 MOST_BUDGET report → Tries bytes tree (trial_text bytes report) (status_of report.end)
+
 -- what a source with this tree is answered by under that command, with the schedule text beside it and the bytes of both
 abbrev pub AnswersTree : Workers → Words → Option (List ℕ) → ℕ → PProgram → List ℕ → Status → Type 0
 AnswersTree by (Run processors budget rule) schedule input tree = Runs by processors budget rule tree
@@ -150,6 +161,7 @@ AnswersTree by Check schedule input tree = SaysAccepted
 AnswersTree by ListCode schedule input tree = Lists tree
 AnswersTree by (Replay budget) schedule input tree = Replays budget schedule input tree
 AnswersTree by (Exec budget) schedule input tree = λ text s. ⊥
+AnswersTree by (Trial n) schedule input tree = Tries input tree
 
 -- The bytes are a source with this tree, and with no other.
 pub record IsSourceOf (bytes : List ℕ) (tree : PProgram) : Type 0 where
@@ -201,10 +213,15 @@ pub data Execs (budget : ℕ) (bytes : List ℕ) : List ℕ → Status → Type 
       Execs budget bytes (refused_text (line_start refusal.line) (OfText refusal.rule)) (status.Refused (line_start refusal.line) (OfText refusal.rule))
   executed : (code : Code) → Assembles bytes code → Execs budget bytes (exec_text code budget) (status_by (exec_run code budget).why)
 
--- the commands whose input is a source
+-- the commands that are answered by a source
 abbrev pub IsOfSource : Words → Type 0
 IsOfSource (Exec budget) = ⊥
 IsOfSource command = Unit {0}
+
+-- the commands that read their input: all but `trial`
+abbrev pub ReadsInput : Words → Type 0
+ReadsInput (Trial n) = ⊥
+ReadsInput command = Unit {0}
 
 -- what the bytes that are read under a command are answered by
 abbrev pub AnswersInput : Workers → Words → List ℕ → List ℕ → Status → Type 0
@@ -237,17 +254,31 @@ pub record Untouched (r : Reading) : Type 0 where
   pub left : r.left_after ≡ r.left
   pub faults : r.faults_after ≡ r.faults
 
+-- What a command is answered by. Under `trial` nothing is read, and its source is the one that is made from its number: a refusal exactly where
+-- that is none, else the output and the end of its run. Under every other command the source is read.
+abbrev pub AnswersCommand : Workers → Words → Reading → List ℕ → Status → Type 0
+AnswersCommand by (Trial n) r text s = Untouched r × AnswersBytes by (Trial n) (made n) text s
+AnswersCommand by command r text s = AnswersSource by command r.left r.left_after text s
+
 -- The text and the status that answer the words and the source, where nothing hinders it: a usage refusal exactly where the words
 -- break the grammar, and then nothing is read.
 pub data Answers (by : Workers) (words : List (List ℕ)) (r : Reading) : List ℕ → Status → Type 0 where
   usage : (word : ℕ) (kind : UsageKind) → WordsMean words (Err (bad.Usage word kind)) → Untouched r → Answers by words r (usage_text word kind) (status.Usage word kind)
-  answered : (command : Words) (text : List ℕ) (s : Status) → WordsMean words (Ok command) → AnswersSource by command r.left r.left_after text s →
-      Answers by words r text s
+  answered : (command : Words) (text : List ℕ) (s : Status) → WordsMean words (Ok command) → AnswersCommand by command r text s → Answers by words r text s
 
--- the source failed: its count rose
-pub record Unreadable (words : List (List ℕ)) (r : Reading) : Type 0 where
+-- the words are a command that reads its input
+pub record AskForInput (words : List (List ℕ)) : Type 0 where
   pub command : Words
   pub means : WordsMean words (Ok command)
+  pub reads : ReadsInput command
+
+-- nothing is read but where the words ask for it
+abbrev pub ReadsIfAsked : List (List ℕ) → Reading → Type 0
+ReadsIfAsked words r = AskForInput words ⊎ Untouched r
+
+-- the source failed, which the words ask for: its count rose
+pub record Unreadable (words : List (List ℕ)) (r : Reading) : Type 0 where
+  pub asked : AskForInput words
   pub rose : Rose r.faults r.faults_after
 
 -- what a call found and left of its sink
@@ -262,11 +293,11 @@ pub record Unwritten (w : Writing) : Type 0 where
   pub written : w.written_after ≡ w.written
   pub faults : w.faults_after ≡ w.faults
 
--- How a call ended. Want of memory is free, and then the sink was not called; a fault of reading or writing comes only where that
--- count rose; what was written when the sink failed is a front of a text that answers the call.
+-- How a call ended. Want of memory is free, and then the sink was not called, and nothing was read but where the words ask for it; a fault of
+-- reading or writing comes only where that count rose; what was written when the sink failed is a front of a text that answers the call.
 pub data HasAnswer (by : Workers) (words : List (List ℕ)) (r : Reading) (w : Writing) : Status → Type 0 where
   told : (text : List ℕ) (s : Status) → Answers by words r text s → Appends w.written w.written_after text → HasAnswer by words r w s
   write_fault : (text : List ℕ) (instead_of : Status) (count : ℕ) → Answers by words r text instead_of → count < length text →
       Appends w.written w.written_after (take count text) → Rose w.faults w.faults_after → HasAnswer by words r w status.WriteFault
   read_fault : Unreadable words r → Unwritten w → HasAnswer by words r w status.ReadFault
-  no_memory : Unwritten w → HasAnswer by words r w status.NoMemory
+  no_memory : ReadsIfAsked words r → Unwritten w → HasAnswer by words r w status.NoMemory

@@ -1,12 +1,12 @@
 -- What the parts of the top call promise one another.
-use Rattle.std.specs.Prelude.{◌≡◌, ◌≢◌, ℕ, ◌≤◌, List, Result, Ok, Err}
+use Rattle.std.specs.Prelude.{◌≡◌, ◌≢◌, ◌⊎◌, ℕ, ◌≤◌, List, Result, Ok, Err}
 use Rattle.std.specs.declared.alloc.AllocError.{AllocError}
 use Rattle.algol_tree.specs.Plain.{PProgram}
 use Rattle.algol_tree.specs.declared.token.Spot.{Spot}
 use Rattle.b67_io.specs.Faults.{Rose}
 use Rattle.b67_words.specs.declared.TheConstants.{MOST_BUDGET, MOST_PROCESSORS}
 use Rattle.b67_words.specs.declared.Words.{Words}
-use Rattle.b67_words.specs.declared.Words.TheVariants.{Run, Check, Replay, Exec}
+use Rattle.b67_words.specs.declared.Words.TheVariants.{Run, Check, Replay, Exec, Trial}
 use Rattle.b67_words.specs.declared.Words.TheVariants.{List as ListCode}
 use Rattle.b67_words.specs.declared.BadWords.{BadWords}
 use Rattle.b67_words.specs.declared.BadWords.TheVariants as broken
@@ -28,7 +28,7 @@ use Rattle.b67_desk.specs.declared.asking.Asked.TheVariants as asked
 use Rattle.b67_desk.specs.declared.status.Code.{Code as RefusalCode}
 use Rattle.b67_desk.specs.declared.status.Status.{Status}
 use Rattle.b67_desk.specs.declared.status.Status.TheVariants as statuses
-use Rattle.b67_desk.specs.Answers.{usage_text, refused_text, too_long_text, bad_schedule_text, status_of, Workers, ExplainsBy, AnswersSource, Answers, Reading, Unreadable}
+use Rattle.b67_desk.specs.Answers.{usage_text, refused_text, too_long_text, bad_schedule_text, trial_text, status_of, Workers, ExplainsBy, ReadsInput, AnswersSource, AnswersCommand, Answers, Reading, Untouched, ReadsIfAsked, Unreadable}
 
 -- ---- what is asked for
 
@@ -59,17 +59,23 @@ SourceAsked command r (Ok a) = Asks (λ by. AnswersSource by command r.left r.le
 SourceAsked command r (Err why.ReadFault) = Rose r.faults r.faults_after
 SourceAsked command r (Err why.NoMemory) = Unit {0}
 
+-- What a command asks for, or its source failed, which it reads, or memory ran out. Where it reads none, the source is as it was.
+abbrev pub CommandAsked : Words → Reading → Result Asked Unanswered → Type 0
+CommandAsked command r (Ok a) = Asks (λ by. AnswersCommand by command r) a × (ReadsInput command ⊎ Untouched r)
+CommandAsked command r (Err why.ReadFault) = ReadsInput command × Rose r.faults r.faults_after
+CommandAsked command r (Err why.NoMemory) = ReadsInput command ⊎ Untouched r
+
 -- what the call asks for, or its source failed, or memory ran out
 abbrev pub CallAsked : List (List ℕ) → Reading → Result Asked Unanswered → Type 0
-CallAsked words r (Ok a) = Asks (λ by. Answers by words r) a
+CallAsked words r (Ok a) = Asks (λ by. Answers by words r) a × ReadsIfAsked words r
 CallAsked words r (Err why.ReadFault) = Unreadable words r
-CallAsked words r (Err why.NoMemory) = Unit {0}
+CallAsked words r (Err why.NoMemory) = ReadsIfAsked words r
 
 -- the call is answered, or its source failed, or memory ran out
 abbrev pub CallAnswered : Workers → List (List ℕ) → Reading → Result Answer Unanswered → Type 0
 CallAnswered by words r (Ok a) = Answers by words r a.text.items a.status
 CallAnswered by words r (Err why.ReadFault) = Unreadable words r
-CallAnswered by words r (Err why.NoMemory) = Unit {0}
+CallAnswered by words r (Err why.NoMemory) = ReadsIfAsked words r
 
 -- ---- reports
 
@@ -101,6 +107,7 @@ InRange Check = Unit {0}
 InRange ListCode = Unit {0}
 InRange (Replay budget) = (1 ≤ budget) × (budget ≤ MOST_BUDGET)
 InRange (Exec budget) = (1 ≤ budget) × (budget ≤ MOST_BUDGET)
+InRange (Trial n) = Unit {0}
 
 -- the refusal of a text that is too long
 pub record IsTooLong (a : Answer) : Type 0 where
@@ -115,6 +122,11 @@ pub record IsBadAt (byte : ℕ) (a : Answer) : Type 0 where
 -- the answer that is a report
 pub record IsReportAnswer (report : Report) (a : Answer) : Type 0 where
   pub text : a.text.items ≡ ReportText report
+  pub status : a.status ≡ status_of report.end
+
+-- the answer that tells the run of a source that was made, which has so many bytes
+pub record IsTrialAnswer (bytes : ℕ) (report : Report) (a : Answer) : Type 0 where
+  pub text : a.text.items ≡ trial_text bytes report
   pub status : a.status ≡ status_of report.end
 
 -- the answer that is the report of a run, where the work is done so

@@ -1,12 +1,12 @@
 //! The lines of the answers that are no report.
 
 ghost use Rattle.std.specs.Prelude.{◌≡◌, ◌++◌, IfOk, OnOk};
-ghost use Rattle.b67_desk.specs.Answers.{usage_words, usage_text, code_words, refused_text, accepted_text, too_long_text, bad_schedule_text, listing_text};
+ghost use Rattle.b67_desk.specs.Answers.{usage_words, usage_text, code_words, refused_text, accepted_text, too_long_text, bad_schedule_text, listing_text, trial_text};
 
 use crate::status::Code;
 use algol_tree::{Spot, rule_letter, rule_number};
 use b67_list::{Line, List, push_number};
-use b67_report::push_lines;
+use b67_report::{Report, push_end, push_lines};
 use b67_words::UsageKind;
 use std::alloc::{AllocError, Global};
 
@@ -87,5 +87,18 @@ pub fn listing_lines(alloc: Global, lines: &List<Line>) -> Result<Vec<u8>, Alloc
 {
     let mut text = Vec::new(alloc);
     push_lines(&mut text, b"LISTING ", lines.items().as_slice())?;
+    Ok(text)
+}
+
+/// The lines of a trial: how many bytes its source has, the output of its run, and how that ended.
+pub fn trial_lines(alloc: Global, bytes: usize, report: &Report) -> Result<Vec<u8>, AllocError>
+    ensures { IfOk result (λ text. text.items ≡ trial_text bytes report.now) }
+{
+    let mut text = Vec::new(alloc);
+    push_number(&mut text, b"SOURCE ", bytes)?;
+    text.extend_from_slice(b"\n")?;
+    push_lines(&mut text, b"OUTPUT ", report.output.items().as_slice())?;
+    push_end(&mut text, &report.end)?;
+    text.extend_from_slice(b"\n")?;
     Ok(text)
 }

@@ -1,8 +1,9 @@
 //! The top call.
 
 ghost use Rattle.std.specs.Prelude.{◌≡◌, ◌≤◌, ℕ, List, IfOk, length, map, string_bytes, option_copied};
+ghost use Rattle.b67_make.specs.Made.{made};
 ghost use Rattle.b67_desk.specs.Answers.{Answers, AnswersBytes, AnswersInput, HasAnswer, IsDivided, IsOfSource, Reading, Workers, by_all, by_one, most_bytes};
-ghost use Rattle.b67_desk.specs.Calls.{Asks, CallAnswered, CallAsked, CanBeMade, InRange, IsRunAnswer, IsTooLong, IsUsage, SourceAsked};
+ghost use Rattle.b67_desk.specs.Calls.{Asks, CallAnswered, CallAsked, CanBeMade, CommandAsked, InRange, IsRunAnswer, IsTooLong, IsUsage, SourceAsked};
 
 use crate::asking::{Answer, Asked, Job, Unanswered, settled};
 use crate::exec::answer_exec;
@@ -13,6 +14,7 @@ use crate::tree::{ask_tree, refuse, tell};
 use algol_front::front;
 use algol_tree::{MOST_SOURCE_BYTES, Refusal};
 use b67_io::{ReadAll, Sink, Source, WriteAll, read_all, write_all};
+use b67_make::make;
 use b67_parts::{MOST_INPUT_BYTES, parts};
 use b67_processors::Gate;
 use b67_words::{BadWords, UsageKind, Words, read_words};
@@ -28,7 +30,8 @@ fn divided(command: Words, bytes: &[u8]) -> (&[u8], Option<&[u8]>)
 {
     match command {
         Words::Replay { .. } => parts(bytes),
-        Words::Run { .. } | Words::Check | Words::List | Words::Exec { .. } => (bytes, None),
+        Words::Run { .. } | Words::Check | Words::List | Words::Exec { .. } | Words::Trial { .. } =>
+            (bytes, None),
     }
 }
 
@@ -67,9 +70,11 @@ fn ask_input(alloc: Global, command: Words, bytes: &[u8]) -> Result<Asked, Alloc
 {
     match command {
         Words::Exec { budget } => settled(answer_exec(alloc, budget, bytes)),
-        Words::Run { .. } | Words::Check | Words::List | Words::Replay { .. } => {
-            ask_bytes(alloc, command, bytes)
-        }
+        Words::Run { .. }
+        | Words::Check
+        | Words::List
+        | Words::Replay { .. }
+        | Words::Trial { .. } => ask_bytes(alloc, command, bytes),
     }
 }
 
@@ -79,7 +84,8 @@ fn most_bytes(command: Words) -> usize
 {
     match command {
         Words::Replay { .. } => MOST_INPUT_BYTES,
-        Words::Run { .. } | Words::Check | Words::List | Words::Exec { .. } => MOST_SOURCE_BYTES,
+        Words::Run { .. } | Words::Check | Words::List | Words::Exec { .. } | Words::Trial { .. } =>
+            MOST_SOURCE_BYTES,
     }
 }
 
@@ -104,6 +110,41 @@ fn ask_source<S: Source>(alloc: Global, command: Words, source: &mut S) -> Resul
         },
         Err(ReadAll::Failed) => Err(Unanswered::ReadFault),
         Err(ReadAll::NoMemory) => Err(Unanswered::NoMemory),
+    }
+}
+
+/// What the source that is made from a number asks for.
+fn ask_trial(alloc: Global, n: u32) -> Result<Asked, AllocError>
+    ensures { IfOk result (Asks (λ by. AnswersBytes by (Words.Trial n) (made n))) }
+{
+    let bytes = make(alloc, n)?;
+    ask_bytes(alloc, Words::Trial { n }, bytes.as_slice())
+}
+
+/// What a command asks for, and where it reads its input the source.
+fn ask_command<S: Source>(
+    alloc: Global,
+    command: Words,
+    source: &mut S,
+) -> Result<Asked, Unanswered>
+    requires { InRange command }
+    ensures { CommandAsked command (record {
+      left = S.left source.old;
+      left_after = S.left source.new;
+      faults = S.faults source.old;
+      faults_after = S.faults source.new;
+    }) result }
+{
+    match command {
+        Words::Trial { n } => match ask_trial(alloc, n) {
+            Ok(asked) => Ok(asked),
+            Err(_) => Err(Unanswered::NoMemory),
+        },
+        Words::Run { .. }
+        | Words::Check
+        | Words::List
+        | Words::Replay { .. }
+        | Words::Exec { .. } => ask_source(alloc, command, source),
     }
 }
 
@@ -140,7 +181,7 @@ fn ask_call<S: Source>(alloc: Global, words: &[String], source: &mut S) -> Resul
     }) result }
 {
     match read_words(words) {
-        Ok(command) => ask_source(alloc, command, source),
+        Ok(command) => ask_command(alloc, command, source),
         Err(bad) => refuse_words(alloc, bad),
     }
 }
@@ -244,11 +285,12 @@ fn write_answer<K: Sink>(sink: &mut K, answer: Result<Answer, Unanswered>) -> St
 ///
 /// `words` are the words after the program's name; the commands are `run P B`, `run P B --rule=R`, `replay B` and `exec B`
 /// with P of 1 to [`MOST_PROCESSORS`](b67_words::MOST_PROCESSORS) processors, a budget B of 1 to [`MOST_BUDGET`](b67_words::MOST_BUDGET)
-/// operators and a rule of dispatch R, `check`, and `list`. `source` gives the bytes of an ALGOL source, at most
-/// [`MOST_SOURCE_BYTES`] of them, and is read to its end. Under `replay` it gives at most [`MOST_INPUT_BYTES`]: after the source a
-/// record that is exactly `%%SCHEDULE`, and after that the text of the schedule to be followed. Under `exec` it gives a text of code
-/// in place of a source. `sink` gets the answer whole: the report of the run, the listing of the code, the word ACCEPTED, what a
-/// run by turns says, or one line of refusal. It returns on every input.
+/// operators and a rule of dispatch R, `check`, `list`, and `trial N` with a number N of 0 to [`MOST_TRIAL`](b67_words::MOST_TRIAL).
+/// `source` gives the bytes of an ALGOL source, at most [`MOST_SOURCE_BYTES`] of them, and is read to its end. Under `replay` it gives at
+/// most [`MOST_INPUT_BYTES`]: after the source a record that is exactly `%%SCHEDULE`, and after that the text of the schedule to be
+/// followed. Under `exec` it gives a text of code in place of a source. Under `trial` nothing is read, and the source is the one that is
+/// made from the number. `sink` gets the answer whole: the report of the run, the listing of the code, the word ACCEPTED, what a run by
+/// turns says, what a trial says, or one line of refusal. It returns on every input.
 ///
 /// The first of these that holds is the answer. `Usage` comes exactly where the words break the grammar, names the first word
 /// that does, and nothing is read. `ReadFault` comes only where the source's count of faults rose, and nothing is written.
@@ -263,6 +305,8 @@ fn write_answer<K: Sink>(sink: &mut K, answer: Result<Answer, Unanswered>) -> St
 /// lowest rule that it breaks. Else the run of its code by turns is told: `Finished`, `Fault` or `AllWaiting` where it comes to that end,
 /// `Interrupt` and `StackLimit` exactly where the next operator of the process whose turn it is comes to that, and `BudgetSpent` where as
 /// many operators were performed as the budget has, and nothing else stopped it.
+/// On `trial` the length of the made source, and the output and the end of its run by one processor under the greatest budget are told, with
+/// the status of that run. `Refused` comes exactly where the made source is not accepted.
 /// `WriteFault` comes only where the sink's count of faults rose, and what was written is a front of the answer. `NoMemory` may
 /// come instead of any of them, and then nothing is written.
 ///

@@ -3,20 +3,20 @@
 ghost use Rattle.std.specs.Prelude.{◌≡◌, ◌≤◌, IfOk, option_copied};
 ghost use Rattle.algol_tree.specs.Image.{program as plain};
 ghost use Rattle.b67_words.specs.declared.TheConstants.{MOST_BUDGET, MOST_PROCESSORS};
-ghost use Rattle.b67_desk.specs.Answers.{AnswersTree, IsOfSource, SaysAccepted, Runs, Lists, Replays, status_of};
-ghost use Rattle.b67_desk.specs.Calls.{Asks, InRange, IsRefusal, IsBadAt, IsReportAnswer};
+ghost use Rattle.b67_desk.specs.Answers.{AnswersTree, IsOfSource, SaysAccepted, Runs, Lists, Replays, Tries, status_of};
+ghost use Rattle.b67_desk.specs.Calls.{Asks, InRange, IsRefusal, IsBadAt, IsReportAnswer, IsTrialAnswer};
 
 use crate::asking::{Answer, Asked, Job, settled};
-use crate::running::replay_report;
+use crate::running::{replay_report, run_report};
 use crate::status::{Code, Status};
-use crate::texts::{accepted_line, bad_schedule_line, listing_lines, refused_line};
+use crate::texts::{accepted_line, bad_schedule_line, listing_lines, refused_line, trial_lines};
 use algol_front::Checked;
 use algol_tree::Spot;
 use b67_compile::compile;
 use b67_listing::listing;
 use b67_report::{EndWords, Report, text as report_text};
 use b67_schedule::{ReadSchedule, read as read_schedule};
-use b67_words::{Rule, Words};
+use b67_words::{MOST_BUDGET, Rule, Words};
 use std::alloc::{AllocError, Global};
 
 /// The status under which a run is reported.
@@ -131,6 +131,31 @@ fn answer_replay(
     }
 }
 
+/// The answer that tells the run of a source that was made, which has so many bytes.
+fn tell_trial(alloc: Global, bytes: usize, report: &Report) -> Result<Answer, AllocError>
+    ensures { IfOk result (IsTrialAnswer bytes report.now) }
+{
+    Ok(Answer {
+        text: trial_lines(alloc, bytes, report)?,
+        status: status_of(report.end),
+    })
+}
+
+/// The answer to an accepted source that was made, which has so many bytes: it is run in the caller, first in, first out, under the
+/// greatest budget.
+fn answer_trial(alloc: Global, bytes: usize, checked: &Checked) -> Result<Answer, AllocError>
+    ensures { IfOk result (λ answer. Tries bytes (plain checked.now.program) answer.text.items answer.status) }
+{
+    let code = compile(alloc, checked)?;
+    let job = Job {
+        processors: 1,
+        budget: MOST_BUDGET,
+        rule: Rule::Fifo,
+        code,
+    };
+    tell_trial(alloc, bytes, &run_report(alloc, job)?)
+}
+
 /// What an accepted source asks for under a command, with the schedule text beside it, in an input of so many bytes.
 pub fn ask_tree(
     alloc: Global,
@@ -154,6 +179,7 @@ pub fn ask_tree(
         Words::Replay { budget } => {
             settled(answer_replay(alloc, budget, schedule, input, checked))
         }
+        Words::Trial { .. } => settled(answer_trial(alloc, input, checked)),
         Words::Exec { .. } => unreachable!(),
     }
 }

@@ -1,14 +1,14 @@
 -- The commands by their words, and how their words can begin.
-use Rattle.std.proofs.Common.{◌≡◌, ◌≢◌, ◌⊎◌, inl, inr, ℕ, ◌≤◌, ◌<◌, ◌^◌, List, [], ◌∷◌, ◌++◌, length, drop, get_or, refl, sym, ap, subst, ◌∙◌, arith}
+use Rattle.std.proofs.Common.{◌≡◌, ◌≢◌, ◌⊎◌, inl, inr, ℕ, ◌≤◌, List, [], ◌∷◌, ◌++◌, length, drop, get_or, refl, sym, ap, subst, ◌∙◌, arith}
 use Rattle.std.specs.Prelude.{codes}
 use Rattle.std.proofs.lemmas.Fmt.{decimal_digit, decimal_injective}
-use Rattle.b67_words.specs.declared.TheConstants.{MOST_BUDGET, MOST_PROCESSORS}
+use Rattle.b67_words.specs.declared.TheConstants.{MOST_BUDGET, MOST_PROCESSORS, MOST_SEED, MOST_TRIAL}
 use Rattle.b67_words.specs.declared.Rule.{Rule}
 use Rattle.b67_words.specs.declared.Rule.TheVariants.{Fifo, Lifo, Seed}
 use Rattle.b67_words.specs.declared.Words.{Words}
 use Rattle.b67_words.specs.declared.Words.TheVariants as commands
-use Rattle.b67_words.specs.declared.Words.TheVariants.{Run, Check, Replay, Exec}
-use Rattle.b67_words.specs.Grammar.{IsNumber, IsSeed, IsRule, fifo, lifo, seed, NameRule, IsCommand, run, check, list, replay, exec, BeginCommand, IsWhole}
+use Rattle.b67_words.specs.declared.Words.TheVariants.{Run, Check, Replay, Exec, Trial}
+use Rattle.b67_words.specs.Grammar.{IsNumber, IsFromZero, IsRule, fifo, lifo, seed, NameRule, IsCommand, run, check, list, replay, exec, trial, BeginCommand, IsWhole}
 
 -- the word is a command by itself, which means this
 pub data IsAlone (name : List ℕ) (meaning : Words) : Type 0 where
@@ -25,6 +25,7 @@ pub data Form (words : List (List ℕ)) (meaning : Words) : Type 0 where
   a_run : (processors budget : List ℕ) (last : List (List ℕ)) (p b : ℕ) (rule : Rule) → words ≡ codes "run" ∷ processors ∷ budget ∷ last →
       IsNumber MOST_PROCESSORS processors p → IsNumber MOST_BUDGET budget b → NameRule last rule → meaning ≡ Run p b rule → Form words meaning
   a_budget : (name budget : List ℕ) (b : ℕ) → words ≡ name ∷ budget ∷ [] → IsNumber MOST_BUDGET budget b → IsBudgeted name b meaning → Form words meaning
+  a_trial : (number : List ℕ) (n : ℕ) → words ≡ codes "trial" ∷ number ∷ [] → IsFromZero MOST_TRIAL number n → meaning ≡ Trial n → Form words meaning
   a_word : (name : List ℕ) → words ≡ name ∷ [] → IsAlone name meaning → Form words meaning
 
 pub form_of : (words : List (List ℕ)) (meaning : Words) → IsCommand words meaning → Form words meaning
@@ -32,6 +33,7 @@ form_of _ _ (run processors budget last p b rule f s n) = a_run processors budge
 form_of _ _ check = a_word (codes "check") refl (is_check refl refl)
 form_of _ _ list = a_word (codes "list") refl (is_list refl refl)
 form_of _ _ (replay budget b s) = a_budget (codes "replay") budget b refl s (is_replay refl refl)
+form_of _ _ (trial number n is) = a_trial number n refl is refl
 form_of _ _ (exec budget b s) = a_budget (codes "exec") budget b refl s (is_exec refl refl)
 
 -- ---- the names of the commands are told apart by a letter
@@ -79,6 +81,23 @@ budget_not_run name b meaning is e =
     let u : get_or name 1 0 ≡ 117 = letter name (codes "run") 1 117 e refl in
     two_apart (get_or name 1 0) 101 120 117 117 (budget_second name b meaning is) (inl u) (λ p. omega arith) (λ p. omega arith) (λ p. omega arith) (λ p. omega arith)
 
+-- the name of a trial is none of the others
+trial_first : (name : List ℕ) → name ≡ codes "trial" → get_or name 0 0 ≡ 116
+trial_first name t = letter name (codes "trial") 0 116 t refl
+
+pub trial_not_run : {B : Type 0} (name : List ℕ) → name ≡ codes "trial" → name ≡ codes "run" → B
+trial_not_run name t e =
+    differ (get_or name 0 0) (get_or name 0 0) 116 114 (trial_first name t) (letter name (codes "run") 0 114 e refl) refl (λ p. omega arith)
+
+pub trial_not_budgeted : {B : Type 0} (name : List ℕ) (b : ℕ) (meaning : Words) → IsBudgeted name b meaning → name ≡ codes "trial" → B
+trial_not_budgeted name b meaning is t =
+    two_apart (get_or name 0 0) 114 101 116 116 (budget_first name b meaning is) (inl (trial_first name t)) (λ p. omega arith) (λ p. omega arith) (λ p. omega arith)
+    (λ p. omega arith)
+
+pub trial_not_alone : {B : Type 0} (name : List ℕ) (meaning : Words) → IsAlone name meaning → name ≡ codes "trial" → B
+trial_not_alone name meaning is t =
+    let first = trial_first name t in let low = (alone_letter name meaning is).1 in absurd (omega arith)
+
 pub budget_letter : (name : List ℕ) (b : ℕ) (meaning : Words) → IsBudgeted name b meaning → 101 ≤ get_or name 0 0
 budget_letter name b meaning is = by (budget_first name b meaning is)
   where
@@ -117,6 +136,7 @@ run_form : (rest : List (List ℕ)) (meaning : Words) → Form (codes "run" ∷ 
 run_form rest meaning (a_run processors budget last p b rule e f s n m) =
     record { processors = processors; budget = budget; last = last; p = p; b = b; rule = rule; are = cc; first = f; second = s; named = n }
 run_form rest meaning (a_budget name budget b e s is) = budget_not_run name b meaning is (let same : name ≡ codes "run" = cc in same)
+run_form rest meaning (a_trial number n e is m) = trial_not_run (codes "run") (let same : codes "run" ≡ codes "trial" = cc in same) refl
 run_form rest meaning (a_word name e is) = run_not_alone name meaning is (let same : name ≡ codes "run" = cc in same)
 
 pub after_run : (rest : List (List ℕ)) (meaning : Words) → IsCommand (codes "run" ∷ rest) meaning → AfterRun rest
@@ -132,17 +152,35 @@ pub record AfterName (rest : List (List ℕ)) : Type 0 where
 budget_form : (name : List ℕ) (k : ℕ) (one : Words) → IsBudgeted name k one → (rest : List (List ℕ)) (meaning : Words) → Form (name ∷ rest) meaning → AfterName rest
 budget_form name k one is rest meaning (a_run processors budget last p b rule e f s n m) = budget_not_run name k one is (let same : name ≡ codes "run" = cc in same)
 budget_form name k one is rest meaning (a_budget other budget b e s also) = record { budget = budget; b = b; are = cc; first = s }
+budget_form name k one is rest meaning (a_trial number n e also m) = trial_not_budgeted name k one is (let same : name ≡ codes "trial" = cc in same)
 budget_form name k one is rest meaning (a_word other e also) =
     let same : other ≡ name = cc in budget_not_alone name k one meaning is (subst (λ w. IsAlone w meaning) same also)
 
 pub after_name : (name : List ℕ) (k : ℕ) (one : Words) → IsBudgeted name k one → (rest : List (List ℕ)) (meaning : Words) → IsCommand (name ∷ rest) meaning → AfterName rest
 after_name name k one is rest meaning also = budget_form name k one is rest meaning (form_of (name ∷ rest) meaning also)
 
+-- the word after `trial`
+pub record AfterTrial (rest : List (List ℕ)) : Type 0 where
+  pub number : List ℕ
+  pub n : ℕ
+  pub are : rest ≡ number ∷ []
+  pub first : IsFromZero MOST_TRIAL number n
+
+trial_form : (rest : List (List ℕ)) (meaning : Words) → Form (codes "trial" ∷ rest) meaning → AfterTrial rest
+trial_form rest meaning (a_run processors budget last p b rule e f s n m) = trial_not_run (codes "trial") refl (let same : codes "trial" ≡ codes "run" = cc in same)
+trial_form rest meaning (a_budget name budget b e s is) = trial_not_budgeted name b meaning is (let same : name ≡ codes "trial" = cc in same)
+trial_form rest meaning (a_trial number n e is m) = record { number = number; n = n; are = cc; first = is }
+trial_form rest meaning (a_word name e is) = trial_not_alone name meaning is (let same : name ≡ codes "trial" = cc in same)
+
+pub after_trial : (rest : List (List ℕ)) (meaning : Words) → IsCommand (codes "trial" ∷ rest) meaning → AfterTrial rest
+after_trial rest meaning is = trial_form rest meaning (form_of (codes "trial" ∷ rest) meaning is)
+
 -- no word follows a command that is one word
 alone_form : (name word : List ℕ) (rest : List (List ℕ)) (one meaning : Words) → IsAlone name one → Form (name ∷ word ∷ rest) meaning → ⊥
 alone_form name word rest one meaning is (a_run processors budget last p b rule e f s n m) = run_not_alone name one is cc
 alone_form name word rest one meaning is (a_budget other budget b e s also) =
     let same : other ≡ name = cc in budget_not_alone name b meaning one (subst (λ w. IsBudgeted w b meaning) same also) is
+alone_form name word rest one meaning is (a_trial number n e also m) = trial_not_alone name one is cc
 alone_form name word rest one meaning is (a_word other e also) = cc
 
 -- ---- how the words of a command can begin
@@ -159,6 +197,9 @@ begin_check = ([], Check, check)
 
 pub begin_run : (processors : List ℕ) (p : ℕ) → IsNumber MOST_PROCESSORS processors p → BeginCommand (codes "run" ∷ processors ∷ [])
 begin_run processors p is = (codes "1" ∷ [], Run p 1 Fifo, run processors (codes "1") [] p 1 Fifo is (one MOST_BUDGET (omega arith)) refl)
+
+pub begin_trial : BeginCommand (codes "trial" ∷ codes "1" ∷ [])
+begin_trial = ([], Trial 1, trial (codes "1") 1 (record { written = sym (decimal_digit 1 (omega arith)); greatest = omega arith }))
 
 -- ---- whole commands
 
@@ -187,13 +228,17 @@ pub whole_budget : (name budget : List ℕ) (b : ℕ) (meaning : Words) → IsBu
 whole_budget name budget b meaning budgeted is =
     record { is = is; last = λ word (more, m, also). let e = (after_name name b meaning budgeted (budget ∷ word ∷ more) m also).are in cc }
 
+pub whole_trial : (number : List ℕ) (n : ℕ) → IsFromZero MOST_TRIAL number n → IsWhole (codes "trial" ∷ number ∷ []) (Trial n)
+whole_trial number n is =
+    record { is = trial number n is; last = λ word (more, m, also). let e = (after_trial (number ∷ word ∷ more) m also).are in cc }
+
 -- ---- the rules of dispatch are told apart by a letter
 
 -- the word of a rule, and which it is
 data RuleForm (word : List ℕ) (rule : Rule) : Type 0 where
   a_fifo : word ≡ codes "--rule=fifo" → rule ≡ Fifo → RuleForm word rule
   a_lifo : word ≡ codes "--rule=lifo" → rule ≡ Lifo → RuleForm word rule
-  a_seed : (numeral : List ℕ) (n : ℕ) → word ≡ codes "--rule=seed:" ++ numeral → IsSeed numeral n → rule ≡ Seed n → RuleForm word rule
+  a_seed : (numeral : List ℕ) (n : ℕ) → word ≡ codes "--rule=seed:" ++ numeral → IsFromZero MOST_SEED numeral n → rule ≡ Seed n → RuleForm word rule
 
 rule_form : (word : List ℕ) (rule : Rule) → IsRule word rule → RuleForm word rule
 rule_form _ _ fifo = a_fifo refl refl
@@ -243,24 +288,24 @@ same_name (word ∷ other ∷ rest) a b is also = absurd is
 
 -- what is no other rule is that of a number
 seed_by : (word : List ℕ) (rule : Rule) → word ≢ codes "--rule=fifo" → word ≢ codes "--rule=lifo" → RuleForm word rule
-    → (numeral : List ℕ) × (n : ℕ) × (word ≡ codes "--rule=seed:" ++ numeral) × IsSeed numeral n
+    → (numeral : List ℕ) × (n : ℕ) × (word ≡ codes "--rule=seed:" ++ numeral) × IsFromZero MOST_SEED numeral n
 seed_by word rule f l (a_fifo e m) = absurd (f e)
 seed_by word rule f l (a_lifo e m) = absurd (l e)
 seed_by word rule f l (a_seed numeral n e is m) = (numeral, n, e, is)
 
 -- a text that begins as the rule of a number does names one where its rest is one, and else names none
 pub seed_read : (text numeral : List ℕ) (k : ℕ) → k ≡ length (codes "--rule=seed:") → text ≡ codes "--rule=seed:" ++ drop k text → numeral ≡ drop k text → (n : ℕ)
-    → IsSeed numeral n → IsRule text (Seed n)
+    → IsFromZero MOST_SEED numeral n → IsRule text (Seed n)
 seed_read text numeral k e split rest n is =
     subst (λ (w : List ℕ). IsRule w (Seed n)) (sym (split ∙ ap (λ (w : List ℕ). codes "--rule=seed:" ++ w) (sym rest))) (seed numeral n is)
 
 pub no_seed_read : (text numeral : List ℕ) (k : ℕ) → k ≡ length (codes "--rule=seed:") → text ≡ codes "--rule=seed:" ++ drop k text → numeral ≡ drop k text
-    → text ≢ codes "--rule=fifo" → text ≢ codes "--rule=lifo" → ((n : ℕ) → IsSeed numeral n → ⊥) → (rule : Rule) → IsRule text rule → ⊥
+    → text ≢ codes "--rule=fifo" → text ≢ codes "--rule=lifo" → ((n : ℕ) → IsFromZero MOST_SEED numeral n → ⊥) → (rule : Rule) → IsRule text rule → ⊥
 no_seed_read text numeral k e split rest f l none rule is =
     let s = seed_by text rule f l (rule_form text rule is) in
     let whole : text ≡ codes "--rule=seed:" ++ numeral = split ∙ ap (λ (w : List ℕ). codes "--rule=seed:" ++ w) (sym rest) in
     let same : s.0 ≡ numeral = ap (drop 12) (sym s.2 ∙ whole) in
-    none s.1 (subst (λ (w : List ℕ). IsSeed w s.1) same s.3)
+    none s.1 (subst (λ (w : List ℕ). IsFromZero MOST_SEED w s.1) same s.3)
 
 pub no_rule_read : (text : List ℕ) → ((rest : List ℕ) → drop 0 text ≢ codes "--rule=seed:" ++ rest) → text ≢ codes "--rule=fifo" → text ≢ codes "--rule=lifo"
     → (rule : Rule) → IsRule text rule → ⊥

@@ -7,8 +7,7 @@ use Rattle.std.proofs.lemmas.Fmt.{first_decimal, decimal_digit, decimal_is_IsNum
 use Rattle.std.proofs.lemmas.Str.Parse.{IsNumeralModel, numerals_by_value, tells_digits, parse_plain, digit_at}
 use Rattle.std.specs.Bool.{then_some}
 use Rattle.std.proofs.lemmas.Bool.{leb-true, leb-false}
-use Rattle.b67_words.specs.declared.TheConstants.{MOST_SEED}
-use Rattle.b67_words.specs.Grammar.{IsNumber, IsNumberOrNone, IsSeed}
+use Rattle.b67_words.specs.Grammar.{IsNumber, IsNumberOrNone, IsFromZero}
 
 own : IsNumeralModel (AllDigits 10) (digits_value 10)
 own = numerals_by_value (AllDigits 10) tells_digits
@@ -50,11 +49,18 @@ kept most text n r false o fits h e low t s =
     let great : most < n = leb-false n most (sym t) in
     rw s (λ m is. let f : r ≡ Ok m = reads most text m r fits h is in let same : m ≡ n = cc in let bound = is.greatest in absurd (omega arith))
 
--- ---- the number of a rule, which may be 0
+-- ---- numbers from 0 on
 
-pub zero_seed : (text : List ℕ) → text ≡ codes "0" → IsSeed text 0
-zero_seed text e = record { written = e ∙ sym (decimal_digit 0 (omega arith)); greatest = omega arith }
+-- the first digit is one
+pub digit_first : (most : ℕ) (text : List ℕ) (n : ℕ) → most < 2 ^ 64 → IsFromZero most text n → 48 ≤ get_or text 0 0
+digit_first most text n small is =
+    let fits : n < 2 ^ 64 = omega (arith, is.greatest) in
+    let shape = decimal_is_IsNumeral n fits in
+    rw (is.written) ((digit_at (decimal n) 0 shape.0.1 shape.0.0).0)
 
-pub no_seed : (text : List ℕ) → text ≢ codes "0" → ((n : ℕ) → IsNumber MOST_SEED text n → ⊥) → (n : ℕ) → IsSeed text n → ⊥
-no_seed text other none zero is = other (is.written ∙ decimal_digit 0 (omega arith))
-no_seed text other none (suc n) is = none (suc n) (record { written = is.written; least = omega arith; greatest = is.greatest })
+pub zero_from : (most : ℕ) (text : List ℕ) → text ≡ codes "0" → IsFromZero most text 0
+zero_from most text e = record { written = e ∙ sym (decimal_digit 0 (omega arith)); greatest = omega arith }
+
+pub none_from : (most : ℕ) (text : List ℕ) → text ≢ codes "0" → ((n : ℕ) → IsNumber most text n → ⊥) → (n : ℕ) → IsFromZero most text n → ⊥
+none_from most text other none zero is = other (is.written ∙ decimal_digit 0 (omega arith))
+none_from most text other none (suc n) is = none (suc n) (record { written = is.written; least = omega arith; greatest = is.greatest })

@@ -1,20 +1,20 @@
 -- Words that are read one by one, and the first that breaks the grammar.
-use Rattle.std.proofs.Common.{◌≡◌, ◌≢◌, ◌⊎◌, inl, inr, ℕ, ◌+◌, ◌≤◌, ◌<◌, List, [], ◌∷◌, ◌++◌, length, take, drop, map, Some, None, Ok, Err, refl, sym, ap, ◌∙◌, subst, arith}
+use Rattle.std.proofs.Common.{◌≡◌, ◌≢◌, inl, inr, ℕ, ◌+◌, ◌≤◌, ◌<◌, List, [], ◌∷◌, ◌++◌, length, take, drop, map, Some, None, Ok, Err, refl, sym, ap, ◌∙◌, subst, arith}
 use Rattle.std.specs.Prelude.{slice_get, codes}
 use Rattle.std.proofs.lemmas.List.{append_assoc, append-nil, length-append, take-append-drop, length-take-le}
 use Rattle.std.proofs.lemmas.Option.{get_or_from_slice_get, slice_get_within}
 use Rattle.std.proofs.Math.Seq.{get_or-append_seam, take-append_seam, take-length}
-use Rattle.b67_words.specs.declared.TheConstants.{MOST_BUDGET, MOST_PROCESSORS}
+use Rattle.b67_words.specs.declared.TheConstants.{MOST_BUDGET, MOST_PROCESSORS, MOST_TRIAL}
 use Rattle.b67_words.specs.declared.Rule.{Rule}
 use Rattle.b67_words.specs.declared.Rule.TheVariants.{Fifo}
 use Rattle.b67_words.specs.declared.Words.{Words}
 use Rattle.b67_words.specs.declared.Words.TheVariants as commands
-use Rattle.b67_words.specs.declared.Words.TheVariants.{Run, Check, Replay, Exec}
+use Rattle.b67_words.specs.declared.Words.TheVariants.{Run, Check, Replay, Exec, Trial}
 use Rattle.b67_words.specs.declared.BadWords.{BadWords}
 use Rattle.b67_words.specs.declared.BadWords.TheVariants.{Usage}
 use Rattle.b67_words.specs.declared.UsageKind.TheVariants.{Missing, Unknown, BadNumber, BadRule, Extra}
-use Rattle.b67_words.specs.Grammar.{IsNumber, IsRule, fifo, NameRule, IsCommand, run, replay, exec, BeginCommand, IsWhole, BeginWhole, command, numeral, named as rule_named, nothing, missing, wrong, WordsMean, meant, broken, IsNumberOrNone, NumberStandsAt, IsRuleOrNone, RuleStandsAt}
-use Rattle.b67_words.proofs.Commands.{Form, a_run, a_budget, a_word, IsAlone, is_check, is_list, IsBudgeted, is_replay, is_exec, form_of, begin_nothing, begin_run, one, after_run, after_name, whole_run, whole_budget, whole_check, whole_list}
+use Rattle.b67_words.specs.Grammar.{IsNumber, IsFromZero, IsRule, fifo, NameRule, IsCommand, run, replay, exec, BeginCommand, IsWhole, BeginWhole, command, numeral, named as rule_named, nothing, missing, wrong, WordsMean, meant, broken, NumberStandsAt, IsRuleOrNone, RuleStandsAt}
+use Rattle.b67_words.proofs.Commands.{Form, a_run, a_budget, a_trial, a_word, IsAlone, is_check, is_list, IsBudgeted, is_replay, is_exec, form_of, begin_nothing, begin_run, begin_trial, one, after_run, after_name, after_trial, whole_run, whole_budget, whole_trial, whole_check, whole_list}
 
 -- the words begin with these
 abbrev pub GoOn : List (List ℕ) → List (List ℕ) → Type 0
@@ -25,64 +25,64 @@ begins front more (rest, m, is) = (more ++ rest, m, subst (λ ws. IsCommand ws m
 
 -- ---- a number that has to follow
 
--- a number up to this has to follow the words
-pub record Awaits (front : List (List ℕ)) (most : ℕ) : Type 0 where
+-- a number that is such a one has to follow the words
+pub record Awaits (front : List (List ℕ)) (Is : List ℕ → ℕ → Type 0) : Type 0 where
   pub unfinished : (meaning : Words) → IsCommand front meaning → ⊥
   pub begun : BeginCommand (front ++ codes "1" ∷ [])
-  pub only : (word : List ℕ) → BeginCommand (front ++ word ∷ []) → (n : ℕ) × IsNumber most word n
+  pub only : (word : List ℕ) → BeginCommand (front ++ word ∷ []) → (n : ℕ) × Is word n
 
-number_missing : (front rest : List (List ℕ)) (most : ℕ) → Awaits front most → length (front ++ rest) ≤ length front →
+number_missing : (front rest : List (List ℕ)) (Is : List ℕ → ℕ → Type 0) → Awaits front Is → length (front ++ rest) ≤ length front →
     WordsMean (front ++ rest) (Err (Usage (length front + 1) Missing))
-number_missing front [] most awaits short =
+number_missing front [] Is awaits short =
     subst (λ ws. WordsMean ws (Err (Usage (length front + 1) Missing))) (sym (append-nil front))
     (broken front (length front + 1) Missing (missing front (begins front (codes "1" ∷ []) awaits.begun) awaits.unfinished))
-number_missing front (word ∷ rest) most awaits short = let sum = length-append front (word ∷ rest) in absurd (omega arith)
+number_missing front (word ∷ rest) Is awaits short = let sum = length-append front (word ∷ rest) in absurd (omega arith)
 
-number_bad : (front rest : List (List ℕ)) (most : ℕ) (word : List ℕ) → Awaits front most → slice_get (front ++ rest) (length front) ≡ Some word →
-    IsNumberOrNone most word None → WordsMean (front ++ rest) (Err (Usage (length front + 1) BadNumber))
-number_bad front [] most word awaits at bad =
+number_bad : (front rest : List (List ℕ)) (Is : List ℕ → ℕ → Type 0) (word : List ℕ) → Awaits front Is → slice_get (front ++ rest) (length front) ≡ Some word →
+    ((n : ℕ) → Is word n → ⊥) → WordsMean (front ++ rest) (Err (Usage (length front + 1) BadNumber))
+number_bad front [] Is word awaits at bad =
     let within = slice_get_within (front ++ []) (length front) word at in let sum = length-append front [] in absurd (omega arith)
-number_bad front (other ∷ rest) most word awaits at bad =
+number_bad front (other ∷ rest) Is word awaits at bad =
     let same : other ≡ word = sym (get_or-append_seam front other rest []) ∙ get_or_from_slice_get (front ++ other ∷ rest) (length front) word [] at in
     broken (front ++ other ∷ rest) (length front + 1) BadNumber
     (wrong front other rest BadNumber (begins front (codes "1" ∷ []) awaits.begun)
-    (λ begun. let is = awaits.only other begun in bad is.0 (subst (λ w. IsNumber most w is.0) same is.1))
+    (λ begun. let is = awaits.only other begun in bad is.0 (subst (λ w. Is w is.0) same is.1))
     (numeral front (codes "1") 1 (one MOST_BUDGET (omega arith)) awaits.begun))
 
-broken_after : (front rest : List (List ℕ)) (most : ℕ) (bad : BadWords) → Awaits front most → NumberStandsAt (front ++ rest) (length front) most (Err bad) →
+broken_after : (front rest : List (List ℕ)) (Is : List ℕ → ℕ → Type 0) (bad : BadWords) → Awaits front Is → NumberStandsAt Is (front ++ rest) (length front) (Err bad) →
     WordsMean (front ++ rest) (Err bad)
-broken_after front rest most (Usage k Missing) awaits n = rw (n.0) (number_missing front rest most awaits n.1)
-broken_after front rest most (Usage k BadNumber) awaits n = rw (n.0) (number_bad front rest most n.1 awaits n.2 n.3)
-broken_after front rest most (Usage k Unknown) awaits n = absurd n
-broken_after front rest most (Usage k BadRule) awaits n = absurd n
-broken_after front rest most (Usage k Extra) awaits n = absurd n
+broken_after front rest Is (Usage k Missing) awaits n = rw (n.0) (number_missing front rest Is awaits n.1)
+broken_after front rest Is (Usage k BadNumber) awaits n = rw (n.0) (number_bad front rest Is n.1 awaits n.2 n.3)
+broken_after front rest Is (Usage k Unknown) awaits n = absurd n
+broken_after front rest Is (Usage k BadRule) awaits n = absurd n
+broken_after front rest Is (Usage k Extra) awaits n = absurd n
 
 -- where no number stands after the words, they break the grammar there
-pub number_broken : (front words : List (List ℕ)) (most : ℕ) (bad : BadWords) → Awaits front most → GoOn front words →
-    NumberStandsAt words (length front) most (Err bad) → WordsMean words (Err bad)
-number_broken front words most bad awaits (rest, e) n =
-    subst (λ ws. WordsMean ws (Err bad)) (sym e) (broken_after front rest most bad awaits (subst (λ ws. NumberStandsAt ws (length front) most (Err bad)) e n))
+pub number_broken : (front words : List (List ℕ)) (Is : List ℕ → ℕ → Type 0) (bad : BadWords) → Awaits front Is → GoOn front words →
+    NumberStandsAt Is words (length front) (Err bad) → WordsMean words (Err bad)
+number_broken front words Is bad awaits (rest, e) n =
+    subst (λ ws. WordsMean ws (Err bad)) (sym e) (broken_after front rest Is bad awaits (subst (λ ws. NumberStandsAt Is ws (length front) (Err bad)) e n))
 
 -- the number that stands after the words, and that they go on with it
-pub record ReadNumber (front words : List (List ℕ)) (most n : ℕ) : Type 0 where
+pub record ReadNumber (front words : List (List ℕ)) (Is : List ℕ → ℕ → Type 0) (n : ℕ) : Type 0 where
   pub word : List ℕ
-  pub is : IsNumber most word n
+  pub is : Is word n
   pub on : GoOn (front ++ word ∷ []) words
 
-read_after : (front rest : List (List ℕ)) (most n : ℕ) → NumberStandsAt (front ++ rest) (length front) most (Ok n) → ReadNumber front (front ++ rest) most n
-read_after front [] most n (word, at, is) =
+read_after : (front rest : List (List ℕ)) (Is : List ℕ → ℕ → Type 0) (n : ℕ) → NumberStandsAt Is (front ++ rest) (length front) (Ok n) → ReadNumber front (front ++ rest) Is n
+read_after front [] Is n (word, at, is) =
     let within = slice_get_within (front ++ []) (length front) word at in let sum = length-append front [] in absurd (omega arith)
-read_after front (other ∷ rest) most n (word, at, is) =
+read_after front (other ∷ rest) Is n (word, at, is) =
     let same : word ≡ other = sym (get_or_from_slice_get (front ++ other ∷ rest) (length front) word [] at) ∙ get_or-append_seam front other rest [] in
-    record { word = other; is = subst (λ w. IsNumber most w n) same is; on = (rest, sym (append_assoc front (other ∷ []) rest)) }
+    record { word = other; is = subst (λ w. Is w n) same is; on = (rest, sym (append_assoc front (other ∷ []) rest)) }
 
-pub number_read : (front words : List (List ℕ)) (most n : ℕ) → GoOn front words → NumberStandsAt words (length front) most (Ok n) → ReadNumber front words most n
-number_read front words most n (rest, e) is =
-    subst (λ ws. ReadNumber front ws most n) (sym e) (read_after front rest most n (subst (λ ws. NumberStandsAt ws (length front) most (Ok n)) e is))
+pub number_read : (front words : List (List ℕ)) (Is : List ℕ → ℕ → Type 0) (n : ℕ) → GoOn front words → NumberStandsAt Is words (length front) (Ok n) → ReadNumber front words Is n
+number_read front words Is n (rest, e) is =
+    subst (λ ws. ReadNumber front ws Is n) (sym e) (read_after front rest Is n (subst (λ ws. NumberStandsAt Is ws (length front) (Ok n)) e is))
 
 -- ---- the commands
 
-awaits_processors : Awaits (codes "run" ∷ []) MOST_PROCESSORS
+awaits_processors : Awaits (codes "run" ∷ []) (IsNumber MOST_PROCESSORS)
 awaits_processors = record {
   unfinished = λ m is. let e = (after_run [] m is).are in cc;
   begun = begin_run (codes "1") 1 (one MOST_PROCESSORS (omega arith));
@@ -90,7 +90,7 @@ awaits_processors = record {
       (words.p, subst (λ w. IsNumber MOST_PROCESSORS w words.p) same words.first);
 }
 
-awaits_budget : (processors : List ℕ) (p : ℕ) → IsNumber MOST_PROCESSORS processors p → Awaits (codes "run" ∷ processors ∷ []) MOST_BUDGET
+awaits_budget : (processors : List ℕ) (p : ℕ) → IsNumber MOST_PROCESSORS processors p → Awaits (codes "run" ∷ processors ∷ []) (IsNumber MOST_BUDGET)
 awaits_budget processors p f = record {
   unfinished = λ m is. let e = (after_run (processors ∷ []) m is).are in cc;
   begun = ([], Run p 1 Fifo, run processors (codes "1") [] p 1 Fifo f (one MOST_BUDGET (omega arith)) refl);
@@ -103,15 +103,15 @@ starts : (word : List ℕ) (words : List (List ℕ)) → slice_get words 0 ≡ S
 starts word [] h = let e : None ≡ Some word = h in cc
 starts word (first ∷ rest) h = let e : first ≡ word = cc in (rest, ap (λ w. w ∷ rest) e)
 
-pub run_first_broken : (words : List (List ℕ)) (bad : BadWords) → slice_get words 0 ≡ Some (codes "run") → NumberStandsAt words 1 MOST_PROCESSORS (Err bad) →
+pub run_first_broken : (words : List (List ℕ)) (bad : BadWords) → slice_get words 0 ≡ Some (codes "run") → NumberStandsAt (IsNumber MOST_PROCESSORS) words 1 (Err bad) →
     WordsMean words (Err bad)
-run_first_broken words bad h n = number_broken (codes "run" ∷ []) words MOST_PROCESSORS bad awaits_processors (starts (codes "run") words h) n
+run_first_broken words bad h n = number_broken (codes "run" ∷ []) words (IsNumber MOST_PROCESSORS) bad awaits_processors (starts (codes "run") words h) n
 
-pub run_second_broken : (words : List (List ℕ)) (p : ℕ) (bad : BadWords) → slice_get words 0 ≡ Some (codes "run") → NumberStandsAt words 1 MOST_PROCESSORS (Ok p) →
-    NumberStandsAt words 2 MOST_BUDGET (Err bad) → WordsMean words (Err bad)
+pub run_second_broken : (words : List (List ℕ)) (p : ℕ) (bad : BadWords) → slice_get words 0 ≡ Some (codes "run") → NumberStandsAt (IsNumber MOST_PROCESSORS) words 1 (Ok p) →
+    NumberStandsAt (IsNumber MOST_BUDGET) words 2 (Err bad) → WordsMean words (Err bad)
 run_second_broken words p bad h f n =
-    let first = number_read (codes "run" ∷ []) words MOST_PROCESSORS p (starts (codes "run") words h) f in
-    number_broken (codes "run" ∷ first.word ∷ []) words MOST_BUDGET bad (awaits_budget first.word p first.is) first.on n
+    let first = number_read (codes "run" ∷ []) words (IsNumber MOST_PROCESSORS) p (starts (codes "run") words h) f in
+    number_broken (codes "run" ∷ first.word ∷ []) words (IsNumber MOST_BUDGET) bad (awaits_budget first.word p first.is) first.on n
 
 begin_whole : (front words : List (List ℕ)) (meaning : Words) → GoOn front words → IsWhole front meaning → BeginWhole words (length front) meaning
 begin_whole front words meaning (rest, e) is =
@@ -122,7 +122,7 @@ begin_whole front words meaning (rest, e) is =
 -- a command of a name and a budget
 module _ (name : List ℕ) (meaning : ℕ → Words) (named : (b : ℕ) → IsBudgeted name b (meaning b))
     (command_of : (budget : List ℕ) (b : ℕ) → IsNumber MOST_BUDGET budget b → IsCommand (name ∷ budget ∷ []) (meaning b)) where
-  awaits_name : Awaits (name ∷ []) MOST_BUDGET
+  awaits_name : Awaits (name ∷ []) (IsNumber MOST_BUDGET)
   awaits_name = record {
     unfinished = λ m is. let e = (after_name name 1 (meaning 1) (named 1) [] m is).are in cc;
     begun = ([], meaning 1, command_of (codes "1") 1 (one MOST_BUDGET (omega arith)));
@@ -130,30 +130,49 @@ module _ (name : List ℕ) (meaning : ℕ → Words) (named : (b : ℕ) → IsBu
         (words.b, subst (λ w. IsNumber MOST_BUDGET w words.b) same words.first);
   }
 
-  budget_broken : (words : List (List ℕ)) (bad : BadWords) → slice_get words 0 ≡ Some name → NumberStandsAt words 1 MOST_BUDGET (Err bad) → WordsMean words (Err bad)
-  budget_broken words bad h n = number_broken (name ∷ []) words MOST_BUDGET bad awaits_name (starts name words h) n
+  budget_broken : (words : List (List ℕ)) (bad : BadWords) → slice_get words 0 ≡ Some name → NumberStandsAt (IsNumber MOST_BUDGET) words 1 (Err bad) → WordsMean words (Err bad)
+  budget_broken words bad h n = number_broken (name ∷ []) words (IsNumber MOST_BUDGET) bad awaits_name (starts name words h) n
 
-  begin_budget_whole : (words : List (List ℕ)) (b : ℕ) → slice_get words 0 ≡ Some name → NumberStandsAt words 1 MOST_BUDGET (Ok b) → BeginWhole words 2 (meaning b)
+  begin_budget_whole : (words : List (List ℕ)) (b : ℕ) → slice_get words 0 ≡ Some name → NumberStandsAt (IsNumber MOST_BUDGET) words 1 (Ok b) → BeginWhole words 2 (meaning b)
   begin_budget_whole words b h f =
-      let first = number_read (name ∷ []) words MOST_BUDGET b (starts name words h) f in
+      let first = number_read (name ∷ []) words (IsNumber MOST_BUDGET) b (starts name words h) f in
       begin_whole (name ∷ first.word ∷ []) words (meaning b) first.on
       (whole_budget name first.word b (meaning b) (named b) (command_of first.word b first.is))
 
-pub replay_broken : (words : List (List ℕ)) (bad : BadWords) → slice_get words 0 ≡ Some (codes "replay") → NumberStandsAt words 1 MOST_BUDGET (Err bad) →
+pub replay_broken : (words : List (List ℕ)) (bad : BadWords) → slice_get words 0 ≡ Some (codes "replay") → NumberStandsAt (IsNumber MOST_BUDGET) words 1 (Err bad) →
     WordsMean words (Err bad)
 replay_broken = budget_broken (codes "replay") (λ b. Replay b) (λ b. is_replay refl refl) replay
 
-pub exec_broken : (words : List (List ℕ)) (bad : BadWords) → slice_get words 0 ≡ Some (codes "exec") → NumberStandsAt words 1 MOST_BUDGET (Err bad) →
+pub exec_broken : (words : List (List ℕ)) (bad : BadWords) → slice_get words 0 ≡ Some (codes "exec") → NumberStandsAt (IsNumber MOST_BUDGET) words 1 (Err bad) →
     WordsMean words (Err bad)
 exec_broken = budget_broken (codes "exec") (λ b. Exec b) (λ b. is_exec refl refl) exec
 
-pub begin_replay_whole : (words : List (List ℕ)) (b : ℕ) → slice_get words 0 ≡ Some (codes "replay") → NumberStandsAt words 1 MOST_BUDGET (Ok b) →
+pub begin_replay_whole : (words : List (List ℕ)) (b : ℕ) → slice_get words 0 ≡ Some (codes "replay") → NumberStandsAt (IsNumber MOST_BUDGET) words 1 (Ok b) →
     BeginWhole words 2 (Replay b)
 begin_replay_whole = begin_budget_whole (codes "replay") (λ b. Replay b) (λ b. is_replay refl refl) replay
 
-pub begin_exec_whole : (words : List (List ℕ)) (b : ℕ) → slice_get words 0 ≡ Some (codes "exec") → NumberStandsAt words 1 MOST_BUDGET (Ok b) →
+pub begin_exec_whole : (words : List (List ℕ)) (b : ℕ) → slice_get words 0 ≡ Some (codes "exec") → NumberStandsAt (IsNumber MOST_BUDGET) words 1 (Ok b) →
     BeginWhole words 2 (Exec b)
 begin_exec_whole = begin_budget_whole (codes "exec") (λ b. Exec b) (λ b. is_exec refl refl) exec
+
+-- the number of a trial
+awaits_trial : Awaits (codes "trial" ∷ []) (IsFromZero MOST_TRIAL)
+awaits_trial = record {
+  unfinished = λ m is. let e = (after_trial [] m is).are in cc;
+  begun = begin_trial;
+  only = λ word (more, m, is). let words = after_trial (word ∷ more) m is in let e = words.are in let same : words.number ≡ word = cc in
+      (words.n, subst (λ w. IsFromZero MOST_TRIAL w words.n) same words.first);
+}
+
+pub trial_broken : (words : List (List ℕ)) (bad : BadWords) → slice_get words 0 ≡ Some (codes "trial") → NumberStandsAt (IsFromZero MOST_TRIAL) words 1 (Err bad) →
+    WordsMean words (Err bad)
+trial_broken words bad h n = number_broken (codes "trial" ∷ []) words (IsFromZero MOST_TRIAL) bad awaits_trial (starts (codes "trial") words h) n
+
+pub begin_trial_whole : (words : List (List ℕ)) (k : ℕ) → slice_get words 0 ≡ Some (codes "trial") → NumberStandsAt (IsFromZero MOST_TRIAL) words 1 (Ok k) →
+    BeginWhole words 2 (Trial k)
+begin_trial_whole words k h f =
+    let first = number_read (codes "trial" ∷ []) words (IsFromZero MOST_TRIAL) k (starts (codes "trial") words h) f in
+    begin_whole (codes "trial" ∷ first.word ∷ []) words (Trial k) first.on (whole_trial first.word k first.is)
 
 pub begin_check_whole : (words : List (List ℕ)) → slice_get words 0 ≡ Some (codes "check") → BeginWhole words 1 Check
 begin_check_whole words h = begin_whole (codes "check" ∷ []) words Check (starts (codes "check") words h) whole_check
@@ -243,13 +262,13 @@ module _ (processors budget : List ℕ) (p b : ℕ) (f : IsNumber MOST_PROCESSOR
   broken_by rest (Usage k Extra) n = absurd n
 
 -- what is read of a run, word by word
-module _ (words : List (List ℕ)) (p b : ℕ) (h : slice_get words 0 ≡ Some (codes "run")) (f : NumberStandsAt words 1 MOST_PROCESSORS (Ok p))
-    (s : NumberStandsAt words 2 MOST_BUDGET (Ok b)) where
-  first : ReadNumber (codes "run" ∷ []) words MOST_PROCESSORS p
-  first = number_read (codes "run" ∷ []) words MOST_PROCESSORS p (starts (codes "run") words h) f
+module _ (words : List (List ℕ)) (p b : ℕ) (h : slice_get words 0 ≡ Some (codes "run")) (f : NumberStandsAt (IsNumber MOST_PROCESSORS) words 1 (Ok p))
+    (s : NumberStandsAt (IsNumber MOST_BUDGET) words 2 (Ok b)) where
+  first : ReadNumber (codes "run" ∷ []) words (IsNumber MOST_PROCESSORS) p
+  first = number_read (codes "run" ∷ []) words (IsNumber MOST_PROCESSORS) p (starts (codes "run") words h) f
 
-  second : ReadNumber (codes "run" ∷ first.word ∷ []) words MOST_BUDGET b
-  second = number_read (codes "run" ∷ first.word ∷ []) words MOST_BUDGET b first.on s
+  second : ReadNumber (codes "run" ∷ first.word ∷ []) words (IsNumber MOST_BUDGET) b
+  second = number_read (codes "run" ∷ first.word ∷ []) words (IsNumber MOST_BUDGET) b first.on s
 
   are : words ≡ codes "run" ∷ first.word ∷ second.word ∷ second.on.0
   are = second.on.1
@@ -280,6 +299,7 @@ pub record NamesNone (word : List ℕ) : Type 0 where
   pub not_list : word ≢ codes "list"
   pub not_replay : word ≢ codes "replay"
   pub not_exec : word ≢ codes "exec"
+  pub not_trial : word ≢ codes "trial"
 
 not_alone : (word : List ℕ) (meaning : Words) → NamesNone word → IsAlone word meaning → ⊥
 not_alone word meaning none (is_check e m) = none.not_check e
@@ -292,6 +312,7 @@ not_budgeted word b meaning none (is_exec e m) = none.not_exec e
 no_command : (word : List ℕ) (rest : List (List ℕ)) (meaning : Words) → NamesNone word → Form (word ∷ rest) meaning → ⊥
 no_command word rest meaning none (a_run processors budget last p b rule e f s n m) = none.not_run cc
 no_command word rest meaning none (a_budget name budget b e s is) = let same : name ≡ word = cc in not_budgeted word b meaning none (subst (λ w. IsBudgeted w b meaning) same is)
+no_command word rest meaning none (a_trial number n e is m) = none.not_trial cc
 no_command word rest meaning none (a_word name e is) = let same : name ≡ word = cc in not_alone word meaning none (subst (λ w. IsAlone w meaning) same is)
 
 unknown_given : (word : List ℕ) (rest : List (List ℕ)) → NamesNone word → WordsMean (word ∷ rest) (Err (Usage 1 Unknown))
@@ -301,6 +322,7 @@ unknown_given word rest none =
 no_words : (meaning : Words) → Form [] meaning → ⊥
 no_words meaning (a_run processors budget last p b rule e f s n m) = cc
 no_words meaning (a_budget name budget b e s is) = cc
+no_words meaning (a_trial number n e is m) = cc
 no_words meaning (a_word name e is) = cc
 
 none_given : WordsMean [] (Err (Usage 1 Missing))

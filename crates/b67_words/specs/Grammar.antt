@@ -1,12 +1,12 @@
 -- The grammar of the command words, and which word of a list is the first that breaks it. A word is the list of its bytes.
 use Rattle.std.specs.Prelude.{◌≡◌, ◌⊎◌, ℕ, ◌+◌, ◌≤◌, List, [], ◌∷◌, ◌++◌, length, take, codes, slice_get, Option, Some, None, Result, Ok, Err}
 use Rattle.std.specs.Fmt.{decimal}
-use Rattle.b67_words.specs.declared.TheConstants.{MOST_BUDGET, MOST_PROCESSORS, MOST_SEED}
+use Rattle.b67_words.specs.declared.TheConstants.{MOST_BUDGET, MOST_PROCESSORS, MOST_SEED, MOST_TRIAL}
 use Rattle.b67_words.specs.declared.Rule.{Rule}
 use Rattle.b67_words.specs.declared.Rule.TheVariants.{Fifo, Lifo, Seed}
 use Rattle.b67_words.specs.declared.Words.{Words}
 use Rattle.b67_words.specs.declared.Words.TheVariants as commands
-use Rattle.b67_words.specs.declared.Words.TheVariants.{Run, Check, Replay, Exec}
+use Rattle.b67_words.specs.declared.Words.TheVariants.{Run, Check, Replay, Exec, Trial}
 use Rattle.b67_words.specs.declared.UsageKind.{UsageKind}
 use Rattle.b67_words.specs.declared.UsageKind.TheVariants.{Missing, Unknown, BadNumber, BadRule, Extra}
 use Rattle.b67_words.specs.declared.BadWords.{BadWords}
@@ -18,16 +18,16 @@ pub record IsNumber (most : ℕ) (word : List ℕ) (number : ℕ) : Type 0 where
   pub least : 1 ≤ number
   pub greatest : number ≤ most
 
--- the word is that number of a rule, from 0 to the greatest one: decimal, without sign and leading zeros
-pub record IsSeed (word : List ℕ) (number : ℕ) : Type 0 where
+-- the word is that number, from 0 to the given one: decimal, without sign and leading zeros
+pub record IsFromZero (most : ℕ) (word : List ℕ) (number : ℕ) : Type 0 where
   pub written : word ≡ decimal number
-  pub greatest : number ≤ MOST_SEED
+  pub greatest : number ≤ most
 
 -- the words of the rules of dispatch
 pub data IsRule : List ℕ → Rule → Type 0 where
   fifo : IsRule (codes "--rule=fifo") Fifo
   lifo : IsRule (codes "--rule=lifo") Lifo
-  seed : (numeral : List ℕ) (n : ℕ) → IsSeed numeral n → IsRule (codes "--rule=seed:" ++ numeral) (Seed n)
+  seed : (numeral : List ℕ) (n : ℕ) → IsFromZero MOST_SEED numeral n → IsRule (codes "--rule=seed:" ++ numeral) (Seed n)
 
 -- the words after the budget of a run, and the rule that they name: where there is none, it is first in, first out
 abbrev pub NameRule : List (List ℕ) → Rule → Type 0
@@ -43,6 +43,7 @@ pub data IsCommand : List (List ℕ) → Words → Type 0 where
   list : IsCommand (codes "list" ∷ []) commands.List
   replay : (budget : List ℕ) (b : ℕ) → IsNumber MOST_BUDGET budget b → IsCommand (codes "replay" ∷ budget ∷ []) (Replay b)
   exec : (budget : List ℕ) (b : ℕ) → IsNumber MOST_BUDGET budget b → IsCommand (codes "exec" ∷ budget ∷ []) (Exec b)
+  trial : (number : List ℕ) (n : ℕ) → IsFromZero MOST_TRIAL number n → IsCommand (codes "trial" ∷ number ∷ []) (Trial n)
 
 -- some command begins with these words
 abbrev pub BeginCommand : List (List ℕ) → Type 0
@@ -85,18 +86,18 @@ abbrev pub IsNumberOrNone : ℕ → List ℕ → Option ℕ → Type 0
 IsNumberOrNone most text (Some n) = IsNumber most text n
 IsNumberOrNone most text None = (n : ℕ) → IsNumber most text n → ⊥
 
--- reading a number as the word after so many others
-abbrev pub NumberStandsAt : List (List ℕ) → ℕ → ℕ → Result ℕ BadWords → Type 0
-NumberStandsAt words before most (Ok n) = (word : List ℕ) × (slice_get words before ≡ Some word) × IsNumber most word n
-NumberStandsAt words before most (Err (Usage k Missing)) = (k ≡ before + 1) × (length words ≤ before)
-NumberStandsAt words before most (Err (Usage k BadNumber)) =
-    (k ≡ before + 1) × (word : List ℕ) × (slice_get words before ≡ Some word) × IsNumberOrNone most word None
-NumberStandsAt words before most _ = ⊥
+-- the text is that number from 0 on, or none
+abbrev pub IsFromZeroOrNone : ℕ → List ℕ → Option ℕ → Type 0
+IsFromZeroOrNone most text (Some n) = IsFromZero most text n
+IsFromZeroOrNone most text None = (n : ℕ) → IsFromZero most text n → ⊥
 
--- the text is that number of a rule, or none
-abbrev pub IsSeedOrNone : List ℕ → Option ℕ → Type 0
-IsSeedOrNone text (Some n) = IsSeed text n
-IsSeedOrNone text None = (n : ℕ) → IsSeed text n → ⊥
+-- reading a number that is to be such a one as the word after so many others
+abbrev pub NumberStandsAt : (List ℕ → ℕ → Type 0) → List (List ℕ) → ℕ → Result ℕ BadWords → Type 0
+NumberStandsAt Is words before (Ok n) = (word : List ℕ) × (slice_get words before ≡ Some word) × Is word n
+NumberStandsAt Is words before (Err (Usage k Missing)) = (k ≡ before + 1) × (length words ≤ before)
+NumberStandsAt Is words before (Err (Usage k BadNumber)) =
+    (k ≡ before + 1) × (word : List ℕ) × (slice_get words before ≡ Some word) × ((n : ℕ) → Is word n → ⊥)
+NumberStandsAt Is words before _ = ⊥
 
 -- the text names that rule, or none
 abbrev pub IsRuleOrNone : List ℕ → Option Rule → Type 0

@@ -3,7 +3,8 @@
 
 ghost use Rattle.std.specs.Prelude.{◌≡◌, ◌≢◌, ◌<◌, ◌≤◌, ℕ, List, Result, map, length, codes, slice_get, slice_index, Some, IsTrue, ◌↔◌};
 ghost use Rattle.std.specs.String.{string_bytes};
-ghost use Rattle.b67_words.specs.Grammar.{WordsMean, BeginWhole, IsNumberOrNone, NumberStandsAt, IsSeedOrNone, IsRuleOrNone, RuleStandsAt};
+ghost use Rattle.b67_words.specs.declared.TheConstants.{MOST_TRIAL};
+ghost use Rattle.b67_words.specs.Grammar.{WordsMean, BeginWhole, IsNumber, IsNumberOrNone, IsFromZero, IsFromZeroOrNone, NumberStandsAt, IsRuleOrNone, RuleStandsAt};
 
 use thiserror::Error;
 
@@ -18,7 +19,10 @@ pub const MOST_STRETCH: u64 = 64;
 pub const MOST_PROCESSORS: u64 = 8;
 
 /// The greatest number of a rule that spreads the takes.
-pub const MOST_SEED: u64 = 4_294_967_295;
+pub const MOST_SEED: u32 = 4_294_967_295;
+
+/// The greatest number that a source is made from.
+pub const MOST_TRIAL: u32 = 500;
 
 /// A rule of dispatch: which of those who wait for a processor is taken.
 #[derive(Clone, Copy, PartialEq, Eq, Debug)]
@@ -53,6 +57,10 @@ pub enum Words {
     /// `exec B`: run the code that the input assembles to by turns, with a budget of B operators, from 1 to [`MOST_BUDGET`].
     Exec {
         budget: u64,
+    },
+    /// `trial N`: make a source from the number N, from 0 to [`MOST_TRIAL`], and run it.
+    Trial {
+        n: u32,
     },
 }
 
@@ -100,6 +108,7 @@ pub fn read_words(words: &[String]) -> Result<Words, BadWords>
         "list" => whole(words, 1, Words::List),
         "replay" => read_replay(words),
         "exec" => read_exec(words),
+        "trial" => read_trial(words),
         _ => Err(BadWords::Usage {
             word: 1,
             kind: UsageKind::Unknown,
@@ -146,6 +155,15 @@ fn read_exec(words: &[String]) -> Result<Words, BadWords>
     whole(words, 2, Words::Exec { budget })
 }
 
+/// `trial N`, where the first word is `trial`.
+fn read_trial(words: &[String]) -> Result<Words, BadWords>
+    requires { slice_get (map string_bytes words.now) 0 ≡ Some (codes "trial") }
+    ensures { WordsMean (map string_bytes words.now) result }
+{
+    let n = trial_at(words)?;
+    whole(words, 2, Words::Trial { n })
+}
+
 /// The command that so many of the first words are, if no other word follows them.
 fn whole(words: &[String], count: u32, command: Words) -> Result<Words, BadWords>
     requires few { count < 9 }
@@ -164,7 +182,7 @@ fn whole(words: &[String], count: u32, command: Words) -> Result<Words, BadWords
 /// The number from 1 to `most` that is the word after `before` others.
 fn number_at(words: &[String], before: u32, most: u64) -> Result<u64, BadWords>
     requires { before < 9 }
-    ensures { NumberStandsAt (map string_bytes words.now) before most result }
+    ensures { NumberStandsAt (IsNumber most) (map string_bytes words.now) before result }
 {
     let Some(word) = words.get(before as usize) else {
         return Err(BadWords::Usage {
@@ -174,6 +192,22 @@ fn number_at(words: &[String], before: u32, most: u64) -> Result<u64, BadWords>
     };
     number_of(word.as_str(), most).ok_or(BadWords::Usage {
         word: before + 1,
+        kind: UsageKind::BadNumber,
+    })
+}
+
+/// The number of a trial, which is the word after the first.
+fn trial_at(words: &[String]) -> Result<u32, BadWords>
+    ensures { NumberStandsAt (IsFromZero MOST_TRIAL) (map string_bytes words.now) 1 result }
+{
+    let Some(word) = words.get(1) else {
+        return Err(BadWords::Usage {
+            word: 2,
+            kind: UsageKind::Missing,
+        });
+    };
+    from_zero(word.as_str(), MOST_TRIAL).ok_or(BadWords::Usage {
+        word: 2,
         kind: UsageKind::BadNumber,
     })
 }
@@ -231,19 +265,19 @@ fn seed_rule(text: &str) -> Option<Rule>
     let Some(numeral) = text.strip_prefix("--rule=seed:") else {
         return None;
     };
-    match seed_of(numeral) {
+    match from_zero(numeral, MOST_SEED) {
         Some(seed) => Some(Rule::Seed(seed)),
         None => None,
     }
 }
 
-/// The number from 0 to the greatest of a rule that the text is, decimal and without sign and leading zeros.
-fn seed_of(text: &str) -> Option<u32>
-    ensures { IsSeedOrNone text.now result }
+/// The number from 0 to `most` that the text is, decimal and without sign and leading zeros.
+fn from_zero(text: &str, most: u32) -> Option<u32>
+    ensures { IsFromZeroOrNone most text.now result }
 {
     match text {
         "0" => Some(0),
-        _ => match number_of(text, MOST_SEED) {
+        _ => match number_of(text, u64::from(most)) {
             Some(number) => Some(number as u32),
             None => None,
         },

@@ -14,6 +14,7 @@ returns-in_default-as_str c =
       not_list = λ e. c.in_default-as_str.not-list (c.as_str.ensures.value ∙ e);
       not_replay = λ e. c.in_default-as_str.not-replay (c.as_str.ensures.value ∙ e);
       not_exec = λ e. c.in_default-as_str.not-exec (c.as_str.ensures.value ∙ e);
+      not_trial = λ e. c.in_default-as_str.not-trial (c.as_str.ensures.value ∙ e);
     })
 
 pub whole-requires-clause-whole : goal.whole-requires-clause-whole

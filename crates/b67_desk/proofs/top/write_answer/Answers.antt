@@ -20,4 +20,7 @@ returns-in-ReadFault g c = λ by words r answered.
     (record { written = refl; faults = refl })
 
 pub returns : goal.returns
-returns g c = λ by words r answered. no_memory (record { written = refl; faults = refl })
+returns g c = λ by words r answered.
+    no_memory
+    (subst (λ (e : Unanswered). CallAnswered by words r (Err e)) c.in-NoMemory.is (subst (CallAnswered by words r) c.in-Err.is answered))
+    (record { written = refl; faults = refl })

@@ -1,8 +1,7 @@
-use Rattle.std.proofs.Common.{◌≡◌}
 use Rattle.std.specs.Prelude.{option_copied}
 use Rattle.algol_tree.specs.Image.{program as plain}
 use Rattle.b67_desk.specs.Answers.{Runs, AnswersTree}
-use Rattle.b67_desk.proofs.Answering.{settled_asks, asks_out, check_tree, run_out, list_tree, replay_tree}
+use Rattle.b67_desk.proofs.Answering.{settled_asks, asks_out, check_tree, run_out, list_tree, replay_tree, trial_tree}
 use Rattle.b67_desk.proofs.tree.ask_tree.Goals as goal
 
 pub returns-in-Check : goal.returns-in-Check
@@ -34,3 +33,10 @@ returns-in-Replay c =
     let tree = plain c.args.checked.now.program in
     settled_asks (λ by. AnswersTree by c.args.command schedule c.args.input tree) c.answer_replay.result c.settled-in-Replay.result c.settled-in-Replay.ensures
     (λ by. replay_tree by c.args.command schedule c.args.input tree c.answer_replay.result c.in-Replay.budget c.in-Replay.is c.answer_replay.ensures)
+
+pub returns-in-Trial : goal.returns-in-Trial
+returns-in-Trial c =
+    let schedule = option_copied c.args.schedule in
+    let tree = plain c.args.checked.now.program in
+    settled_asks (λ by. AnswersTree by c.args.command schedule c.args.input tree) c.answer_trial.result c.settled-in-Trial.result c.settled-in-Trial.ensures
+    (λ by. trial_tree by c.args.command schedule c.args.input tree c.answer_trial.result c.in-Trial.n c.in-Trial.is c.answer_trial.ensures)
