@@ -1,10 +1,11 @@
 -- The labels that the blocks of a text declare, as they are gathered from each form of statement as it is matched.
-use Rattle.std.proofs.Common.{rules, ◌≡◌, ℕ, ◌+◌, ◌≤◌, Bool, true, false, List, [], ◌∷◌, ◌++◌, length, refl, sym, ap, ◌∙◌, subst, append_assoc, arith}
-use Rattle.std.specs.Prelude.{◌==◌, Option, Some}
+use Rattle.std.proofs.Common.{rules, ◌≡◌, ℕ, ◌+◌, ◌≤◌, Bool, true, false, List, [], ◌∷◌, ◌++◌, length, refl, sym, ap, ◌∙◌, subst, append_assoc, append-nil, arith}
+use Rattle.std.specs.Prelude.{◌==◌, Option, None, Some, map}
 use Rattle.std.specs.List.{AllByRecursion}
 use Rattle.std.specs.declared.boxed.Box.{Box}
 use Rattle.std.specs.declared.alloc.Global.{Global}
 use Rattle.std.proofs.lemmas.Bool.{ne_eqb}
+use Rattle.std.proofs.lemmas.List.{map-append}
 use Rattle.algol_tree.specs.declared.token.Spot.{Spot}
 use Rattle.algol_tree.specs.declared.tree.Body.{Body}
 use Rattle.algol_tree.specs.declared.tree.Decl.{Decl, out-Decl, roll-Decl, roll-out-Decl, the_lemmas}
@@ -15,7 +16,7 @@ use Rattle.algol_tree.specs.declared.tree.Named.{Named}
 use Rattle.algol_tree.specs.declared.tree.Stmt.{Stmt}
 use Rattle.algol_tree.specs.declared.tree.Stmt.TheVariants as shapes
 use Rattle.algol_tree.specs.Blocks.{number_at}
-use Rattle.algol_tree.specs.Image.{decl, decls, stmt, stmts}
+use Rattle.algol_tree.specs.Image.{decl, decls, expr, stmt, stmts}
 use Rattle.algol_tree.specs.Plain as tree
 use Rattle.algol_tree.specs.Plain.{PStmt, PStmts, PDecl, PDecls}
 use Rattle.b67_ops.specs.declared.TheConstants.{MOST_LEVEL, OUTER_LEVEL}
@@ -24,8 +25,10 @@ use Rattle.b67_emit_stmt.specs.declared.draft.Known.{Known}
 use Rattle.b67_emit_stmt.specs.Fits.{StmtFits, StmtsFit}
 use Rattle.b67_emit_stmt.specs.Places.{Place, inside}
 use Rattle.b67_emit_stmt.proofs.Notes.{all_both}
+use Rattle.b67_emit_stmt.proofs.Gathered.{if_then_as}
 use Rattle.b67_emit_stmt.proofs.Shapes.{block_as, if_else_as}
-use Rattle.b67_emit_text.specs.Entries.{AreLow, AllLow, Entry, IsLeveled, entries_in_stmt, entries_in_stmts, entries_of, own_entries}
+use Rattle.b67_emit_text.specs.declared.entries.Declared.{Declared}
+use Rattle.b67_emit_text.specs.Entries.{AreLow, AllLow, Entry, IsLeveled, entries_in_stmt, entries_in_stmts, entries_of, entry_of, own_entries}
 
 -- first those of one part, and then those of another
 pub joined : (old mid new xs ys all : List Entry) → all ≡ xs ++ ys → mid ≡ old ++ xs → new ≡ mid ++ ys → new ≡ old ++ all
@@ -93,6 +96,32 @@ pub both_entries : (s p q : Stmt) (e : Expr) (x : Box Stmt Global) (o : Option (
 both_entries s p q e x o y is some first second level old mid new h k =
     joined old mid new (entries_in_stmt level (stmt p)) (entries_in_stmt level (stmt q)) (entries_in_stmt level (stmt s))
     (ap (entries_in_stmt level) (if_else_as s p q e x o y is some first second)) h k
+
+-- ---- a statement that has what another has, or nothing
+
+pub low_as : (level : ℕ) (p q : PStmt) → p ≡ q → AreLow level p → AreLow level q
+low_as level p q is low = let L : PStmt → Type 0 = λ x. AreLow level x in subst L is low
+
+pub entries_as : (level : ℕ) (p q : PStmt) → p ≡ q → (old new : List Entry) → new ≡ old ++ entries_in_stmt level q → new ≡ old ++ entries_in_stmt level p
+entries_as level p q is old new h = h ∙ ap (λ (x : PStmt). old ++ entries_in_stmt level x) (sym is)
+
+pub entries_none : (level : ℕ) (p q : PStmt) → p ≡ q → entries_in_stmt level q ≡ [] → (old : List Entry) → old ≡ old ++ entries_in_stmt level p
+entries_none level p q is none old = sym (append-nil old) ∙ ap (λ (l : List Entry). old ++ l) (sym (ap (entries_in_stmt level) is ∙ none))
+
+pub both_low : (s p q : Stmt) (e : Expr) (x : Box Stmt Global) (o : Option (Box Stmt Global)) (y : Box Stmt Global) → s ≡ shapes.If e x o → o ≡ Some y → p ≡ x.value →
+    q ≡ y.value → (level : ℕ) → AreLow level (stmt s) → AreLow level (stmt p) × AreLow level (stmt q)
+both_low s p q e x o y is some first second level low = let L : PStmt → Type 0 = λ z. AreLow level z in subst L (if_else_as s p q e x o y is some first second) low
+
+pub first_low : (s p : Stmt) (e : Expr) (x : Box Stmt Global) (o : Option (Box Stmt Global)) → s ≡ shapes.If e x o → p ≡ x.value → (level : ℕ) → AreLow level (stmt s) → AreLow level (stmt p)
+first_low s p e x o is first level low = by o is
+  where
+    by : (o : Option (Box Stmt Global)) → s ≡ shapes.If e x o → AreLow level (stmt p)
+    by None is = low_as level (stmt s) (tree.if_then (expr e) (stmt p)) (if_then_as s e x None p is refl first) low
+    by (Some y) is = (both_low s p y.value e x (Some y) y is refl first refl level low).0
+
+-- one more is gathered
+pub pushed_there : (old mid : List Declared) (d : Declared) → mid ≡ old ++ (d ∷ []) → map entry_of mid ≡ map entry_of old ++ (entry_of d ∷ [])
+pushed_there old mid d h = ap (map entry_of) h ∙ map-append entry_of old (d ∷ [])
 
 -- ---- declarations
 

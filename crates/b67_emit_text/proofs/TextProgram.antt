@@ -11,7 +11,7 @@ use Rattle.algol_tree.specs.declared.tree.Kind.{Kind}
 use Rattle.algol_tree.specs.declared.tree.Stmt.{Stmt}
 use Rattle.algol_tree.specs.Image.{body, decls, stmts}
 use Rattle.algol_tree.specs.Plain as tree
-use Rattle.algol_tree.specs.Plain.{PDecls, PStmts, PBody}
+use Rattle.algol_tree.specs.Plain.{PDecls, PBody}
 use Rattle.algol_tree.specs.Scopes.{Scopes}
 use Rattle.algol_paths.specs.Segments.{segment_of}
 use Rattle.b67_emitter.specs.declared.names.Names.{Names}
@@ -52,6 +52,14 @@ module _ (b : Body) where
 
   pub outer_stmts : (ss : List Stmt) → ss ≡ b.stmts → stmts ss ≡ (outer_text (body b)).stmts
   outer_stmts ss e = ap stmts e ∙ ap (λ x. (outer_text x).stmts) (sym (body_is b))
+
+-- ---- how many they are
+
+pub places_few : (b : PBody) (places : List Spot) → places ≡ places_of (texts_in_body b OUTER_LEVEL) → length (texts b) ≤ 1 + MOST_PROCEDURES → length places ≤ MOST_PROCEDURES
+places_few b places are few = omega (arith, ap length are, length-map (texts_in_body b OUTER_LEVEL) (λ (t : Text). t.spot), few)
+
+pub number_few : (b : PBody) (ps : List Procedure) → map text_of ps ≡ texts_in_body b OUTER_LEVEL → length (texts b) ≤ 1 + MOST_PROCEDURES → (i : ℕ) → i < length ps → i + 1 ≤ MOST_PROCEDURES
+number_few b ps found few i within = omega (arith, ap length found, length-map ps text_of, few, within)
 
 -- ---- the procedures
 

@@ -11,7 +11,7 @@ use Rattle.b67_emit_text.specs.Entries.{place_in}
 use Rattle.b67_emit_text.specs.Texts.{outer_text, Text, text_of, text_spots, texts, texts_lines}
 use Rattle.b67_emit_stmt.proofs.Added.{both_added}
 use Rattle.b67_emit_text.proofs.TextLines.{next_text_lines, next_text_spots}
-use Rattle.b67_emit_text.proofs.TextProgram.{all_taken, behind, can_stand, first_stands, next_stands, stands_there, text_there}
+use Rattle.b67_emit_text.proofs.TextProgram.{all_taken, behind, can_stand, first_stands, next_stands, number_few, places_few, stands_there, text_there}
 use Rattle.b67_emit_text.proofs.TextStanding.{AllStand, agrees_parts, all_agree, all_coded, all_short}
 use Rattle.b67_emit_text.proofs.program.emit_texts.Goals as goal
 
@@ -115,3 +115,42 @@ returns-clause-lines g c =
     let b = c.args.body.now in
     let whole = all_taken (body b) c.args.procedures.now c.requires.found c.procedures.procedure-index (omega (arith, c.procedures-test.false)) in
     c.procedures.invariant.lines ∙ ap (λ (ts : List Text). formats_for (texts_lines ts)) whole
+
+-- ---- what the calls require besides
+
+pub emit_outer-requires-clause-near : goal.emit_outer-requires-clause-near
+emit_outer-requires-clause-near g c = c.requires.near
+
+pub emit_outer-requires-clause-inner : goal.emit_outer-requires-clause-inner
+emit_outer-requires-clause-inner g c = c.requires.inner
+
+pub emit_outer-requires-clause-many : goal.emit_outer-requires-clause-many
+emit_outer-requires-clause-many g c = places_few (body c.args.body.now) c.args.places.now c.requires.places c.requires.few
+
+pub emit_outer-requires-clause-segment : goal.emit_outer-requires-clause-segment
+emit_outer-requires-clause-segment g c = refl
+
+pub overflow_cast-known : goal.overflow_cast-known
+overflow_cast-known g c =
+    let few = number_few (body c.args.body.now) c.args.procedures.now c.requires.found c.requires.few c.procedures.procedure-index c.procedures-test.true in
+    omega (arith, few, c.len.ensures, c.procedures.segments.ok.0, c.procedures.invariant.many)
+
+pub emit_procedure-requires-clause-near : goal.emit_procedure-requires-clause-near
+emit_procedure-requires-clause-near g c = c.requires.near
+
+pub emit_procedure-requires-clause-inner : goal.emit_procedure-requires-clause-inner
+emit_procedure-requires-clause-inner g c = c.requires.inner
+
+pub emit_procedure-requires-clause-many : goal.emit_procedure-requires-clause-many
+emit_procedure-requires-clause-many g c = places_few (body c.args.body.now) c.args.places.now c.requires.places c.requires.few
+
+pub emit_procedure-requires-clause-segment : goal.emit_procedure-requires-clause-segment
+emit_procedure-requires-clause-segment g c =
+    let few = number_few (body c.args.body.now) c.args.procedures.now c.requires.found c.requires.few c.procedures.procedure-index c.procedures-test.true in
+    omega (arith, few, c.len.ensures, c.procedures.segments.ok.0, c.procedures.invariant.many)
+
+pub emit_procedure-requires-clause-formats : goal.emit_procedure-requires-clause-formats
+emit_procedure-requires-clause-formats g c = omega (arith, c.procedures.invariant.few, c.len.ensures, c.procedures.segments.ok.0)
+
+pub returns-clause-formats : goal.returns-clause-formats
+returns-clause-formats g c = c.procedures.invariant.listed
