@@ -142,7 +142,7 @@ impl Case {
             return Ok(());
         }
         if line == "@@@@" {
-            return self.repeated.close(&mut self.input);
+            return self.close_repeated();
         }
         if self.repeated.is_open {
             self.repeated.lines.push(String::from_str(alloc, line)?)?;
@@ -152,6 +152,17 @@ impl Case {
             self.take_answer_line(line)
         } else {
             push_line(&mut self.input, line, 0)
+        }
+    }
+
+    /// Ends a repetition in the input, in the answer, or in its end where it is open.
+    fn close_repeated(&mut self) -> Result<(), AllocError> {
+        if self.status.is_none() {
+            self.repeated.close(&mut self.input)
+        } else if self.is_open {
+            self.repeated.close(&mut self.end)
+        } else {
+            self.repeated.close(&mut self.answer)
         }
     }
 

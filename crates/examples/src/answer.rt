@@ -1,9 +1,10 @@
 //! The answer to a call.
 
 use crate::outside::Outside;
-use b67_desk::{desk, desk_alone};
+use b67_desk::{Status, desk, desk_alone};
 use b67_io::{MemorySink, MemorySource};
-use b67_processors::Open;
+use b67_processors::Gate;
+use case_sheet::Case;
 use std::alloc::{AllocError, Global};
 use std::sync::Wait;
 use std::thread::Threads;
@@ -15,35 +16,53 @@ pub(crate) struct Told {
     pub(crate) bytes: Vec<u8>,
 }
 
-/// What the words and a source of these bytes are answered by, read at most 7 bytes at a time.
-pub(crate) fn answered(
-    alloc: Global,
-    words: &[String],
-    bytes: Vec<u8>,
-    outside: Outside,
-) -> Result<Told, AllocError> {
-    let mut source = MemorySource::new(bytes, 7, outside.reads);
-    let mut sink = MemorySink::new(alloc, outside.room, outside.writes)?;
-    let status = desk_alone(alloc, words, &mut source, &mut sink);
+/// What a sink was given under a status.
+fn written(alloc: Global, status: Status, sink: &MemorySink) -> Result<Told, AllocError> {
     Ok(Told {
         status: status.exit_status(),
         bytes: Vec::from_slice(alloc, sink.bytes())?,
     })
 }
 
-/// The same by processors that share the work, where nothing fails outside.
-pub(crate) fn shared<R: Threads + Wait + Sync>(
-    rt: &R,
+/// What the words and a source of these bytes are answered by.
+pub(crate) fn answered(
     alloc: Global,
     words: &[String],
-    bytes: Vec<u8>,
+    mut bytes: Vec<u8>,
+    outside: Outside,
+) -> Result<Told, AllocError> {
+    bytes.truncate(outside.left);
+    let mut sink = MemorySink::new(alloc, outside.room, outside.writes)?;
+    let mut source = MemorySource::new(bytes, outside.piece.max(1), outside.reads);
+    let status = desk_alone(alloc, words, &mut source, &mut sink);
+    written(alloc, status, &sink)
+}
+
+/// What a case is answered by.
+pub(crate) fn call_told(alloc: Global, case: &Case) -> Result<Told, AllocError> {
+    let input = Vec::from_slice(alloc, case.input.as_slice())?;
+    let outside = Outside::of(alloc, case.setting.as_str())?;
+    answered(alloc, case.words.as_slice(), input, outside)
+}
+
+/// The same by processors that share the work and pass a gate, where nothing fails outside.
+pub(crate) fn shared<R: Threads + Wait + Sync, G: Gate + Sync>(
+    rt: &R,
+    alloc: Global,
+    case: &Case,
+    gate: &G,
 ) -> Result<Told, AllocError> {
     let outside = Outside::whole(alloc);
-    let mut source = MemorySource::new(bytes, 7, outside.reads);
     let mut sink = MemorySink::new(alloc, outside.room, outside.writes)?;
-    let status = desk(rt, alloc, words, &mut source, &mut sink, &Open);
-    Ok(Told {
-        status: status.exit_status(),
-        bytes: Vec::from_slice(alloc, sink.bytes())?,
-    })
+    let input = Vec::from_slice(alloc, case.input.as_slice())?;
+    let mut source = MemorySource::new(input, outside.piece.max(1), outside.reads);
+    let status = desk(
+        rt,
+        alloc,
+        case.words.as_slice(),
+        &mut source,
+        &mut sink,
+        gate,
+    );
+    written(alloc, status, &sink)
 }

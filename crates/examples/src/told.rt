@@ -1,10 +1,8 @@
 //! Parts of an answer. Where memory lacks for one it is missing, so that its case is not met.
 
-use b67_action::Done;
+use crate::answer::Told;
 use b67_list::{Line, push_number};
-use b67_machine::End;
-use b67_reach::InterruptKind;
-use b67_report::{EndWords, fault_words, push_end};
+use case_sheet::Case;
 
 /// Appends words.
 pub(crate) fn say(text: &mut Vec<u8>, words: &[u8]) {
@@ -39,46 +37,26 @@ pub(crate) fn lines(text: &mut Vec<u8>, written: &[Line]) {
     }
 }
 
-/// The words of an interrupt.
-fn interrupt_words(kind: InterruptKind) -> &'static [u8] {
-    match kind {
-        InterruptKind::InvalidOperand => b"INVALID OPERAND",
-        InterruptKind::StackUnderflow => b"STACK UNDERFLOW",
-        InterruptKind::BrokenChain => b"BROKEN CHAIN",
-        InterruptKind::BadCode => b"BAD CODE",
+/// Appends whether an answer is the expected one, and the answer where it is another.
+pub(crate) fn push_told(text: &mut Vec<u8>, name: &str, is_met: bool, told: &Told) {
+    say(text, name.as_bytes());
+    if is_met {
+        say(text, b" has its answer\n");
+        return;
     }
-}
-
-/// What an operator came to, in words.
-pub(crate) fn done_words(done: Done) -> &'static [u8] {
-    match done {
-        Done::Went => b"WENT",
-        Done::Waits => b"WAITS",
-        Done::Ended => b"ENDED",
-        Done::Fault(kind) => fault_words(kind).as_bytes(),
-        Done::Interrupt(kind) => interrupt_words(kind),
-        Done::StackLimit => b"STACK LIMIT",
-        Done::NoMemory => b"NO MEMORY",
-    }
-}
-
-/// The words of an end.
-fn words_of(end: End) -> EndWords {
-    match end {
-        End::Finished => EndWords::Finished,
-        End::AllWaiting => EndWords::AllWaiting,
-        End::Fault { kind, process } => EndWords::Fault { kind, process },
-        End::StackLimit { process, words } => EndWords::StackLimit { process, words },
-    }
-}
-
-/// Appends the line of an end.
-pub(crate) fn end(text: &mut Vec<u8>, end: Option<End>) {
-    match end {
-        Some(end) => {
-            let _ = push_end(text, &words_of(end));
-        }
-        None => say(text, b"END NONE"),
-    }
+    number(
+        text,
+        b" HAS ANOTHER ANSWER, with status ",
+        u64::from(told.status),
+    );
+    say(text, b":\n");
+    say(text, told.bytes.as_slice());
     say(text, b"\n");
+}
+
+/// Appends whether the answer to a case of a sheet is the expected one.
+pub(crate) fn push_case(text: &mut Vec<u8>, sheet: &str, case: &Case, is_met: bool, told: &Told) {
+    say(text, sheet.as_bytes());
+    say(text, b": ");
+    push_told(text, case.name.as_str(), is_met, told);
 }

@@ -1,12 +1,23 @@
-//! The numbers of a turn.
+//! The entries of a schedule.
 
-/// The numbers of a word, which `*` separates: the first, the second and the third, 0 where there is none.
-pub(crate) fn numbers_of(word: &str) -> (u32, u32, u32) {
-    let (first, rest) = word.split_once('*').unwrap_or((word, ""));
-    let (second, third) = rest.split_once('*').unwrap_or((rest, ""));
-    (number(first), number(second), number(third))
+use std::alloc::{AllocError, Global};
+
+/// A process, and how many entries it has one after the other.
+fn turn(word: &str) -> (usize, u32) {
+    match word.split_once('*') {
+        Some((process, count)) => (process.parse().unwrap_or(0), count.parse().unwrap_or(0)),
+        None => (0, 0),
+    }
 }
 
-fn number(text: &str) -> u32 {
-    text.parse::<u32>().unwrap_or(0)
+/// The processes of the entries, one after the other: a word `p*n` is n entries of process p.
+pub(crate) fn entries_of(alloc: Global, words: &[String]) -> Result<Vec<usize>, AllocError> {
+    let mut processes = Vec::new(alloc);
+    for word in words {
+        let (process, count) = turn(word.as_str());
+        for _ in 0..count {
+            processes.push(process)?;
+        }
+    }
+    Ok(processes)
 }

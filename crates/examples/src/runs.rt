@@ -7,13 +7,14 @@ ghost use Rattle.algol_tree.specs.Image.{program as plain};
 ghost use Rattle.algol_paths.specs.Arrays.{lows_at};
 ghost use Rattle.algol_lows.specs.Lows.{under};
 
+use crate::told::{lines, number, say};
 use algol_front::Checked;
 use algol_lows::{LowsByPlace, lows_of_program};
 use algol_names::scopes_of;
 use algol_perform::start;
 use algol_run::{End, Stepped, end_of, follow, step};
 use algol_world::World;
-use b67_list::{Line, discard, push_number};
+use b67_list::discard;
 use b67_report::{EndWords, push_end};
 use std::alloc::{AllocError, Global};
 
@@ -38,14 +39,11 @@ fn first<'p>(
 
 /// Appends the letter of an action, a point after it where the world has an end; and `-` where the process is not able, or the world had an
 /// end.
-fn push_letter(text: &mut Vec<u8>, stepped: &Stepped) -> Result<(), AllocError> {
+fn push_letter(text: &mut Vec<u8>, stepped: &Stepped) {
     match stepped {
-        Stepped::Went(acted) => Ok(text.push(acted.action.letter())?),
-        Stepped::NotAble => Ok(text.push(b'-')?),
-        Stepped::Ended(acted) => {
-            text.push(acted.action.letter())?;
-            Ok(text.push(b'.')?)
-        }
+        Stepped::Went(acted) => say(text, &[acted.action.letter()]),
+        Stepped::NotAble => say(text, b"-"),
+        Stepped::Ended(acted) => say(text, &[acted.action.letter(), b'.']),
     }
 }
 
@@ -57,9 +55,9 @@ fn push_step(
     process: usize,
 ) -> Result<(), AllocError> {
     let stepped = step(world, alloc, process)?;
-    let pushed = push_letter(text, &stepped);
+    push_letter(text, &stepped);
     discard(stepped);
-    pushed
+    Ok(())
 }
 
 /// The words of an end.
@@ -75,12 +73,14 @@ fn words_of(end: End) -> EndWords {
 }
 
 /// Appends the line of an end.
-fn push_last(text: &mut Vec<u8>, end: Option<End>) -> Result<(), AllocError> {
+fn push_last(text: &mut Vec<u8>, end: Option<End>) {
     match end {
-        Some(end) => push_end(text, &words_of(end))?,
-        None => text.extend_from_slice(b"GOES ON")?,
+        Some(end) => {
+            let _ = push_end(text, &words_of(end));
+        }
+        None => say(text, b"GOES ON"),
     }
-    text.extend_from_slice(b"\n")
+    say(text, b"\n");
 }
 
 /// Appends the letters of the entries, each a step.
@@ -96,30 +96,7 @@ fn push_letters(
     Ok(())
 }
 
-/// Appends the number of lines, and the lines.
-fn push_lines(text: &mut Vec<u8>, lines: &[Line]) -> Result<(), AllocError> {
-    push_number(text, b"\nOUTPUT ", lines.len())?;
-    text.extend_from_slice(b"\n")?;
-    for line in lines {
-        text.extend_from_slice(line.bytes())?;
-        text.extend_from_slice(b"\n")?;
-    }
-    Ok(())
-}
-
-/// Appends the letters of the entries, the lines that were written, and the end.
-fn push_steps(
-    text: &mut Vec<u8>,
-    world: &mut World<'_>,
-    alloc: Global,
-    entries: &[usize],
-) -> Result<(), AllocError> {
-    push_letters(text, world, alloc, entries)?;
-    push_lines(text, world.output.items())?;
-    push_last(text, end_of(world))
-}
-
-/// Appends what comes of the entries step by step.
+/// Appends what comes of the entries step by step: their letters, the lines that were written, and the end.
 fn push_run(
     text: &mut Vec<u8>,
     alloc: Global,
@@ -130,7 +107,10 @@ fn push_run(
     requires { (spot : token.Spot) → under lows.now spot ≡ lows_at (blocks_of_program (plain checked.now.program)) spot }
 {
     let mut world = first(alloc, checked, lows)?;
-    let pushed = push_steps(text, &mut world, alloc, entries);
+    let pushed = push_letters(text, &mut world, alloc, entries);
+    say(text, b"\n");
+    lines(text, world.output.items());
+    push_last(text, end_of(&world));
     discard(world);
     pushed
 }
@@ -148,8 +128,9 @@ fn push_followed(
     let mut world = first(alloc, checked, lows)?;
     let went = follow(&mut world, alloc, entries);
     discard(world);
-    push_number(text, b"LEGAL ", went?)?;
-    text.extend_from_slice(b"\n")
+    number(text, b"LEGAL ", went? as u64);
+    say(text, b"\n");
+    Ok(())
 }
 
 /// What comes of an accepted source under a schedule, step by step and as a whole.

@@ -1,41 +1,44 @@
 //! The tokens of a text.
 
+use crate::told::{number, say};
 use algol_lexer::lex;
 use algol_tree::{Refusal, Spot, Token, TokenKind};
 use b67_list::push_number;
 use std::alloc::{AllocError, Global};
 
 /// Appends a line and a column.
-pub(crate) fn push_spot(told: &mut Vec<u8>, spot: Spot) -> Result<(), AllocError> {
-    push_number(told, b"", spot.line)?;
-    push_number(told, b":", spot.column)
+pub(crate) fn push_spot(told: &mut Vec<u8>, spot: Spot) {
+    number(told, b"", u64::from(spot.line));
+    number(told, b":", u64::from(spot.column));
 }
 
 /// Appends what a token is.
-fn push_kind(told: &mut Vec<u8>, kind: &TokenKind) -> Result<(), AllocError> {
+fn push_kind(told: &mut Vec<u8>, kind: &TokenKind) {
     match kind {
-        TokenKind::Word(_) => told.extend_from_slice(b" WORD"),
-        TokenKind::Symbol(_) => told.extend_from_slice(b" SYMBOL"),
-        TokenKind::Number(value) => push_number(told, b" NUMBER ", value.number()),
+        TokenKind::Word(_) => say(told, b" WORD"),
+        TokenKind::Symbol(_) => say(told, b" SYMBOL"),
+        TokenKind::Number(value) => {
+            let _ = push_number(told, b" NUMBER ", value.number());
+        }
         TokenKind::Name(name) => {
-            told.extend_from_slice(b" NAME ")?;
-            told.extend_from_slice(name.bytes())
+            say(told, b" NAME ");
+            say(told, name.bytes());
         }
         TokenKind::Text(text) => {
-            told.extend_from_slice(b" TEXT ")?;
-            told.extend_from_slice(text.bytes())
+            say(told, b" TEXT ");
+            say(told, text.bytes());
         }
-        TokenKind::End => told.extend_from_slice(b" END"),
+        TokenKind::End => say(told, b" END"),
     }
 }
 
 /// Appends the line of a token: its spot, its first byte and the first after it, and what it is.
-fn push_token(told: &mut Vec<u8>, token: &Token) -> Result<(), AllocError> {
-    push_spot(told, token.spot)?;
-    push_number(told, b" ", token.from)?;
-    push_number(told, b" ", token.to)?;
-    push_kind(told, &token.kind)?;
-    told.extend_from_slice(b"\n")
+fn push_token(told: &mut Vec<u8>, token: &Token) {
+    push_spot(told, token.spot);
+    number(told, b" ", u64::from(token.from));
+    number(told, b" ", u64::from(token.to));
+    push_kind(told, &token.kind);
+    say(told, b"\n");
 }
 
 /// The tokens of a text, none where it has none.
@@ -55,7 +58,7 @@ pub(crate) fn tokens_text(alloc: Global, text: &[u8]) -> Result<Vec<u8>, AllocEr
     let mut told = Vec::new(alloc);
     if let Some(tokens) = tokens_of(alloc, text)? {
         for token in &tokens {
-            push_token(&mut told, token)?;
+            push_token(&mut told, token);
         }
     }
     Ok(told)

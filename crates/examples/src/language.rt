@@ -1,0 +1,86 @@
+//! The answers of the front end and of the meaning.
+//!
+//! In `tokens.sheet` the input is a text; the answer has a line for each token: its line and column, its first byte and the
+//! first after it, and what it is.
+//!
+//! In `cells.sheet` the input is a source; the answer has a line for each token at whose place a name stands, with the place and
+//! the level of the declaration that it means and the couple of its cell, or an actual or a result that has a cell, with that
+//! couple. The last line has the levels of the blocks.
+//!
+//! In `runs.sheet` the input is a source, and the words of a case are its entries: `p*n` are n of process p, one after the other.
+//! The answer has these lines: the letters of the entries, with `-` for one that is not able and `.` for one after the end;
+//! `OUTPUT n` and the n lines that are written; `END` and how the run ends, or `GOES ON`; and `LEGAL n`, how many entries are
+//! followed by the whole schedule.
+//!
+//! Of `rules.sheet` it is told in `rules`.
+
+use crate::cells::push_names;
+use crate::rules::rule_text;
+use crate::runs::run_text;
+use crate::tokens::{tokens_of, tokens_text};
+use crate::turns::entries_of;
+use algol_front::{Checked, front};
+use algol_scope::Scopes;
+use algol_tree::{MOST_SOURCE_BYTES, Refusal};
+use b67_list::discard;
+use case_sheet::Case;
+use std::alloc::{AllocError, Global};
+
+/// What the names of a source mean.
+fn names_text(alloc: Global, scopes: &Scopes, source: &[u8]) -> Result<Vec<u8>, AllocError> {
+    let mut text = Vec::new(alloc);
+    if let Some(tokens) = tokens_of(alloc, source)? {
+        push_names(&mut text, scopes, tokens.as_slice());
+    }
+    Ok(text)
+}
+
+/// The first word of a case.
+fn first_word(case: &Case) -> &str {
+    match case.words.first() {
+        Some(word) => word.as_str(),
+        None => "",
+    }
+}
+
+/// The answer of an accepted source to a case.
+fn accepted_text(
+    alloc: Global,
+    sheet: &str,
+    case: &Case,
+    checked: &Checked,
+) -> Result<Vec<u8>, AllocError> {
+    match sheet {
+        "cells" => names_text(alloc, &checked.scopes, case.input.as_slice()),
+        "rules" => rule_text(alloc, checked, first_word(case)),
+        _ => run_text(
+            alloc,
+            checked,
+            entries_of(alloc, case.words.as_slice())?.as_slice(),
+        ),
+    }
+}
+
+/// The answer to a case of a sheet of these.
+pub(crate) fn language_text(
+    alloc: Global,
+    sheet: &str,
+    case: &Case,
+) -> Result<Vec<u8>, AllocError> {
+    let source = case.input.as_slice();
+    if sheet == "tokens" {
+        return tokens_text(alloc, source);
+    }
+    if source.len() > MOST_SOURCE_BYTES {
+        return Ok(Vec::from_slice(alloc, b"TOO LONG\n")?);
+    }
+    match front(alloc, source) {
+        Ok(checked) => {
+            let text = accepted_text(alloc, sheet, case, &checked);
+            discard(checked);
+            text
+        }
+        Err(Refusal::At { .. }) => Ok(Vec::from_slice(alloc, b"REFUSED\n")?),
+        Err(Refusal::NoMemory) => Err(AllocError),
+    }
+}
