@@ -8,8 +8,8 @@ use Rattle.b67_fitting.specs.Nested.{LiesNested}
 use Rattle.b67_listing.specs.Listings.{IsListable}
 use Rattle.b67_faithful.specs.Faithful.{HasFormats, IsShort, Faithful}
 
--- Where the code of a program stands whose blocks lie in one another, as those of an accepted one do that is built, whose procedures have
--- names, and whose names are seen and calls fit, and where it has the program's formats, is short and can be listed, it is faithful to the program.
+-- Where the code of a program stands whose blocks lie in one another, as those of an accepted one do, whose procedures have names,
+-- and whose names are seen and calls fit, and where it has the program's formats, is short and can be listed, it is faithful to the program.
 abbrev pub NestedProgramsAreFaithful : Type 0
 NestedProgramsAreFaithful =
     (tree : PProgram) (code : Code) → LiesNested tree → HasNames tree → HasTexts tree → ProgramAt code tree → HasFormats tree code → IsShort tree code → IsListable code → Faithful tree code
