@@ -1,5 +1,6 @@
 pub mod Parts
 pub mod Performing
 pub mod Operating
+pub mod Actions
 pub mod Prepared
 pub mod Laws

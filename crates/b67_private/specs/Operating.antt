@@ -37,7 +37,10 @@ effect_by rows.Mark = onward mark
 effect_by rows.MakeCells = onward make_cells
 effect_by rows.GoOn = onward gives
 effect_by (rows.Branch kind target) = branch kind target
-effect_by rows.Foreign = λ (next : ℕ) (p : Private). interrupts BadCode
+effect_by (rows.Words kind) = λ (next : ℕ) (p : Private). interrupts BadCode
+effect_by rows.Exit = λ (next : ℕ) (p : Private). interrupts BadCode
+effect_by rows.ReturnValue = λ (next : ℕ) (p : Private). interrupts BadCode
+effect_by rows.Enter = λ (next : ℕ) (p : Private). interrupts BadCode
 
 -- an operator at this place has this row in the table
 abbrev pub HasRow : Operator → ℕ → Row → Type 0

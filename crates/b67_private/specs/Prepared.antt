@@ -4,6 +4,7 @@ use Rattle.b67_ops.specs.declared.Operator.{Operator}
 use Rattle.b67_ops.specs.Spelling.{FitsAs}
 use Rattle.b67_segment.specs.Decoded.{at_place}
 use Rattle.b67_private.specs.declared.operators.Row.{Row}
+use Rattle.b67_private.specs.Actions.{IsRow, IsHeldRow}
 use Rattle.b67_private.specs.Operating.{HasRow, IsHeldCouple}
 
 -- by place, an operator with the place after it, and none where no operator stands
@@ -29,7 +30,7 @@ row_at rows place = flat (slice_get rows place)
 -- what stands at a place is an operator with this row
 abbrev pub IsRowOf : ℕ → Option (Operator × ℕ) → Row × ℕ → Type 0
 IsRowOf place None r = ⊥
-IsRowOf place (Some f) r = HasRow f.0 place r.0 × (r.1 ≡ f.1)
+IsRowOf place (Some f) r = HasRow f.0 place r.0 × (r.1 ≡ f.1) × IsRow f.0 place r.0 × IsHeldRow r.0
 
 -- each row that is made ready is that of the operator at its place
 abbrev pub AreRows : Operators → Rows → Type 0

@@ -14,9 +14,9 @@ mod taking;
 use b67_num::{FaultKind, NumFault};
 use b67_table::InterruptKind;
 pub use laws::{operators_are_own, parts_of_valid_images, stretches_are_own};
-pub use operators::operate;
+pub use operators::{Row, WordsRow, operate, row_of};
 pub use prepared::Prepared;
-pub use stretch::{burst, burst_in_place, next_operator};
+pub use stretch::{burst, burst_in_place, next_operator, row_at};
 
 /// The most words that an operator of a private part takes off.
 pub const REACH: u32 = 2;

@@ -2,9 +2,13 @@
 ghost use Rattle.std.specs.Prelude.{◌≡◌, ◌<◌, ◌^◌};
 ghost use Rattle.b67_word.specs.Word.{word};
 ghost use Rattle.b67_ops.specs.Spelling.{Fits, FitsAs};
+ghost use Rattle.b67_ops.specs.declared.Operator.TheVariants.{Plain};
+ghost use Rattle.b67_ops.specs.declared.PlainKind.TheVariants.{Entr};
 ghost use Rattle.b67_table.specs.Outcome.{limited};
 ghost use Rattle.b67_private.specs.Parts.{IsPart, length_of, own_outcome, part_with};
 ghost use Rattle.b67_private.specs.Performing.{Performs};
+ghost use Rattle.b67_private.specs.Actions.{IsRow, IsPlainRow, IsHeldRow};
+ghost use Rattle.b67_private.specs.declared.operators.Row.TheVariants.{Enter};
 ghost use Rattle.b67_private.specs.Operating.{effect_by, top_effect, HasRow, HasRowOf, IsHeldCouple};
 
 use crate::Stop;
@@ -14,7 +18,7 @@ use crate::rows::{
 };
 use b67_control::Irw;
 use b67_num::{Calculation, Relation};
-use b67_ops::{BranchKind, Operator, PlainKind};
+use b67_ops::{BranchKind, Couple, Operator, PlainKind};
 use b67_table::{InterruptKind, Registers, Words};
 use b67_word::{Word, make_word, operand};
 
@@ -29,7 +33,23 @@ pub enum TopRow {
     Stuff,
 }
 
-/// What an operator does to a private part, with the word that it pushes made ready.
+/// What reads and writes words and rows, and no more than the registers of its own process beside them.
+#[derive(Clone, Copy)]
+pub enum WordsRow {
+    ValueCall(Couple),
+    /// A branch that does not go forward.
+    Turn(BranchKind, u16),
+    Evaluate,
+    LoadThrough,
+    LoadValue,
+    /// Stores, and keeps the operand on the stack or not.
+    Store(bool),
+    Index,
+    IndexAndLoad,
+    IndexMother,
+}
+
+/// What an operator does: to a private part, with the word that it pushes made ready; or that it is an action, and which.
 #[derive(Clone, Copy)]
 pub enum Row {
     Push(Word),
@@ -41,15 +61,21 @@ pub enum Row {
     MakeCells,
     GoOn,
     Branch(BranchKind, u16),
-    /// An action, which is no operator of a private part.
-    Foreign,
+    // What follows are actions, which are no operators of a private part.
+    Words(WordsRow),
+    Exit,
+    ReturnValue,
+    Enter,
 }
 
 const FOREIGN: Stop = Stop::Interrupt(InterruptKind::BadCode);
 
 // The row of an operator without an operand.
 fn row_of_plain(kind: PlainKind) -> Row
-    ensures { HasRowOf kind result }
+    ensures part { HasRowOf kind result }
+    ensures row { IsPlainRow kind result }
+    ensures held { IsHeldRow result }
+    ensures enters { result ≡ Enter → kind ≡ Entr }
 {
     match kind {
         PlainKind::Add => Row::Calculate(Calculation::Sum),
@@ -78,7 +104,17 @@ fn row_of_plain(kind: PlainKind) -> Row
         PlainKind::Mkst => Row::Mark,
         PlainKind::Push => Row::MakeCells,
         PlainKind::Noop => Row::GoOn,
-        _ => Row::Foreign,
+        PlainKind::Eval => Row::Words(WordsRow::Evaluate),
+        PlainKind::Lodt => Row::Words(WordsRow::LoadThrough),
+        PlainKind::Load => Row::Words(WordsRow::LoadValue),
+        PlainKind::Stod => Row::Words(WordsRow::Store(false)),
+        PlainKind::Ston => Row::Words(WordsRow::Store(true)),
+        PlainKind::Indx => Row::Words(WordsRow::Index),
+        PlainKind::Nxlv => Row::Words(WordsRow::IndexAndLoad),
+        PlainKind::Nxln => Row::Words(WordsRow::IndexMother),
+        PlainKind::Exit => Row::Exit,
+        PlainKind::Retn => Row::ReturnValue,
+        PlainKind::Entr => Row::Enter,
     }
 }
 
@@ -92,15 +128,18 @@ fn literal(tag: u8, bits: u64) -> Word
     make_word(tag, bits).unwrap()
 }
 
-// The row of an operator at its place.
+/// The row of an operator at its place.
 #[tactic(auto, unfolding(b67_table::specs::Rows::row))]
 #[inline(always)]
 pub fn row_of(op: &Operator, place: u16) -> Row
     requires { FitsAs IsHeldCouple op.now }
-    ensures { HasRow op.now place result }
+    ensures part { HasRow op.now place result }
+    ensures row { IsRow op.now place result }
+    ensures held { IsHeldRow result }
+    ensures enters { result ≡ Enter → op.now ≡ Plain Entr }
 {
     match *op {
-        Operator::Valc(_) => Row::Foreign,
+        Operator::Valc(couple) => Row::Words(WordsRow::ValueCall(couple)),
         Operator::Namc(couple) => {
             let reference = Irw {
                 level: couple.level,
@@ -116,7 +155,7 @@ pub fn row_of(op: &Operator, place: u16) -> Row
             if place < target {
                 Row::Branch(kind, target)
             } else {
-                Row::Foreign
+                Row::Words(WordsRow::Turn(kind, target))
             }
         }
         Operator::Plain(kind) => row_of_plain(kind),
@@ -157,7 +196,7 @@ pub fn perform(regs: &mut Registers, words: &mut Words, row: Row, next: u16) -> 
             Ok(())
         }
         Row::Branch(kind, target) => branch_to(regs, words, kind, target, next),
-        Row::Foreign => Err(FOREIGN),
+        Row::Words(_) | Row::Exit | Row::ReturnValue | Row::Enter => Err(FOREIGN),
     }
 }
 

@@ -40,9 +40,9 @@ pub fn next_operator(
     }
 }
 
-// The row of the operator at a place, and the place after it, where they are made ready.
+/// The row of the operator at a place, and the place after it, where they are made ready.
 #[inline(always)]
-fn row_at(table: Option<&Prepared>, place: u16) -> Option<(Row, u16)>
+pub fn row_at(table: Option<&Prepared>, place: u16) -> Option<(Row, u16)>
     ensures { (code : Code) (segment level : ℕ) → IfSome table.entry (λ t. AreDecoded code segment level t.now) → IfSome result (λ r. IsRowOf place (found code segment level place) r) }
 {
     match table {

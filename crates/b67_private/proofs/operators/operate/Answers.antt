@@ -8,4 +8,4 @@ row_of-row-requires c = held_operand c.args.regs.now.ll c.args.op.now c.requires
 pub returns : goal.returns
 returns c =
     performed c.args.op.now c.args.next c.row_of-row.result (part_with c.args.regs.now c.args.words.now) (part_with c.perform.new.regs c.perform.new.words)
-    c.perform.result c.row_of-row.ensures c.perform.ensures
+    c.perform.result c.row_of-row.ensures.part c.perform.ensures
