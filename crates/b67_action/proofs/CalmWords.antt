@@ -2,9 +2,9 @@
 use Rattle.std.proofs.Common.{ℕ}
 use Rattle.b67_control.specs.declared.Registers.{Registers}
 use Rattle.b67_letters.proofs.Calm.{Calm, Each, value_calm, load_calm, through_calm, evaluate_calm, store_calm, turn_calm, index_calm, index_and_load_calm, index_mother_calm}
-use Rattle.b67_action.specs.declared.rows.WordsRow.{WordsRow}
-use Rattle.b67_action.specs.declared.rows.WordsRow.TheVariants as words
-use Rattle.b67_action.specs.Rows.{words_program}
+use Rattle.b67_private.specs.declared.operators.WordsRow.{WordsRow}
+use Rattle.b67_private.specs.declared.operators.WordsRow.TheVariants as words
+use Rattle.b67_private.specs.Actions.{words_program}
 
 module _ (r : Registers) (next : ℕ) where
   pub words_calm : (kind : WordsRow) → Each Calm (words_program kind r next)

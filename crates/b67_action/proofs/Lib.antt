@@ -3,6 +3,7 @@ pub mod Among
 pub mod Calling
 pub mod CalmWords
 pub mod Coming
+pub mod Gone
 pub mod Kept
 pub mod MakeAble
 pub mod OwnOutcome

@@ -50,7 +50,8 @@ use Rattle.b67_action.specs.declared.rows.Row.TheVariants as ours
 use Rattle.b67_action.specs.Able.{one_if, AbleAfter, ActionsMakeAble}
 use Rattle.b67_action.specs.Acting.{CallReleases, CalleeReleases, RowReleases, NextReleases}
 use Rattle.b67_action.specs.Done.{Came, is_performed}
-use Rattle.b67_action.specs.Rows.{words_program, Is}
+use Rattle.b67_private.specs.Actions.{words_program}
+use Rattle.b67_action.specs.Rows.{Is}
 use Rattle.b67_action.proofs.Able.{waiters_few, first_procurer_few, woken_others, woken_own, other_waits, able_by, able_same, able_more}
 use Rattle.b67_action.proofs.Calling.{does_called}
 use Rattle.b67_letters.proofs.Calm.{Calm, calm_keeps, Each, each_asked, each_as, each_critical, arrays_have, entry_calm, other_calm, return_calm, go_to_calm, select_calm, arrays_row_calm, write_calm, event_calm, tell_calm, each_event, each_start}

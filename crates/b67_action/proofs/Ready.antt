@@ -34,7 +34,7 @@ some_is {A = A} P o a e x = subst (λ (z : Option A). IfSome z P) e x
 pub if_some : {A : Type 0} (P : A → Type 0) (o : Option A) (a : A) → o ≡ Some a → P a → IfSome o P
 if_some {A = A} P o a e x = subst (λ (z : Option A). IfSome z P) (sym e) x
 
-live_of : (o : Option ProcessState) → is_able o ≡ true → is_live o ≡ true
+pub live_of : (o : Option ProcessState) → is_able o ≡ true → is_live o ≡ true
 live_of None e = cc
 live_of (Some states.Able) e = refl
 live_of (Some (states.WaitsFor at)) e = cc

@@ -57,7 +57,8 @@ use Rattle.b67_action.specs.declared.rows.Row.{Row}
 use Rattle.b67_action.specs.declared.rows.Row.TheVariants as ours
 use Rattle.b67_action.specs.Acting.{CallReleases, CalleeReleases, RowReleases, NextReleases}
 use Rattle.b67_action.specs.Done.{Came, is_performed}
-use Rattle.b67_action.specs.Rows.{words_program, Is}
+use Rattle.b67_private.specs.Actions.{words_program}
+use Rattle.b67_action.specs.Rows.{Is}
 use Rattle.b67_action.proofs.CalmWords.{words_calm}
 use Rattle.b67_action.proofs.MakeAble.{came_new}
 

@@ -33,7 +33,8 @@ use Rattle.b67_action.specs.declared.rows.Row.TheVariants as rows
 use Rattle.b67_action.specs.Among.{Comes}
 use Rattle.b67_action.specs.Done.{makes}
 use Rattle.b67_action.specs.Own.{own_effect}
-use Rattle.b67_action.specs.Rows.{words_program, HasRow}
+use Rattle.b67_private.specs.Actions.{words_program}
+use Rattle.b67_action.specs.Rows.{HasRow}
 
 -- ---- what is asked
 

@@ -7,13 +7,13 @@ ghost use Rattle.b67_operators.specs.Leaves.{IsLinkedIn};
 ghost use Rattle.b67_reach.specs.Images.{own};
 ghost use Rattle.b67_reach.specs.Answers.{Performs};
 ghost use Rattle.b67_action.specs.Among.{ActsIn, entry_program};
-ghost use Rattle.b67_action.specs.Rows.{words_program, IsHeldWords};
+ghost use Rattle.b67_private.specs.Actions.{words_program, IsHeldWords};
 
-use crate::rows::WordsRow;
 use b67_operators::{
     Called, entry, evaluate, index, index_and_load, index_mother, load_through, load_value, store,
     turn, value_call,
 };
+use b67_private::WordsRow;
 use b67_reach::{Registers, Stop};
 use b67_store::Core;
 

@@ -6,7 +6,7 @@ use Rattle.b67_operators.specs.Leaves.{program_in}
 use Rattle.b67_action.specs.declared.rows.Row.{Row}
 use Rattle.b67_action.specs.Acting.{row_effect, RowReleases}
 use Rattle.b67_action.specs.Among.{with_all, Comes}
-use Rattle.b67_action.specs.Rows.{words_program}
+use Rattle.b67_private.specs.Actions.{words_program}
 use Rattle.b67_action.proofs.Coming.{comes_by}
 use Rattle.b67_action.proofs.Releasing.{on_ok, on_same}
 use Rattle.b67_action.proofs.acting.perform_plainly.Goals as goal

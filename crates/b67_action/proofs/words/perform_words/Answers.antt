@@ -1,4 +1,4 @@
-use Rattle.b67_action.specs.Rows.{words_program}
+use Rattle.b67_private.specs.Actions.{words_program}
 use Rattle.b67_action.proofs.Among.{acts_in}
 use Rattle.b67_action.proofs.words.perform_words.Goals as goal
 

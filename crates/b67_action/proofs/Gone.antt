@@ -1,0 +1,74 @@
+-- An action on words and rows that nothing stops, by its row that was made ready.
+use Rattle.std.proofs.Common.{◌≡◌, refl, sym, ap, subst, ◌∙◌, ℕ, ◌≤◌, true, List, [], length, Option, Some, None, Ok}
+use Rattle.b67_list.specs.Numbered.{numbered}
+use Rattle.b67_control.specs.declared.Registers.{Registers}
+use Rattle.b67_ops.specs.declared.Operator.{Operator}
+use Rattle.b67_segment.specs.declared.code.Code.{Code}
+use Rattle.b67_segment.specs.Decoded.{found}
+use Rattle.b67_store.specs.Store.{row_limit}
+use Rattle.b67_table.specs.declared.ProcessState.{ProcessState}
+use Rattle.b67_table.specs.Image.{Image, is_able}
+use Rattle.b67_table.specs.Outcome.{limited}
+use Rattle.b67_table.specs.Rows.{row, acts}
+use Rattle.b67_table.specs.Table.{table, stack_length}
+use Rattle.b67_table.specs.Valid.{IsValid}
+use Rattle.b67_linkage.proofs.Linked.{live_are_linked}
+use Rattle.b67_operators.specs.Leaves.{IsLinkedIn, program_in}
+use Rattle.b67_private.specs.declared.operators.Row.{Row as Ready}
+use Rattle.b67_private.specs.declared.operators.WordsRow.{WordsRow}
+use Rattle.b67_private.specs.Actions.{words_program, IsRow, IsHeldRow}
+use Rattle.b67_private.specs.Prepared.{IsRowOf}
+use Rattle.b67_reach.specs.Answers.{Acts}
+use Rattle.b67_action.specs.declared.done.Done.TheVariants.{Went}
+use Rattle.b67_action.specs.declared.rows.Row.TheVariants.{Words}
+use Rattle.b67_action.specs.Acting.{row_effect, NextReleases}
+use Rattle.b67_action.specs.Among.{Comes}
+use Rattle.b67_action.specs.Done.{Came}
+use Rattle.b67_action.specs.Onward.{HasGone}
+use Rattle.b67_action.proofs.Coming.{comes_by, table_row, operator_is}
+use Rattle.b67_action.proofs.Kept.{stays_valid}
+use Rattle.b67_action.proofs.MakeAble.{performed_able}
+use Rattle.b67_action.proofs.Ready.{live_of}
+use Rattle.b67_action.proofs.Released.{performed_releases}
+
+-- where a row is made ready, an operator stands that has it
+pub record Stands (place : ℕ) (o : Option (Operator × ℕ)) (w : Ready) (next : ℕ) : Type 0 where
+  pub op : Operator
+  pub here : o ≡ Some (op, next)
+  pub is : IsRow op place w
+  pub held : IsHeldRow w
+
+pub row_stands : (place : ℕ) (o : Option (Operator × ℕ)) (w : Ready) (next : ℕ) → IsRowOf place o (w, next) → Stands place o w next
+row_stands place None w next k = absurd k
+row_stands place (Some f) w next k = record { op = f.0; here = ap (λ (n : ℕ). Some (f.0, n)) (sym k.1); is = k.2; held = k.3 }
+
+-- a live process of a valid image is linked among the others
+pub linked_in : (code : Code) (img : Image) (p : ℕ) (r : Registers) → IsValid code img → is_able (numbered img.states p) ≡ true → numbered img.regs p ≡ Some r
+    → IsLinkedIn img.stacks img.rows (numbered img.regs p)
+linked_in code img p r v able has =
+    subst (λ (o : Option Registers). IsLinkedIn img.stacks img.rows o) (sym has) (live_are_linked code img p r v (live_of (numbered img.states p) able) has)
+
+module _ (code : Code) (old new : Image) (p : ℕ) (r : Registers) (op : Operator) (next : ℕ) (kind : WordsRow) (v : IsValid code old)
+    (able : is_able (numbered old.states p) ≡ true) (has : numbered old.regs p ≡ Some r) (here : found code r.segment r.ll r.place ≡ Some (op, next))
+    (is : row op r.place ≡ acts (words_program kind))
+    (x : Acts {A = Unit {0}} p (program_in (words_program kind) (numbered old.regs p) next) old new (Ok (tt {0}))) (states : new.states ≡ old.states)
+    (few : length new.rows ≤ row_limit) where
+  by_table : table code old p ≡ limited (stack_length p) (row_effect (Words kind) code op next p (numbered old.regs p) old)
+  by_table = table_row code old p r has op next (Words kind) is able here
+
+  comes : Comes {A = Unit {0}} p (row_effect (Words kind) code op next p (numbered old.regs p) old) old new (Ok (tt {0}))
+  comes = comes_by p (program_in (words_program kind) (numbered old.regs p) next) old new (Ok (tt {0})) x
+
+  came_on : Came code old p Went new
+  came_on = (by_table ∙ comes.outcome, ap (λ (ss : List ProcessState). is_able (numbered ss p)) states ∙ able)
+
+  nobody : NextReleases code old p []
+  nobody = record { regs = r; has = has; op = op; next = next; stands = operator_is code old p r able has (op, next) here; row = Words kind; is = is; releases = refl }
+
+  pub gone : HasGone code old p new []
+  gone = record {
+    came = came_on;
+    woken = performed_releases code old new p [] Went came_on refl nobody;
+    able = performed_able code old new p [] Went v able came_on refl nobody;
+    valid = stays_valid code old new p (row_effect (Words kind) code op next p (numbered old.regs p) old) (Ok (tt {0})) v able by_table comes few;
+  }
