@@ -6,7 +6,7 @@ ghost use Rattle.b67_table.specs.Valid.{IsValid};
 ghost use Rattle.b67_action.specs.Able.{AbleAfter};
 ghost use Rattle.b67_machine.specs.Kept.{counted};
 ghost use Rattle.b67_machine.specs.Reads.{machine_end};
-ghost use Rattle.b67_machine.specs.Stepping.{operators_in, Performs};
+ghost use Rattle.b67_machine.specs.Stepping.{operators_in, Performs, Steps};
 
 use crate::Machine;
 use b67_action::Done;
@@ -22,6 +22,21 @@ pub struct Performed {
 }
 
 impl<C: Core> Machine<C> {
+    // Performs the next operator of a process: at once by its row, where that was made ready and nothing stops it.
+    fn act(&mut self, process: u32) -> Done
+        requires able { is_able (numbered self.old.image.states process) ≡ true }
+        requires going { machine_end self.old ≡ None }
+        requires count { counted self.old.counts process + 1 < 2 ^ 64 }
+        ensures steps { Steps self.old process result self.new }
+        ensures valid { IsValid self.new.code self.new.image }
+    {
+        if self.go_on(process) {
+            Done::Went
+        } else {
+            self.step(process)
+        }
+    }
+
     /// Performs one entry of a process: its plain operators and the operator after them, at most so many operators in all. The
     /// last one is tried only where it is within that number.
     pub fn perform_entry(&mut self, process: u32, most: u32) -> Performed
@@ -34,7 +49,7 @@ impl<C: Core> Machine<C> {
     {
         let plain = self.perform_plain(process, most);
         if plain < most {
-            let done = self.step(process);
+            let done = self.act(process);
             Performed {
                 plain,
                 done: Some(done),

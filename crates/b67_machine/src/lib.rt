@@ -7,6 +7,7 @@
 mod counting;
 mod entry;
 mod load;
+mod onward;
 mod reads;
 mod replay;
 mod step;
