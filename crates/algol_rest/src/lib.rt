@@ -5,6 +5,7 @@
 
 mod ask;
 mod cell;
+mod copying;
 mod expression;
 mod going;
 mod held;
@@ -22,6 +23,7 @@ mod value;
 
 pub use ask::Ask;
 pub use cell::{ArrayCell, Bounds, Cell, EventCell, Reference};
+pub use copying::{copied, copy_cell};
 pub use operator::{truth_of, whole_of};
 pub use part::{Answer, Given, Place};
 pub use rest::Rest;

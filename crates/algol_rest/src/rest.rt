@@ -12,6 +12,7 @@ ghost use Rattle.algol_rest.specs.SeenStatement.{answered, ahead, Finds};
 ghost use Rattle.algol_rest.specs.SeenRest.{rest, asked};
 
 use crate::ask::Ask;
+use crate::copying::{copy_frames, copy_point};
 use crate::held::boxed;
 use crate::part::{Answer, Control};
 use crate::scope::{Block, BlockStatements, Scopes};
@@ -109,9 +110,31 @@ impl<'p> Rest<'p> {
         work.resume(alloc, scopes, answer)?;
         Ok(Rest { work })
     }
+
+    /// A copy of what the part has still to do.
+    pub fn copy(&self, alloc: Global) -> Result<Rest<'p>, AllocError>
+        ensures { IfOk result (λ copy. (sc : scoping.Scopes) → rest sc copy ≡ rest sc self.now) }
+    {
+        let mut work = Work::new(alloc)?;
+        work.copy_from(alloc, &*self.work)?;
+        Ok(Rest { work })
+    }
 }
 
 impl<'p> Work<'p> {
+    /// The same work as another.
+    fn copy_from(&mut self, alloc: Global, other: &Work<'p>) -> Result<(), AllocError>
+        ensures point { IfOk result (λ _. self.new.point.value ≡ other.now.point.value) }
+        ensures frames { IfOk result (λ _. self.new.frames ≡ other.now.frames) }
+        ensures todo { IfOk result (λ _. self.new.todo ≡ other.now.todo) }
+    {
+        let point = copy_point(alloc, &*other.point)?;
+        stand(&mut self.point, point);
+        self.frames.set(copy_frames(alloc, &other.frames)?);
+        self.todo.set(other.todo.copy(alloc)?);
+        Ok(())
+    }
+
     /// No work.
     fn new(alloc: Global) -> Result<Box<Work<'p>>, AllocError>
         ensures frames { IfOk result (λ w. w.value.frames ≡ []) }

@@ -1,10 +1,11 @@
-ghost use Rattle.std.specs.Prelude.{◌≡◌, [], ◌∷◌, ◌++◌, slice_get, IfOk};
+ghost use Rattle.std.specs.Prelude.{◌≡◌, [], ◌∷◌, ◌++◌, slice_get, reverse, IfOk};
 ghost use Rattle.algol_rest.specs.SeenStack.{Popped};
 ghost use Rattle.algol_rest.specs.Shown.{shown};
 
-use b67_list::List;
+use b67_list::{List, discard};
 use std::alloc::{AllocError, Global};
 use std::marker::Model;
+use std::mem;
 
 /// A stack, which contracts see as the list of its items with the newest first.
 #[derive(Drop)]
@@ -56,6 +57,40 @@ impl<T> Stack<T> {
     {
         let place = self.items.len().checked_sub(newer)?.checked_sub(1)?;
         self.items.get(place)
+    }
+
+    /// The stack of these items, of which the last is the newest.
+    pub fn of(items: Vec<T>) -> Stack<T>
+        ensures { result ≡ reverse items.items }
+    {
+        Stack { items }
+    }
+
+    /// The items, the oldest first.
+    pub fn oldest_first(&self) -> &[T]
+        ensures { reverse result.now ≡ self.now }
+    {
+        self.items.as_slice()
+    }
+
+    /// A stack of its own with the same items.
+    pub fn copy(&self, alloc: Global) -> Result<Stack<T>, AllocError>
+    where
+        T: Copy,
+        ensures { IfOk result (λ copy. copy ≡ self.now) }
+    {
+        Ok(Stack {
+            items: Vec::from_slice(alloc, self.items.as_slice())?,
+        })
+    }
+
+    /// The stack is that one.
+    pub fn set(&mut self, to: Stack<T>)
+    where
+        T: Drop,
+        ensures { self.new ≡ to }
+    {
+        discard(mem::replace(self, to));
     }
 
     /// No items.
