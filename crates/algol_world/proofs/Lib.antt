@@ -9,3 +9,4 @@ pub mod Releasing
 pub mod Innermosts
 pub mod Exits
 pub mod Counting
+pub mod Copies

@@ -6,3 +6,4 @@ pub mod Going
 pub mod SeenActed
 pub mod Leaving
 pub mod Counting
+pub mod Saving

@@ -15,6 +15,7 @@ ghost use Rattle.algol_world.specs.Counting as counting;
 ghost use Rattle.algol_world.specs.Counting.{displaced_at};
 
 use crate::array::with_element;
+use crate::copying::copy_instances;
 use crate::instance::{Instance, NamedCell, add_cells, cell_in, item_at, leave, set_cell, zero};
 use crate::size::{adjusted, is_array, live_in, live_in_all, size_of_cell, size_of_cells};
 use algol_rest::{Cell, Reference, Value};
@@ -88,6 +89,16 @@ impl<'p> Instances<'p> {
             list: List::of(Vec::new(alloc)),
             live_elements: 0,
         }
+    }
+
+    /// Copies of the instances.
+    pub fn copy(&self, alloc: Global) -> Result<Instances<'p>, AllocError>
+        ensures { IfOk result (λ copy. copy ≡ self.now) }
+    {
+        Ok(Instances {
+            list: copy_instances(alloc, self.list.items())?,
+            live_elements: self.live_elements,
+        })
     }
 
     /// The instances, in their order.
