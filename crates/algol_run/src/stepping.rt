@@ -1,6 +1,6 @@
 //! One step of a process.
 
-ghost use Rattle.std.specs.Prelude.{◌≡◌, ◌&&◌, not, false, IfOk};
+ghost use Rattle.std.specs.Prelude.{◌≡◌, ◌&&◌, not, false, IfOk, OnErr};
 ghost use Rattle.algol_meaning.specs.World as plain;
 ghost use Rattle.algol_meaning.specs.Choice.{choice};
 ghost use Rattle.algol_rest.specs.SeenScope.{scoped};
@@ -12,6 +12,7 @@ use crate::ending::{has_end, is_able, is_finished};
 use algol_perform::{part_under, perform};
 use algol_step::decide_part;
 use algol_world::{Acted, Action, World};
+use b67_list::discard;
 use std::alloc::{AllocError, Global};
 
 /// What came of a step.
@@ -46,13 +47,14 @@ fn act<'p>(world: &mut World<'p>, alloc: Global, process: usize) -> Result<Acted
     perform(world, alloc, process, effect)
 }
 
-/// One step of a process. It costs what its action costs; only where the process waits after it, or has ended, each process is looked at.
-///
-/// # Errors
-///
-/// Want of memory; then nothing is said of the world.
+/// One step of a process, after which nothing is said of the world where memory lacks. It costs what its action costs; only where the
+/// process waits after it, or has ended, each process is looked at.
 #[tactic(auto, using(crate::proofs::Steps::step_laws))]
-pub fn step<'p>(world: &mut World<'p>, alloc: Global, process: usize) -> Result<Stepped, AllocError>
+pub fn step_in_place<'p>(
+    world: &mut World<'p>,
+    alloc: Global,
+    process: usize,
+) -> Result<Stepped, AllocError>
     ensures stepped { IfOk result (λ s. told s (world_of world.new) ≡ step_of (scoped world.old.scopes) (world_of world.old) process) }
     ensures still { IfOk result (λ s. is_going s ≡ false → world.new ≡ world.old) }
     ensures same { world.new.scopes ≡ world.old.scopes }
@@ -65,5 +67,32 @@ pub fn step<'p>(world: &mut World<'p>, alloc: Global, process: usize) -> Result<
         Ok(Stepped::Ended(acted))
     } else {
         Ok(Stepped::Went(acted))
+    }
+}
+
+/// One step of a process. What of the world it may change is kept before it, which costs as much as the world is large; [`follow`] keeps it
+/// once for a whole schedule.
+///
+/// [`follow`]: crate::follow
+///
+/// # Errors
+///
+/// Want of memory; then the world is as it was.
+pub fn step<'p>(world: &mut World<'p>, alloc: Global, process: usize) -> Result<Stepped, AllocError>
+    ensures stepped { IfOk result (λ s. told s (world_of world.new) ≡ step_of (scoped world.old.scopes) (world_of world.old) process) }
+    ensures still { IfOk result (λ s. is_going s ≡ false → world.new ≡ world.old) }
+    ensures same { world.new.scopes ≡ world.old.scopes }
+    ensures before { OnErr result (world_of world.new ≡ world_of world.old) }
+{
+    let saved = world.save(alloc)?;
+    match step_in_place(world, alloc, process) {
+        Ok(stepped) => {
+            discard(saved);
+            Ok(stepped)
+        }
+        Err(lack) => {
+            saved.put_back(world);
+            Err(lack)
+        }
     }
 }

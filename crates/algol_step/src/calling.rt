@@ -9,11 +9,10 @@ ghost use Rattle.algol_rest.specs.SeenExpression as seen;
 ghost use Rattle.algol_world.specs.SeenWorld.{task, world_of};
 ghost use Rattle.algol_effect.specs.Effects.{asked_choice, effect_choice, given_cell_in, given_cells_in, task_in};
 
-use crate::copying::copy_cell;
 use crate::deciding::here;
 use algol_effect::Effect;
 use algol_meaning::MOST_STARTED;
-use algol_rest::{Cell, Given, Reference};
+use algol_rest::{Cell, Given, Reference, copy_cell};
 use algol_tree::Named;
 use algol_world::{Part, World};
 use b67_num::FaultKind;
@@ -31,7 +30,7 @@ fn given_cell<'p>(
 {
     match given {
         Given::Valued(v) => Ok(Cell::Simple(*v)),
-        Given::Passed(cell) => copy_cell(alloc, Some(cell)),
+        Given::Passed(cell) => copy_cell(alloc, cell),
         Given::Refers(n) => Ok(Cell::Reference(here(world, part, *n))),
         Given::Names(actual) => Ok(Cell::Named(*actual, part.instance)),
     }

@@ -10,11 +10,11 @@ ghost use Rattle.algol_rest.specs.SeenExpression.{reference};
 ghost use Rattle.algol_world.specs.SeenWorld.{world_of};
 ghost use Rattle.algol_effect.specs.Effects.{asked_choice, effect_choice};
 
-use crate::copying::copy_cell;
+use crate::copying::copy_or_zero;
 use crate::deciding::here;
-use crate::lists::{copied, has_items};
+use crate::lists::has_items;
 use algol_effect::Effect;
-use algol_rest::{Answer, Cell, Place, Reference, Rest, Value, append, whole_of};
+use algol_rest::{Answer, Cell, Place, Reference, Rest, Value, append, copied, whole_of};
 use algol_tree::{Expr, List, Named};
 use algol_world::{
     Action, Part, Purpose, World, cell_at, element_at, has_happened, subscript_place,
@@ -124,7 +124,7 @@ pub fn decide_pass<'p>(
 ) -> Result<Effect<'p>, AllocError>
     ensures { IfOk result (λ e. asked_choice world.now process part.now (asks.passes n.now) ≡ effect_choice world.now process part.now e) }
 {
-    let cell = copy_cell(alloc, cell_at(&world.instances, here(world, part, n)))?;
+    let cell = copy_or_zero(alloc, cell_at(&world.instances, here(world, part, n)))?;
     Ok(Effect::Goes(Action::Pass, Answer::Cell(cell)))
 }
 

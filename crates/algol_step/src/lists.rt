@@ -1,18 +1,8 @@
-//! Lists, as they are read and copied.
+//! Lists, as they are read.
 
-ghost use Rattle.std.specs.Prelude.{◌≡◌, length, nat_lt, IfOk};
+ghost use Rattle.std.specs.Prelude.{◌≡◌, length, nat_lt};
 
 use algol_tree::List;
-use std::alloc::{AllocError, Global};
-
-/// A list of these items.
-pub fn copied<T: Copy>(alloc: Global, items: &[T]) -> Result<List<T>, AllocError>
-    ensures { IfOk result (λ list. list ≡ items.now) }
-{
-    let mut list = Vec::new(alloc);
-    list.extend_from_slice(items)?;
-    Ok(List::of(list))
-}
 
 /// Tests that a list has items.
 pub fn has_items<T>(list: &List<T>) -> bool

@@ -10,10 +10,9 @@ ghost use Rattle.algol_rest.specs.SeenExpression as seen;
 ghost use Rattle.algol_world.specs.SeenInstance.{named_cells};
 ghost use Rattle.algol_effect.specs.Effects.{asked_choice, effect_choice};
 
-use crate::lists::copied;
 use algol_effect::Effect;
 use algol_meaning::MOST_ELEMENTS;
-use algol_rest::{ArrayCell, Bounds, Cell, Value, whole_of};
+use algol_rest::{ArrayCell, Bounds, Cell, Value, copied, whole_of};
 use algol_tree::{Kind, List, Named, Pair, Whole};
 use algol_world::{NamedCell, Part, World, elements_of, some_empty};
 use b67_num::FaultKind;

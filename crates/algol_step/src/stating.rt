@@ -9,9 +9,8 @@ ghost use Rattle.algol_effect.specs.Effects.{asked_choice, effect_choice};
 
 use crate::deciding::here;
 use crate::evaluating::followed;
-use crate::lists::copied;
 use algol_effect::Effect;
-use algol_rest::{Answer, Place, Value};
+use algol_rest::{Answer, Place, Value, copied};
 use algol_tree::{EventAct, Named};
 use algol_world::{Action, Part, World};
 use b67_num::{FaultKind, NumFault};

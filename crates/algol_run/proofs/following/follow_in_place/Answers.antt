@@ -6,14 +6,14 @@ use Rattle.algol_world.specs.declared.acted.Acted.{Acted}
 use Rattle.algol_run.specs.declared.stepping.Stepped.{Stepped}
 use Rattle.algol_run.specs.declared.stepping.Stepped.TheVariants.{Went, Ended}
 use Rattle.algol_run.proofs.Entries.{entered, entry_more}
-use Rattle.algol_run.proofs.following.follow.Goals as goal
+use Rattle.algol_run.proofs.following.follow_in_place.Goals as goal
 
 pub returns-in-NotAble-clause-most : goal.returns-in-NotAble-clause-most
 returns-in-NotAble-clause-most c = λ less.
-    let u = world_of c.step.new.world in
+    let u = world_of c.step_in_place.new.world in
     entry_more c.args.world.now.scopes c.going.world.scopes c.args.schedule.now c.going.went c.going.process-index (world_of c.args.world.now)
-    (world_of c.going.world) (told c.in_ok-step.field-0 u) c.going.invariant.3 c.going.invariant.1 c.going-test.true c.going.invariant.0
-    c.in_ok-step.ensures.stepped
+    (world_of c.going.world) (told c.in_ok-step_in_place.field-0 u) c.going.invariant.3 c.going.invariant.1 c.going-test.true c.going.invariant.0
+    c.in_ok-step_in_place.ensures.stepped
     ∙ ap (λ (s : Stepped). entered (told s u)) c.in-NotAble.is
 
 -- a step that goes is told with the world after it, whether that has an end or not
@@ -23,13 +23,13 @@ gone_on s u (inr (a, is)) = ap (λ (s : Stepped). entered (told s u)) is
 
 pub going-preserved : goal.going-preserved
 going-preserved c =
-    let u = world_of c.step.new.world in
+    let u = world_of c.step_in_place.new.world in
     let at = c.going.invariant.1 in
     let less = c.going-test.true in (
       entry_more c.args.world.now.scopes c.going.world.scopes c.args.schedule.now c.going.went c.going.process-index (world_of c.args.world.now)
-          (world_of c.going.world) (told c.in_ok-step.field-0 u) c.going.invariant.3 at less c.going.invariant.0 c.in_ok-step.ensures.stepped
-          ∙ gone_on c.in_ok-step.field-0 u c.in-Went.is,
+          (world_of c.going.world) (told c.in_ok-step_in_place.field-0 u) c.going.invariant.3 at less c.going.invariant.0 c.in_ok-step_in_place.ensures.stepped
+          ∙ gone_on c.in_ok-step_in_place.field-0 u c.in-Went.is,
       ap (λ (n : ℕ). n + 1) at,
       omega (arith, at, less),
-      c.step.ensures.same ∙ c.going.invariant.3,
+      c.step_in_place.ensures.same ∙ c.going.invariant.3,
     )

@@ -3,7 +3,7 @@ use Rattle.algol_rest.specs.SeenScope.{scoped}
 use Rattle.algol_world.specs.SeenActed.{acted_choice}
 use Rattle.algol_world.specs.SeenWorld.{world_of}
 use Rattle.algol_run.proofs.Steps.{ends_so, goes_so}
-use Rattle.algol_run.proofs.stepping.step.Goals as goal
+use Rattle.algol_run.proofs.stepping.step_in_place.Goals as goal
 
 -- the world has an end
 pub returns-then-has_end-clause-stepped : goal.returns-then-has_end-clause-stepped
