@@ -1,5 +1,5 @@
 -- What a heap's calls say of its numbers.
-use Rattle.std.proofs.Common.{◌≡◌, ℕ, ◌∙◌, cond, Bool, true, false, List, [], ◌∷◌, Result, Ok, Err, refl, rules}
+use Rattle.std.proofs.Common.{◌≡◌, ℕ, ◌<◌, ◌∙◌, cond, Bool, true, false, List, [], ◌∷◌, length, get_or, Result, Ok, Err, refl, ap, sym, arith, rules}
 use Rattle.std.specs.Prelude.{nat_lt}
 use Rattle.std.specs.List.{count_by}
 use Rattle.std.specs.List.Sorted.{IsPermutation}
@@ -30,6 +30,11 @@ none_below n [] h = refl
 none_below n (x ∷ xs) h =
     let f : ℕ → ℕ = λ k. cond (nat_lt k n.0) 1 0 in
     sum_by-cons f x.0 (numbers_of xs) ∙ rw (not_less (nat_lt x.0 n.0) _ h.0, none_below n xs h.1) refl
+
+-- the number on top
+pub first_number : (xs : List (Reverse ℕ)) (x : Reverse ℕ) → 0 < length xs → x ≡ get_or xs 0 x → (rest : List ℕ) × (numbers_of xs ≡ x.0 ∷ rest)
+first_number [] x p e = absurd (omega arith)
+first_number (y ∷ ys) x p e = (numbers_of ys, ap (λ (z : Reverse ℕ). z.0 ∷ numbers_of ys) (sym e))
 
 -- a call that succeeds
 pub on_ok : {A E : Type 0} (r : Result A E) (P : Type 0) → IsOk r → OnOk r P → P

@@ -3,3 +3,4 @@ pub mod Lists
 pub mod Tables
 pub mod StoreLaws
 pub mod TopFirst
+pub mod Rooms

@@ -10,6 +10,7 @@ use std::cmp::Reverse;
 use std::collections::BinaryHeap;
 use std::marker::Model;
 
+/// Numbers, of which the least is found first.
 #[derive(Drop)]
 pub struct FreeNumbers {
     heap: BinaryHeap<Reverse<u32>>,
@@ -28,6 +29,7 @@ impl Model for FreeNumbers {
 }
 
 impl FreeNumbers {
+    /// No numbers, and no room yet.
     pub fn new(alloc: Global) -> FreeNumbers
         ensures { result.numbers ≡ [] }
     {
@@ -36,7 +38,7 @@ impl FreeNumbers {
         }
     }
 
-    // Makes room for so many numbers in all, where none is kept.
+    /// Makes room for so many numbers in all, where none is kept.
     pub fn reserve(&mut self, room: usize) -> Result<(), AllocError>
         requires { self.old.numbers ≡ [] }
         ensures numbers { self.new.numbers ≡ [] }
@@ -46,6 +48,7 @@ impl FreeNumbers {
         self.heap.reserve(room)
     }
 
+    /// Adds a number, where there is room.
     #[tactic(auto, using(crate::proofs::Heaps::heaps))]
     pub fn put(&mut self, number: u32)
         requires { length self.old.numbers < self.old.room }
@@ -55,6 +58,18 @@ impl FreeNumbers {
         let _ = self.heap.push(Reverse(number));
     }
 
+    /// The least number, which stays. None comes exactly where there is none.
+    #[tactic(auto, using(crate::proofs::Heaps::heaps))]
+    pub fn least(&self) -> Option<u32>
+        ensures none { IfNone result (self.now.numbers ≡ []) }
+        ensures first { IfSome result (λ n. (rest : List ℕ) × (self.now.numbers ≡ n ∷ rest)) }
+        ensures least { IfSome result (λ n. count_by (λ k. nat_lt k n) self.now.numbers ≡ 0) }
+    {
+        let Reverse(number) = *self.heap.peek()?;
+        Some(number)
+    }
+
+    /// Takes the least number out. None comes exactly where there is none.
     #[tactic(auto, using(crate::proofs::Heaps::heaps))]
     pub fn take_least(&mut self) -> Option<u32>
         ensures none { IfNone result (self.old.numbers ≡ []) }

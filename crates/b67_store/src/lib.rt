@@ -20,7 +20,9 @@ mod stack_table;
 mod words;
 
 use b67_word::{Place, Word};
+pub use free_numbers::FreeNumbers;
 pub use list_core::ListCore;
+pub use slots::open_at;
 use std::alloc::AllocError;
 pub use words::Words;
 
@@ -69,11 +71,17 @@ pub enum RowFault {
 /// A number of the lists has none where no stack, or no row, of that number is open. Each call leaves every
 /// other stack and every other row as it is, and a call that answers None or an error leaves all as it is.
 pub trait Core: Drop {
-    ghost use Rattle.b67_store.specs.Store.{Stacks, Rows};
+    ghost use Rattle.std.specs.Borrow.{sem, Lends, Array};
+    ghost use Rattle.b67_word.specs.Word.{Word};
+    ghost use Rattle.b67_word.specs.contracts.Word.{the_row as word_row};
+    ghost use Rattle.b67_store.specs.Store.{Stacks, Rows, IsRoom};
 
     ghost stacks: { Self → Stacks };
 
     ghost rows: { Self → Rows };
+
+    // What the store is after a loan of a stack's room, from the words as they were lent and as they were left.
+    ghost lent: { Self → ℕ → List Word → List Word → Self };
 
     /// The word at a place. None comes exactly where the stack is not open or has no such word.
     fn read(&self, at: Place) -> Option<Word>
@@ -111,12 +119,14 @@ pub trait Core: Drop {
         ensures stacks { stacks self.new ≡ (if is_ok result then with_cut (stacks self.old) stack length else stacks self.old) }
         ensures rows { rows self.new ≡ rows self.old };
 
-    /// The words of a stack and these change places, and none is copied. An error comes exactly where the stack is not open.
-    fn exchange(&mut self, stack: u16, words: &mut Words) -> Result<(), NoSuchPlace>
-        ensures found { is_ok result ≡ is_some (stack_at (stacks self.old) stack) }
-        ensures stacks { stacks self.new ≡ (if is_ok result then with_stack (stacks self.old) stack (reverse words.old) else stacks self.old) }
-        ensures words { words.new ≡ (if is_ok result then reverse (words_of (stacks self.old) stack) else words.old) }
-        ensures rows { rows self.new ≡ rows self.old };
+    /// Lends all the words that a stack has room for, [`MOST_STACK_WORDS`] of them: its own, the bottom first, and above
+    /// them whatever stands there. After the loan all of them are the stack's, until it is cut.
+    fn room(&mut self, stack: u16) -> &mut [Word]
+        requires open { IsSome (stack_at (stacks self.old) stack) }
+        ensures words { IsRoom (words_of (stacks self.old) stack) result.now }
+        ensures stacks { (w : List Word) → length w ≡ stack_limit → stacks (lent self.old stack result.now w) ≡ with_stack (stacks self.old) stack w }
+        ensures rows { (w : List Word) → length w ≡ stack_limit → rows (lent self.old stack result.now w) ≡ rows self.old }
+        ensures* writes_back { sem 𝓛 (Lends Self.row (Array word_row 0) self.entry result (lent self.old stack result.now)) };
 
     /// Opens a stack without words, and takes the memory for [`MOST_STACK_WORDS`]. InUse comes exactly where
     /// it is open.

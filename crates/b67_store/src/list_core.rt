@@ -1,10 +1,10 @@
 // The store that keeps each stack and each row in a list of its own.
 ghost use Rattle.std.specs.Prelude.{◌≡◌, []};
-ghost use Rattle.b67_store.specs.Store.{Held};
+ghost use Rattle.b67_store.specs.Store.{Held, with_stack, left_in};
 
 use crate::row_table::RowTable;
 use crate::stack_table::StackTable;
-use crate::{Core, NoSuchPlace, OpenFault, PushFault, RowFault, Words};
+use crate::{Core, NoSuchPlace, OpenFault, PushFault, RowFault};
 use b67_word::{Place, Word};
 use std::alloc::Global;
 use std::marker::Model;
@@ -46,6 +46,8 @@ impl Core for ListCore {
 
     ghost rows = { λ c. c.rows };
 
+    ghost lent = { λ c n lent left. record c { stacks = with_stack c.stacks n (left_in lent left) } };
+
     fn read(&self, at: Place) -> Option<Word> {
         self.stacks.read(at)
     }
@@ -70,8 +72,8 @@ impl Core for ListCore {
         self.stacks.cut(stack, length)
     }
 
-    fn exchange(&mut self, stack: u16, words: &mut Words) -> Result<(), NoSuchPlace> {
-        self.stacks.exchange(stack, words)
+    fn room(&mut self, stack: u16) -> &mut [Word] {
+        self.stacks.room(stack)
     }
 
     fn open_stack(&mut self, stack: u16) -> Result<(), OpenFault> {

@@ -2,7 +2,8 @@
 ghost use Rattle.std.specs.Prelude.{◌≡◌, option_copied};
 ghost use Rattle.b67_store.specs.Store.{at_number};
 
-// What is open at a number.
+/// What is open at a number.
+#[inline(always)]
 pub fn open_at<T>(slots: &Vec<Option<T>>, number: usize) -> Option<&T>
     ensures { option_copied result ≡ at_number slots.now.items number }
 {

@@ -4,8 +4,8 @@ ghost use Rattle.std.specs.Vec.{vec_len, vec_capacity};
 ghost use Rattle.b67_store.specs.Store.{stack_at, words_of, word_at, with_stack, with_word, with_push, with_cut, opened_at, closed_at, stack_limit, PushFails, OpenFails};
 
 use crate::slots::open_at;
-use crate::stack::{Stack, cut_words, exchange_words, pop_word, push_word, write_word};
-use crate::{NoSuchPlace, OpenFault, PushFault, Words};
+use crate::stack::{Stack, cut_words, open_room, pop_word, push_word, write_word};
+use crate::{NoSuchPlace, OpenFault, PushFault};
 use b67_word::{Place, Word};
 use std::alloc::{AllocError, Global};
 use std::marker::Model;
@@ -24,6 +24,11 @@ impl Model for StackTable {
 }
 
 impl StackTable {
+    ghost use Rattle.std.specs.Borrow.{sem, Lends, Array};
+    ghost use Rattle.b67_store.specs.Store.{IsRoom, left_in};
+    ghost use Rattle.b67_store.specs.contracts.stack_table.StackTable.{the_row};
+    ghost use Rattle.b67_word.specs.contracts.Word.{the_row as word_row};
+
     pub fn new(alloc: Global) -> StackTable
         ensures { result ≡ [] }
     {
@@ -90,16 +95,12 @@ impl StackTable {
         cut_words(slot, length)
     }
 
-    #[tactic(auto, using(crate::proofs::Lists::slots))]
-    pub fn exchange(&mut self, stack: u16, words: &mut Words) -> Result<(), NoSuchPlace>
-        ensures found { is_ok result ≡ is_some (stack_at self.old stack) }
-        ensures stacks { self.new ≡ (if is_ok result then with_stack self.old stack (reverse words.old) else self.old) }
-        ensures words { words.new ≡ (if is_ok result then reverse (words_of self.old stack) else words.old) }
+    pub fn room(&mut self, stack: u16) -> &mut [Word]
+        requires { IsSome (stack_at self.old stack) }
+        ensures words { IsRoom (words_of self.old stack) result.now }
+        ensures* writes_back { sem 𝓛 (Lends the_row (Array word_row 0) self.entry result (λ w. with_stack self.old stack (left_in result.now w))) }
     {
-        let Some(slot) = self.stacks.get_mut(usize::from(stack)) else {
-            return Err(NoSuchPlace);
-        };
-        exchange_words(slot, words)
+        open_room(&mut self.stacks[usize::from(stack)])
     }
 
     pub fn close(&mut self, stack: u16) -> Result<(), NoSuchPlace>

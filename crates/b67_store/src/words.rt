@@ -1,40 +1,54 @@
 // Words that stand apart from the stacks, with room for all that a stack may have.
-ghost use Rattle.std.specs.Prelude.{◌≡◌, ◌<◌, ◌≤◌, List, [], ◌∷◌, length, drop, reverse, IfOk, slice_get};
-ghost use Rattle.std.specs.Vec.{vec_capacity, vec_len};
+ghost use Rattle.std.specs.Prelude.{◌≡◌, ◌+◌, ◌-◌, ◌<◌, ◌≤◌, [], ◌∷◌, length, take, drop, reverse, IfOk, slice_get};
+ghost use Rattle.std.specs.Vec.{vec_len};
 ghost use Rattle.b67_store.specs.Store.{stack_limit};
 
 use crate::MOST_STACK_WORDS;
-use b67_word::Word;
+use b67_word::{Word, operand};
 use std::alloc::{AllocError, Global};
 use std::marker::Model;
-use std::mem;
 
 /// Words, with room for as many as a stack can have. Contracts see the top word first.
+///
+/// They stand at their places in a stack: the lowest of them at a base, so that what works on a stack's room works
+/// on theirs.
 #[derive(Drop)]
 pub struct Words {
-    items: Vec<Word>,
+    room: Vec<Word>,
+    base: usize,
+    used: usize,
 }
 
 impl Model for Words {
-    ghost use Rattle.std.specs.Prelude.{List, reverse, ◌≤◌};
-    ghost use Rattle.std.specs.Vec.{vec_len, vec_capacity};
+    ghost use Rattle.std.specs.Prelude.{List, reverse, take, drop, ◌≡◌, ◌≤◌};
+    ghost use Rattle.std.specs.Vec.{vec_len};
     ghost use Rattle.b67_word.specs.Word.{Word};
     ghost use Rattle.b67_store.specs.Store.{stack_limit};
 
     ghost Value = { List Word };
 
-    ghost view = { λ w. reverse w.items.items };
+    ghost view = { λ w. reverse (drop w.base (take w.used w.room.items)) };
 
-    ghost invariant = { λ w. (stack_limit ≤ vec_capacity w.items) × (vec_len w.items ≤ stack_limit) };
+    ghost invariant = { λ w. (vec_len w.room ≡ stack_limit) × (w.base ≤ w.used) × (w.used ≤ stack_limit) };
 }
 
 impl Words {
+    ghost use Rattle.std.specs.Borrow.{sem, Lends, Array};
+    ghost use Rattle.b67_store.specs.Store.{left_in};
+    ghost use Rattle.b67_store.specs.contracts.words.Words.{the_row};
+    ghost use Rattle.b67_word.specs.contracts.Word.{the_row as word_row};
+
     /// No words, with the memory for as many as a stack can have.
     pub fn new(alloc: Global) -> Result<Words, AllocError>
         ensures { IfOk result (λ words. words ≡ []) }
     {
-        let items = Vec::with_capacity(alloc, MOST_STACK_WORDS)?;
-        Ok(Words { items })
+        let mut room = Vec::with_capacity(alloc, MOST_STACK_WORDS)?;
+        room.resize(MOST_STACK_WORDS, operand(0))?;
+        Ok(Words {
+            room,
+            base: 0,
+            used: 0,
+        })
     }
 
     /// How many words there are.
@@ -43,7 +57,7 @@ impl Words {
         ensures value { result ≡ length self.now }
         ensures bound { result ≤ stack_limit }
     {
-        self.items.len() as u32
+        (self.used - self.base) as u32
     }
 
     /// The word so many below the top one, and the top one itself for 0.
@@ -51,12 +65,21 @@ impl Words {
     pub fn from_top(&self, count: u32) -> Option<Word>
         ensures { result ≡ slice_get self.now count }
     {
-        let length = self.len();
-        if count < length {
-            Some(self.items[(length - 1 - count) as usize])
+        let count = count as usize;
+        if count < self.used - self.base {
+            Some(self.room[self.used - 1 - count])
         } else {
             None
         }
+    }
+
+    /// No words; the next one is to stand at this place.
+    pub fn begin(&mut self, base: u32)
+        requires { base ≤ stack_limit }
+        ensures { self.new ≡ [] }
+    {
+        self.base = base as usize;
+        self.used = base as usize;
     }
 
     /// Puts a word on top.
@@ -65,7 +88,13 @@ impl Words {
         requires { length self.old < stack_limit }
         ensures { self.new ≡ word ∷ self.old }
     {
-        self.items.push(word).unwrap();
+        if self.used == MOST_STACK_WORDS {
+            move_words(&mut self.room, self.base, self.used, 0);
+            self.used -= self.base;
+            self.base = 0;
+        }
+        self.room[self.used] = word;
+        self.used += 1;
     }
 
     /// Takes words off the top, so many of them.
@@ -74,19 +103,34 @@ impl Words {
         requires { count ≤ length self.old }
         ensures { self.new ≡ drop count self.old }
     {
-        let length = self.len() - count;
-        self.items.truncate(length as usize);
+        self.used -= count as usize;
     }
 
-    // They change places with others, whose bottom stands first and which have their room.
-    pub(crate) fn exchange(&mut self, items: &mut Vec<Word>)
-        requires room { stack_limit ≤ vec_capacity items.old }
-        requires few { vec_len items.old ≤ stack_limit }
-        ensures words { self.new ≡ reverse items.old.items }
-        ensures items { items.new.items ≡ reverse self.old }
-        ensures room { stack_limit ≤ vec_capacity items.new }
-        ensures few { vec_len items.new ≤ stack_limit }
+    /// Lends all their room, with them in it from a base on. After the loan all that stands from the base on are
+    /// their own.
+    pub fn room(&mut self, base: u32) -> &mut [Word]
+        requires { base + length self.old ≤ stack_limit }
+        ensures size { length result.now ≡ stack_limit }
+        ensures words { reverse (drop base (take (base + length self.old) result.now)) ≡ self.old }
+        ensures* writes_back { sem 𝓛 (Lends the_row (Array word_row 0) self.entry result (λ w. reverse (drop base (left_in result.now w)))) }
     {
-        mem::swap(&mut self.items, items);
+        let base = base as usize;
+        move_words(&mut self.room, self.base, self.used, base);
+        self.base = base;
+        self.used = MOST_STACK_WORDS;
+        self.room.as_mut_slice()
+    }
+}
+
+// Moves the words between two places, so that the first of them stands at a third.
+fn move_words(room: &mut Vec<Word>, from: usize, end: usize, to: usize)
+    requires order { from ≤ end }
+    requires within { end ≤ vec_len room.old }
+    requires fits { to + (end - from) ≤ vec_len room.old }
+    ensures words { drop to (take (to + (end - from)) room.new.items) ≡ drop from (take end room.old.items) }
+    ensures size { vec_len room.new ≡ vec_len room.old }
+{
+    if from != to {
+        room.copy_within(from..end, to);
     }
 }

@@ -1,12 +1,7 @@
-use Rattle.std.proofs.Common.{◌-◌, ◌∙◌, ap, length, drop, arith}
-use Rattle.std.specs.Prelude.{reverse}
-use Rattle.std.proofs.lemmas.List.{length-reverse}
-use Rattle.b67_store.proofs.TopFirst.{cut_is}
+use Rattle.std.proofs.Common.{rules}
+use Rattle.b67_store.proofs.Rooms.{cut_between}
 use Rattle.b67_store.proofs.words.Words.cut.Goals as goal
 
 pub returns : goal.returns
 returns c =
-    ap reverse c.truncate.ensures.items
-    ∙ cut_is c.self.inside.items.items (c.len.result - c.args.count) c.args.count
-    (omega (arith, c.len.ensures.value, c.requires, length-reverse c.self.inside.items.items, ap length c.self.view_is))
-    ∙ ap (drop c.args.count) c.self.view_is
+    cut_between c.self.inside.room.items c.args.self.now c.self.inside.base c.self.inside.used c.args.count c.self.view_is c.self.invariant.1 (search rules) c.requires
