@@ -1,0 +1,214 @@
+-- The spans are those of what is open, where one more is opened and where one is closed.
+use Rattle.std.proofs.Common.{◌≡◌, ◌≢◌, ℕ, zero, suc, ◌<◌, ◌≤◌, List, [], ◌∷◌, length, set, Option, Some, None, ⊎_elim, inl, inr, subst, refl, ap, sym, ◌∙◌, arith, rules}
+use Rattle.std.specs.Prelude.{◌⊎◌, slice_get}
+use Rattle.std.specs.List.{insert, remove}
+use Rattle.std.proofs.lemmas.Bool.{cases_eq}
+use Rattle.b67_store.proofs.StoreLaws.{opened_here, opened_others, changed_others, closed_here}
+use Rattle.b67_store.specs.Store.{at_number, opened_at, stack_limit}
+use Rattle.b67_flat.specs.declared.Holder.{Holder}
+use Rattle.b67_flat.specs.declared.Holder.TheVariants as of
+use Rattle.b67_flat.specs.declared.Span.{Span}
+use Rattle.b67_flat.specs.declared.stack_table.HeldStack.{HeldStack}
+use Rattle.b67_flat.specs.declared.row_table.HeldRow.{HeldRow}
+use Rattle.b67_flat.specs.Spans.{end_of, Ascend, first_fit, span_for, opened, below, closed, IsOneOf}
+use Rattle.b67_flat.specs.Flat.{span_of_stack, span_of_row, IsHeld, AreSpans}
+use Rattle.b67_flat.proofs.Fits.{lt_true, lt_false, fit_within}
+use Rattle.b67_flat.proofs.Areas.{begins_past, some_same}
+use Rattle.b67_flat.proofs.Stores.{number_of, is_stack, differ}
+
+pub none_some : {X A : Type 0} (x : X) → None ≡ Some x → A
+none_some x e = absurd (search rules)
+
+-- ---- one of the spans
+
+put_in : (i : ℕ) (spans : List Span) (new : Span) → i ≤ length spans → IsOneOf new (insert spans i new)
+put_in zero spans new p = (0, refl)
+put_in (suc i) [] new p = absurd (omega arith)
+put_in (suc i) (s ∷ ss) new p = let r = put_in i ss new (omega arith) in (suc r.0, r.1)
+
+stays_in : (i k : ℕ) (spans : List Span) (new t : Span) → i ≤ length spans → slice_get spans k ≡ Some t → IsOneOf t (insert spans i new)
+stays_in zero k spans new t p e = (suc k, e)
+stays_in (suc i) k [] new t p e = absurd (omega arith)
+stays_in (suc i) zero (s ∷ ss) new t p e = (0, e)
+stays_in (suc i) (suc k) (s ∷ ss) new t p e = let r = stays_in i k ss new t (omega arith) e in (suc r.0, r.1)
+
+one_of : (i k : ℕ) (spans : List Span) (new t : Span) → i ≤ length spans → slice_get (insert spans i new) k ≡ Some t → (t ≡ new) ⊎ IsOneOf t spans
+one_of zero zero spans new t p e = inl (sym (some_same t new t e))
+one_of zero (suc k) spans new t p e = inr (k, e)
+one_of (suc i) k [] new t p e = absurd (omega arith)
+one_of (suc i) zero (s ∷ ss) new t p e = inr (0, e)
+one_of (suc i) (suc k) (s ∷ ss) new t p e = ⊎_elim (λ (f : t ≡ new). inl f) (λ (r : IsOneOf t ss). inr (suc r.0, r.1)) (one_of i k ss new t (omega arith) e)
+
+left_in : (i k : ℕ) (spans : List Span) (t : Span) → k ≢ i → slice_get spans k ≡ Some t → IsOneOf t (remove spans i)
+left_in i k [] t n e = none_some t e
+left_in zero zero (s ∷ ss) t n e = absurd (n refl)
+left_in zero (suc k) (s ∷ ss) t n e = (k, e)
+left_in (suc i) zero (s ∷ ss) t n e = (0, e)
+left_in (suc i) (suc k) (s ∷ ss) t n e = let r = left_in i k ss t (λ z. n (ap suc z)) e in (suc r.0, r.1)
+
+was_in : (i k : ℕ) (spans : List Span) (t : Span) → slice_get (remove spans i) k ≡ Some t → (j : ℕ) × (slice_get spans j ≡ Some t) × (j ≢ i)
+was_in zero k [] t e = none_some t e
+was_in zero k (s ∷ ss) t e = (suc k, e, λ z. absurd (omega (arith, z)))
+was_in (suc i) k [] t e = none_some t e
+was_in (suc i) zero (s ∷ ss) t e = (0, e, λ z. absurd (omega (arith, z)))
+was_in (suc i) (suc k) (s ∷ ss) t e = let r = was_in i k ss t e in (suc r.0, r.1, λ z. r.2 (omega (arith, z)))
+
+-- as many begin below it as stand before it
+pub below_it : (from j : ℕ) (spans : List Span) (t : Span) → Ascend from spans → slice_get spans j ≡ Some t → below t.place spans ≡ j
+below_it from j [] t a e = none_some t e
+below_it from zero (s ∷ ss) t a e = rw (lt_false s.place t.place (omega (arith, ap (λ (z : Span). z.place) (some_same s s t e)))) refl
+below_it from (suc j) (s ∷ ss) t a e = rw (lt_true s.place t.place (omega (arith, a.1, begins_past (end_of s) j ss t a.2 e))) (ap suc (below_it (end_of s) j ss t a.2 e))
+
+one_place : (spans : List Span) (t : Span) (j k : ℕ) → Ascend 0 spans → slice_get spans j ≡ Some t → slice_get spans k ≡ Some t → j ≡ k
+one_place spans t j k a e f = sym (below_it 0 j spans t a e) ∙ below_it 0 k spans t a f
+
+there_is : {X : Type 0} (xs : List X) (j : ℕ) (x : X) → slice_get xs j ≡ Some x → j < length xs
+there_is [] j x e = none_some x e
+there_is (y ∷ ys) zero x e = omega arith
+there_is (y ∷ ys) (suc j) x e = omega (arith, there_is ys j x e)
+
+-- the span that is closed is one of them
+pub below_within : (spans : List Span) (t : Span) → Ascend 0 spans → IsOneOf t spans → below t.place spans < length spans
+below_within spans t a (j, e) = omega (arith, below_it 0 j spans t a e, there_is spans j t e)
+
+-- the new span is one of them
+pub opened_in : (count : ℕ) (holder : Holder) (spans : List Span) → IsOneOf (span_for count holder spans) (opened count holder spans)
+opened_in count holder spans = put_in (first_fit 0 count spans) spans (span_for count holder spans) (fit_within 0 count spans)
+
+-- and so is each that was
+pub still_in : (count : ℕ) (holder : Holder) (spans : List Span) (t : Span) → IsOneOf t spans → IsOneOf t (opened count holder spans)
+still_in count holder spans t (k, e) = stays_in (first_fit 0 count spans) k spans (span_for count holder spans) t (fit_within 0 count spans) e
+
+-- ---- one more is open
+
+module _ (spans : List Span) (stacks : List (Option HeldStack)) (rows : List (Option HeldRow)) (are : AreSpans spans stacks rows) where
+  pub stack_opened : (n : ℕ) (held : HeldStack) → at_number stacks n ≡ None → span_of_stack n held ≡ span_for stack_limit (of.Stack n) spans → held.used ≤ stack_limit → AreSpans (opened stack_limit (of.Stack n) spans) (opened_at stacks n held) rows
+  stack_opened n held none same few =
+      record {
+        of_stacks = λ k x e. ⊎_elim
+            (λ (f : k ≡ n). here k x f (some_same x held x (sym (opened_here stacks n held) ∙ ap (λ (j : ℕ). at_number now j) (sym f) ∙ e)))
+            (λ (d : k ≢ n). other k x (are.of_stacks k x (sym (opened_others stacks n k held d) ∙ e)))
+            (cases_eq k n);
+        of_rows = λ k x e. still_in stack_limit (of.Stack n) spans (span_of_row k x) (are.of_rows k x e);
+        no_other = λ s o. ⊎_elim
+            (λ (f : s ≡ span_for stack_limit (of.Stack n) spans). subst (λ (z : Span). IsHeld now rows z.holder z) (sym f) (held, opened_here stacks n held, sym same))
+            (λ (r : IsOneOf s spans). still s.holder s (are.no_other s r))
+            (one_of (first_fit 0 stack_limit spans) o.0 spans (span_for stack_limit (of.Stack n) spans) s (fit_within 0 stack_limit spans) o.1);
+      }
+    where
+      now : List (Option HeldStack)
+      now = opened_at stacks n held
+
+      all : List Span
+      all = opened stack_limit (of.Stack n) spans
+
+      other : (k : ℕ) (x : HeldStack) → IsOneOf (span_of_stack k x) spans × (x.used ≤ stack_limit) → IsOneOf (span_of_stack k x) all × (x.used ≤ stack_limit)
+      other k x r = (still_in stack_limit (of.Stack n) spans (span_of_stack k x) r.0, r.1)
+
+      here : (k : ℕ) (x : HeldStack) → k ≡ n → held ≡ x → IsOneOf (span_of_stack k x) all × (x.used ≤ stack_limit)
+      here k x f e =
+          let is : span_for stack_limit (of.Stack n) spans ≡ span_of_stack k x = sym same ∙ ap (λ (y : HeldStack). span_of_stack n y) e ∙ ap (λ (j : ℕ). span_of_stack j x) (sym f) in
+          (subst (λ (s : Span). IsOneOf s all) is (opened_in stack_limit (of.Stack n) spans), omega (arith, few, ap (λ (y : HeldStack). y.used) e))
+
+      still : (holder : Holder) (s : Span) → IsHeld stacks rows holder s → IsHeld now rows holder s
+      still (of.Row k) s i = i
+      still (of.Stack k) s (x, e, f) = ⊎_elim
+          (λ (g : k ≡ n). none_some x (sym none ∙ ap (λ (j : ℕ). at_number stacks j) (sym g) ∙ e))
+          (λ (d : k ≢ n). (x, opened_others stacks n k held d ∙ e, f))
+          (cases_eq k n)
+
+  pub row_opened : (n : ℕ) (held : HeldRow) → at_number rows n ≡ None → span_of_row n held ≡ span_for held.length (of.Row n) spans → AreSpans (opened held.length (of.Row n) spans) stacks (opened_at rows n held)
+  row_opened n held none same =
+      record {
+        of_stacks = λ k x e. other k x (are.of_stacks k x e);
+        of_rows = λ k x e. ⊎_elim
+            (λ (f : k ≡ n). here k x f (some_same x held x (sym (opened_here rows n held) ∙ ap (λ (j : ℕ). at_number now j) (sym f) ∙ e)))
+            (λ (d : k ≢ n). still_in held.length (of.Row n) spans (span_of_row k x) (are.of_rows k x (sym (opened_others rows n k held d) ∙ e)))
+            (cases_eq k n);
+        no_other = λ s o. ⊎_elim
+            (λ (f : s ≡ span_for held.length (of.Row n) spans). subst (λ (z : Span). IsHeld stacks now z.holder z) (sym f) (held, opened_here rows n held, sym same))
+            (λ (r : IsOneOf s spans). still s.holder s (are.no_other s r))
+            (one_of (first_fit 0 held.length spans) o.0 spans (span_for held.length (of.Row n) spans) s (fit_within 0 held.length spans) o.1);
+      }
+    where
+      now : List (Option HeldRow)
+      now = opened_at rows n held
+
+      all : List Span
+      all = opened held.length (of.Row n) spans
+
+      other : (k : ℕ) (x : HeldStack) → IsOneOf (span_of_stack k x) spans × (x.used ≤ stack_limit) → IsOneOf (span_of_stack k x) all × (x.used ≤ stack_limit)
+      other k x r = (still_in held.length (of.Row n) spans (span_of_stack k x) r.0, r.1)
+
+      here : (k : ℕ) (x : HeldRow) → k ≡ n → held ≡ x → IsOneOf (span_of_row k x) all
+      here k x f e =
+          let is : span_for held.length (of.Row n) spans ≡ span_of_row k x = sym same ∙ ap (λ (y : HeldRow). span_of_row n y) e ∙ ap (λ (j : ℕ). span_of_row j x) (sym f) in
+          subst (λ (s : Span). IsOneOf s all) is (opened_in held.length (of.Row n) spans)
+
+      still : (holder : Holder) (s : Span) → IsHeld stacks rows holder s → IsHeld stacks now holder s
+      still (of.Stack k) s i = i
+      still (of.Row k) s (x, e, f) = ⊎_elim
+          (λ (g : k ≡ n). none_some x (sym none ∙ ap (λ (j : ℕ). at_number rows j) (sym g) ∙ e))
+          (λ (d : k ≢ n). (x, opened_others rows n k held d ∙ e, f))
+          (cases_eq k n)
+
+  -- ---- one is closed
+
+  stack_removed : (n j : ℕ) (held : HeldStack) → Ascend 0 spans → at_number stacks n ≡ Some held → slice_get spans j ≡ Some (span_of_stack n held) → AreSpans (remove spans j) (set stacks n None) rows
+  stack_removed n j held a h o =
+      record {
+        of_stacks = λ k x e. ⊎_elim
+            (λ (f : k ≡ n). none_some x (sym (closed_here stacks n) ∙ ap (λ (i : ℕ). at_number (set stacks n None) i) (sym f) ∙ e))
+            (λ (d : k ≢ n). other k x d (are.of_stacks k x (sym (changed_others stacks n k None d) ∙ e)))
+            (cases_eq k n);
+        of_rows = λ k x e. let r = are.of_rows k x e in
+            left_in j r.0 spans (span_of_row k x) (λ z. differ (ap (λ (s : Span). is_stack s.holder) (some_same (span_of_stack n held) (span_of_stack n held) (span_of_row k x) (sym o ∙ ap (λ (i : ℕ). slice_get spans i) (sym z) ∙ r.1)))) r.1;
+        no_other = λ s r. let w = was_in j r.0 spans s r.1 in still w.0 s w.1 w.2 s.holder (are.no_other s (w.0, w.1));
+      }
+    where
+      other : (k : ℕ) (x : HeldStack) → k ≢ n → IsOneOf (span_of_stack k x) spans × (x.used ≤ stack_limit) → IsOneOf (span_of_stack k x) (remove spans j) × (x.used ≤ stack_limit)
+      other k x d r =
+          (left_in j r.0.0 spans (span_of_stack k x) (λ z. d (sym (ap (λ (s : Span). number_of s.holder) (some_same (span_of_stack n held) (span_of_stack n held) (span_of_stack k x) (sym o ∙ ap (λ (i : ℕ). slice_get spans i) (sym z) ∙ r.0.1))))) r.0.1, r.1)
+
+      still : (i : ℕ) (s : Span) → slice_get spans i ≡ Some s → i ≢ j → (holder : Holder) → IsHeld stacks rows holder s → IsHeld (set stacks n None) rows holder s
+      still i s g d (of.Row k) r = r
+      still i s g d (of.Stack k) (x, e, f) = ⊎_elim
+          (λ (m : k ≡ n). absurd (d (one_place spans s i j a g (o ∙ ap Some (sym (f ∙ ap (λ (q : ℕ). span_of_stack q x) m ∙ ap (λ (y : HeldStack). span_of_stack n y) (some_same x x held (sym e ∙ ap (λ (q : ℕ). at_number stacks q) m ∙ h))))))))
+          (λ (m : k ≢ n). (x, changed_others stacks n k None m ∙ e, f))
+          (cases_eq k n)
+
+  row_removed : (n j : ℕ) (held : HeldRow) → Ascend 0 spans → at_number rows n ≡ Some held → slice_get spans j ≡ Some (span_of_row n held) → AreSpans (remove spans j) stacks (set rows n None)
+  row_removed n j held a h o =
+      record {
+        of_stacks = λ k x e. other k x (are.of_stacks k x e);
+        of_rows = λ k x e. ⊎_elim
+            (λ (f : k ≡ n). none_some x (sym (closed_here rows n) ∙ ap (λ (i : ℕ). at_number (set rows n None) i) (sym f) ∙ e))
+            (λ (d : k ≢ n). left k x d (are.of_rows k x (sym (changed_others rows n k None d) ∙ e)))
+            (cases_eq k n);
+        no_other = λ s r. let w = was_in j r.0 spans s r.1 in still w.0 s w.1 w.2 s.holder (are.no_other s (w.0, w.1));
+      }
+    where
+      left : (k : ℕ) (x : HeldRow) → k ≢ n → IsOneOf (span_of_row k x) spans → IsOneOf (span_of_row k x) (remove spans j)
+      left k x d r =
+          left_in j r.0 spans (span_of_row k x) (λ z. d (sym (ap (λ (s : Span). number_of s.holder) (some_same (span_of_row n held) (span_of_row n held) (span_of_row k x) (sym o ∙ ap (λ (i : ℕ). slice_get spans i) (sym z) ∙ r.1))))) r.1
+
+      other : (k : ℕ) (x : HeldStack) → IsOneOf (span_of_stack k x) spans × (x.used ≤ stack_limit) → IsOneOf (span_of_stack k x) (remove spans j) × (x.used ≤ stack_limit)
+      other k x r =
+          (left_in j r.0.0 spans (span_of_stack k x) (λ z. differ (sym (ap (λ (s : Span). is_stack s.holder) (some_same (span_of_row n held) (span_of_row n held) (span_of_stack k x) (sym o ∙ ap (λ (i : ℕ). slice_get spans i) (sym z) ∙ r.0.1))))) r.0.1, r.1)
+
+      still : (i : ℕ) (s : Span) → slice_get spans i ≡ Some s → i ≢ j → (holder : Holder) → IsHeld stacks rows holder s → IsHeld stacks (set rows n None) holder s
+      still i s g d (of.Stack k) r = r
+      still i s g d (of.Row k) (x, e, f) = ⊎_elim
+          (λ (m : k ≡ n). absurd (d (one_place spans s i j a g (o ∙ ap Some (sym (f ∙ ap (λ (q : ℕ). span_of_row q x) m ∙ ap (λ (y : HeldRow). span_of_row n y) (some_same x x held (sym e ∙ ap (λ (q : ℕ). at_number rows q) m ∙ h))))))))
+          (λ (m : k ≢ n). (x, changed_others rows n k None m ∙ e, f))
+          (cases_eq k n)
+
+  pub stack_closed : (n : ℕ) (held : HeldStack) → Ascend 0 spans → at_number stacks n ≡ Some held → AreSpans (closed held.place spans) (set stacks n None) rows
+  stack_closed n held a h =
+      let r = (are.of_stacks n held h).0 in
+      subst (λ (i : ℕ). AreSpans (remove spans i) (set stacks n None) rows) (sym (below_it 0 r.0 spans (span_of_stack n held) a r.1)) (stack_removed n r.0 held a h r.1)
+
+  pub row_closed : (n : ℕ) (held : HeldRow) → Ascend 0 spans → at_number rows n ≡ Some held → AreSpans (closed held.place spans) stacks (set rows n None)
+  row_closed n held a h =
+      let r = are.of_rows n held h in
+      subst (λ (i : ℕ). AreSpans (remove spans i) stacks (set rows n None)) (sym (below_it 0 r.0 spans (span_of_row n held) a r.1)) (row_removed n r.0 held a h r.1)

@@ -1,0 +1,11 @@
+pub mod Fits
+pub mod Walks
+pub mod Opening
+pub mod Areas
+pub mod Stores
+pub mod Frees
+pub mod Keeping
+pub mod Holding
+pub mod Opened
+pub mod Lending
+pub mod Least

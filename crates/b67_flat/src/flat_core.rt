@@ -1,0 +1,246 @@
+// The store that keeps all stacks and all rows in one list of words.
+ghost use Rattle.std.specs.Prelude.{◌≡◌, ℕ, []};
+ghost use Rattle.b67_store.specs.Store.{at_number};
+ghost use Rattle.b67_flat.specs.Flat.{IsMemory, AreSpans, stacks_in, rows_in};
+
+use crate::memory::{open_span, read_at, write_at, zero};
+use crate::row_table::{HeldRow, RowTable};
+use crate::spans::Spans;
+use crate::stack_table::{HeldStack, hold_at, use_words};
+use crate::{Holder, Span};
+use b67_store::{Core, MOST_STACK_WORDS, NoSuchPlace, OpenFault, PushFault, RowFault, open_at};
+use b67_word::{Place, Word};
+use std::alloc::Global;
+use std::marker::Model;
+
+/// A store that keeps all stacks and all rows in one list of words.
+///
+/// Reading, writing, pushing, popping, cutting and lending are constant work. Opening among n spans finds its place by at
+/// most n / 64 + 64 steps: one for each 64 spans before the place, of which the widest gap is kept, and one for each span
+/// of the 64 in which it is. Closing finds the span by a step for each halving of n. Then the spans after it are moved by
+/// one, and their gaps looked at again: work that grows with their number; at the end, where a program closes first what
+/// it opened last, there are none. A row's words are zeroed; those of a stack are only where the list is lengthened. No
+/// word is moved.
+#[derive(Drop)]
+pub struct FlatCore {
+    words: Vec<Word>,
+    spans: Spans,
+    stacks: Vec<Option<HeldStack>>,
+    rows: RowTable,
+}
+
+impl Model for FlatCore {
+    ghost use Rattle.b67_flat.specs.Flat.{Flat, memory_of, IsMemory, AreSpans};
+
+    ghost Value = { Flat };
+
+    ghost view = { λ c. record { memory = memory_of c.words.items c.spans; stacks = c.stacks.items; rows = c.rows } };
+
+    ghost invariant = { λ c. IsMemory (memory_of c.words.items c.spans) × AreSpans c.spans c.stacks.items c.rows };
+}
+
+impl FlatCore {
+    /// A store in which nothing is open. It takes no memory yet.
+    pub fn new(alloc: Global) -> FlatCore
+        ensures words { result.memory.words ≡ [] }
+        ensures spans { result.memory.spans ≡ [] }
+        ensures stacks { stacks_in result.memory.words result.stacks ≡ [] }
+        ensures rows { rows_in result.memory.words result.rows ≡ [] }
+    {
+        FlatCore {
+            words: Vec::new(alloc),
+            spans: Spans::new(alloc),
+            stacks: Vec::new(alloc),
+            rows: RowTable::new(alloc),
+        }
+    }
+
+    /// All words, those that belong to no span among them.
+    pub fn words(&self) -> &[Word]
+        ensures { result.now ≡ self.now.memory.words }
+    {
+        self.words.as_slice()
+    }
+
+    /// The spans of all open stacks and rows, in ascending order of their places.
+    pub fn spans(&self) -> &[Span]
+        ensures spans { result.now ≡ self.now.memory.spans }
+        ensures memory { IsMemory self.now.memory }
+        ensures held { AreSpans result.now self.now.stacks self.now.rows }
+    {
+        self.spans.as_slice()
+    }
+
+    // Where an open stack has its words.
+    #[inline(always)]
+    fn held(&self, stack: u16) -> Option<HeldStack>
+        ensures { result ≡ at_number self.now.stacks stack }
+    {
+        Some(*open_at(&self.stacks, usize::from(stack))?)
+    }
+}
+
+impl Core for FlatCore {
+    ghost use Rattle.b67_flat.specs.Flat.{stacks_in, rows_in, lent_room};
+
+    ghost stacks = { λ c. stacks_in c.memory.words c.stacks };
+
+    ghost rows = { λ c. rows_in c.memory.words c.rows };
+
+    ghost lent = { λ c n lent left. lent_room c n left };
+
+    #[inline(always)]
+    fn read(&self, at: Place) -> Option<Word> {
+        let held = self.held(at.stack)?;
+        if held.used <= u32::from(at.at) {
+            return None;
+        }
+        Some(read_at(&self.words, held.place + u64::from(at.at)))
+    }
+
+    #[inline(always)]
+    fn write(&mut self, at: Place, word: Word) -> Result<(), NoSuchPlace> {
+        let Some(held) = self.held(at.stack) else {
+            return Err(NoSuchPlace);
+        };
+        if held.used <= u32::from(at.at) {
+            return Err(NoSuchPlace);
+        }
+        write_at(&mut self.words, held.place + u64::from(at.at), word);
+        Ok(())
+    }
+
+    #[inline(always)]
+    fn length(&self, stack: u16) -> Option<u32> {
+        Some(open_at(&self.stacks, usize::from(stack))?.used)
+    }
+
+    #[inline(always)]
+    fn push(&mut self, stack: u16, word: Word) -> Result<(), PushFault> {
+        let Some(held) = self.held(stack) else {
+            return Err(PushFault::NoSuchPlace);
+        };
+        if held.used as usize == MOST_STACK_WORDS {
+            return Err(PushFault::StackLimit);
+        }
+        write_at(&mut self.words, held.place + u64::from(held.used), word);
+        use_words(&mut self.stacks, stack, held, held.used + 1);
+        Ok(())
+    }
+
+    #[inline(always)]
+    fn pop(&mut self, stack: u16) -> Option<Word> {
+        let held = self.held(stack)?;
+        if held.used == 0 {
+            return None;
+        }
+        let used = held.used - 1;
+        use_words(&mut self.stacks, stack, held, used);
+        Some(read_at(&self.words, held.place + u64::from(used)))
+    }
+
+    #[inline(always)]
+    fn cut(&mut self, stack: u16, length: u32) -> Result<(), NoSuchPlace> {
+        let Some(held) = self.held(stack) else {
+            return Err(NoSuchPlace);
+        };
+        use_words(&mut self.stacks, stack, held, held.used.min(length));
+        Ok(())
+    }
+
+    #[inline(always)]
+    fn room(&mut self, stack: u16) -> &mut [Word] {
+        let held = self.held(stack).unwrap();
+        use_words(&mut self.stacks, stack, held, MOST_STACK_WORDS as u32);
+        let first = held.place as usize;
+        self.words.slice_mut(first..first + MOST_STACK_WORDS)
+    }
+
+    fn open_stack(&mut self, stack: u16) -> Result<(), OpenFault> {
+        if self.held(stack).is_some() {
+            return Err(OpenFault::InUse);
+        }
+        let length = MOST_STACK_WORDS as u32;
+        let holder = Holder::Stack(stack);
+        let Ok(place) = open_span(&mut self.words, &mut self.spans, length, holder) else {
+            return Err(OpenFault::NoMemory);
+        };
+        let held = HeldStack { place, used: 0 };
+        let Ok(()) = hold_at(&mut self.stacks, usize::from(stack), held) else {
+            self.spans.close(place);
+            return Err(OpenFault::NoMemory);
+        };
+        Ok(())
+    }
+
+    fn close_stack(&mut self, stack: u16) -> Result<(), NoSuchPlace> {
+        let Some(held) = self.held(stack) else {
+            return Err(NoSuchPlace);
+        };
+        self.stacks[usize::from(stack)] = None;
+        self.spans.close(held.place);
+        Ok(())
+    }
+
+    fn open_row(&mut self, length: u32, counted: bool) -> Result<u32, RowFault> {
+        if self.rows.exceeds(length, counted) {
+            return Err(RowFault::CoreFull);
+        }
+        let Some(number) = self.rows.next() else {
+            return Err(RowFault::NoMemory);
+        };
+        let holder = Holder::Row(number);
+        let Ok(place) = open_span(&mut self.words, &mut self.spans, length, holder) else {
+            return Err(RowFault::NoMemory);
+        };
+        zero(&mut self.words, place, length);
+        let row = HeldRow {
+            place,
+            length,
+            counted,
+        };
+        let Ok(opened) = self.rows.open(row) else {
+            self.spans.close(place);
+            return Err(RowFault::NoMemory);
+        };
+        Ok(opened)
+    }
+
+    #[inline(always)]
+    fn has_row(&self, row: u32) -> bool {
+        self.rows.get(row).is_some()
+    }
+
+    #[inline(always)]
+    fn read_row(&self, row: u32, at: u32) -> Option<Word> {
+        let held = self.rows.get(row)?;
+        if held.length <= at {
+            return None;
+        }
+        Some(read_at(&self.words, held.place + u64::from(at)))
+    }
+
+    #[inline(always)]
+    fn write_row(&mut self, row: u32, at: u32, word: Word) -> Result<(), NoSuchPlace> {
+        let Some(held) = self.rows.get(row) else {
+            return Err(NoSuchPlace);
+        };
+        if held.length <= at {
+            return Err(NoSuchPlace);
+        }
+        write_at(&mut self.words, held.place + u64::from(at), word);
+        Ok(())
+    }
+
+    fn close_row(&mut self, row: u32) -> Result<(), NoSuchPlace> {
+        let Some(held) = self.rows.close(row) else {
+            return Err(NoSuchPlace);
+        };
+        self.spans.close(held.place);
+        Ok(())
+    }
+
+    fn counted(&self) -> u32 {
+        self.rows.counted()
+    }
+}
