@@ -1,3 +1,4 @@
+pub mod Rooms
 pub mod Underflow
 pub mod BitBounds
 pub mod Stepping
@@ -7,4 +8,5 @@ pub mod Deeper
 pub mod Floors
 pub mod Stretching
 pub mod Plains
+pub mod Above
 pub mod PlacedRows

@@ -33,6 +33,7 @@ use Rattle.b67_private.specs.declared.operators.Row.{Row}
 use Rattle.b67_private.specs.Parts.{length_of, is_new, own_outcome, outcome_by, own_next, PlainParts, stay, go, IsPart}
 use Rattle.b67_private.specs.Performing.{Performs, Steps, stopped}
 use Rattle.b67_private.specs.Operating.{effect_by, HasRow, IsHeldCouple}
+use Rattle.b67_private.proofs.Floors.{private_op_rises}
 
 -- ---- operands
 
@@ -114,6 +115,7 @@ module _ (code : Code) (small : All (λ (s : Segment). length s.words ≤ segmen
           level = subst (λ (n : ℕ). n < levels) (sym same.1) k.level;
           mark = after.mark;
           cells = after.cells;
+          low = private_op_rises k.base f.0 old.regs.place f.1 old new k.low k.above given.0;
           above = after.above;
           pointer = after.pointer;
         };
@@ -165,12 +167,6 @@ steps_found code old new f result e done =
 pub steps_none : (code : Code) (old : Private) → found code old.regs.segment old.regs.ll old.regs.place ≡ None → Steps (own_next code old) old false old
 unfolding own_next
 steps_none code old e = (ap (λ (o : Option (Operator × ℕ)). is_new (outcome_by o old)) e, refl)
-
--- what a step leaves, whether it goes on or not
-pub left : (code : Code) → All (λ (s : Segment). length s.words ≤ segment_limit) code.segments → (old new : Private) (went : Bool) → IsPart old
-    → Steps (own_next code old) old went new → Leaves old new
-left code small old new true k e = leaves code small old new k e
-left code small old new false k e = subst (Leaves old) (sym e.1) (record { part = k; keeps = (refl, refl, refl, refl, refl, refl) })
 
 pub some_is : {A : Type 0} (P : A → Type 0) (o : Option A) (a : A) → IfSome o P → o ≡ Some a → P a
 some_is P o a h e = subst (λ (x : Option _). IfSome x P) e h

@@ -30,6 +30,7 @@ valid_part code img p r v live has =
       level = own.display.known;
       mark = k.mark;
       cells = k.cells;
+      low = omega arith;
       above = k.above;
       pointer = k.pointer;
     }
@@ -50,6 +51,7 @@ valid_whole code img p r v live has =
       level = own.display.known;
       mark = k.mark;
       cells = k.cells;
+      low = omega arith;
       above = k.above;
       pointer = k.pointer;
     }

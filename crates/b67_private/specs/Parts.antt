@@ -1,5 +1,5 @@
 -- Plain operators on a private part only.
-use Rattle.std.specs.Prelude.{◌≡◌, ℕ, ◌+◌, ◌^◌, ◌<◌, ◌≤◌, Bool, true, false, List, length, All, Option, Some, None}
+use Rattle.std.specs.Prelude.{◌≡◌, ℕ, ◌+◌, ◌^◌, ◌<◌, ◌≤◌, Bool, true, false, List, ◌++◌, length, take, reverse, All, Option, Some, None}
 use Rattle.b67_word.specs.declared.Place.{Place}
 use Rattle.b67_word.specs.Word.{Word, IsWord}
 use Rattle.b67_control.specs.declared.Registers.{Registers}
@@ -20,6 +20,14 @@ use Rattle.b67_table.specs.Table.{private_op}
 -- the part of these registers and words
 abbrev pub part_with : Registers → List Word → Private
 part_with r words = record { regs = r; words = words }
+
+-- the lowest words of a room, so many of them, the top one first
+abbrev pub top_first : ℕ → List Word → List Word
+top_first n room = reverse (take n room)
+
+-- the part of these registers with all the words of its stack, in the stack's room, the bottom first: a word stands at its place, and the lowest S are in use
+abbrev pub part_in : Registers → List Word → Private
+part_in r room = part_with r (top_first r.s room)
 
 -- how many words the stack of a part has
 abbrev pub length_of : Private → ℕ
@@ -52,8 +60,8 @@ is_new limit = false
 abbrev pub is_plain : Code → Private → Bool
 is_plain code p = is_new (own_next code p)
 
--- A private part as a process of a valid image has it, and as plain operators leave it: the words from some place of the stack up to S. A
--- PUSH raises the floor above that place.
+-- A private part as a process of a valid image has it, and as plain operators leave it: the words from some place of the stack up to S. That
+-- place is the floor, or a PUSH has raised the floor above it.
 pub record IsPart (p : Private) : Type 0 where
   pub base : ℕ
   pub size : base + length p.words ≡ p.regs.s
@@ -63,5 +71,19 @@ pub record IsPart (p : Private) : Type 0 where
   pub level : p.regs.ll < levels
   pub mark : p.regs.f < 2 ^ 16
   pub cells : p.regs.cells ≤ most_cells
+  pub low : base ≤ floor p.regs
   pub above : floor p.regs ≤ p.regs.s
   pub pointer : p.regs.place < 2 ^ 16
+
+-- a part with more words below its own, of which nothing is known
+pub record HasPart (p : Private) : Type 0 where
+  pub upper : Private
+  pub lower : List Word
+  pub is : p ≡ record upper { words = upper.words ++ lower }
+  pub part : IsPart upper
+
+-- registers with which a private operator can be performed in the room of a stack
+pub record AreReady (r : Registers) : Type 0 where
+  pub room : r.s ≤ stack_limit
+  pub seen : (level : ℕ) (f : Place) → display_at r level ≡ Some f → IsHeld f
+  pub level : r.ll < levels

@@ -18,9 +18,6 @@ pub use operators::{Row, WordsRow, operate, row_of};
 pub use prepared::Prepared;
 pub use stretch::{burst, burst_in_place, next_operator, row_at};
 
-/// The most words that an operator of a private part takes off.
-pub const REACH: u32 = 2;
-
 /// Why an operator has no effect.
 #[derive(Clone, Copy)]
 pub enum Stop {

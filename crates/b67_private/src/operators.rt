@@ -1,11 +1,12 @@
 // Which row an operator has, and what it does.
-ghost use Rattle.std.specs.Prelude.{◌≡◌, ◌<◌, ◌^◌};
+ghost use Rattle.std.specs.Prelude.{◌≡◌, ◌<◌, ◌^◌, length};
 ghost use Rattle.b67_word.specs.Word.{word};
 ghost use Rattle.b67_ops.specs.Spelling.{Fits, FitsAs};
 ghost use Rattle.b67_ops.specs.declared.Operator.TheVariants.{Plain};
 ghost use Rattle.b67_ops.specs.declared.PlainKind.TheVariants.{Entr};
+ghost use Rattle.b67_store.specs.Store.{stack_limit};
 ghost use Rattle.b67_table.specs.Outcome.{limited};
-ghost use Rattle.b67_private.specs.Parts.{IsPart, length_of, own_outcome, part_with};
+ghost use Rattle.b67_private.specs.Parts.{AreReady, length_of, own_outcome, part_in};
 ghost use Rattle.b67_private.specs.Performing.{Performs};
 ghost use Rattle.b67_private.specs.Actions.{IsRow, IsPlainRow, IsHeldRow};
 ghost use Rattle.b67_private.specs.declared.operators.Row.TheVariants.{Enter};
@@ -19,7 +20,7 @@ use crate::rows::{
 use b67_control::Irw;
 use b67_num::{Calculation, Relation};
 use b67_ops::{BranchKind, Couple, Operator, PlainKind};
-use b67_table::{InterruptKind, Registers, Words};
+use b67_table::{InterruptKind, Registers};
 use b67_word::{Word, make_word, operand};
 
 /// What is done to the words on top only.
@@ -163,55 +164,58 @@ pub fn row_of(op: &Operator, place: u16) -> Row
 }
 
 #[inline(always)]
-fn change_top(regs: &mut Registers, words: &mut Words, row: TopRow, next: u16) -> Result<(), Stop>
-    requires { IsPart (part_with regs.old words.old) }
-    ensures { Performs (limited length_of (top_effect row next (part_with regs.old words.old))) (part_with regs.old words.old) result (part_with regs.new words.new) }
+fn change_top(regs: &mut Registers, room: &mut [Word], row: TopRow, next: u16) -> Result<(), Stop>
+    requires ready { AreReady regs.old }
+    requires room { length room.old ≡ stack_limit }
+    ensures { Performs (limited length_of (top_effect row next (part_in regs.old room.old))) (part_in regs.old room.old) result (part_in regs.new room.new) }
 {
     match row {
-        TopRow::Negate => negate(regs, words, next),
-        TopRow::Complement => complement_top(regs, words, next),
-        TopRow::Drop => drop_top(regs, words, next),
-        TopRow::Exchange => exchange(regs, words, next),
-        TopRow::Double => double(regs, words, next),
-        TopRow::Stuff => stuff_top(regs, words, next),
+        TopRow::Negate => negate(regs, room, next),
+        TopRow::Complement => complement_top(regs, room, next),
+        TopRow::Drop => drop_top(regs, room, next),
+        TopRow::Exchange => exchange(regs, room, next),
+        TopRow::Double => double(regs, room, next),
+        TopRow::Stuff => stuff_top(regs, room, next),
     }
 }
 
 // Does what a row says.
 #[inline(always)]
-pub fn perform(regs: &mut Registers, words: &mut Words, row: Row, next: u16) -> Result<(), Stop>
-    requires { IsPart (part_with regs.old words.old) }
-    ensures { Performs (limited length_of (effect_by row next (part_with regs.old words.old))) (part_with regs.old words.old) result (part_with regs.new words.new) }
+pub fn perform(regs: &mut Registers, room: &mut [Word], row: Row, next: u16) -> Result<(), Stop>
+    requires ready { AreReady regs.old }
+    requires room { length room.old ≡ stack_limit }
+    ensures { Performs (limited length_of (effect_by row next (part_in regs.old room.old))) (part_in regs.old room.old) result (part_in regs.new room.new) }
 {
     match row {
-        Row::Push(word) => push_word(regs, words, word, next),
-        Row::Calculate(calculation) => calculate_two(regs, words, calculation, next),
-        Row::Compare(relation) => compare_two(regs, words, relation, next),
-        Row::Combine(kind) => combine_two(regs, words, kind, next),
-        Row::Top(row) => change_top(regs, words, row, next),
-        Row::Mark => mark_stack(regs, words, next),
+        Row::Push(word) => push_word(regs, room, word, next),
+        Row::Calculate(calculation) => calculate_two(regs, room, calculation, next),
+        Row::Compare(relation) => compare_two(regs, room, relation, next),
+        Row::Combine(kind) => combine_two(regs, room, kind, next),
+        Row::Top(row) => change_top(regs, room, row, next),
+        Row::Mark => mark_stack(regs, room, next),
         Row::MakeCells => make_cells(regs, next),
         Row::GoOn => {
             go_on(regs, next);
             Ok(())
         }
-        Row::Branch(kind, target) => branch_to(regs, words, kind, target, next),
+        Row::Branch(kind, target) => branch_to(regs, room, kind, target, next),
         Row::Words(_) | Row::Exit | Row::ReturnValue | Row::Enter => Err(FOREIGN),
     }
 }
 
-/// Performs an operator that stands at the pointer of a private part, given the place after it: what the table says, or
-/// the stop that it gives, which changes nothing. An action is `BadCode`: it is no operator of a private part.
+/// Performs an operator that stands at the pointer of a private part, in the room of its stack, given the place after it: what
+/// the table says, or the stop that it gives, which changes nothing. An action is `BadCode`: it is no operator of a private part.
 pub fn operate(
     regs: &mut Registers,
-    words: &mut Words,
+    room: &mut [Word],
     op: &Operator,
     next: u16,
 ) -> Result<(), Stop>
-    requires part { IsPart (part_with regs.old words.old) }
+    requires ready { AreReady regs.old }
+    requires room { length room.old ≡ stack_limit }
     requires fits { Fits regs.old.ll op.now }
-    ensures { Performs (own_outcome op.now next (part_with regs.old words.old)) (part_with regs.old words.old) result (part_with regs.new words.new) }
+    ensures { Performs (own_outcome op.now next (part_in regs.old room.old)) (part_in regs.old room.old) result (part_in regs.new room.new) }
 {
     let row = row_of(op, regs.place);
-    perform(regs, words, row, next)
+    perform(regs, room, row, next)
 }

@@ -1,5 +1,5 @@
 // What the private operators do, each by its row of the table.
-ghost use Rattle.std.specs.Prelude.{◌≡◌, ◌<◌, ◌≤◌, ◌^◌, ◌∷◌, List, Option, Some, None, Ok, IfSome};
+ghost use Rattle.std.specs.Prelude.{◌≡◌, ◌<◌, ◌≤◌, ◌^◌, ◌∷◌, List, Option, Some, None, Ok, IfSome, length};
 ghost use Rattle.b67_num.specs.Whole.{calculated, related};
 ghost use Rattle.b67_word.specs.Word.{word, Word};
 ghost use Rattle.b67_control.specs.Display.{levels};
@@ -8,16 +8,16 @@ ghost use Rattle.b67_table.specs.Effect.{gives};
 ghost use Rattle.b67_table.specs.Outcome.{limited};
 ghost use Rattle.b67_table.specs.Private.{push};
 ghost use Rattle.b67_table.specs.PrivateRows.{complement, by_bit, arithmetic, relation as relations, negated, logic, complemented, dropped, exchanged, doubled, stuffed, stuff, mark, make_cells, branch, is_taken};
-ghost use Rattle.b67_private.specs.Parts.{IsPart, length_of, part_with};
+ghost use Rattle.b67_private.specs.Parts.{AreReady, length_of, part_in};
 ghost use Rattle.b67_private.specs.Performing.{Performs, own_row, bits_by, Stuffs, Holds, AreSeen, stuffed_in};
 
 use crate::Stop;
-use crate::taking::{UNDERFLOW, lower, replace, top, two};
+use crate::taking::{UNDERFLOW, lower, put_two, replace, top, two};
 use b67_control::{Irw, Mscw, Registers, Sirw};
 use b67_num::{Calculation, Relation, calculate, compare, neg};
 use b67_ops::BranchKind;
 use b67_store::MOST_STACK_WORDS;
-use b67_table::{InterruptKind, Words, frame, wide};
+use b67_table::{InterruptKind, frame, wide};
 use b67_word::{Word, make_word, operand, truth};
 
 // The most cells of a frame, which a control word can hold.
@@ -41,14 +41,15 @@ pub enum Logic {
 #[inline(always)]
 pub fn calculate_two(
     regs: &mut Registers,
-    words: &mut Words,
+    room: &mut [Word],
     calculation: Calculation,
     next: u16,
 ) -> Result<(), Stop>
-    requires { IsPart (part_with regs.old words.old) }
-    ensures { Performs (own_row (arithmetic (calculated calculation)) next (part_with regs.old words.old)) (part_with regs.old words.old) result (part_with regs.new words.new) }
+    requires ready { AreReady regs.old }
+    requires room { length room.old ≡ stack_limit }
+    ensures { Performs (own_row (arithmetic (calculated calculation)) next (part_in regs.old room.old)) (part_in regs.old room.old) result (part_in regs.new room.new) }
 {
-    let Some((x, y)) = two(regs, words) else {
+    let Some((x, y)) = two(regs, room) else {
         return Err(UNDERFLOW);
     };
     let Some(a) = y.as_whole() else {
@@ -58,7 +59,7 @@ pub fn calculate_two(
         return Err(INVALID);
     };
     let z = calculate(calculation, a, b)?;
-    replace(regs, words, 2, operand(z), next);
+    replace(regs, room, 2, operand(z), next);
     Ok(())
 }
 
@@ -67,14 +68,15 @@ pub fn calculate_two(
 #[inline(always)]
 pub fn compare_two(
     regs: &mut Registers,
-    words: &mut Words,
+    room: &mut [Word],
     relation: Relation,
     next: u16,
 ) -> Result<(), Stop>
-    requires { IsPart (part_with regs.old words.old) }
-    ensures { Performs (own_row (relations (related relation)) next (part_with regs.old words.old)) (part_with regs.old words.old) result (part_with regs.new words.new) }
+    requires ready { AreReady regs.old }
+    requires room { length room.old ≡ stack_limit }
+    ensures { Performs (own_row (relations (related relation)) next (part_in regs.old room.old)) (part_in regs.old room.old) result (part_in regs.new room.new) }
 {
-    let Some((x, y)) = two(regs, words) else {
+    let Some((x, y)) = two(regs, room) else {
         return Err(UNDERFLOW);
     };
     let Some(a) = y.as_whole() else {
@@ -83,80 +85,83 @@ pub fn compare_two(
     let Some(b) = x.as_whole() else {
         return Err(INVALID);
     };
-    replace(regs, words, 2, truth(compare(relation, a, b)), next);
+    replace(regs, room, 2, truth(compare(relation, a, b)), next);
     Ok(())
 }
 
 // Whole x is replaced by its negation.
 #[inline(always)]
-pub fn negate(regs: &mut Registers, words: &mut Words, next: u16) -> Result<(), Stop>
-    requires { IsPart (part_with regs.old words.old) }
-    ensures { Performs (own_row negated next (part_with regs.old words.old)) (part_with regs.old words.old) result (part_with regs.new words.new) }
+pub fn negate(regs: &mut Registers, room: &mut [Word], next: u16) -> Result<(), Stop>
+    requires ready { AreReady regs.old }
+    requires room { length room.old ≡ stack_limit }
+    ensures { Performs (own_row negated next (part_in regs.old room.old)) (part_in regs.old room.old) result (part_in regs.new room.new) }
 {
-    let x = top(regs, words)?;
+    let x = top(regs, room)?;
     let Some(a) = x.as_whole() else {
         return Err(INVALID);
     };
-    replace(regs, words, 1, operand(neg(a)), next);
+    replace(regs, room, 1, operand(neg(a)), next);
     Ok(())
 }
 
 // A word is pushed.
 #[inline(always)]
-pub fn push_word(regs: &mut Registers, words: &mut Words, word: Word, next: u16) -> Result<(), Stop>
-    requires { IsPart (part_with regs.old words.old) }
-    ensures { Performs (own_row (λ q. gives (push word q)) next (part_with regs.old words.old)) (part_with regs.old words.old) result (part_with regs.new words.new) }
+pub fn push_word(regs: &mut Registers, room: &mut [Word], word: Word, next: u16) -> Result<(), Stop>
+    requires ready { AreReady regs.old }
+    requires room { length room.old ≡ stack_limit }
+    ensures { Performs (own_row (λ q. gives (push word q)) next (part_in regs.old room.old)) (part_in regs.old room.old) result (part_in regs.new room.new) }
 {
     if regs.s >= MOST_STACK_WORDS as u32 {
         return Err(Stop::StackLimit);
     }
-    replace(regs, words, 0, word, next);
+    replace(regs, room, 0, word, next);
     Ok(())
 }
 
 // The word on top goes.
 #[inline(always)]
-pub fn drop_top(regs: &mut Registers, words: &mut Words, next: u16) -> Result<(), Stop>
-    requires { IsPart (part_with regs.old words.old) }
-    ensures { Performs (own_row dropped next (part_with regs.old words.old)) (part_with regs.old words.old) result (part_with regs.new words.new) }
+pub fn drop_top(regs: &mut Registers, room: &mut [Word], next: u16) -> Result<(), Stop>
+    requires ready { AreReady regs.old }
+    requires room { length room.old ≡ stack_limit }
+    ensures { Performs (own_row dropped next (part_in regs.old room.old)) (part_in regs.old room.old) result (part_in regs.new room.new) }
 {
-    let _x = top(regs, words)?;
-    lower(regs, words, 1, next);
+    let _x = top(regs, room)?;
+    lower(regs, room, 1, next);
     Ok(())
 }
 
 // The two words on top change places.
 #[tactic(auto, using(crate::proofs::Underflow::exchanged_stops))]
 #[inline(always)]
-pub fn exchange(regs: &mut Registers, words: &mut Words, next: u16) -> Result<(), Stop>
-    requires { IsPart (part_with regs.old words.old) }
-    ensures { Performs (own_row exchanged next (part_with regs.old words.old)) (part_with regs.old words.old) result (part_with regs.new words.new) }
+pub fn exchange(regs: &mut Registers, room: &mut [Word], next: u16) -> Result<(), Stop>
+    requires ready { AreReady regs.old }
+    requires room { length room.old ≡ stack_limit }
+    ensures { Performs (own_row exchanged next (part_in regs.old room.old)) (part_in regs.old room.old) result (part_in regs.new room.new) }
 {
-    let Some((x, y)) = two(regs, words) else {
+    let Some((x, y)) = two(regs, room) else {
         return Err(UNDERFLOW);
     };
-    words.cut(2);
-    words.push(x);
-    words.push(y);
+    put_two(regs, room, x, y);
     regs.place = next;
     Ok(())
 }
 
 // The word on top is pushed again.
 #[inline(always)]
-pub fn double(regs: &mut Registers, words: &mut Words, next: u16) -> Result<(), Stop>
-    requires { IsPart (part_with regs.old words.old) }
-    ensures { Performs (own_row doubled next (part_with regs.old words.old)) (part_with regs.old words.old) result (part_with regs.new words.new) }
+pub fn double(regs: &mut Registers, room: &mut [Word], next: u16) -> Result<(), Stop>
+    requires ready { AreReady regs.old }
+    requires room { length room.old ≡ stack_limit }
+    ensures { Performs (own_row doubled next (part_in regs.old room.old)) (part_in regs.old room.old) result (part_in regs.new room.new) }
 {
-    let x = top(regs, words)?;
-    push_word(regs, words, x, next)
+    let x = top(regs, room)?;
+    push_word(regs, room, x, next)
 }
 
 // Only the pointer goes on.
 #[inline(always)]
 pub fn go_on(regs: &mut Registers, next: u16)
     requires { regs.old.s ≤ stack_limit }
-    ensures { (words : List Word) → Performs (own_row gives next (part_with regs.old words)) (part_with regs.old words) (Ok tt) (part_with regs.new words) }
+    ensures { (room : List Word) → Performs (own_row gives next (part_in regs.old room)) (part_in regs.old room) (Ok tt) (part_in regs.new room) }
 {
     regs.place = next;
 }
@@ -213,14 +218,15 @@ fn operand_of(bits: u64) -> Word
 #[inline(always)]
 pub fn combine_two(
     regs: &mut Registers,
-    words: &mut Words,
+    room: &mut [Word],
     kind: Logic,
     next: u16,
 ) -> Result<(), Stop>
-    requires { IsPart (part_with regs.old words.old) }
-    ensures { Performs (own_row (logic (bits_by kind)) next (part_with regs.old words.old)) (part_with regs.old words.old) result (part_with regs.new words.new) }
+    requires ready { AreReady regs.old }
+    requires room { length room.old ≡ stack_limit }
+    ensures { Performs (own_row (logic (bits_by kind)) next (part_in regs.old room.old)) (part_in regs.old room.old) result (part_in regs.new room.new) }
 {
-    let Some((x, y)) = two(regs, words) else {
+    let Some((x, y)) = two(regs, room) else {
         return Err(UNDERFLOW);
     };
     let Some(a) = bits_of(y) else {
@@ -229,21 +235,22 @@ pub fn combine_two(
     let Some(b) = bits_of(x) else {
         return Err(INVALID);
     };
-    replace(regs, words, 2, operand_of(combined(kind, a, b)), next);
+    replace(regs, room, 2, operand_of(combined(kind, a, b)), next);
     Ok(())
 }
 
 // The operand x is replaced by the bits that it does not have.
 #[inline(always)]
-pub fn complement_top(regs: &mut Registers, words: &mut Words, next: u16) -> Result<(), Stop>
-    requires { IsPart (part_with regs.old words.old) }
-    ensures { Performs (own_row complemented next (part_with regs.old words.old)) (part_with regs.old words.old) result (part_with regs.new words.new) }
+pub fn complement_top(regs: &mut Registers, room: &mut [Word], next: u16) -> Result<(), Stop>
+    requires ready { AreReady regs.old }
+    requires room { length room.old ≡ stack_limit }
+    ensures { Performs (own_row complemented next (part_in regs.old room.old)) (part_in regs.old room.old) result (part_in regs.new room.new) }
 {
-    let x = top(regs, words)?;
+    let x = top(regs, room)?;
     let Some(a) = bits_of(x) else {
         return Err(INVALID);
     };
-    replace(regs, words, 1, operand_of(complement(a)), next);
+    replace(regs, room, 1, operand_of(complement(a)), next);
     Ok(())
 }
 
@@ -271,21 +278,23 @@ fn stuffed(regs: &Registers, word: Word) -> Result<Word, Stop>
 
 // The reference on top is stuffed.
 #[inline(always)]
-pub fn stuff_top(regs: &mut Registers, words: &mut Words, next: u16) -> Result<(), Stop>
-    requires { IsPart (part_with regs.old words.old) }
-    ensures { Performs (own_row stuff next (part_with regs.old words.old)) (part_with regs.old words.old) result (part_with regs.new words.new) }
+pub fn stuff_top(regs: &mut Registers, room: &mut [Word], next: u16) -> Result<(), Stop>
+    requires ready { AreReady regs.old }
+    requires room { length room.old ≡ stack_limit }
+    ensures { Performs (own_row stuff next (part_in regs.old room.old)) (part_in regs.old room.old) result (part_in regs.new room.new) }
 {
-    let x = top(regs, words)?;
+    let x = top(regs, room)?;
     let word = stuffed(regs, x)?;
-    replace(regs, words, 1, word, next);
+    replace(regs, room, 1, word, next);
     Ok(())
 }
 
 // A mark is pushed, which is not entered, with the distance to the mark below it.
 #[inline(always)]
-pub fn mark_stack(regs: &mut Registers, words: &mut Words, next: u16) -> Result<(), Stop>
-    requires { IsPart (part_with regs.old words.old) }
-    ensures { Performs (own_row mark next (part_with regs.old words.old)) (part_with regs.old words.old) result (part_with regs.new words.new) }
+pub fn mark_stack(regs: &mut Registers, room: &mut [Word], next: u16) -> Result<(), Stop>
+    requires ready { AreReady regs.old }
+    requires room { length room.old ≡ stack_limit }
+    ensures { Performs (own_row mark next (part_in regs.old room.old)) (part_in regs.old room.old) result (part_in regs.new room.new) }
 {
     let below = wide(regs.f);
     if below >= regs.s {
@@ -301,7 +310,7 @@ pub fn mark_stack(regs: &mut Registers, words: &mut Words, next: u16) -> Result<
         df: (regs.s - below) as u16,
     };
     regs.f = regs.s as u16;
-    replace(regs, words, 0, word.pack(), next);
+    replace(regs, room, 0, word.pack(), next);
     Ok(())
 }
 
@@ -310,7 +319,7 @@ pub fn mark_stack(regs: &mut Registers, words: &mut Words, next: u16) -> Result<
 pub fn make_cells(regs: &mut Registers, next: u16) -> Result<(), Stop>
     requires level { regs.old.ll < levels }
     requires room { regs.old.s ≤ stack_limit }
-    ensures { (words : List Word) → Performs (own_row make_cells next (part_with regs.old words)) (part_with regs.old words) result (part_with regs.new words) }
+    ensures { (room : List Word) → Performs (own_row make_cells next (part_in regs.old room)) (part_in regs.old room) result (part_in regs.new room) }
 {
     let cells = regs.s.saturating_sub(frame(regs) + 2);
     if cells > u32::from(MOST_CELLS) {
@@ -325,15 +334,16 @@ pub fn make_cells(regs: &mut Registers, next: u16) -> Result<(), Stop>
 #[inline(always)]
 fn branch_by(
     regs: &mut Registers,
-    words: &mut Words,
+    room: &mut [Word],
     kind: BranchKind,
     target: u16,
     next: u16,
 ) -> Result<(), Stop>
-    requires { IsPart (part_with regs.old words.old) }
-    ensures { Performs (limited length_of (by_bit kind target next (part_with regs.old words.old))) (part_with regs.old words.old) result (part_with regs.new words.new) }
+    requires ready { AreReady regs.old }
+    requires room { length room.old ≡ stack_limit }
+    ensures { Performs (limited length_of (by_bit kind target next (part_in regs.old room.old))) (part_in regs.old room.old) result (part_in regs.new room.new) }
 {
-    let x = top(regs, words)?;
+    let x = top(regs, room)?;
     let Some(bits) = bits_of(x) else {
         return Err(INVALID);
     };
@@ -342,7 +352,7 @@ fn branch_by(
         BranchKind::Brtr => bits % 2 == 1,
         BranchKind::Brun => true,
     };
-    lower(regs, words, 1, if goes { target } else { next });
+    lower(regs, room, 1, if goes { target } else { next });
     Ok(())
 }
 
@@ -350,19 +360,20 @@ fn branch_by(
 #[inline(always)]
 pub fn branch_to(
     regs: &mut Registers,
-    words: &mut Words,
+    room: &mut [Word],
     kind: BranchKind,
     target: u16,
     next: u16,
 ) -> Result<(), Stop>
-    requires { IsPart (part_with regs.old words.old) }
-    ensures { Performs (limited length_of (branch kind target next (part_with regs.old words.old))) (part_with regs.old words.old) result (part_with regs.new words.new) }
+    requires ready { AreReady regs.old }
+    requires room { length room.old ≡ stack_limit }
+    ensures { Performs (limited length_of (branch kind target next (part_in regs.old room.old))) (part_in regs.old room.old) result (part_in regs.new room.new) }
 {
     match kind {
         BranchKind::Brun => {
             regs.place = target;
             Ok(())
         }
-        _ => branch_by(regs, words, kind, target, next),
+        _ => branch_by(regs, room, kind, target, next),
     }
 }

@@ -5,8 +5,9 @@ ghost use Rattle.b67_ops.specs.Spelling.{Fits};
 ghost use Rattle.b67_segment.specs.declared.TheConstants.{MOST_SEGMENT_WORDS};
 ghost use Rattle.b67_segment.specs.declared.code.Code.{Code};
 ghost use Rattle.b67_segment.specs.Decoded.{found, AreDecoded};
+ghost use Rattle.b67_store.specs.Store.{stack_limit};
 ghost use Rattle.b67_table.specs.Privacy.{Keeps};
-ghost use Rattle.b67_private.specs.Parts.{IsPart, PlainParts, is_plain, own_next, part_with};
+ghost use Rattle.b67_private.specs.Parts.{AreReady, HasPart, IsPart, PlainParts, is_plain, own_next, part_in};
 ghost use Rattle.b67_private.specs.Performing.{Steps};
 ghost use Rattle.b67_private.specs.Prepared.{IsRowOf};
 
@@ -14,7 +15,9 @@ use crate::operators::{Row, operate, perform};
 use crate::prepared::Prepared;
 use b67_ops::Operator;
 use b67_segment::{Code, Pointer, fetch};
-use b67_table::{Private, Registers, Words};
+use b67_store::MOST_STACK_WORDS;
+use b67_table::{Private, Registers};
+use b67_word::Word;
 
 /// The operator at a place, and the place after it: from the table of the segment's operators at this level, where there is
 /// one. None comes exactly where no operator stands there.
@@ -55,21 +58,22 @@ pub fn row_at(table: Option<&Prepared>, place: u16) -> Option<(Row, u16)>
 #[cold]
 fn perform_fetched(
     regs: &mut Registers,
-    words: &mut Words,
+    room: &mut [Word],
     code: &Code,
     table: Option<&Prepared>,
 ) -> bool
-    requires part { IsPart (part_with regs.old words.old) }
+    requires ready { AreReady regs.old }
+    requires room { length room.old ≡ stack_limit }
     requires segments { All (λ segment. length segment.words ≤ MOST_SEGMENT_WORDS) code.now.segments }
     requires table { IfSome table (λ t. AreDecoded code.now regs.old.segment regs.old.ll t.now) }
-    ensures { Steps (own_next code.now (part_with regs.old words.old)) (part_with regs.old words.old) result (part_with regs.new words.new) }
+    ensures { Steps (own_next code.now (part_in regs.old room.old)) (part_in regs.old room.old) result (part_in regs.new room.new) }
 {
     let at = Pointer {
         segment: regs.segment,
         place: regs.place,
     };
     match next_operator(code, table, at, regs.ll) {
-        Some((operator, next)) => operate(regs, words, &operator, next).is_ok(),
+        Some((operator, next)) => operate(regs, room, &operator, next).is_ok(),
         None => false,
     }
 }
@@ -78,60 +82,70 @@ fn perform_fetched(
 #[inline(always)]
 fn perform_next(
     regs: &mut Registers,
-    words: &mut Words,
+    room: &mut [Word],
     code: &Code,
     table: Option<&Prepared>,
 ) -> bool
-    requires part { IsPart (part_with regs.old words.old) }
+    requires ready { AreReady regs.old }
+    requires room { length room.old ≡ stack_limit }
     requires segments { All (λ segment. length segment.words ≤ MOST_SEGMENT_WORDS) code.now.segments }
     requires table { IfSome table (λ t. AreDecoded code.now regs.old.segment regs.old.ll t.now) }
-    ensures { Steps (own_next code.now (part_with regs.old words.old)) (part_with regs.old words.old) result (part_with regs.new words.new) }
+    ensures { Steps (own_next code.now (part_in regs.old room.old)) (part_in regs.old room.old) result (part_in regs.new room.new) }
 {
     match row_at(table, regs.place) {
-        Some((row, next)) => perform(regs, words, row, next).is_ok(),
-        None => perform_fetched(regs, words, code, table),
+        Some((row, next)) => perform(regs, room, row, next).is_ok(),
+        None => perform_fetched(regs, room, code, table),
     }
 }
 
-// What `perform_next` does, and what it leaves.
-#[inline(always)]
-fn step(regs: &mut Registers, words: &mut Words, code: &Code, table: Option<&Prepared>) -> bool
-    requires part { IsPart (part_with regs.old words.old) }
-    requires segments { All (λ segment. length segment.words ≤ MOST_SEGMENT_WORDS) code.now.segments }
-    requires table { IfSome table (λ t. AreDecoded code.now regs.old.segment regs.old.ll t.now) }
-    ensures steps { Steps (own_next code.now (part_with regs.old words.old)) (part_with regs.old words.old) result (part_with regs.new words.new) }
-    ensures kept { IsPart (part_with regs.new words.new) }
-    ensures keeps { Keeps regs.old regs.new }
-{
-    perform_next(regs, words, code, table)
-}
-
-/// What [`burst`] does, on registers and words that are lent apart.
-pub fn burst_in_place(
+// What [`burst_in_place`] does, where nothing is known of the words below the part.
+fn perform_many(
     regs: &mut Registers,
-    words: &mut Words,
+    room: &mut [Word],
     code: &Code,
     table: Option<&Prepared>,
     most: u32,
 ) -> u32
-    requires part { IsPart (part_with regs.old words.old) }
+    requires part { HasPart (part_in regs.old room.old) }
+    requires room { length room.old ≡ stack_limit }
     requires segments { All (λ segment. length segment.words ≤ MOST_SEGMENT_WORDS) code.now.segments }
     requires table { IfSome table (λ t. AreDecoded code.now regs.old.segment regs.old.ll t.now) }
-    ensures plain { PlainParts code.now (part_with regs.old words.old) result (part_with regs.new words.new) }
+    ensures plain { PlainParts code.now (part_in regs.old room.old) result (part_in regs.new room.new) }
     ensures most { result ≤ most }
-    ensures stops { result < most → is_plain code.now (part_with regs.new words.new) ≡ false }
-    ensures kept { IsPart (part_with regs.new words.new) }
-    ensures keeps { Keeps regs.old regs.new }
+    ensures stops { result < most → is_plain code.now (part_in regs.new room.new) ≡ false }
 {
     let mut count = 0;
     'plain: while count < most {
-        if step(regs, words, code, table) {
+        if perform_next(regs, room, code, table) {
             count += 1;
         } else {
             return count;
         }
     }
     count
+}
+
+/// What [`burst`] does, on registers and in the room of their stack, which are lent apart: the lowest S words of the room are
+/// the stack's, before and after.
+#[inline(always)]
+pub fn burst_in_place(
+    regs: &mut Registers,
+    room: &mut [Word],
+    code: &Code,
+    table: Option<&Prepared>,
+    most: u32,
+) -> u32
+    requires part { IsPart (part_in regs.old room.old) }
+    requires room { length room.old ≡ stack_limit }
+    requires segments { All (λ segment. length segment.words ≤ MOST_SEGMENT_WORDS) code.now.segments }
+    requires table { IfSome table (λ t. AreDecoded code.now regs.old.segment regs.old.ll t.now) }
+    ensures plain { PlainParts code.now (part_in regs.old room.old) result (part_in regs.new room.new) }
+    ensures most { result ≤ most }
+    ensures stops { result < most → is_plain code.now (part_in regs.new room.new) ≡ false }
+    ensures kept { IsPart (part_in regs.new room.new) }
+    ensures keeps { Keeps regs.old regs.new }
+{
+    perform_many(regs, room, code, table, most)
 }
 
 /// Performs the plain operators that come next in a private part, at most so many, and answers how many it performed. It
@@ -150,5 +164,9 @@ pub fn burst(p: &mut Private, code: &Code, table: Option<&Prepared>, most: u32) 
     ensures kept { IsPart p.new }
     ensures keeps { Keeps p.old.regs p.new.regs }
 {
-    burst_in_place(&mut p.regs, &mut p.words, code, table, most)
+    let base = p.regs.s - p.words.len();
+    let room = p.words.room(base);
+    let performed = perform_many(&mut p.regs, room, code, table, most);
+    p.words.cut(MOST_STACK_WORDS as u32 - p.regs.s);
+    performed
 }

@@ -1,16 +1,16 @@
 use Rattle.std.proofs.Common.{sym, ◌∙◌, Bool, subst}
-use Rattle.b67_private.specs.Parts.{own_next, part_with}
+use Rattle.b67_private.specs.Parts.{own_next, part_in}
 use Rattle.b67_private.specs.Performing.{Steps}
 use Rattle.b67_private.proofs.Stepping.{steps_found, steps_none}
 use Rattle.b67_private.proofs.stretch.perform_fetched.Goals as goal
 
 pub returns-in-Some : goal.returns-in-Some
 returns-in-Some c =
-    let old = part_with c.args.regs.now c.args.words.now in
-    let new = part_with c.operate.new.regs c.operate.new.words in
+    let old = part_in c.args.regs.now c.args.room.now in
+    let new = part_in c.operate.new.regs c.operate.new.room in
     subst (λ (b : Bool). Steps (own_next c.args.code.now old) old b new) (sym c.is_ok.ensures.value)
     (steps_found c.args.code.now old new (c.in-Some.operator, c.in-Some.next) c.operate.result (sym c.next_operator.ensures.value ∙ c.in-Some.is) c.operate.ensures)
 
 pub returns-in-None : goal.returns-in-None
 returns-in-None c =
-    steps_none c.args.code.now (part_with c.args.regs.now c.args.words.now) (sym c.next_operator.ensures.value ∙ c.in-None.is)
+    steps_none c.args.code.now (part_in c.args.regs.now c.args.room.now) (sym c.next_operator.ensures.value ∙ c.in-None.is)

@@ -1,0 +1,25 @@
+use Rattle.std.proofs.Common.{◌+◌, refl, arith}
+use Rattle.b67_private.specs.Parts.{PlainParts, own_next, part_in, stay}
+use Rattle.b67_private.proofs.Above.{ready, still}
+use Rattle.b67_private.proofs.Stepping.{one_more, went}
+use Rattle.b67_private.proofs.stretch.perform_many.Goals as goal
+
+pub plain-init : goal.plain-init
+plain-init c =
+    record {
+      performed = stay;
+      ready = ready (part_in c.args.regs.now c.args.room.now) c.requires.part;
+      keeps = (refl, refl, refl, refl, refl, refl);
+      within = omega arith;
+    }
+
+pub plain-preserved : goal.plain-preserved
+plain-preserved c =
+    let first = part_in c.args.regs.now c.args.room.now in
+    let old = part_in c.plain.regs c.plain.room in
+    let new = part_in c.perform_next.new.regs c.perform_next.new.room in
+    let performed : PlainParts c.args.code.now first (c.plain.count + 1) new =
+    one_more c.args.code.now first old new c.plain.count c.plain.invariant.performed
+    (went (own_next c.args.code.now old) old new c.perform_next.result c.if-perform_next.true c.perform_next.ensures) in
+    let left = still c.args.code.now c.requires.segments first new (c.plain.count + 1) c.requires.part performed in
+    record { performed = performed; ready = left.ready; keeps = left.keeps; within = omega (arith, c.plain-test.true) }
