@@ -11,9 +11,12 @@ ghost use Rattle.b67_table.specs.Look.{read_as, seen};
 ghost use Rattle.b67_table.specs.Chains.{place, mark_at, control_at, linked_frame, linked, rebuilt};
 ghost use Rattle.b67_display.specs.Found.{shown};
 
+mod showing;
+
 use b67_control::{Display, Mscw, Rcw};
 use b67_store::Core;
 use b67_word::Place;
+pub use showing::{links_as, show};
 
 /// A chain of marks or of static links does not lead where it has to.
 #[derive(Clone, Copy)]

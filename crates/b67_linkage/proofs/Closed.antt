@@ -1,5 +1,5 @@
 -- Rows that are closed, in whatever order.
-use Rattle.std.proofs.Common.{◌≡◌, refl, sym, ap, ◌∙◌, ℕ, zero, suc, ◌+◌, ◌-◌, ◌≤◌, ◌≢◌, List, [], ◌∷◌, take, drop, Option, Some, None, Bool, true, false, cond, arith}
+use Rattle.std.proofs.Common.{◌≡◌, refl, sym, ap, ◌∙◌, ℕ, zero, suc, ◌+◌, ◌-◌, ◌<◌, ◌≤◌, ◌≢◌, List, [], ◌∷◌, ◌++◌, length, take, drop, Option, Some, None, Bool, true, false, cond, arith}
 use Rattle.std.specs.Prelude.{slice_get}
 use Rattle.std.proofs.Math.Seq.{drop-nil, take-nil}
 use Rattle.b67_word.specs.Word.{Word}
@@ -61,16 +61,47 @@ rows_swap (w ∷ words) rows a =
 pub rows_alike : (words : List Word) (r q : Rows) (a : ℕ) → closed_at r a ≡ closed_at q a → closed_at (without_rows words r) a ≡ closed_at (without_rows words q) a
 rows_alike words r q a e = rows_swap words r a ∙ ap (λ (z : Rows). without_rows words z) e ∙ sym (rows_swap words q a)
 
--- one word of a mother's row
-pub next_daughter : (words : List Word) (at : ℕ) (w : Word) (old new : Rows) (a : ℕ) → slice_get words at ≡ Some w
-    → closed_at new a ≡ closed_at (without without_row (as_descriptor w) old) a
-    → closed_at (without_rows (drop (at + 1) words) new) a ≡ closed_at (without_rows (drop at words) old) a
-next_daughter words at w old new a e c =
-    rows_alike (drop (at + 1) words) new (without without_row (as_descriptor w) old) a c
-    ∙ ap (λ (z : List Word). closed_at (without_rows z old) a) (sym (drop_at words at w e))
+-- the rows of words in another order
+two_swap : (o p : Option Descriptor) (rows : Rows) → without without_row p (without without_row o rows) ≡ without without_row o (without without_row p rows)
+two_swap None p rows = refl
+two_swap (Some d) p rows = by_copy d.copy
+  where
+    by_copy : (b : Bool) → without without_row p (cond b rows (closed_at rows d.address)) ≡ cond b (without without_row p rows) (closed_at (without without_row p rows) d.address)
+    by_copy true = refl
+    by_copy false = sym (without_swap p rows d.address)
 
-pub no_daughter : (words : List Word) (at : ℕ) (old : Rows) (a : ℕ) → slice_get words at ≡ None → closed_at (without_rows (drop at words) old) a ≡ closed_at old a
-no_daughter words at old a e = ap (λ (z : List Word). closed_at (without_rows z old) a) (drop_past words at e)
+rows_later : (words : List Word) (o : Option Descriptor) (rows : Rows) → without_rows words (without without_row o rows) ≡ without without_row o (without_rows words rows)
+rows_later [] o rows = refl
+rows_later (w ∷ words) o rows =
+    ap (λ (z : Rows). without_rows words z) (two_swap o (as_descriptor w) rows) ∙ rows_later words o (without without_row (as_descriptor w) rows)
+
+rows_push : (words : List Word) (w : Word) (rows : Rows) → without_rows (words ++ w ∷ []) rows ≡ without without_row (as_descriptor w) (without_rows words rows)
+rows_push [] w rows = refl
+rows_push (x ∷ words) w rows = rows_push words w (without without_row (as_descriptor x) rows)
+
+take_at : {X : Type 0} (xs : List X) (n : ℕ) (x : X) → slice_get xs n ≡ Some x → take (n + 1) xs ≡ take n xs ++ x ∷ []
+take_at [] n x e = cc
+take_at (y ∷ xs) zero x e = let h : Some y ≡ Some x = e in cc
+take_at (y ∷ xs) (suc n) x e = let k_is : suc n + 1 ≡ suc (n + 1) = omega arith in ap (λ (k : ℕ). take k (y ∷ xs)) k_is ∙ ap (λ zs. y ∷ zs) (take_at xs n x e)
+
+pub has_place : {X : Type 0} (xs : List X) (n : ℕ) (x : X) → slice_get xs n ≡ Some x → n < length xs
+has_place [] n x e = let h : None ≡ Some x = e in absurd cc
+has_place (y ∷ xs) zero x e = omega arith
+has_place (y ∷ xs) (suc n) x e = omega (arith, has_place xs n x e)
+
+pub no_place : {X : Type 0} (xs : List X) (n : ℕ) → slice_get xs n ≡ None → length xs ≤ n
+no_place [] n e = omega arith
+no_place (y ∷ xs) zero e = let h : Some y ≡ None = e in absurd cc
+no_place (y ∷ xs) (suc n) e = omega (arith, no_place xs n e)
+
+-- one word of a mother's row, the last before those that went
+pub next_daughter : (words : List Word) (at before : ℕ) (w : Word) (old new : Rows) (a : ℕ) → slice_get words at ≡ Some w → before ≡ at + 1
+    → closed_at new a ≡ closed_at (without without_row (as_descriptor w) old) a
+    → closed_at (without_rows (take at words) new) a ≡ closed_at (without_rows (take before words) old) a
+next_daughter words at before w old new a e f c =
+    rows_alike (take at words) new (without without_row (as_descriptor w) old) a c
+    ∙ ap (λ (z : Rows). closed_at z a) (rows_later (take at words) (as_descriptor w) old ∙ sym (rows_push (take at words) w old))
+    ∙ ap (λ (z : List Word). closed_at (without_rows z old) a) (sym (take_at words at w e) ∙ ap (λ (k : ℕ). take k words) (sym f))
 
 -- to close another row leaves a row's words
 pub words_stay : (rows : Rows) (n k : ℕ) → k ≢ n → row_words (closed_at rows n) k ≡ row_words rows k

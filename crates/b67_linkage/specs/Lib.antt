@@ -3,3 +3,4 @@ pub mod Closing
 pub mod Entering
 pub mod Leaving
 pub mod Laws
+pub mod Showing

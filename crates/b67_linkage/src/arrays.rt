@@ -1,5 +1,5 @@
 // The rows of cells that are given up.
-ghost use Rattle.std.specs.Prelude.{◌≡◌, ◌≢◌, ◌+◌, ◌≤◌, ◌^◌};
+ghost use Rattle.std.specs.Prelude.{◌≡◌, ◌≢◌, ◌+◌, ◌≤◌, ◌^◌, length};
 ghost use Rattle.b67_control.specs.Control.{as_descriptor};
 ghost use Rattle.b67_store.specs.Store.{words_of, row_words, closed_at};
 ghost use Rattle.b67_linkage.specs.Closing.{without, without_row, without_rows, without_array, without_arrays, cells_in, AreShort};
@@ -30,21 +30,37 @@ fn close_daughter<C: Core>(core: &mut C, mother: u32, word: Word)
     close_row(core, d.address);
 }
 
-// Closes the rows of the descriptors in a mother's row, but for its own.
+// Closes the rows of the descriptors in a mother's row, but for its own. The last is closed first, as it was opened last:
+// a store that keeps what is open in the order of its places has least to move then.
 fn close_daughters<C: Core>(core: &mut C, mother: u32)
     requires { AreShort (C.Core.rows core.old) }
     ensures rows { closed_at (C.Core.rows core.new) mother ≡ closed_at (without_rows (row_words (C.Core.rows core.old) mother) (C.Core.rows core.old)) mother }
     ensures short { AreShort (C.Core.rows core.new) }
     ensures stacks { C.Core.stacks core.new ≡ C.Core.stacks core.old }
 {
-    let mut at = 0u32;
-    'words: while at < MOST_COUNTED_WORDS {
+    let mut at = row_length(core, mother);
+    'words: while 0 < at {
+        at -= 1;
         let Some(word) = core.read_row(mother, at) else {
             return;
         };
         close_daughter(core, mother, word);
+    }
+}
+
+// The number of a row's words, 0 where it is not open.
+fn row_length<C: Core>(core: &C, row: u32) -> u32
+    requires { AreShort (C.Core.rows core.now) }
+    ensures { result ≡ length (row_words (C.Core.rows core.now) row) }
+{
+    let mut at = 0u32;
+    'counting: while at < MOST_COUNTED_WORDS {
+        let Some(_) = core.read_row(row, at) else {
+            return at;
+        };
         at += 1;
     }
+    at
 }
 
 // Closes the rows that a word in a cell describes.

@@ -75,7 +75,7 @@ pub fn marked<C: Core>(core: &C, regs: &Registers) -> Result<Mscw, LinkFault>
 }
 
 // Whether the word above home is the control word of a frame one level below this one.
-fn is_home<C: Core>(core: &C, home: Place, level: u8) -> bool
+pub fn is_home<C: Core>(core: &C, home: Place, level: u8) -> bool
     ensures { result ≡ is_home (read_as as_rcw (word_at (C.Core.stacks core.now) (place home.stack (home.at + 1)))) level }
 {
     match control_above(core, home) {

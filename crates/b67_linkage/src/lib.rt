@@ -12,6 +12,7 @@ mod cuts;
 mod entries;
 mod exits;
 mod laws;
+mod showing;
 mod words;
 
 pub use arrays::close_arrays;
@@ -19,7 +20,8 @@ pub use cuts::cut_to;
 pub use entries::{control_word, enter, entering, go_in, mark, marked};
 pub use exits::{entered_below, exit, leave_base, leave_frame, leaving, left_to, return_value};
 pub use laws::{live_processes_are_linked, rows_close_as_the_table_has_it};
-pub use words::{cut_words, exchange_words, push_word};
+pub use showing::{below_shown, enters_shown, go_in_shown, leave_shown};
+pub use words::{cut_words, push_word};
 
 /// Why a call of the linkage was refused.
 #[derive(Clone, Copy)]

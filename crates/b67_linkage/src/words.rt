@@ -1,12 +1,12 @@
 // Words of stacks, and rows, where they are known to be there.
-ghost use Rattle.std.specs.Prelude.{◌≡◌, ◌<◌, ◌≤◌, length, reverse, IsSome};
+ghost use Rattle.std.specs.Prelude.{◌≡◌, ◌<◌, ◌≤◌, length, IsSome};
 ghost use Rattle.b67_control.specs.Display.{levels};
-ghost use Rattle.b67_store.specs.Store.{stack_at, words_of, word_at, with_word, with_stack, with_push, with_cut, closed_at, stack_limit};
+ghost use Rattle.b67_store.specs.Store.{stack_at, words_of, word_at, with_word, with_push, with_cut, closed_at, stack_limit};
 ghost use Rattle.b67_table.specs.Private.{frame};
 ghost use Rattle.b67_linkage.specs.Closing.{AreShort};
 
 use b67_control::Registers;
-use b67_store::{Core, Words};
+use b67_store::Core;
 use b67_word::{Place, Word};
 
 /// Writes a word over one that is there.
@@ -38,17 +38,6 @@ pub fn cut_words<C: Core>(core: &mut C, stack: u16, length: u32)
     ensures rows { C.Core.rows core.new ≡ C.Core.rows core.old }
 {
     let _ = core.cut(stack, length);
-}
-
-/// The words of a stack that is open and these change places, and none is copied.
-#[tactic(auto, using(crate::proofs::There::there))]
-pub fn exchange_words<C: Core>(core: &mut C, stack: u16, words: &mut Words)
-    requires { IsSome (stack_at (C.Core.stacks core.old) stack) }
-    ensures stacks { C.Core.stacks core.new ≡ with_stack (C.Core.stacks core.old) stack (reverse words.old) }
-    ensures words { words.new ≡ reverse (words_of (C.Core.stacks core.old) stack) }
-    ensures rows { C.Core.rows core.new ≡ C.Core.rows core.old }
-{
-    let _ = core.exchange(stack, words);
 }
 
 #[tactic(auto, using(crate::proofs::There::there))]

@@ -1,4 +1,5 @@
 pub mod Accidents
+pub mod AtOnce
 pub mod Callings
 pub mod Choices
 pub mod Leaves

@@ -1,12 +1,13 @@
 -- Accidental entry, in parts.
-use Rattle.std.specs.Prelude.{◌≡◌, ℕ, ◌+◌, ◌-◌, length, Option, Some, None}
+use Rattle.std.specs.Prelude.{◌≡◌, ℕ, ◌+◌, ◌-◌, false, length, Option, Some, None, Ok}
 use Rattle.b67_word.specs.Word.{Word}
 use Rattle.b67_control.specs.declared.Mscw.{Mscw}
 use Rattle.b67_control.specs.Control.{as_pcw}
 use Rattle.b67_table.specs.declared.Cell.{Cell}
 use Rattle.b67_table.specs.declared.Reached.{Reached}
 use Rattle.b67_table.specs.Chains.{place}
-use Rattle.b67_table.specs.Look.{Look, found, at, ◌>->◌, valid}
+use Rattle.b67_store.specs.Store.{Stacks}
+use Rattle.b67_table.specs.Look.{Look, found, at, ◌>->◌, valid, seen}
 use Rattle.b67_table.specs.References.{cell_of, reached}
 use Rattle.b67_table.specs.Image.{Image}
 use Rattle.b67_segment.specs.declared.code.Code.{Code}
@@ -21,6 +22,7 @@ use Rattle.b67_table.specs.Moves.{pushed}
 use Rattle.b67_table.specs.Program.{Change, done, cut, push, save, registers, Program, does, see, ◌>>=◌}
 use Rattle.b67_linkage.specs.declared.LinkFault.{LinkFault}
 use Rattle.b67_linkage.specs.declared.LinkFault.TheVariants as links
+use Rattle.b67_reach.specs.Answers.{looked}
 use Rattle.b67_reach.specs.declared.Stop.{Stop}
 use Rattle.b67_reach.specs.declared.Stop.TheVariants.{Interrupt, StackLimit}
 
@@ -54,6 +56,10 @@ called_by r m w (Some c) =
 abbrev pub called : Registers → Look Called
 called r =
     marked r >-> (λ (m : Mscw). at (place r.stack (r.f + 1)) (λ (w : Option Word). valid w) >-> (λ (above : Word). called_by r m above (cell_of r above)))
+
+-- what is called is a procedure, and no intrinsic
+abbrev pub CallsProcedure : Stacks → Registers → Type 0
+CallsProcedure stacks r = (c : Called) × (Ok c ≡ looked (seen stacks (called r))) × (c.pcw.intrinsic ≡ false)
 
 -- what ENTR does with what it calls: an intrinsic, or an entry
 abbrev pub enter_called : Code → Registers → ℕ → Called → Program

@@ -30,7 +30,7 @@ use b67_table::Leaving;
 use b67_word::{Place, Word};
 
 // The registers of a process.
-fn registers(all: &Vec<Registers>, process: u32) -> &Registers
+pub fn registers(all: &Vec<Registers>, process: u32) -> &Registers
     requires { IsSome (numbered all.now.items process) }
     ensures { numbered all.now.items process ≡ Some result.now }
 {
@@ -38,7 +38,7 @@ fn registers(all: &Vec<Registers>, process: u32) -> &Registers
 }
 
 // The displacement of the process's frame.
-fn frame_of(regs: &Registers) -> u16
+pub fn frame_of(regs: &Registers) -> u16
     requires { regs.now.ll < levels }
     ensures { result ≡ frame regs.now }
 {
@@ -49,7 +49,7 @@ fn frame_of(regs: &Registers) -> u16
 }
 
 // Tests that a frame is a live process's critical place.
-fn is_needed(states: &[ProcessState], all: &[Registers], frame: Place) -> bool
+pub fn is_needed(states: &[ProcessState], all: &[Registers], frame: Place) -> bool
     ensures { result ≡ is_critical frame.stack (frame.at ∷ []) (live_criticals states.now all.now) }
 {
     is_critical(states, all, frame)
@@ -239,7 +239,7 @@ fn is_result(word: Word) -> bool
 }
 
 // The word on top, which is the value of the frame that is left.
-fn returned<C: Core>(core: &C, regs: &Registers) -> Result<Word, Stop>
+pub fn returned<C: Core>(core: &C, regs: &Registers) -> Result<Word, Stop>
     requires { IsReady (C.Core.stacks core.now) regs.now }
     ensures { result ≡ looked (seen (C.Core.stacks core.now) (returned regs.now)) }
 {

@@ -5,6 +5,7 @@
 //! on the Burroughs B6700's (Organick 1973); their effects are this project's profile.
 #![tactic(auto)]
 
+mod at_once;
 mod branching;
 mod calling;
 mod entering;
@@ -13,6 +14,7 @@ mod leaving;
 mod loading;
 mod storing;
 
+pub use at_once::{enter_at_once, exit_at_once, return_at_once};
 pub use branching::turn;
 pub use calling::{Called, enter_does_what_it_calls, entry, find_called};
 pub use entering::{accidental, evaluate, stop_by, value_call};
