@@ -1,5 +1,5 @@
--- An action on words and rows that nothing stops, by its row that was made ready.
-use Rattle.std.proofs.Common.{◌≡◌, refl, sym, ap, subst, ◌∙◌, ℕ, ◌≤◌, true, List, [], length, Option, Some, None, Ok}
+-- An action that nothing stops, by its row that was made ready.
+use Rattle.std.proofs.Common.{◌≡◌, refl, sym, ap, subst, ◌∙◌, ℕ, ◌≤◌, Bool, true, List, [], length, Option, Some, None, Ok}
 use Rattle.b67_list.specs.Numbered.{numbered}
 use Rattle.b67_control.specs.declared.Registers.{Registers}
 use Rattle.b67_ops.specs.declared.Operator.{Operator}
@@ -9,23 +9,24 @@ use Rattle.b67_store.specs.Store.{row_limit}
 use Rattle.b67_table.specs.declared.ProcessState.{ProcessState}
 use Rattle.b67_table.specs.Image.{Image, is_able}
 use Rattle.b67_table.specs.Outcome.{limited}
-use Rattle.b67_table.specs.Rows.{row, acts}
+use Rattle.b67_table.specs.Rows.{row}
 use Rattle.b67_table.specs.Table.{table, stack_length}
 use Rattle.b67_table.specs.Valid.{IsValid}
 use Rattle.b67_linkage.proofs.Linked.{live_are_linked}
-use Rattle.b67_operators.specs.Leaves.{IsLinkedIn, program_in}
+use Rattle.b67_operators.specs.Leaves.{IsLinkedIn}
 use Rattle.b67_private.specs.declared.operators.Row.{Row as Ready}
-use Rattle.b67_private.specs.declared.operators.WordsRow.{WordsRow}
-use Rattle.b67_private.specs.Actions.{words_program, IsRow, IsHeldRow}
+use Rattle.b67_private.specs.declared.operators.Row.TheVariants as ready
+use Rattle.b67_private.specs.Actions.{IsRow, IsHeldRow}
 use Rattle.b67_private.specs.Prepared.{IsRowOf}
-use Rattle.b67_reach.specs.Answers.{Acts}
 use Rattle.b67_action.specs.declared.done.Done.TheVariants.{Went}
-use Rattle.b67_action.specs.declared.rows.Row.TheVariants.{Words}
-use Rattle.b67_action.specs.Acting.{row_effect, NextReleases}
+use Rattle.b67_action.specs.declared.rows.Row.{Row}
+use Rattle.b67_action.specs.declared.rows.Row.TheVariants as rows
+use Rattle.b67_action.specs.Acting.{row_effect, NextReleases, RowReleases, EntersPlainly, EnterReleases, CalleeReleases}
 use Rattle.b67_action.specs.Among.{Comes}
 use Rattle.b67_action.specs.Done.{Came}
-use Rattle.b67_action.specs.Onward.{HasGone}
-use Rattle.b67_action.proofs.Coming.{comes_by, table_row, operator_is}
+use Rattle.b67_action.specs.Onward.{HasGone, GoesBy, action_of}
+use Rattle.b67_action.specs.Rows.{Is}
+use Rattle.b67_action.proofs.Coming.{table_row, operator_is}
 use Rattle.b67_action.proofs.Kept.{stays_valid}
 use Rattle.b67_action.proofs.MakeAble.{performed_able}
 use Rattle.b67_action.proofs.Ready.{live_of}
@@ -48,27 +49,44 @@ pub linked_in : (code : Code) (img : Image) (p : ℕ) (r : Registers) → IsVali
 linked_in code img p r v able has =
     subst (λ (o : Option Registers). IsLinkedIn img.stacks img.rows o) (sym has) (live_are_linked code img p r v (live_of (numbered img.states p) able) has)
 
-module _ (code : Code) (old new : Image) (p : ℕ) (r : Registers) (op : Operator) (next : ℕ) (kind : WordsRow) (v : IsValid code old)
+-- an entry of what is no intrinsic releases nobody
+pub enters_nobody : (img : Image) (o : Option Registers) → EntersPlainly img.stacks o → EnterReleases img o [] []
+enters_nobody img None x = absurd x
+enters_nobody img (Some r) x = (x.0, x.1, subst (λ (b : Bool). CalleeReleases b x.0 img (Some r) [] []) (sym x.2) refl)
+
+module _ (code : Code) (old new : Image) (p : ℕ) (r : Registers) (op : Operator) (next : ℕ) (v : IsValid code old)
     (able : is_able (numbered old.states p) ≡ true) (has : numbered old.regs p ≡ Some r) (here : found code r.segment r.ll r.place ≡ Some (op, next))
-    (is : row op r.place ≡ acts (words_program kind))
-    (x : Acts {A = Unit {0}} p (program_in (words_program kind) (numbered old.regs p) next) old new (Ok (tt {0}))) (states : new.states ≡ old.states)
-    (few : length new.rows ≤ row_limit) where
-  by_table : table code old p ≡ limited (stack_length p) (row_effect (Words kind) code op next p (numbered old.regs p) old)
-  by_table = table_row code old p r has op next (Words kind) is able here
+    (states : new.states ≡ old.states) (few : length new.rows ≤ row_limit) where
+  module _ (w : Row) (is : Is (row op r.place) w) (comes : Comes {A = Unit {0}} p (row_effect w code op next p (numbered old.regs p) old) old new (Ok (tt {0})))
+      (nobody : RowReleases w old (numbered old.regs p) [] []) where
+    by_table : table code old p ≡ limited (stack_length p) (row_effect w code op next p (numbered old.regs p) old)
+    by_table = table_row code old p r has op next w is able here
 
-  comes : Comes {A = Unit {0}} p (row_effect (Words kind) code op next p (numbered old.regs p) old) old new (Ok (tt {0}))
-  comes = comes_by p (program_in (words_program kind) (numbered old.regs p) next) old new (Ok (tt {0})) x
+    came_on : Came code old p Went new
+    came_on = (by_table ∙ comes.outcome, ap (λ (ss : List ProcessState). is_able (numbered ss p)) states ∙ able)
 
-  came_on : Came code old p Went new
-  came_on = (by_table ∙ comes.outcome, ap (λ (ss : List ProcessState). is_able (numbered ss p)) states ∙ able)
+    releases_nobody : NextReleases code old p []
+    releases_nobody = record { regs = r; has = has; op = op; next = next; stands = operator_is code old p r able has (op, next) here; row = w; is = is; releases = nobody }
 
-  nobody : NextReleases code old p []
-  nobody = record { regs = r; has = has; op = op; next = next; stands = operator_is code old p r able has (op, next) here; row = Words kind; is = is; releases = refl }
+    goes : HasGone code old p new []
+    goes = record {
+      came = came_on;
+      woken = performed_releases code old new p [] Went came_on refl releases_nobody;
+      able = performed_able code old new p [] Went v able came_on refl releases_nobody;
+      valid = stays_valid code old new p (row_effect w code op next p (numbered old.regs p) old) (Ok (tt {0})) v able by_table comes few;
+    }
 
-  pub gone : HasGone code old p new []
-  gone = record {
-    came = came_on;
-    woken = performed_releases code old new p [] Went came_on refl nobody;
-    able = performed_able code old new p [] Went v able came_on refl nobody;
-    valid = stays_valid code old new p (row_effect (Words kind) code op next p (numbered old.regs p) old) (Ok (tt {0})) v able by_table comes few;
-  }
+  pub gone : (q : Ready) → IsRow op r.place q → GoesBy (action_of q) code next p (numbered old.regs p) old new → HasGone code old p new []
+  gone (ready.Words kind) is x = goes (rows.Words kind) is (x.0 op) x.1
+  gone ready.Exit is x = goes rows.Exit is (x.0 op) x.1
+  gone ready.ReturnValue is x = goes rows.ReturnValue is (x.0 op) x.1
+  gone ready.Enter is x = goes rows.Enter is (x.0 op) x.1
+  gone (ready.Push word) is x = absurd x
+  gone (ready.Calculate calculation) is x = absurd x
+  gone (ready.Compare relation) is x = absurd x
+  gone (ready.Combine logic) is x = absurd x
+  gone (ready.Top kind) is x = absurd x
+  gone ready.Mark is x = absurd x
+  gone ready.MakeCells is x = absurd x
+  gone ready.GoOn is x = absurd x
+  gone (ready.Branch kind target) is x = absurd x

@@ -3,12 +3,16 @@ pub mod Among
 pub mod Calling
 pub mod CalmWords
 pub mod Coming
+pub mod Displayed
 pub mod Gone
 pub mod Kept
+pub mod Lent
 pub mod MakeAble
+pub mod OnRoom
 pub mod OwnOutcome
 pub mod OwnWords
 pub mod Ready
 pub mod Released
 pub mod Releasing
-pub mod Upper
+pub mod InRoom
+pub mod Runs

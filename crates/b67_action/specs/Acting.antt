@@ -23,7 +23,7 @@ use Rattle.b67_intrinsics.specs.declared.hindrance.Hindrance.TheVariants.{Stoppe
 use Rattle.b67_intrinsics.specs.Called.{IsLeft, called}
 use Rattle.b67_intrinsics.specs.Names.{Releases}
 use Rattle.b67_operators.specs.declared.calling.Called.{Called}
-use Rattle.b67_operators.specs.Entries.{called as entered}
+use Rattle.b67_operators.specs.Entries.{CallsProcedure, called as entered}
 use Rattle.b67_operators.specs.Leaves.{IsLinkedIn, program_in, released}
 use Rattle.b67_reach.specs.declared.Parts.{Parts}
 use Rattle.b67_reach.specs.declared.Stop.{Stop}
@@ -52,6 +52,11 @@ pub record IsActing (stacks : Stacks) (rows : Rows) (kernel : Events) (parts : P
 abbrev pub IsEntering : Option Registers → Type 0
 IsEntering None = ⊥
 IsEntering (Some r) = r.f + 2 ≤ r.s
+
+-- ENTR calls no intrinsic in a process with these registers
+abbrev pub EntersPlainly : Stacks → Option Registers → Type 0
+EntersPlainly stacks None = ⊥
+EntersPlainly stacks (Some r) = CallsProcedure stacks r
 
 -- SELECT's program
 abbrev pub selects : Code → Mscw → Registers → ℕ → Program

@@ -2,6 +2,8 @@ pub mod Able
 pub mod Acting
 pub mod Among
 pub mod Done
+pub mod OnRoom
 pub mod Onward
 pub mod Own
 pub mod Rows
+pub mod Running

@@ -21,14 +21,12 @@ use b67_operators::{exit, return_value};
 use b67_ops::Operator;
 use b67_reach::{Parts, Stop, invalid};
 use b67_store::Core;
-use b67_table::Words;
 
 // An operator that takes no memory; ENTR is none.
 fn perform_plainly<C: Core>(
     core: &mut C,
     kernel: &mut Kernel,
     parts: &mut Parts,
-    words: &mut Words,
     process: u32,
     row: Row,
     op: &Operator,
@@ -46,7 +44,7 @@ fn perform_plainly<C: Core>(
     ensures code { parts.new.code ≡ parts.old.code }
 {
     match row {
-        Row::Own => perform_own_in(core, &mut parts.regs, process, words, op, next),
+        Row::Own => perform_own_in(core, &mut parts.regs, process, op, next),
         Row::Words(kind) => perform_words(core, &mut parts.regs, process, kind, next),
         Row::Exit => exit(core, kernel, parts, process, next),
         Row::ReturnValue => return_value(core, kernel, parts, process, next),
@@ -54,12 +52,11 @@ fn perform_plainly<C: Core>(
     }
 }
 
-/// An operator of this row is performed in a process; a private one on a copy of the private part.
+/// An operator of this row is performed in a process.
 pub fn perform<C: Core>(
     core: &mut C,
     kernel: &mut Kernel,
     parts: &mut Parts,
-    words: &mut Words,
     process: u32,
     row: Row,
     op: &Operator,
@@ -78,6 +75,6 @@ pub fn perform<C: Core>(
 {
     match row {
         Row::Enter => enter(core, kernel, parts, process, next),
-        _ => hindered(perform_plainly(core, kernel, parts, words, process, row, op, next)),
+        _ => hindered(perform_plainly(core, kernel, parts, process, row, op, next)),
     }
 }

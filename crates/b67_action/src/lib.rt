@@ -10,11 +10,14 @@ mod laws;
 mod next;
 mod onward;
 mod own;
+mod room;
 mod rows;
+mod running;
 mod words;
 
 pub use done::Done;
 pub use laws::actions_make_able;
 pub use next::action;
 pub use onward::go_on;
-pub use own::{base_of, put_words, take_words};
+pub use own::{put_words, take_words};
+pub use running::{Ran, run_own};

@@ -18,11 +18,9 @@ use b67_private::{Prepared, next_operator};
 use b67_reach::{InterruptKind, Parts};
 use b67_segment::Pointer;
 use b67_store::Core;
-use b67_table::Words;
 
 /// Performs the next operator of a process, whatever its class, as the operator table says, and answers what it came to.
-/// Where the process's segment was decoded at its level, the table of its operators saves the decoding. A private operator
-/// is performed on `words`, whatever they are. After an operator that was performed `woken` has the processes that it
+/// Where the process's segment was decoded at its level, the table of its operators saves the decoding. After an operator that was performed `woken` has the processes that it
 /// released, in their order, and after any other nobody. NoMemory comes only from an intrinsic that makes something: arrays, an
 /// event, a process or a line; then the image is as it was.
 pub fn action<C: Core>(
@@ -31,7 +29,6 @@ pub fn action<C: Core>(
     parts: &mut Parts,
     process: u32,
     table: Option<&Prepared>,
-    words: &mut Words,
 ) -> Done
     requires valid { IsValid parts.old.code (image_of (C.Core.stacks core.old) (C.Core.rows core.old) kernel.old.events parts.old) }
     requires able { is_able (numbered parts.old.states.items process) ≡ true }
@@ -56,7 +53,7 @@ pub fn action<C: Core>(
         return Done::Interrupt(InterruptKind::BadCode);
     };
     let row = row_of(&op, at.place);
-    let answer = perform(core, kernel, parts, words, process, row, &op, next);
+    let answer = perform(core, kernel, parts, process, row, &op, next);
     // no store has more rows than it has numbers for
     let _ = core.counted();
     match answer {

@@ -1,10 +1,8 @@
-// Private operators, performed on a copy of the upper words of a private part.
-ghost use Rattle.std.specs.Prelude.{◌≡◌, ◌+◌, ◌<◌, ◌≤◌, ◌++◌, IfSome, IsSome, drop, length, reverse, take, vec_capacity};
-ghost use Rattle.b67_control.specs.Display.{levels};
+// Private operators of a process, and words of a process that are copied and put back.
+ghost use Rattle.std.specs.Prelude.{◌≡◌, ◌+◌, ◌≤◌, ◌++◌, IfSome, IsSome, drop, length, reverse, take, vec_capacity};
 ghost use Rattle.b67_list.specs.Numbered.{numbered};
 ghost use Rattle.b67_ops.specs.Spelling.{Fits};
 ghost use Rattle.b67_store.specs.Store.{stack_at, words_of, with_stack, stack_limit};
-ghost use Rattle.b67_table.specs.Private.{floor};
 ghost use Rattle.b67_linkage.specs.Held.{IsLinked};
 ghost use Rattle.b67_operators.specs.Leaves.{IsLinkedIn};
 ghost use Rattle.b67_private.specs.Parts.{IsPart};
@@ -13,28 +11,11 @@ ghost use Rattle.b67_action.specs.Own.{part_of, stop_by, DoesOwn, DoesOwnIn};
 
 use b67_linkage::{cut_words, push_word};
 use b67_ops::Operator;
-use b67_private::{REACH, operate};
-use b67_reach::{Registers, Stop, floor};
+use b67_private::operate;
+use b67_reach::{Registers, Stop};
 use b67_store::Core;
 use b67_table::Words;
 use b67_word::Place;
-
-/// The base from which on at most so many words of a private part are copied: so many, or all of it.
-pub fn base_of(regs: &Registers, most: u32) -> u32
-    requires level { regs.now.ll < levels }
-    requires above { floor regs.now ≤ regs.now.s }
-    ensures above { floor regs.now ≤ result }
-    ensures within { result ≤ regs.now.s }
-    ensures few { regs.now.s ≤ result + most }
-    ensures enough { floor regs.now < result → result + most ≡ regs.now.s }
-{
-    let base = floor(regs);
-    if regs.s - base > most {
-        regs.s - most
-    } else {
-        base
-    }
-}
 
 /// The words of a process's stack from a base on are copied.
 pub fn take_words<C: Core>(core: &C, regs: &Registers, base: u32, words: &mut Words)
@@ -42,8 +23,7 @@ pub fn take_words<C: Core>(core: &C, regs: &Registers, base: u32, words: &mut Wo
     requires within { base ≤ regs.now.s }
     ensures { words.new ≡ reverse (drop base (words_of (C.Core.stacks core.now) regs.now.stack)) }
 {
-    let length = words.len();
-    words.cut(length);
+    words.begin(base);
     let mut at = base;
     'taking: while at < regs.s {
         let place = Place {
@@ -82,11 +62,10 @@ fn stop_by(stop: b67_private::Stop) -> Stop
     }
 }
 
-/// A private operator is performed on a copy of the words that it can take off. What lies below them costs nothing.
+/// A private operator is performed on the words of its stack where they are.
 pub fn perform_own<C: Core>(
     core: &mut C,
     regs: &mut Registers,
-    words: &mut Words,
     op: &Operator,
     next: u16,
 ) -> Result<(), Stop>
@@ -95,14 +74,12 @@ pub fn perform_own<C: Core>(
     requires fits { Fits regs.old.ll op.now }
     ensures { DoesOwn op.now next (own (C.Core.stacks core.old) (C.Core.rows core.old) regs.old) (own (C.Core.stacks core.new) (C.Core.rows core.new) regs.new) result }
 {
-    let base = base_of(regs, REACH);
     let stack = regs.stack;
-    take_words(core, regs, base, words);
-    match operate(regs, words, op, next) {
-        Ok(()) => {
-            put_words(core, stack, base, words);
-            Ok(())
-        }
+    let room = core.room(stack);
+    let answer = operate(regs, room, op, next);
+    cut_words(core, stack, regs.s);
+    match answer {
+        Ok(()) => Ok(()),
         Err(stop) => Err(stop_by(stop)),
     }
 }
@@ -112,7 +89,6 @@ pub fn perform_own_in<C: Core>(
     core: &mut C,
     all: &mut Vec<Registers>,
     process: u32,
-    words: &mut Words,
     op: &Operator,
     next: u16,
 ) -> Result<(), Stop>
@@ -123,5 +99,5 @@ pub fn perform_own_in<C: Core>(
     ensures room { vec_capacity all.old ≤ vec_capacity all.new }
 {
     let regs = &mut all[process as usize - 1];
-    perform_own(core, regs, words, op, next)
+    perform_own(core, regs, op, next)
 }

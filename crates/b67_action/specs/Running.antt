@@ -1,0 +1,63 @@
+-- A run of a process on the lent room of its own stack: plain operators, and actions of its own that go on.
+use Rattle.std.specs.Prelude.{◌≡◌, ℕ, ◌+◌, ◌<◌, true, false, List, [], take, Some}
+use Rattle.b67_list.specs.Numbered.{numbered}
+use Rattle.b67_word.specs.Word.{Word}
+use Rattle.b67_control.specs.declared.Registers.{Registers}
+use Rattle.b67_segment.specs.declared.code.Code.{Code}
+use Rattle.b67_store.specs.Store.{words_of, with_stack}
+use Rattle.b67_table.specs.Image.{Image, is_able}
+use Rattle.b67_table.specs.Runs.{Plains}
+use Rattle.b67_table.specs.Table.{plain}
+use Rattle.b67_table.specs.Valid.{IsValid}
+use Rattle.b67_reach.specs.Images.{own, with_own}
+use Rattle.b67_action.specs.declared.running.Ran.{Ran}
+use Rattle.b67_action.specs.Onward.{HasGone}
+
+-- ---- what is lent
+
+-- a process that is able in a valid image has these registers, and its stack these first words of a room
+pub record IsLent (code : Code) (img : Image) (p : ℕ) (r : Registers) (room : List Word) : Type 0 where
+  pub valid : IsValid code img
+  pub able : is_able (numbered img.states p) ≡ true
+  pub has : numbered img.regs p ≡ Some r
+  pub words : words_of img.stacks r.stack ≡ take r.s room
+
+-- the image with these registers for the process's own, and these words of a room for its stack's
+abbrev pub given_back : Registers → List Word → ℕ → Image → Image
+given_back r room p img = with_own (own (with_stack img.stacks r.stack (take r.s room)) img.rows r) p img
+
+-- ---- a run
+
+-- these are as they were
+pub record StaysCalm (old new : Image) : Type 0 where
+  pub rows : new.rows ≡ old.rows
+  pub states : new.states ≡ old.states
+  pub started : new.started ≡ old.started
+  pub fault : new.fault ≡ old.fault
+
+-- so many plain operators, and fewer than the most only where the next one is not plain
+pub record IsStretchOf (code : Code) (p n most : ℕ) (old new : Image) : Type 0 where
+  pub plains : Plains code p old n new
+  pub stops : n < most → plain code new p ≡ false
+  pub calm : StaysCalm old new
+
+-- the next operator is an action that went on, and released and started nobody
+pub record GoesOn (code : Code) (p : ℕ) (old new : Image) : Type 0 where
+  pub action : plain code old p ≡ false
+  pub gone : HasGone code old p new []
+  pub calm : StaysCalm old new
+
+-- so many entries, with so many operators in all: each some plain operators, and then an action that went on
+pub data Walks (code : Code) (p : ℕ) : Image → ℕ → ℕ → Image → Type 0 where
+  stay : {a : Image} → Walks code p a 0 0 a
+  go : {a b c d : Image} {n m k : ℕ} → Walks code p a n m b → Plains code p b k c → GoesOn code p c d → Walks code p a (n + 1) (m + (k + 1)) d
+
+-- So many entries, and then so many plain operators of the next one; they are fewer than the most in all only where the entries are as many as
+-- were allowed, or what comes next is no such action.
+pub record HasRun (code : Code) (p most : ℕ) (old : Image) (ran : Ran) (new : Image) : Type 0 where
+  pub between : Image
+  pub walks : Walks code p old ran.entries ran.operators between
+  pub plains : Plains code p between ran.plain new
+  pub stops : ran.operators + ran.plain < most → plain code new p ≡ false
+  pub valid : IsValid code new
+  pub calm : StaysCalm old new

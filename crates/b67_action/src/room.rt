@@ -1,0 +1,125 @@
+// VALC, STOD and BRUN back on the lent room of a process's own stack, where they read and write operands of its cells only.
+ghost use Rattle.std.specs.Prelude.{◌≡◌, ◌<◌, IfSome, false, true};
+ghost use Rattle.b67_control.specs.Display.{levels};
+ghost use Rattle.b67_table.specs.Privacy.{Keeps};
+ghost use Rattle.b67_table.specs.Rows.{value_call, store, turn};
+ghost use Rattle.b67_private.specs.Actions.{words_program, IsHeldWords};
+ghost use Rattle.b67_action.specs.OnRoom.{HoldsOperand, IsRoom, PerformsOn};
+
+use b67_control::Irw;
+use b67_ops::{BranchKind, Couple};
+use b67_private::WordsRow;
+use b67_reach::{Registers, floor, frame_at, is_operand};
+use b67_store::MOST_STACK_WORDS;
+use b67_word::Word;
+
+// The place in its own stack of the cell that a couple names, where an operand stands in it.
+#[inline(always)]
+fn operand_at(regs: &Registers, room: &[Word], level: u8, index: u16) -> Option<u32>
+    requires level { level < levels }
+    requires room { IsRoom regs.now room.now }
+    ensures { IfSome result (λ at. HoldsOperand regs.now room.now level index at) }
+{
+    let Some(frame) = frame_at(regs, level) else {
+        return None;
+    };
+    let at = u32::from(frame.at) + u32::from(index);
+    if frame.stack != regs.stack || at >= regs.s {
+        return None;
+    }
+    if is_operand(room[at as usize]) {
+        Some(at)
+    } else {
+        None
+    }
+}
+
+// VALC of such a cell: its operand is pushed, where the stack has room.
+#[inline(always)]
+fn value(regs: &mut Registers, room: &mut [Word], couple: Couple, next: u16) -> bool
+    requires held { couple.level < levels }
+    requires room { IsRoom regs.old room.old }
+    ensures done { result ≡ true → PerformsOn (value_call couple regs.old next) regs.old room.old regs.new room.new }
+    ensures none { result ≡ false → (regs.new ≡ regs.old) × (room.new ≡ room.old) }
+    ensures keeps { Keeps regs.old regs.new }
+{
+    let Some(at) = operand_at(regs, room, couple.level, couple.index) else {
+        return false;
+    };
+    let top = regs.s as usize;
+    if top >= MOST_STACK_WORDS {
+        return false;
+    }
+    room[top] = room[at as usize];
+    regs.s += 1;
+    regs.place = next;
+    true
+}
+
+// STOD of an operand by an IRW of such a cell: it is stored there, and both are dropped.
+#[inline(always)]
+fn store(regs: &mut Registers, room: &mut [Word], next: u16) -> bool
+    requires room { IsRoom regs.old room.old }
+    ensures done { result ≡ true → PerformsOn (store false regs.old next) regs.old room.old regs.new room.new }
+    ensures none { result ≡ false → (regs.new ≡ regs.old) × (room.new ≡ room.old) }
+    ensures keeps { Keeps regs.old regs.new }
+{
+    if floor(regs) + 2 > regs.s {
+        return false;
+    }
+    let top = regs.s as usize;
+    let word = room[top - 1];
+    let Some(reference) = Irw::unpack(room[top - 2]) else {
+        return false;
+    };
+    let Some(at) = operand_at(regs, room, reference.level, reference.index) else {
+        return false;
+    };
+    if !is_operand(word) {
+        return false;
+    }
+    room[at as usize] = word;
+    regs.s -= 2;
+    regs.place = next;
+    true
+}
+
+// BRUN back.
+#[inline(always)]
+fn turn(regs: &mut Registers, room: &[Word], kind: BranchKind, target: u16, next: u16) -> bool
+    requires room { IsRoom regs.old room.now }
+    ensures done { result ≡ true → PerformsOn (turn kind target regs.old next) regs.old room.now regs.new room.now }
+    ensures none { result ≡ false → regs.new ≡ regs.old }
+    ensures keeps { Keeps regs.old regs.new }
+{
+    match kind {
+        BranchKind::Brun => {
+            regs.place = target;
+            true
+        }
+        BranchKind::Brfl | BranchKind::Brtr => false,
+    }
+}
+
+/// Performs an action by its row where it is one of these, and answers whether it did. Else nothing is done.
+#[inline(always)]
+pub fn perform_on_room(regs: &mut Registers, room: &mut [Word], row: WordsRow, next: u16) -> bool
+    requires held { IsHeldWords row }
+    requires room { IsRoom regs.old room.old }
+    ensures done { result ≡ true → PerformsOn (words_program row regs.old next) regs.old room.old regs.new room.new }
+    ensures none { result ≡ false → (regs.new ≡ regs.old) × (room.new ≡ room.old) }
+    ensures keeps { Keeps regs.old regs.new }
+{
+    match row {
+        WordsRow::ValueCall(couple) => value(regs, room, couple, next),
+        WordsRow::Store(keeps) => {
+            if keeps {
+                false
+            } else {
+                store(regs, room, next)
+            }
+        }
+        WordsRow::Turn(kind, target) => turn(regs, room, kind, target, next),
+        _ => false,
+    }
+}
