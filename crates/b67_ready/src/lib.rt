@@ -4,7 +4,7 @@
 #![tactic(auto)]
 
 ghost use Rattle.std.specs.Prelude.{◌≡◌, ℕ, ◌+◌, ◌<◌, ◌≤◌, ◌^◌, [], ◌∷◌, ◌++◌, IfOk, length, Option, Some, List, slice_get};
-ghost use Rattle.b67_ready.specs.Ready.{Puts, Takes};
+ghost use Rattle.b67_ready.specs.Ready.{Puts, Takes, TakesAgain, counted_times};
 ghost use Rattle.b67_ready.specs.Turning.{Move, taken, takes_in};
 
 mod order;
@@ -23,6 +23,9 @@ pub trait Rule: Drop {
         requires { 0 < length }
         ensures value { result ≡ pick self.now length takes }
         ensures below { result < length };
+
+    // The place is one of the queue, at each number of takes.
+    ghost within: { (rule : Self) (length takes : ℕ) → 0 < length → pick rule length takes < length };
 }
 
 /// A queue of processes under a rule.
@@ -81,6 +84,15 @@ impl<P: Rule> Dispatcher<P> {
         let at = self.rule.pick(self.waiting.len() as u32, self.takes);
         self.takes = self.takes.saturating_add(1);
         Some(self.waiting.remove(at as usize))
+    }
+
+    /// As if a process, whichever, were put and then taken, so many times: where nobody else waits, it is the one that the rule picks.
+    pub fn take_again(&mut self, times: u32)
+        requires { 0 < times → self.old.waiting ≡ [] }
+        ensures again { (process : ℕ) → TakesAgain P.pick process self.old times self.new }
+        ensures counted { self.new ≡ record self.old { takes = counted_times times self.old.takes } }
+    {
+        self.takes = self.takes.saturating_add(u64::from(times));
     }
 
     /// How many wait.

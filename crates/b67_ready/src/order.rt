@@ -18,8 +18,11 @@ pub enum Order {
 
 impl Rule for Order {
     ghost use Rattle.b67_ready.specs.Orders.{place_of};
+    ghost use Rattle.b67_ready.specs.Within.{place_within};
 
     ghost pick = { place_of };
+
+    ghost within = { place_within };
 
     fn pick(&self, length: u32, takes: u64) -> u32 {
         match self {

@@ -1,7 +1,7 @@
--- One more action after those of a schedule.
+-- More actions of a process after those of a schedule.
 use Rattle.std.proofs.Common.{◌≡◌, ℕ, ◌+◌, ◌-◌, ◌<◌, ◌≤◌, List, [], ◌∷◌, ◌++◌, length, get_or, take, drop, set, replicate, zero, suc, sym, ap, subst, arith, ◌∙◌, ⊎_elim, append_assoc}
 use Rattle.std.specs.List.{All}
-use Rattle.std.proofs.lemmas.List.{append-nil, length-append, length-set, length-replicate, replicate_more, get_or_append_left, get_or_push, get_or-set_same, get_or-set_other, get_or_default, length_push, take_more, take_all, set_split, drop_all}
+use Rattle.std.proofs.lemmas.List.{append-nil, length-append, length-set, length-replicate, replicate-append-replicate, get_or_append_left, get_or_push, get_or-set_same, get_or-set_other, get_or_default, length_push, take_more, take_all, set_split, drop_all}
 use Rattle.std.proofs.lemmas.List.Concat.{flat_map-append}
 use Rattle.std.proofs.lemmas.List.Elements.{All-head, All-tail, All-push, All-set}
 use Rattle.std.proofs.lemmas.Bool.{cases_eq, cases_lt}
@@ -9,7 +9,7 @@ use Rattle.b67_schedule.specs.declared.Run.{Run}
 use Rattle.b67_schedule.specs.Schedules.{most, entries, IsRun, IsSchedule, IsLast}
 
 -- the entries of a last run
-entries-push : (runs : List Run) (run : Run) → entries (runs ++ run ∷ []) ≡ entries runs ++ replicate run.times run.process
+pub entries-push : (runs : List Run) (run : Run) → entries (runs ++ run ∷ []) ≡ entries runs ++ replicate run.times run.process
 entries-push runs run =
     flat_map-append (λ (r : Run). replicate r.times r.process) runs (run ∷ []) ∙ ap (λ e. entries runs ++ e) (append-nil (replicate run.times run.process))
 
@@ -49,48 +49,45 @@ process-set runs n k run d inside same =
     rw e (ap (λ (r : Run). r.process) written ∙ same ∙ ap (λ (r : Run). r.process) default))
     (λ (other : k ≡ n → ⊥). ap (λ (r : Run). r.process) (get_or-set_other runs n k run d other)) (cases_eq k n)
 
--- a last run that is longer by one
-pub entries-raised : (runs : List Run) (last : Run) → 0 < length runs → last ≡ get_or runs (length runs - 1) last →
-    entries (set runs (length runs - 1) record { process = last.process; times = last.times + 1 }) ≡ entries runs ++ last.process ∷ []
-entries-raised runs last some is =
+-- a last run that is longer
+pub entries-raised : (runs : List Run) (last : Run) (n : ℕ) → 0 < length runs → last ≡ get_or runs (length runs - 1) last →
+    entries (set runs (length runs - 1) record { process = last.process; times = last.times + n }) ≡ entries runs ++ replicate n last.process
+entries-raised runs last n some is =
     let front = take (length runs - 1) runs in
     let whole : runs ≡ front ++ last ∷ [] = split_last runs last some ∙ ap (λ (r : Run). front ++ r ∷ []) (sym is) in
-    ap entries (set_last runs record { process = last.process; times = last.times + 1 } some)
-    ∙ entries-push front record { process = last.process; times = last.times + 1 }
-    ∙ ap (λ e. entries front ++ e) (sym (replicate_more last.times last.process))
-    ∙ sym (append_assoc (entries front) (replicate last.times last.process) (last.process ∷ []))
-    ∙ ap (λ e. e ++ last.process ∷ []) (sym (entries-push front last))
-    ∙ ap (λ rs. entries rs ++ last.process ∷ []) (sym whole)
+    ap entries (set_last runs record { process = last.process; times = last.times + n } some)
+    ∙ entries-push front record { process = last.process; times = last.times + n }
+    ∙ ap (λ e. entries front ++ e) (sym (replicate-append-replicate last.times n last.process))
+    ∙ sym (append_assoc (entries front) (replicate last.times last.process) (replicate n last.process))
+    ∙ ap (λ e. e ++ replicate n last.process) (sym (entries-push front last))
+    ∙ ap (λ rs. entries rs ++ replicate n last.process) (sym whole)
 
-pub IsSchedule-raised : (runs : List Run) (last : Run) → 0 < length runs → last ≡ get_or runs (length runs - 1) last → IsSchedule runs → length (entries runs) < most →
-    IsSchedule (set runs (length runs - 1) record { process = last.process; times = last.times + 1 })
-IsSchedule-raised runs last some is valid small =
+pub IsSchedule-raised : (runs : List Run) (last : Run) (n : ℕ) → 0 < length runs → last ≡ get_or runs (length runs - 1) last → IsSchedule runs → length (entries runs) + n ≤ most →
+    IsSchedule (set runs (length runs - 1) record { process = last.process; times = last.times + n })
+IsSchedule-raised runs last n some is valid small =
     let inside : length runs - 1 < length runs = omega arith in
     let run : IsRun last = subst IsRun (sym is) (valid.numbers (length runs - 1) last inside) in
     let times = times-le runs (length runs - 1) last inside in
     let same : last.times ≡ (get_or runs (length runs - 1) last).times = ap (λ (r : Run). r.times) is in
-    let raised : Run = record { process = last.process; times = last.times + 1 } in
+    let raised : Run = record { process = last.process; times = last.times + n } in
     let process : raised.process ≡ (get_or runs (length runs - 1) raised).process =
     ap (λ (r : Run). r.process) is ∙ ap (λ (r : Run). r.process) (get_or_default runs (length runs - 1) last raised inside) in
     record {
       numbers = All-set IsRun runs (length runs - 1) raised
-          record { process_least = run.process_least; process_greatest = run.process_greatest; times_least = omega arith; times_greatest = omega arith } valid.numbers;
+          record { process_least = run.process_least; process_greatest = run.process_greatest; times_least = omega (arith, run.times_least); times_greatest = omega arith } valid.numbers;
       differ = λ k d within equal. valid.differ k d (rw length-set at within)
           (sym (process-set runs (length runs - 1) k raised d inside process) ∙ equal ∙ process-set runs (length runs - 1) (k + 1) raised d inside process);
       few = rw length-set valid.few;
     }
 
 -- a new last run
-pub entries-pushed : (runs : List Run) (process : ℕ) → entries (runs ++ record { process = process; times = 1 } ∷ []) ≡ entries runs ++ process ∷ []
-entries-pushed runs process = entries-push runs record { process = process; times = 1 }
-
-pub IsSchedule-pushed : (runs : List Run) (process : ℕ) → IsSchedule runs → length (entries runs) < most → 1 ≤ process → process ≤ most → (IsLast runs process → ⊥) →
-    IsSchedule (runs ++ record { process = process; times = 1 } ∷ [])
-IsSchedule-pushed runs process valid small least greatest new =
+pub IsSchedule-pushed : (runs : List Run) (process n : ℕ) → IsSchedule runs → length (entries runs) + n ≤ most → 1 ≤ n → 1 ≤ process → process ≤ most → (IsLast runs process → ⊥) →
+    IsSchedule (runs ++ record { process = process; times = n } ∷ [])
+IsSchedule-pushed runs process n valid small some least greatest new =
     let count = length-le-entries runs valid.numbers in
-    let run : Run = record { process = process; times = 1 } in
+    let run : Run = record { process = process; times = n } in
     record {
-      numbers = All-push IsRun runs run valid.numbers record { process_least = least; process_greatest = greatest; times_least = omega arith; times_greatest = omega arith };
+      numbers = All-push IsRun runs run valid.numbers record { process_least = least; process_greatest = greatest; times_least = some; times_greatest = omega arith };
       differ = λ k d within equal.
           let long : length (runs ++ run ∷ []) ≡ length runs + 1 = length_push runs run in
           ⊎_elim (λ (before : k + 1 < length runs).
@@ -108,24 +105,29 @@ IsSchedule-pushed runs process valid small least greatest new =
       few = rw length_push (omega arith);
     }
 
--- what becomes of a schedule: one more action of that process
-pub record Added (old new : List Run) (process : ℕ) : Type 0 where
+-- what becomes of a schedule: so many more actions of that process
+pub record Added (old new : List Run) (process n : ℕ) : Type 0 where
   pub valid : IsSchedule new
-  pub added : entries new ≡ entries old ++ process ∷ []
-  pub count : length (entries new) ≡ length (entries old) + 1
+  pub added : entries new ≡ entries old ++ replicate n process
+  pub count : length (entries new) ≡ length (entries old) + n
 
-counted : (old new : List Run) (process : ℕ) → IsSchedule new → entries new ≡ entries old ++ process ∷ [] → Added old new process
-counted old new process valid added = record { valid = valid; added = added; count = ap length added ∙ length_push (entries old) process }
+counted : (old new : List Run) (process n : ℕ) → IsSchedule new → entries new ≡ entries old ++ replicate n process → Added old new process n
+counted old new process n valid added = record {
+  valid = valid;
+  added = added;
+  count = ap length added ∙ length-append (entries old) (replicate n process) ∙ ap (λ k. length (entries old) + k) (length-replicate n process);
+}
 
-pub raised : (runs : List Run) (count process : ℕ) (last : Run) → count ≡ length runs → IsLast runs process → last ≡ get_or runs (count - 1) last →
-    IsSchedule runs → length (entries runs) < most → Added runs (set runs (count - 1) record { process = last.process; times = last.times + 1 }) process
-raised runs count process last is ends read valid small =
+pub raised : (runs : List Run) (count process n : ℕ) (last : Run) → count ≡ length runs → IsLast runs process → last ≡ get_or runs (count - 1) last →
+    IsSchedule runs → length (entries runs) + n ≤ most → Added runs (set runs (count - 1) record { process = last.process; times = last.times + n }) process n
+raised runs count process n last is ends read valid small =
     let at_end : last ≡ get_or runs (length runs - 1) last = rw is at read in
     let same : last.process ≡ process = ap (λ (r : Run). r.process) at_end ∙ ends.1 last in
-    rw (is, ← same) (counted runs (set runs (length runs - 1) record { process = last.process; times = last.times + 1 }) last.process
-    (IsSchedule-raised runs last ends.0 at_end valid small) (entries-raised runs last ends.0 at_end))
+    rw (is, ← same) (counted runs (set runs (length runs - 1) record { process = last.process; times = last.times + n }) last.process n
+    (IsSchedule-raised runs last n ends.0 at_end valid small) (entries-raised runs last n ends.0 at_end))
 
-pub pushed : (runs new : List Run) (process : ℕ) → new ≡ runs ++ record { process = process; times = 1 } ∷ [] → IsSchedule runs → length (entries runs) < most →
-    1 ≤ process → process ≤ most → (IsLast runs process → ⊥) → Added runs new process
-pushed runs new process is valid small least greatest other =
-    rw is (counted runs (runs ++ record { process = process; times = 1 } ∷ []) process (IsSchedule-pushed runs process valid small least greatest other) (entries-pushed runs process))
+pub pushed : (runs new : List Run) (process n : ℕ) → new ≡ runs ++ record { process = process; times = n } ∷ [] → IsSchedule runs → length (entries runs) + n ≤ most → 1 ≤ n →
+    1 ≤ process → process ≤ most → (IsLast runs process → ⊥) → Added runs new process n
+pushed runs new process n is valid small some least greatest other =
+    rw is (counted runs (runs ++ record { process = process; times = n } ∷ []) process n
+    (IsSchedule-pushed runs process n valid small some least greatest other) (entries-push runs record { process = process; times = n }))

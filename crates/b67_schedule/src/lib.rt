@@ -3,7 +3,7 @@
 
 mod reading;
 
-ghost use Rattle.std.specs.Prelude.{◌≡◌, ℕ, ◌+◌, ◌<◌, ◌≤◌, [], ◌∷◌, ◌++◌, ◌↔◌, length, IsTrue, IfOk, OnOk};
+ghost use Rattle.std.specs.Prelude.{◌≡◌, ℕ, ◌+◌, ◌<◌, ◌≤◌, [], ◌∷◌, ◌++◌, ◌↔◌, length, replicate, IsTrue, IfOk, OnOk};
 ghost use Rattle.std.specs.Fmt.{decimal};
 ghost use Rattle.std.specs.List.{flat_map};
 ghost use Rattle.b67_schedule.specs.Schedules.{most, entries, IsSchedule, IsLast, run_line, ScheduleText};
@@ -69,12 +69,31 @@ impl Schedule {
         ensures longer { length self.new.runs ≤ length self.old.runs + 1 }
         ensures room { self.old.room ≤ self.new.room }
     {
-        self.actions += 1;
+        self.push_many(process, 1);
+    }
+
+    /// Adds so many actions of this process after the others; where there are none of them, all is as it was. Takes no memory.
+    pub fn push_many(&mut self, process: u32, times: u32)
+        requires room { length self.old.runs < self.old.room }
+        requires least { 1 ≤ process }
+        requires greatest { process ≤ most }
+        requires actions { length (entries self.old.runs) + times ≤ most }
+        ensures added { entries self.new.runs ≡ entries self.old.runs ++ replicate times process }
+        ensures none { times ≡ 0 → self.new ≡ self.old }
+        ensures valid { IsSchedule self.new.runs }
+        ensures longer { length self.new.runs ≤ length self.old.runs + 1 }
+        ensures room { self.old.room ≤ self.new.room }
+    {
+        let _actions = self.actions;
+        if times == 0 {
+            return;
+        }
+        self.actions += u64::from(times);
         if is_last(self.runs.as_slice(), process) {
             let last = self.runs.len() - 1;
-            self.runs[last].times += 1;
+            self.runs[last].times += times;
         } else {
-            self.runs.push(Run { process, times: 1 }).unwrap();
+            self.runs.push(Run { process, times }).unwrap();
         }
     }
 
