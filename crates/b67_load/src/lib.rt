@@ -8,3 +8,4 @@ mod opening;
 mod words;
 
 pub use first::load;
+pub use words::first_registers;

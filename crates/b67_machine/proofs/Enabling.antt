@@ -10,7 +10,7 @@ use Rattle.b67_machine.specs.Kept.{Kept}
 use Rattle.b67_machine.specs.Stepping.{operators_in, Goes, Steps, StepsBy}
 
 -- from an image with the same states
-able_from : (a b after : Image) (p : ℕ) (released : List ℕ) → b.states ≡ a.states → b.started ≡ a.started → AbleAfter b after p released → AbleAfter a after p released
+pub able_from : (a b after : Image) (p : ℕ) (released : List ℕ) → b.states ≡ a.states → b.started ≡ a.started → AbleAfter b after p released → AbleAfter a after p released
 able_from a b after p released s n k =
     let same : newly b.started after.started ≡ newly a.started after.started = ap (λ (m : ℕ). newly m after.started) n in
     record {

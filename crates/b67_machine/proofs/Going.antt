@@ -16,7 +16,7 @@ use Rattle.b67_machine.specs.Kept.{Kept, Counts}
 use Rattle.b67_machine.specs.Reads.{machine_end}
 use Rattle.b67_machine.specs.Stepping.{IsStretched, Goes}
 use Rattle.b67_machine.proofs.Ends.{goes_on, same_end, no_end}
-use Rattle.b67_machine.proofs.Plainly.{plains_keep}
+use Rattle.b67_machine.proofs.Plainly.{live_of, plains_keep}
 
 -- ---- a stretch
 
@@ -28,10 +28,10 @@ kept_is old new c r l k =
     ∙ ap (λ (x : Option ℕ). record new { code = old.code; released = old.released; limit = x }) l
     ∙ ap (λ (x : Bool). record new { code = old.code; released = old.released; limit = old.limit; lacked = x }) k
 
-pub goes_by : (old new : Kept) (code : Code) (img : Image) (p n most : ℕ) → old.code ≡ code → old.image ≡ img → IsValid code img → is_able (numbered img.states p) ≡ true
+pub goes_live : (old new : Kept) (code : Code) (img : Image) (p n most : ℕ) → old.code ≡ code → old.image ≡ img → IsValid code img → is_live (numbered img.states p) ≡ true
     → IsStretched code p n most img new.image → Counts old.counts p n new.counts → new ≡ record old { image = new.image; counts = new.counts } → Goes old p n new
-goes_by old new code img p n most c i v able s counts others =
-    let k = plains_keep code p img new.image n v able s.performed in
+goes_live old new code img p n most c i v live s counts others =
+    let k = plains_keep code p img new.image n v live s.performed in
     record {
       performed = subst (λ (x : Code). Plains x p old.image n new.image) (sym c) (subst (λ (x : Image). Plains code p x n new.image) (sym i) s.performed);
       counts = counts;
@@ -40,6 +40,11 @@ goes_by old new code img p n most c i v able s counts others =
       started = k.started ∙ ap (λ (x : Image). x.started) (sym i);
       fault = k.fault ∙ ap (λ (x : Image). x.fault) (sym i);
     }
+
+pub goes_by : (old new : Kept) (code : Code) (img : Image) (p n most : ℕ) → old.code ≡ code → old.image ≡ img → IsValid code img → is_able (numbered img.states p) ≡ true
+    → IsStretched code p n most img new.image → Counts old.counts p n new.counts → new ≡ record old { image = new.image; counts = new.counts } → Goes old p n new
+goes_by old new code img p n most c i v able s counts others =
+    goes_live old new code img p n most c i v (live_of (numbered img.states p) able) s counts others
 
 -- ---- between a stretch and its action
 

@@ -5,8 +5,12 @@ pub mod Going
 pub mod Enabling
 pub mod Raised
 pub mod Begun
+pub mod Chains
 pub mod Tailing
 pub mod Entering
 pub mod Finishing
 pub mod Following
 pub mod Lacking
+pub mod Lending
+pub mod Differing
+pub mod Putting

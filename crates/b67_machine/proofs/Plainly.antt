@@ -1,11 +1,9 @@
 -- What plain operators of a process leave as it is.
 use Rattle.std.specs.Prelude.{◌&&◌}
-use Rattle.std.proofs.Common.{◌≡◌, refl, sym, ap, subst, ◌∙◌, ℕ, zero, suc, ◌-◌, ◌<◌, Bool, true, false, List, set, take, drop, get_or, ◌++◌, Option, Some, None, IsSome, arith}
+use Rattle.std.proofs.Common.{◌≡◌, refl, sym, ap, subst, ◌∙◌, ℕ, zero, suc, ◌-◌, ◌<◌, ◌≤◌, Bool, true, false, List, [], ◌∷◌, length, set, take, get_or, ◌++◌, Option, Some, None, IsSome, arith}
 use Rattle.std.specs.Prelude.{reverse}
-use Rattle.std.proofs.lemmas.List.{reverse-append, reverse-reverse}
 use Rattle.std.proofs.lemmas.Option.{get_or_from_slice_get}
 use Rattle.b67_list.specs.Numbered.{numbered, set_numbered}
-use Rattle.b67_word.specs.Word.{Word}
 use Rattle.b67_control.specs.declared.Registers.{Registers}
 use Rattle.b67_segment.specs.declared.code.Code.{Code}
 use Rattle.b67_operators.proofs.Leaves.{set_here}
@@ -22,13 +20,11 @@ use Rattle.b67_table.specs.Valid.{IsValid}
 use Rattle.b67_table.proofs.AllValid.{operators_keep_valid}
 use Rattle.b67_table.proofs.FirstValid.{valid_stands, counted}
 use Rattle.b67_table.proofs.Limit.{limit_comes_last}
-use Rattle.b67_table.proofs.Stacks.{set_set_here}
+use Rattle.b67_table.proofs.Lists.{numbered_from, numbered_within}
 use Rattle.b67_table.specs.Privacy.{Keeps as RegistersKeep}
 use Rattle.b67_table.proofs.Privacy.{private_is_private}
-use Rattle.b67_private.specs.Parts.{PlainParts, is_plain, part_with}
+use Rattle.b67_private.specs.Parts.{PlainParts, is_plain}
 use Rattle.b67_private.proofs.Plains.{stretches_are_own}
-use Rattle.b67_action.specs.Own.{part_from}
-use Rattle.b67_action.proofs.Ready.{registers_there}
 use Rattle.b67_machine.specs.Stepping.{IsStretched}
 
 pub live_of : (o : Option ProcessState) → is_able o ≡ true → is_live o ≡ true
@@ -56,19 +52,34 @@ pub record Keeps (code : Code) (a b : Image) : Type 0 where
   pub started : b.started ≡ a.started
   pub fault : b.fault ≡ a.fault
 
-one_keeps : (code : Code) (p : ℕ) (a b : Image) → IsValid code a → is_able (numbered a.states p) ≡ true → plain code a p ≡ true → table code a p ≡ gives b → Keeps code a b
-one_keeps code p a b v able e t =
-    let live = live_of (numbered a.states p) able in
-    let here = some_of (numbered a.regs p) (registers_there code a p v able) in
+there : {X : Type 0} (xs : List X) (p : ℕ) → 1 ≤ p → p ≤ length xs → IsSome (numbered xs p)
+there xs zero o h = absurd (omega (arith, o))
+there [] (suc k) o h = absurd (omega (arith, h))
+there (x ∷ xs) (suc zero) o h = refl
+there (x ∷ xs) (suc (suc k)) o h = there xs (suc k) (omega arith) (omega (arith, h))
+
+number_of : (xs : List ProcessState) (p : ℕ) (o : Option ProcessState) → numbered xs p ≡ o → is_live o ≡ true → (1 ≤ p) × (p ≤ length xs)
+number_of xs p None e l = cc
+number_of xs p (Some x) e l = (numbered_from xs p x e, numbered_within xs p x e)
+
+-- the registers of a process that lives
+pub live_there : (code : Code) (img : Image) (p : ℕ) → IsValid code img → is_live (numbered img.states p) ≡ true → (r : Registers) × (numbered img.regs p ≡ Some r)
+live_there code img p v live =
+    let n = number_of img.states p (numbered img.states p) refl live in
+    some_of (numbered img.regs p) (there img.regs p n.0 (omega (arith, n.1, v.states, v.registers)))
+
+one_keeps : (code : Code) (p : ℕ) (a b : Image) → IsValid code a → is_live (numbered a.states p) ≡ true → plain code a p ≡ true → table code a p ≡ gives b → Keeps code a b
+one_keeps code p a b v live e t =
+    let here = live_there code a p v live in
     let next = private_of_plain code a p e in
     let same = private_is_private.leaves code p here.0 a b (valid_stands code a p here.0 v live here.1) next ((limit_comes_last.new code a b p).0 t).0 in
     record { valid = operators_keep_valid.private code a b p v live next t; states = same.states; started = same.started; fault = same.fault }
 
-pub plains_keep : (code : Code) (p : ℕ) (a b : Image) (n : ℕ) → IsValid code a → is_able (numbered a.states p) ≡ true → Plains code p a n b → Keeps code a b
-plains_keep code p a b n v able stay = record { valid = v; states = refl; started = refl; fault = refl }
-plains_keep code p a b n v able (go {b = c} e t rest) =
-    let one = one_keeps code p a c v able e t in
-    let more = plains_keep code p c b _ one.valid (ap (λ (ss : List ProcessState). is_able (numbered ss p)) one.states ∙ able) rest in
+pub plains_keep : (code : Code) (p : ℕ) (a b : Image) (n : ℕ) → IsValid code a → is_live (numbered a.states p) ≡ true → Plains code p a n b → Keeps code a b
+plains_keep code p a b n v live stay = record { valid = v; states = refl; started = refl; fault = refl }
+plains_keep code p a b n v live (go {b = c} e t rest) =
+    let one = one_keeps code p a c v live e t in
+    let more = plains_keep code p c b _ one.valid (ap (λ (ss : List ProcessState). is_live (numbered ss p)) one.states ∙ live) rest in
     record { valid = more.valid; states = more.states ∙ one.states; started = more.started ∙ one.started; fault = more.fault ∙ one.fault }
 
 -- the same stack's
@@ -81,10 +92,6 @@ own_is all zero r q e f = cc
 own_is all (suc k) r q e f =
     let k_is : suc k - 1 ≡ k = omega arith in f ∙ ap (λ (n : ℕ). get_or all n q) k_is ∙ get_or_from_slice_get all k r q e
 
--- the registers of a process and the words that were taken of its stack are its part from there on
-pub taken_is : (st : Stacks) (r q : Registers) (base : ℕ) (ws : List Word) → q ≡ r → ws ≡ reverse (drop base (words_of st r.stack)) → part_with q ws ≡ part_from base st r
-taken_is st r q base ws e f = ap (λ (x : Registers). part_with x ws) e ∙ ap (λ (xs : List Word). part_with r xs) f
-
 -- what a stretch leaves is put back, and is the process's
 module _ (code : Code) (img : Image) (p : ℕ) (r : Registers) (v : IsValid code img) (able : is_able (numbered img.states p) ≡ true) (has : numbered img.regs p ≡ Some r)
     (part : Private) (n : ℕ) (plains : PlainParts code (private_of img r) n part) where
@@ -95,7 +102,7 @@ module _ (code : Code) (img : Image) (p : ℕ) (r : Registers) (v : IsValid code
   new = with_private img p (floor r) part
 
   pub kept : Keeps code img (with_private img p (floor r) part)
-  kept = plains_keep code p img (with_private img p (floor r) part) n v able (stretches_are_own code img p r v live has part n plains).performed
+  kept = plains_keep code p img (with_private img p (floor r) part) n v live (stretches_are_own code img p r v live has part n plains).performed
 
   pub put_is : (st : Stacks) (rows : Rows) (q : Registers)
       → st ≡ with_stack img.stacks part.regs.stack (take (floor r) (words_of img.stacks part.regs.stack) ++ reverse part.words) → rows ≡ img.rows → q ≡ part.regs
@@ -115,14 +122,3 @@ module _ (code : Code) (img : Image) (p : ℕ) (r : Registers) (v : IsValid code
         stops = λ less. k.next ∙ h less;
         valid = kept.valid;
       })
-
--- ---- words that change places
-
--- where words have changed places with a stack's twice, the new ones are the stack's
-pub exchanged : (st one two : Stacks) (n : ℕ) (away back : List Word) → one ≡ with_stack st n away → two ≡ with_stack one n back → two ≡ with_stack st n back
-exchanged st one two n away back e f = f ∙ ap (λ (z : Stacks). with_stack z n back) e ∙ set_set_here st n (Some away) (Some back)
-
--- the words below a place, and those that stand above it in place of others
-pub above_below : (ws us back : List Word) (n : ℕ) → back ≡ us ++ reverse (take n ws) → reverse back ≡ take n ws ++ reverse us
-above_below ws us back n e =
-    ap reverse e ∙ reverse-append us (reverse (take n ws)) ∙ ap (λ (z : List Word). z ++ reverse us) (reverse-reverse (take n ws))

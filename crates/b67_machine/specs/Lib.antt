@@ -2,7 +2,10 @@ pub mod Kept
 pub mod Machines
 pub mod Tables
 pub mod Stepping
+pub mod Entries
+pub mod Chaining
 pub mod Reads
 pub mod Beginning
 pub mod Replaying
 pub mod Lacking
+pub mod Parts

@@ -1,15 +1,21 @@
 //! The machine over the whole operator table, for any code.
 //!
 //! A [`Machine`] begins with the first image of a code ([`Machine::load`]). It performs operators of a process one by one
-//! ([`Machine::step`]), entries of a schedule ([`Machine::perform_entry`]) and whole schedules ([`Machine::replay`]).
+//! ([`Machine::step`]), entries of a schedule ([`Machine::perform_entry`]) and whole schedules ([`Machine::replay`]). The private part of a
+//! process is copied ([`Machine::copy_private`]), compared ([`Machine::differs`]) and put back ([`Machine::put_private`]), so that its plain
+//! operators can be performed elsewhere.
 #![tactic(auto)]
 
+mod comparing;
 mod counting;
+mod entries;
 mod entry;
 mod load;
 mod onward;
+mod parts;
 mod reads;
 mod replay;
+mod running;
 mod step;
 mod stretch;
 mod tables;
@@ -19,12 +25,13 @@ use b67_num::FaultKind;
 use b67_reach::Parts;
 use b67_store::Core;
 use b67_table::Words;
+pub use entries::Entered;
 pub use entry::Performed;
 pub use reads::End;
 pub use replay::{Replayed, within_entry};
 use std::marker::Model;
 pub use step::lacking_is_kept;
-use tables::Levels;
+pub use tables::{Levels, decoded, prepare};
 
 /// The fault that ended a run, and whose it was.
 #[derive(Clone, Copy)]

@@ -38,7 +38,6 @@ impl<C: Core> Machine<C> {
             &mut self.parts,
             process,
             decoded(&self.tables, segment, level),
-            &mut self.words,
         );
         settle(&mut self.parts.woken.processes, done);
         count(&mut self.counts, process, operators_in(done));

@@ -14,13 +14,12 @@ ghost use Rattle.b67_machine.specs.Tables.{AreTables};
 use crate::Machine;
 use crate::counting::count;
 use crate::tables::{Levels, decoded, prepare};
-use b67_action::{base_of, take_words};
+use b67_action::take_words;
 use b67_intrinsics::registers;
-use b67_linkage::exchange_words;
-use b67_private::{REACH, burst_in_place};
+use b67_linkage::cut_words;
+use b67_private::burst_in_place;
 use b67_reach::Parts;
 use b67_store::Core;
-use b67_table::Words;
 
 // The plain operators that come next in a process, at most so many, performed on the words of its stack where they are: how many there are
 // costs nothing.
@@ -29,7 +28,6 @@ fn perform_stretch<C: Core>(
     parts: &mut Parts,
     process: u32,
     tables: &Vec<Levels>,
-    words: &mut Words,
     most: u32,
 ) -> u32
     requires valid { (events : List Event) × IsValid parts.old.code (image_of (C.Core.stacks core.old) (C.Core.rows core.old) events parts.old) }
@@ -42,10 +40,10 @@ fn perform_stretch<C: Core>(
     let regs = registers(&parts.regs, process);
     let table = decoded(tables, regs.segment, regs.ll);
     let stack = regs.stack;
-    exchange_words(core, stack, words);
+    let room = core.room(stack);
     let own = &mut parts.regs[process as usize - 1];
-    let performed = burst_in_place(own, words, &parts.code, table, most);
-    exchange_words(core, stack, words);
+    let performed = burst_in_place(own, room, &parts.code, table, most);
+    cut_words(core, stack, own.s);
     performed
 }
 
@@ -69,24 +67,23 @@ impl<C: Core> Machine<C> {
             &mut self.parts,
             process,
             &self.tables,
-            &mut self.words,
             most,
         );
         count(&mut self.counts, process, performed);
         performed
     }
 
-    /// Tests that the next operator of a process is plain: it is private, and the operator table gives a new image.
+    /// Tests that the next operator of a process is plain: it is private, and the operator table gives a new image. It is tried on a copy
+    /// of the words of its stack.
     pub fn is_plain(&mut self, process: u32) -> bool
         requires able { is_able (numbered self.old.image.states process) ≡ true }
         requires going { machine_end self.old ≡ None }
         ensures value { result ≡ plain self.old.code self.old.image process }
         ensures same { self.new ≡ self.old }
     {
-        let regs = registers(&self.parts.regs, process);
-        let base = base_of(regs, REACH);
-        let mut regs = *regs;
-        take_words(&self.core, &regs, base, &mut self.words);
-        burst_in_place(&mut regs, &mut self.words, &self.parts.code, None, 1) == 1
+        let mut regs = *registers(&self.parts.regs, process);
+        take_words(&self.core, &regs, 0, &mut self.words);
+        let room = self.words.room(0);
+        burst_in_place(&mut regs, room, &self.parts.code, None, 1) == 1
     }
 }

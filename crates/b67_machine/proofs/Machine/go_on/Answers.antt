@@ -34,7 +34,7 @@ registers-regs-requires g c =
     c.self.invariant.0 (subst (λ (k : Kept). is_able (numbered k.image.states c.args.process) ≡ true) (sym c.self.view_is) c.requires.able)
 
 pub go_on-went-requires-clause-valid : goal.go_on-went-requires-clause-valid
-go_on-went-requires-clause-valid g c = (c.self.inside.kernel.events, c.self.invariant.0)
+go_on-went-requires-clause-valid g c = c.self.invariant.0
 
 pub go_on-went-requires-clause-table : goal.go_on-went-requires-clause-table
 go_on-went-requires-clause-table g c =
@@ -50,7 +50,7 @@ pub returns-clause-went : goal.returns-clause-went
 returns-clause-went g c = λ done.
     let old = c.args.self.now in
     let base = image_of (g.C.Core.stacks c.self.inside.core) (g.C.Core.rows c.self.inside.core) c.self.inside.kernel.events c.self.inside.parts in
-    let acted = image_of (g.C.Core.stacks c.go_on-went.new.core) (g.C.Core.rows c.go_on-went.new.core) c.self.inside.kernel.events c.go_on-went.new.parts in
+    let acted = image_of (g.C.Core.stacks c.go_on-went.new.core) (g.C.Core.rows c.go_on-went.new.core) c.go_on-went.new.kernel.events c.go_on-went.new.parts in
     let new : Kept = record {
       code = c.go_on-went.new.parts.code;
       image = with_failure acted c.self.inside.failure;
@@ -61,17 +61,27 @@ returns-clause-went g c = λ done.
     } in
     let none : c.self.inside.failure ≡ None = none_kept c.self.inside.failure (ap (λ (k : Kept). k.image.fault) c.self.view_is ∙ (goes_on old c.requires.going).fault) in
     let image : old.image ≡ base = ap (λ (k : Kept). k.image) (sym c.self.view_is) ∙ ap (λ (f : Option Failure). with_failure base f) none in
-    let gone = c.go_on-went.ensures.went c.if-not-went.false c.self.inside.kernel.events c.self.invariant.0 in
+    let gone = c.go_on-went.ensures.went c.if-not-went.false in
     subst (λ (b : Bool). StepsBy b old c.args.process Went new) (sym c.if-self.false ∙ ap (λ (k : Kept). k.lacked) c.self.view_is)
     (acts_by old new c.self.inside.parts.code base acted c.args.process Went (ap (λ (k : Kept). k.code) (sym c.self.view_is)) image refl gone.came
     (ap (λ (f : Option Failure). with_failure acted f) none)
     (subst (λ (k : Kept). Counts k.counts c.args.process 1 c.count.new.counts.items) c.self.view_is c.count.ensures.counts)
     gone.woken (λ e. gone.able) (ap (λ (k : Kept). k.limit) c.self.view_is ∙ (goes_on old c.requires.going).limit) c.if-self.false c.go_on-went.ensures.code)
 
+pub returns-clause-calm : goal.returns-clause-calm
+returns-clause-calm g c = λ done.
+    let calm = c.go_on-went.ensures.calm c.if-not-went.false in
+    record {
+      states = ap (λ v. v.items) calm.0 ∙ ap (λ (k : Kept). k.image.states) c.self.view_is;
+      started = calm.1 ∙ ap (λ (k : Kept). k.image.started) c.self.view_is;
+      fault = ap (λ (k : Kept). k.image.fault) c.self.view_is;
+      released = calm.2;
+    }
+
 pub returns-clause-valid : goal.returns-clause-valid
 returns-clause-valid g c =
-    let acted = image_of (g.C.Core.stacks c.go_on-went.new.core) (g.C.Core.rows c.go_on-went.new.core) c.self.inside.kernel.events c.go_on-went.new.parts in
-    let gone = c.go_on-went.ensures.went c.if-not-went.false c.self.inside.kernel.events c.self.invariant.0 in
+    let acted = image_of (g.C.Core.stacks c.go_on-went.new.core) (g.C.Core.rows c.go_on-went.new.core) c.go_on-went.new.kernel.events c.go_on-went.new.parts in
+    let gone = c.go_on-went.ensures.went c.if-not-went.false in
     valid_with c.go_on-went.new.parts.code acted c.self.inside.failure refl (subst (λ (k : Code). IsValid k acted) (sym c.go_on-went.ensures.code) gone.valid)
 
 pub returns-then-self-clause-valid : goal.returns-then-self-clause-valid
@@ -82,24 +92,27 @@ returns-then-self-clause-valid g c =
 
 pub invariant_of-self : goal.invariant_of-self
 invariant_of-self g c =
-    let acted = image_of (g.C.Core.stacks c.go_on-went.new.core) (g.C.Core.rows c.go_on-went.new.core) c.self.inside.kernel.events c.go_on-went.new.parts in
-    let same = c.go_on-went.ensures.stays c.if-not-went.true c.self.inside.kernel.events in (
+    let acted = image_of (g.C.Core.stacks c.go_on-went.new.core) (g.C.Core.rows c.go_on-went.new.core) c.go_on-went.new.kernel.events c.go_on-went.new.parts in
+    let same = c.go_on-went.ensures.stays c.if-not-went.true in (
       subst (λ (k : Code). IsValid k acted) (sym c.go_on-went.ensures.code) (subst (λ (i : Image). IsValid c.self.inside.parts.code i) (sym same) c.self.invariant.0),
-      record { waiting = c.self.invariant.1.waiting; released = omega (arith, c.self.invariant.1.released, c.go_on-went.ensures.room) },
+      record {
+        waiting = omega (arith, c.self.invariant.1.waiting, c.go_on-went.ensures.processes);
+        released = omega (arith, c.self.invariant.1.released, c.go_on-went.ensures.room, c.go_on-went.ensures.processes);
+      },
       c.self.invariant.2,
       subst (λ (k : Code). AreTables k c.self.inside.tables.items) (sym c.go_on-went.ensures.code) c.self.invariant.3,
     )
 
 pub returns-then-not-went-clause-valid : goal.returns-then-not-went-clause-valid
 returns-then-not-went-clause-valid g c =
-    let acted = image_of (g.C.Core.stacks c.go_on-went.new.core) (g.C.Core.rows c.go_on-went.new.core) c.self.inside.kernel.events c.go_on-went.new.parts in
-    let same = c.go_on-went.ensures.stays c.if-not-went.true c.self.inside.kernel.events in
+    let acted = image_of (g.C.Core.stacks c.go_on-went.new.core) (g.C.Core.rows c.go_on-went.new.core) c.go_on-went.new.kernel.events c.go_on-went.new.parts in
+    let same = c.go_on-went.ensures.stays c.if-not-went.true in
     valid_with c.go_on-went.new.parts.code acted c.self.inside.failure refl
     (subst (λ (k : Code). IsValid k acted) (sym c.go_on-went.ensures.code) (subst (λ (i : Image). IsValid c.self.inside.parts.code i) (sym same) c.self.invariant.0))
 
 pub returns-then-not-went-clause-stays : goal.returns-then-not-went-clause-stays
 returns-then-not-went-clause-stays g c = λ none.
-    let same = c.go_on-went.ensures.stays c.if-not-went.true c.self.inside.kernel.events in
+    let same = c.go_on-went.ensures.stays c.if-not-went.true in
     let kept : Kept = record {
       code = c.self.inside.parts.code;
       image = with_failure (image_of (g.C.Core.stacks c.self.inside.core) (g.C.Core.rows c.self.inside.core) c.self.inside.kernel.events c.self.inside.parts) c.self.inside.failure;

@@ -1,0 +1,295 @@
+-- Entries that go on, one after another, on the machine.
+use Rattle.std.specs.Prelude.{IfSome}
+use Rattle.std.proofs.Common.{◌≡◌, refl, sym, ap, subst, ◌∙◌, ℕ, zero, suc, ◌+◌, ◌-◌, ◌<◌, ◌≤◌, Bool, true, false, List, [], ◌∷◌, length, set, Option, Some, None, arith}
+use Rattle.b67_list.specs.Numbered.{numbered, set_numbered}
+use Rattle.b67_segment.specs.declared.code.Code.{Code}
+use Rattle.b67_table.specs.declared.ProcessState.{ProcessState}
+use Rattle.b67_table.specs.Image.{Image, is_able}
+use Rattle.b67_table.specs.Runs.{Plains}
+use Rattle.b67_table.specs.Runs as runs
+use Rattle.b67_table.specs.Table.{plain}
+use Rattle.b67_table.specs.Valid.{IsValid}
+use Rattle.b67_table.proofs.Lists.{numbered_set}
+use Rattle.b67_table.proofs.Stacks.{get_numbered_other}
+use Rattle.b67_action.specs.declared.done.Done.{Done}
+use Rattle.b67_action.specs.declared.done.Done.TheVariants.{Went}
+use Rattle.b67_action.specs.Able.{AbleAfter}
+use Rattle.b67_action.specs.declared.running.Ran.{Ran}
+use Rattle.b67_machine.specs.declared.entry.Performed.{Performed}
+use Rattle.b67_action.specs.Running.{GoesOn, Walks, stay, go}
+use Rattle.b67_machine.specs.Kept.{Kept, Counts, counted, or_none}
+use Rattle.b67_machine.specs.Reads.{machine_end}
+use Rattle.b67_machine.specs.Stepping.{operators_in, Acts, Steps, StepsBy, Goes, Follows, Performs}
+use Rattle.b67_machine.specs.Entries.{IsCalm, Passes, Enters}
+use Rattle.b67_machine.specs.Entries as entries
+use Rattle.b67_machine.specs.Chaining.{released_after, Runs, Passing}
+use Rattle.b67_machine.proofs.Enabling.{able_after, able_from}
+use Rattle.b67_machine.proofs.Ends.{goes_on, same_end, no_end}
+use Rattle.b67_machine.proofs.Failures.{acts_by, without}
+use Rattle.b67_machine.proofs.Going.{still_goes}
+use Rattle.b67_machine.proofs.Plainly.{live_of, plains_keep}
+
+-- ---- counts
+
+-- so many more are a process's
+more_counts : List ℕ → ℕ → ℕ → List ℕ
+more_counts counts p n = set_numbered counts p (counted counts p + n)
+
+counts_more : (counts : List ℕ) (p n : ℕ) → 1 ≤ p → p ≤ length counts → Counts counts p n (more_counts counts p n)
+unfolding more_counts
+counts_more counts p n o h = record {
+  own = ap or_none (numbered_set counts p (counted counts p + n) o h);
+  others = λ q d. ap or_none (get_numbered_other counts p q (counted counts p + n) d);
+}
+
+pub counts_then : (a b c : List ℕ) (p n m : ℕ) → Counts a p n b → Counts b p m c → Counts a p (n + m) c
+counts_then a b c p n m h k = record {
+  own = omega (arith, h.own, k.own);
+  others = λ q d. k.others q d ∙ h.others q d;
+}
+
+-- what is counted after a part of them
+counts_rest : (a b c : List ℕ) (p n m : ℕ) → Counts a p n b → Counts a p (n + m) c → Counts b p m c
+counts_rest a b c p n m h k = record {
+  own = omega (arith, h.own, k.own);
+  others = λ q d. k.others q d ∙ sym (h.others q d);
+}
+
+counts_none : (a : List ℕ) (p : ℕ) → Counts a p 0 a
+counts_none a p = record { own = omega arith; others = λ q d. refl }
+
+long_more : (counts : List ℕ) (p n : ℕ) → p ≤ length counts → p ≤ length (more_counts counts p n)
+unfolding more_counts
+long_more counts p n h = omega (arith, h, same_length counts p (counted counts p + n))
+  where
+    set_length : (xs : List ℕ) (i x : ℕ) → length (set xs i x) ≡ length xs
+    set_length [] i x = refl
+    set_length (y ∷ ys) zero x = refl
+    set_length (y ∷ ys) (suc i) x = ap suc (set_length ys i x)
+
+    same_length : (xs : List ℕ) (q x : ℕ) → length (set_numbered xs q x) ≡ length xs
+    same_length xs zero x = refl
+    same_length xs (suc i) x = set_length xs i x
+
+-- ---- an entry that goes on
+
+module _ (a b c : Kept) (p most k : ℕ) (going : machine_end b ≡ None) (goes : Goes a p k b) (less : k < most) (action : plain b.code b.image p ≡ false)
+    (steps : Steps b p Went c) (calm : IsCalm b c) (here : b.lacked ≡ false) (valid : IsValid c.code c.image) where
+  pub acts : Acts b p Went c
+  acts = subst (λ (x : Bool). StepsBy x b p Went c) here steps
+
+  pub passes_by : Passes a p most k c
+  passes_by = record {
+    performs = record { between = b; plains = goes; then = (less, action, steps) };
+    states = calm.states ∙ goes.states;
+    started = calm.started ∙ goes.started;
+    released = calm.released;
+    able = able_after a b c p k Went goes steps refl;
+    ends = no_end c (same_end b.image c.image calm.states calm.fault ∙ (goes_on b going).end) acts.limit;
+    lacked = acts.lacked;
+    valid = valid;
+  }
+
+-- ---- many of them
+
+none_after : (k : ℕ) (before : List ℕ) → released_after (k + 1) before ≡ []
+none_after k before = ap (λ (x : ℕ). released_after x before) next
+  where
+    next : k + 1 ≡ suc k
+    next = omega arith
+
+module _ (p most : ℕ) (old : Kept) (n m : ℕ) (a : Kept) (chain : Enters p most old n m a) (going : machine_end a ≡ None) (here : a.lacked ≡ false)
+    (sound : IsValid a.code a.image) (able : is_able (numbered a.image.states p) ≡ true) (number : 1 ≤ p) (long : p ≤ length a.counts) where
+  -- after so many entries more, with so many operators
+  record Extended (k l : ℕ) (mid : Image) : Type 0 where
+    last : Kept
+    enters : Enters p most old (n + k) (m + l) last
+    image : last.image ≡ mid
+    counts : Counts a.counts p l last.counts
+    known : p ≤ length last.counts
+    others : last ≡ record a { image = last.image; counts = last.counts; released = released_after k a.released }
+    ends : machine_end last ≡ None
+    valid : IsValid a.code mid
+    states : mid.states ≡ a.image.states
+    fault : mid.fault ≡ a.image.fault
+    started : mid.started ≡ a.image.started
+
+  first : Extended 0 0 a.image
+  first =
+      let n_is : n ≡ n + 0 = omega arith in
+      let m_is : m ≡ m + 0 = omega arith in
+      record {
+        last = a;
+        enters = subst (λ (x : ℕ). Enters p most old x (m + 0) a) n_is (subst (λ (x : ℕ). Enters p most old n x a) m_is chain);
+        image = refl;
+        counts = counts_none a.counts p;
+        known = long;
+        others = refl;
+        ends = going;
+        valid = sound;
+        states = refl;
+        fault = refl;
+        started = refl;
+      }
+
+  module _ (k l j : ℕ) (b c d : Image) (e : Extended k l b) (plains : Plains a.code p b j c) (on : GoesOn a.code p c d) (within : m + (l + (j + 1)) ≤ most) where
+    code_is : e.last.code ≡ a.code
+    code_is = ap (λ (x : Kept). x.code) e.others
+
+    lacked_is : e.last.lacked ≡ false
+    lacked_is = ap (λ (x : Kept). x.lacked) e.others ∙ here
+
+    abbrev quiet : Kept
+    quiet = record e.last { image = c; counts = more_counts e.last.counts p j }
+
+    abbrev after : Kept
+    after = record e.last { image = d; counts = more_counts (more_counts e.last.counts p j) p 1; released = [] }
+
+    able_then : is_able (numbered b.states p) ≡ true
+    able_then = ap (λ (ss : List ProcessState). is_able (numbered ss p)) e.states ∙ able
+
+    goes_then : Goes e.last p j quiet
+    goes_then =
+        let keeps = plains_keep a.code p b c j e.valid (live_of (numbered b.states p) able_then) plains in
+        record {
+          performed = subst (λ (x : Code). Plains x p e.last.image j c) (sym code_is) (subst (λ (x : Image). Plains a.code p x j c) (sym e.image) plains);
+          counts = counts_more e.last.counts p j number e.known;
+          others = refl;
+          states = keeps.states ∙ ap (λ (x : Image). x.states) (sym e.image);
+          started = keeps.started ∙ ap (λ (x : Image). x.started) (sym e.image);
+          fault = keeps.fault ∙ ap (λ (x : Image). x.fault) (sym e.image);
+        }
+
+    no_fault : d.fault ≡ None
+    no_fault =
+        on.calm.fault ∙ (plains_keep a.code p b c j e.valid (live_of (numbered b.states p) able_then) plains).fault ∙ e.fault ∙ (goes_on a going).fault
+
+    steps_then : Steps quiet p Went after
+    steps_then =
+        subst (λ (x : Bool). StepsBy x quiet p Went after) (sym lacked_is)
+        (acts_by quiet after a.code c d p Went code_is refl no_fault on.gone.came (sym (without d no_fault))
+        (counts_more (more_counts e.last.counts p j) p 1 number (long_more e.last.counts p j e.known)) on.gone.woken (λ q. on.gone.able)
+        (goes_on e.last e.ends).limit lacked_is code_is)
+
+    calm_then : IsCalm quiet after
+    calm_then = record { states = on.calm.states; started = on.calm.started; fault = on.calm.fault; released = refl }
+
+    passes_then : Passes e.last p (most - (m + l)) j after
+    passes_then =
+        passes_by e.last quiet after p (most - (m + l)) j (still_goes e.last quiet p j e.ends goes_then) goes_then (omega (arith, within))
+        (subst (λ (x : Code). plain x c p ≡ false) (sym code_is) on.action) steps_then calm_then lacked_is
+        (subst (λ (x : Code). IsValid x d) (sym code_is) on.gone.valid)
+
+    one_extended : Extended (k + 1) (l + (j + 1)) d
+    one_extended =
+        let n_is : n + k + 1 ≡ n + (k + 1) = omega arith in
+        let m_is : m + l + (j + 1) ≡ m + (l + (j + 1)) = omega arith in
+        let keeps = plains_keep a.code p b c j e.valid (live_of (numbered b.states p) able_then) plains in
+        record {
+          last = after;
+          enters = subst (λ (x : ℕ). Enters p most old x (m + (l + (j + 1))) after) n_is
+              (subst (λ (x : ℕ). Enters p most old (n + k + 1) x after) m_is (entries.go e.enters passes_then));
+          image = refl;
+          counts = counts_then a.counts e.last.counts after.counts p l (j + 1) e.counts
+              (counts_then e.last.counts quiet.counts after.counts p j 1 (counts_more e.last.counts p j number e.known)
+              (counts_more (more_counts e.last.counts p j) p 1 number (long_more e.last.counts p j e.known)));
+          known = long_more (more_counts e.last.counts p j) p 1 (long_more e.last.counts p j e.known);
+          others = ap (λ (x : Kept). record x { image = d; counts = after.counts; released = [] }) e.others
+              ∙ ap (λ (xs : List ℕ). record a { image = d; counts = after.counts; released = xs }) (sym (none_after k a.released));
+          ends = passes_then.ends;
+          valid = on.gone.valid;
+          states = on.calm.states ∙ keeps.states ∙ e.states;
+          fault = on.calm.fault ∙ keeps.fault ∙ e.fault;
+          started = on.calm.started ∙ keeps.started ∙ e.started;
+        }
+
+  extend : (k l : ℕ) (mid : Image) → Walks a.code p a.image k l mid → m + l ≤ most → Extended k l mid
+  extend k l mid stay within = first
+  extend k l mid (go {n = i} {m = h} {k = j} rest plains on) within =
+      one_extended i h j _ _ mid (extend i h _ rest (omega (arith, within))) plains on within
+
+  -- what a process does on its own stack lengthens the chain
+  pub passing_more : (limit : ℕ) (ran : Ran) (new : Kept) → Runs a p limit ran new → m + ran.operators ≤ most → (es os : ℕ) → es ≡ n + ran.entries → os ≡ m + ran.operators
+      → Passing old p most (record { entries = es; operators = os; plain = ran.plain }) new
+  passing_more limit ran new h within es os f g =
+      let e = extend ran.entries ran.operators h.run.between h.run.walks within in
+      let code_is : e.last.code ≡ a.code = ap (λ (x : Kept). x.code) e.others in
+      record {
+        between = e.last;
+        enters = subst (λ (x : ℕ). Enters p most old x os e.last) (sym f) (subst (λ (x : ℕ). Enters p most old (n + ran.entries) x e.last) (sym g) e.enters);
+        goes = record {
+          performed = subst (λ (x : Code). Plains x p e.last.image ran.plain new.image) (sym code_is)
+              (subst (λ (x : Image). Plains a.code p x ran.plain new.image) (sym e.image) h.run.plains);
+          counts = counts_rest a.counts e.last.counts new.counts p ran.operators ran.plain e.counts h.counts;
+          others = h.others ∙ sym (ap (λ (x : Kept). record x { image = new.image; counts = new.counts }) e.others);
+          states = h.run.calm.states ∙ sym (ap (λ (x : Image). x.states) e.image ∙ e.states);
+          started = h.run.calm.started ∙ sym (ap (λ (x : Image). x.started) e.image ∙ e.started);
+          fault = h.run.calm.fault ∙ sym (ap (λ (x : Image). x.fault) e.image ∙ e.fault);
+        };
+      }
+
+-- ---- after what a process does on its own stack
+
+module _ (a new : Kept) (p limit : ℕ) (ran : Ran) (h : Runs a p limit ran new) where
+  pub runs_able : is_able (numbered a.image.states p) ≡ true → is_able (numbered new.image.states p) ≡ true
+  runs_able able = ap (λ (ss : List ProcessState). is_able (numbered ss p)) h.run.calm.states ∙ able
+
+  pub runs_going : machine_end a ≡ None → machine_end new ≡ None
+  runs_going going =
+      let on = goes_on a going in
+      no_end new (same_end a.image new.image h.run.calm.states h.run.calm.fault ∙ on.end) (ap (λ (x : Kept). x.limit) h.others ∙ on.limit)
+
+  pub runs_here : a.lacked ≡ false → new.lacked ≡ false
+  runs_here here = ap (λ (x : Kept). x.lacked) h.others ∙ here
+
+  pub runs_action : ran.operators + ran.plain < limit → plain new.code new.image p ≡ false
+  runs_action less = ap (λ (x : Code). plain x new.image p) (ap (λ (x : Kept). x.code) h.others) ∙ h.run.stops less
+
+-- ---- before the last entry
+
+plains_then : (code : Code) (p : ℕ) (a b c : Image) (k n : ℕ) → Plains code p a k b → Plains code p b n c → Plains code p a (k + n) c
+plains_then code p a b c k n runs.stay more = subst (λ (x : ℕ). Plains code p b x c) none more
+  where
+    none : n ≡ 0 + n
+    none = omega arith
+plains_then code p a b c k n (runs.go {b = d} {n = j} e t rest) more =
+    let sum : j + n + 1 ≡ j + 1 + n = omega arith in
+    subst (λ (x : ℕ). Plains code p a x c) sum (runs.go e t (plains_then code p d b c j n rest more))
+
+goes_after : (a b c : Kept) (p k n z : ℕ) → z ≡ k + n → Goes a p k b → Goes b p n c → Goes a p z c
+goes_after a b c p k n z e h g = subst (λ (x : ℕ). Goes a p x c) (sym e) (record {
+  performed = plains_then a.code p a.image b.image c.image k n h.performed
+      (subst (λ (x : Code). Plains x p b.image n c.image) (ap (λ (x : Kept). x.code) h.others) g.performed);
+  counts = counts_then a.counts b.counts c.counts p k n h.counts g.counts;
+  others = g.others ∙ ap (λ (x : Kept). record x { image = c.image; counts = c.counts }) h.others;
+  states = g.states ∙ h.states;
+  started = g.started ∙ h.started;
+  fault = g.fault ∙ h.fault;
+})
+
+follows_after : (between new : Kept) (p n x y z : ℕ) (done : Option Done) (k : ℕ) → z ≡ k + n → y ≡ k + x → Follows between p n x done new → Follows between p z y done new
+follows_after between new p n x y z None k e f h = (omega (arith, e, f, h.0), h.1)
+follows_after between new p n x y z (Some done) k e f h = (omega (arith, e, f, h.0), h.1, h.2)
+
+-- plain operators, and an entry after them, are one
+pub performs_after : (a b c : Kept) (p k x y z : ℕ) (f : Performed) → Goes a p k b → Performs b p x f c → z ≡ k + f.plain → y ≡ k + x
+    → Performs a p y (record { plain = z; done = f.done }) c
+performs_after a b c p k x y z f goes h e g = record {
+  between = h.between;
+  plains = goes_after a b h.between p k f.plain z e goes h.plains;
+  then = follows_after h.between c p f.plain x y z f.done k e g h.then;
+}
+
+pub able_then_from : (a b c : Kept) (p k : ℕ) (o : Option Done) → Goes a p k b → IfSome o (λ done. operators_in done ≡ 1 → AbleAfter b.image c.image p c.released)
+    → IfSome o (λ done. operators_in done ≡ 1 → AbleAfter a.image c.image p c.released)
+able_then_from a b c p k None goes h = h
+able_then_from a b c p k (Some done) goes h = λ e. able_from a.image b.image c.image p c.released goes.states goes.started (h e)
+
+-- ---- nothing yet
+
+pub passing_none : (a : Kept) (p most : ℕ) → Passing a p most (record { entries = 0; operators = 0; plain = 0 }) a
+passing_none a p most = record {
+  between = a;
+  enters = entries.stay;
+  goes = record { performed = runs.stay; counts = counts_none a.counts p; others = refl; states = refl; started = refl; fault = refl };
+}

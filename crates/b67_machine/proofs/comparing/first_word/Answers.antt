@@ -1,0 +1,23 @@
+use Rattle.std.proofs.Common.{◌≡◌, sym, ap, ◌∙◌, ℕ, ◌+◌, ◌-◌, ◌<◌, slice_get, drop, reverse, length, Some, rules, arith}
+use Rattle.b67_word.specs.Word.{Word}
+use Rattle.b67_store.specs.Store.{words_of}
+use Rattle.b67_table.specs.Private.{floor}
+use Rattle.b67_machine.proofs.Differing.{next_same, from_top}
+use Rattle.b67_machine.proofs.comparing.first_word.Goals as goal
+
+pub words-preserved : goal.words-preserved
+words-preserved g c =
+    let r = c.args.regs.now in
+    let ws = words_of (g.C.Core.stacks c.args.core.now) r.stack in
+    let i = c.words.position in
+    let ours = c.unwrap-ours.result in
+    let theirs = c.unwrap-theirs.result in
+    let same : ours ≡ theirs = search rules in
+    let low : floor r + i < length ws = omega (arith, c.requires.whole, c.requires.linked.size, c.words-test.true, c.len-position-end.ensures.value) in
+    let read : slice_get ws (r.s - 1 - i) ≡ Some ours = sym c.read.ensures ∙ c.unwrap-ours.ensures in
+    let here = from_top ws (floor r) i ours low (ap (λ (n : ℕ). slice_get ws (n - 1 - i)) (sym c.requires.linked.size) ∙ read) in
+    let there : slice_get c.args.given.now i ≡ Some theirs = sym c.from_top.ensures ∙ c.unwrap-theirs.ensures in
+    record {
+      within = omega (arith, c.words-test.true, c.len-position-end.ensures.value);
+      before = next_same (reverse (drop (floor r) ws)) c.args.given.now i ours here (there ∙ ap (λ (w : Word). Some w) (sym same)) c.words.invariant.before;
+    }

@@ -1,0 +1,28 @@
+-- What a process does on the room of its own stack, on the machine, and entries that go on.
+use Rattle.std.specs.Prelude.{◌≡◌, ◌≤◌, ℕ, zero, suc, ◌+◌, List, [], length}
+use Rattle.b67_table.specs.Valid.{IsValid}
+use Rattle.b67_action.specs.declared.running.Ran.{Ran}
+use Rattle.b67_action.specs.Running.{HasRun}
+use Rattle.b67_machine.specs.Entries.{Enters}
+use Rattle.b67_machine.specs.Kept.{Kept, Counts}
+use Rattle.b67_machine.specs.Stepping.{Goes}
+
+-- whom the last of so many entries has released, each of which releases nobody
+abbrev pub released_after : ℕ → List ℕ → List ℕ
+released_after zero before = before
+released_after (suc n) before = []
+
+-- so many entries on its own stack and so many plain operators after them, and all else is as it was
+pub record Runs (old : Kept) (p most : ℕ) (ran : Ran) (new : Kept) : Type 0 where
+  pub begun : IsValid old.code old.image
+  pub number : 1 ≤ p
+  pub known : p ≤ length old.counts
+  pub run : HasRun old.code p most old.image ran new.image
+  pub counts : Counts old.counts p (ran.operators + ran.plain) new.counts
+  pub others : new ≡ record old { image = new.image; counts = new.counts; released = released_after ran.entries old.released }
+
+-- so many entries that go on, and so many plain operators after them
+pub record Passing (old : Kept) (p most : ℕ) (ran : Ran) (new : Kept) : Type 0 where
+  pub between : Kept
+  pub enters : Enters p most old ran.entries ran.operators between
+  pub goes : Goes between p ran.plain new

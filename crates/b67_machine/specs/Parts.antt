@@ -1,0 +1,67 @@
+-- The private part of a process as a list of words, and where two lists differ first.
+use Rattle.std.specs.Prelude.{◌≡◌, ◌≢◌, ℕ, ◌+◌, ◌*◌, ◌^◌, pos, List, [], ◌∷◌, ◌++◌, length, map, take, slice_get, Option, Some, None}
+use Rattle.b67_list.specs.Numbered.{numbered}
+use Rattle.b67_word.specs.declared.Place.{Place}
+use Rattle.b67_word.specs.Word.{Word, operand}
+use Rattle.b67_control.specs.declared.Registers.{Registers}
+use Rattle.b67_table.specs.declared.Private.{Private}
+use Rattle.b67_table.specs.Image.{Image, private_of}
+use Rattle.b67_table.specs.Private.{floor}
+
+-- ---- the private part of a process
+
+abbrev pub part_by : Image → Option Registers → Option Private
+part_by img None = None
+part_by img (Some r) = Some (private_of img r)
+
+-- the private part of a process, where it has registers
+abbrev pub private_part : Image → ℕ → Option Private
+private_part img p = part_by img (numbered img.regs p)
+
+-- as many words as its S lies above its floor
+abbrev pub IsWhole : Private → Type 0
+IsWhole p = floor p.regs + length p.words ≡ p.regs.s
+
+-- ---- as a list of words
+
+abbrev pub number_word : ℕ → Word
+number_word n = operand (pos n)
+
+-- 65,536 times its stack plus its displacement plus 1, and none as 0
+abbrev pub place_word : Option Place → Word
+place_word None = number_word 0
+place_word (Some place) = number_word (2 ^ 16 * place.stack + place.at + 1)
+
+-- the registers before the display, in the order of their type
+abbrev pub first_registers : Registers → List Word
+first_registers r = number_word r.stack ∷ number_word r.s ∷ number_word r.f ∷ number_word r.ll ∷ []
+
+-- the registers after the display, in the order of their type
+abbrev pub last_registers : Registers → List Word
+last_registers r = number_word r.cells ∷ number_word r.segment ∷ number_word r.place ∷ place_word r.task ∷ place_word r.critical ∷ []
+
+abbrev pub register_list : Registers → List Word
+register_list r = first_registers r ++ (map place_word r.display ++ last_registers r)
+
+-- the registers in the order of their type, each as an operand, and then the private words
+abbrev pub part_list : Private → List Word
+part_list p = register_list p.regs ++ p.words
+
+-- ---- where two lists differ
+
+-- the first position at which two lists differ, and what stands there in each
+pub record FirstDiffer {A : Type 0} (xs ys : List A) (position : ℕ) (x y : A) : Type 0 where
+  pub before : take position xs ≡ take position ys
+  pub here : slice_get xs position ≡ Some x
+  pub there : slice_get ys position ≡ Some y
+  pub apart : x ≢ y
+
+-- two lists are equal, or this is where they differ first
+abbrev pub FirstOf : List Word → List Word → Option (ℕ × Word × Word) → Type 0
+FirstOf xs ys None = xs ≡ ys
+FirstOf xs ys (Some found) = FirstDiffer xs ys found.0 found.1 found.2
+
+-- the given part is the kept one, or this is where their lists differ first
+abbrev pub Compared : Private → Private → Option (ℕ × Word × Word) → Type 0
+Compared kept given None = given ≡ kept
+Compared kept given (Some found) = FirstDiffer (part_list kept) (part_list given) found.0 found.1 found.2

@@ -1,0 +1,89 @@
+// The private part of a process: copied out, compared, and put back.
+ghost use Rattle.std.specs.Prelude.{◌≡◌, ◌+◌, ◌<◌, ◌≤◌, ◌^◌, List, length, Some, None, IfSome, true};
+ghost use Rattle.b67_list.specs.Numbered.{numbered};
+ghost use Rattle.b67_events.specs.Events.{Event};
+ghost use Rattle.b67_store.specs.Store.{stack_limit};
+ghost use Rattle.b67_table.specs.declared.Private.{Private as Part};
+ghost use Rattle.b67_table.specs.Image.{is_live, with_private};
+ghost use Rattle.b67_table.specs.Private.{floor};
+ghost use Rattle.b67_table.specs.Privacy.{Keeps};
+ghost use Rattle.b67_table.specs.Valid.{IsValid};
+ghost use Rattle.b67_operators.specs.Leaves.{IsLinkedIn};
+ghost use Rattle.b67_private.specs.Parts.{IsPart, PlainParts};
+ghost use Rattle.b67_reach.specs.Images.{image_of};
+ghost use Rattle.b67_machine.specs.Kept.{counted};
+ghost use Rattle.b67_machine.specs.Parts.{private_part, IsWhole, Compared};
+ghost use Rattle.b67_machine.specs.Reads.{machine_end};
+ghost use Rattle.b67_machine.specs.Stepping.{Goes};
+
+use crate::Machine;
+use crate::comparing::{REGISTER_WORDS, first_register, first_word};
+use crate::counting::count;
+use b67_action::{put_words, take_words};
+use b67_intrinsics::registers;
+use b67_reach::{Parts, floor};
+use b67_store::Core;
+use b67_table::Private;
+use b67_word::Word;
+
+// A private part is put in place of a process's own, from the floor before it on: its words, and the registers that plain operators set.
+fn put_part<C: Core>(core: &mut C, parts: &mut Parts, process: u32, end: &Private)
+    requires linked { IsLinkedIn (C.Core.stacks core.old) (C.Core.rows core.old) (numbered parts.old.regs.items process) }
+    requires keeps { IfSome (numbered parts.old.regs.items process) (λ r. Keeps r end.now.regs) }
+    requires room { IfSome (numbered parts.old.regs.items process) (λ r. floor r + length end.now.words ≤ stack_limit) }
+    ensures put { (events : List Event) → IfSome (numbered parts.old.regs.items process) (λ r. image_of (C.Core.stacks core.new) (C.Core.rows core.new) events parts.new ≡ with_private (image_of (C.Core.stacks core.old) (C.Core.rows core.old) events parts.old) process (floor r) end.now) }
+    ensures others { parts.new ≡ record parts.old { regs = parts.new.regs } }
+{
+    let own = &mut parts.regs[process as usize - 1];
+    put_words(core, own.stack, floor(own), &end.words);
+    own.s = end.regs.s;
+    own.f = end.regs.f;
+    own.cells = end.regs.cells;
+    own.place = end.regs.place;
+}
+
+impl<C: Core> Machine<C> {
+    /// Copies the private part of a process that lives: its registers, and the words at its floor and above. Takes no memory.
+    pub fn copy_private(&self, process: u32, into: &mut Private)
+        requires lives { is_live (numbered self.now.image.states process) ≡ true }
+        ensures part { private_part self.now.image process ≡ Some into.new }
+        ensures is_part { IsPart into.new }
+        ensures whole { IsWhole into.new }
+    {
+        let regs = registers(&self.parts.regs, process);
+        take_words(&self.core, regs, floor(regs), &mut into.words);
+        into.regs = *regs;
+    }
+
+    /// Compares a part with the private part of a process that lives. None comes exactly where they are equal; else it is the first position at
+    /// which their lists of words differ, with the kept word and the given one. A list has the registers in the order of their type, each
+    /// as an operand, and then the private words, the top one first. Takes no memory.
+    pub fn differs(&self, process: u32, given: &Private) -> Option<(u32, Word, Word)>
+        requires lives { is_live (numbered self.now.image.states process) ≡ true }
+        requires whole { IsWhole given.now }
+        ensures { (kept : Part) × (private_part self.now.image process ≡ Some kept) × Compared kept given.now result }
+    {
+        let kept = registers(&self.parts.regs, process);
+        if let Some(found) = first_register(kept, &given.regs) {
+            return Some(found);
+        }
+        match first_word(&self.core, kept, &given.words) {
+            Some(found) => Some((REGISTER_WORDS + found.0, found.1, found.2)),
+            None => None,
+        }
+    }
+
+    /// Puts a part in place of the private part of a process, which becomes the given one by so many plain operators: just these are
+    /// performed, and counted.
+    pub fn put_private(&mut self, process: u32, end: &Private, performed: u32)
+        requires lives { is_live (numbered self.old.image.states process) ≡ true }
+        requires going { machine_end self.old ≡ None }
+        requires count { counted self.old.counts process + performed < 2 ^ 64 }
+        requires stretch { IfSome (private_part self.old.image process) (λ kept. PlainParts self.old.code kept performed end.now × Keeps kept.regs end.now.regs) }
+        ensures goes { Goes self.old process performed self.new }
+        ensures valid { IsValid self.new.code self.new.image }
+    {
+        put_part(&mut self.core, &mut self.parts, process, end);
+        count(&mut self.counts, process, performed);
+    }
+}

@@ -1,0 +1,81 @@
+// What a process does on the room of its own stack, on the machine.
+ghost use Rattle.std.specs.Prelude.{◌≡◌, ◌+◌, ◌<◌, ◌≤◌, ◌^◌, List, None, false, true, vec_capacity};
+ghost use Rattle.b67_list.specs.Numbered.{numbered};
+ghost use Rattle.b67_events.specs.Events.{Event};
+ghost use Rattle.b67_table.specs.Image.{is_able};
+ghost use Rattle.b67_table.specs.Valid.{IsValid};
+ghost use Rattle.b67_reach.specs.Images.{image_of};
+ghost use Rattle.b67_action.specs.Running.{HasRun};
+ghost use Rattle.b67_machine.specs.Chaining.{released_after, Runs};
+ghost use Rattle.b67_machine.specs.Kept.{counted};
+ghost use Rattle.b67_machine.specs.Reads.{machine_end};
+ghost use Rattle.b67_machine.specs.Tables.{AreTables};
+
+use crate::Machine;
+use crate::counting::count;
+use crate::tables::{Levels, decoded, prepare};
+use b67_action::{Ran, run_own};
+use b67_intrinsics::registers;
+use b67_linkage::cut_words;
+use b67_reach::Parts;
+use b67_store::Core;
+
+// What comes next in a process on its own stack: at most so many entries that go on, and at most so many operators in all.
+fn run_in<C: Core>(
+    core: &mut C,
+    parts: &mut Parts,
+    process: u32,
+    tables: &Vec<Levels>,
+    entries: u32,
+    most: u32,
+) -> Ran
+    requires valid { (events : List Event) × IsValid parts.old.code (image_of (C.Core.stacks core.old) (C.Core.rows core.old) events parts.old) }
+    requires able { is_able (numbered parts.old.states.items process) ≡ true }
+    requires tables { AreTables parts.old.code tables.now.items }
+    ensures ran { (events : List Event) → IsValid parts.old.code (image_of (C.Core.stacks core.old) (C.Core.rows core.old) events parts.old) → HasRun parts.old.code process most (image_of (C.Core.stacks core.old) (C.Core.rows core.old) events parts.old) result (image_of (C.Core.stacks core.new) (C.Core.rows core.new) events parts.new) }
+    ensures entries { result.entries ≤ entries }
+    ensures most { result.operators + result.plain ≤ most }
+    ensures released { parts.new.woken.processes.items ≡ released_after result.entries parts.old.woken.processes.items }
+    ensures room { vec_capacity parts.old.woken.processes ≤ vec_capacity parts.new.woken.processes }
+    ensures code { parts.new.code ≡ parts.old.code }
+{
+    let regs = registers(&parts.regs, process);
+    let table = decoded(tables, regs.segment, regs.ll);
+    let stack = regs.stack;
+    let room = core.room(stack);
+    let own = &mut parts.regs[process as usize - 1];
+    let ran = run_own(own, room, &parts.code, table, entries, most);
+    cut_words(core, stack, own.s);
+    if ran.entries > 0 {
+        parts.woken.processes.clear();
+    }
+    ran
+}
+
+impl<C: Core> Machine<C> {
+    /// Performs what comes next in a process on its own stack: at most so many entries that go on, at most so many operators in all, and
+    /// after the entries the plain operators that come next.
+    pub fn run_process(&mut self, process: u32, entries: u32, most: u32) -> Ran
+        requires able { is_able (numbered self.old.image.states process) ≡ true }
+        requires going { machine_end self.old ≡ None }
+        requires count { counted self.old.counts process + most < 2 ^ 64 }
+        ensures runs { Runs self.old process most result self.new }
+        ensures entries { result.entries ≤ entries }
+        ensures most { result.operators + result.plain ≤ most }
+        ensures valid { IsValid self.new.code self.new.image }
+    {
+        let regs = registers(&self.parts.regs, process);
+        let (segment, level) = (regs.segment, regs.ll);
+        prepare(&mut self.tables, &self.parts.code, segment, level);
+        let ran = run_in(
+            &mut self.core,
+            &mut self.parts,
+            process,
+            &self.tables,
+            entries,
+            most,
+        );
+        count(&mut self.counts, process, ran.operators + ran.plain);
+        ran
+    }
+}
