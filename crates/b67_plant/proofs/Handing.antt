@@ -7,7 +7,9 @@ use Rattle.b67_table.specs.Limits.{most_processes}
 use Rattle.b67_ready.specs.Ready.{Ready, Takes, counted_on}
 use Rattle.b67_stands.specs.Running.{Running, answer_of}
 use Rattle.b67_stands.specs.Stands.{Stands}
+use Rattle.b67_stands.specs.Placing.{holder_of}
 use Rattle.b67_stands.specs.Calls.{TakesOne}
+use Rattle.b67_stands.proofs.Places.{holder_own}
 use Rattle.b67_stands.proofs.Taking.{taken_number, takes_keep}
 
 -- what the dispatcher answers
@@ -70,6 +72,11 @@ module _ {P : Type 0} (choose : P → ℕ → ℕ → ℕ) (pick : ℕ → ℕ �
   pub takes_one : (w : List ℕ) (n : ℕ) (o : List ℕ) → w ≡ after.waiting → n ≡ after.takes → o ≡ slice_set old.out (p - 1) me
       → TakesOne pick me old p (record old { waiting = w; takes = n; out = o })
   takes_one w n o e f h = record { picked = got; new_is = new_is w n o e f h }
+
+  -- it is out with the processor
+  pub is_out : (o : List ℕ) → o ≡ slice_set old.out (p - 1) me → holder_of o p ≡ me
+  is_out o e =
+      ap (λ (xs : List ℕ). holder_of xs p) (e ∙ set_is old.out p me number.0) ∙ holder_own old.out p me number.0 (omega (arith, number.1, stands.holders))
 
   pub still_stands : (w : List ℕ) (n : ℕ) (o : List ℕ) → w ≡ after.waiting → n ≡ after.takes → o ≡ slice_set old.out (p - 1) me
       → Stands code budget (record old { waiting = w; takes = n; out = o })

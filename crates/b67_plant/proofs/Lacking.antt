@@ -17,6 +17,7 @@ use Rattle.b67_plant.specs.declared.taking.Taken.{Taken}
 use Rattle.b67_plant.specs.declared.taking.Taken.TheVariants as taken
 use Rattle.b67_plant.specs.declared.taking.PlantLanding.{PlantLanding}
 use Rattle.b67_plant.specs.declared.taking.PlantLanding.TheVariants as landings
+use Rattle.b67_plant.specs.Parcels.{Stretch}
 use Rattle.b67_plant.specs.Calls.{lacks_in, Acts, Takes, Lands, LeavesOr, HasLacked, IsOver, answer_to, refusal}
 
 module _ (old new : Kept) (p most : ℕ) (performed : Performed) (none : old.lacked ≡ false) (performs : Performs old p most performed new) where
@@ -99,11 +100,12 @@ takes_lacking pick budget me old taken.Idle p new lacked takes = going_on budget
 takes_lacking pick budget me old taken.Over p new lacked takes = over budget old lacked takes.0
 takes_lacking pick budget me old taken.Lacked p new lacked takes = (refl, takes.1)
 
-pub lands_lacking : (budget me p : ℕ) (old : Running) (answer : PlantLanding) → HasLacked budget old → Lands budget me p old answer → answer ≡ landings.Lacked
-lands_lacking budget me p old landings.Landed lacked lands = going_on budget old lacked lands.0
-lands_lacking budget me p old landings.NotOut lacked lands = going_on budget old lacked lands.0
-lands_lacking budget me p old landings.Over lacked lands = over budget old lacked lands
-lands_lacking budget me p old landings.Lacked lacked lands = refl
+pub lands_lacking : (budget me : ℕ) (s : Stretch) (old : Running) (answer : PlantLanding) (new : Running) → HasLacked budget old → Lands budget me s old answer new → (answer ≡ landings.Lacked) × (new ≡ old)
+lands_lacking budget me s old landings.Landed new lacked lands = going_on budget old lacked lands.0.0
+lands_lacking budget me s old (landings.Stale place kept given) new lacked lands = going_on budget old lacked lands.0.0
+lands_lacking budget me s old landings.NotOut new lacked lands = going_on budget old lacked lands.0
+lands_lacking budget me s old landings.Over new lacked lands = over budget old lacked lands.0
+lands_lacking budget me s old landings.Lacked new lacked lands = (refl, lands.1)
 
 pub leaves_lacking : (budget : ℕ) (old : Running) (has_left : Bool) (new : Running) → HasLacked budget old → LeavesOr has_left old new → HasLacked budget new × (new.machine ≡ old.machine)
 leaves_lacking budget old true new lacked leaves = (ap (answer_of budget) leaves ∙ lacked, ap (λ (s : Running). s.machine) leaves)

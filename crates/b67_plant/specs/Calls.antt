@@ -1,5 +1,7 @@
 -- What the calls on a plant answer.
-use Rattle.std.specs.Prelude.{◌≡◌, ◌≢◌, ◌⊎◌, ℕ, Bool, true, false, [], Option, Some, None}
+use Rattle.std.specs.Prelude.{◌≡◌, ◌≢◌, ◌⊎◌, ℕ, nat_le, Bool, true, false, [], Option, Some, None}
+use Rattle.b67_word.specs.Word.{Word}
+use Rattle.b67_table.specs.declared.Private.{Private}
 use Rattle.b67_action.specs.declared.done.Done.{Done}
 use Rattle.b67_action.specs.declared.done.Done.TheVariants as dones
 use Rattle.b67_machine.specs.declared.entry.Performed.{Performed}
@@ -12,16 +14,23 @@ use Rattle.b67_plant.specs.declared.taking.Taken.{Taken}
 use Rattle.b67_plant.specs.declared.taking.Taken.TheVariants as taken
 use Rattle.b67_plant.specs.declared.taking.PlantLanding.{PlantLanding}
 use Rattle.b67_plant.specs.declared.taking.PlantLanding.TheVariants as landings
-use Rattle.b67_stands.specs.Running.{Running, answer_of}
+use Rattle.b67_stands.specs.Running.{Running, spends, answer_of}
 use Rattle.b67_stands.specs.Placing.{holder_of}
 use Rattle.b67_stands.specs.Picked.{Pick}
-use Rattle.b67_stands.specs.Calls.{TakesOne, ActsOnce, Leaves}
+use Rattle.b67_stands.specs.Calls.{TakesOne, LandsOnce, GoesBack, ActsOnce, Leaves}
+use Rattle.b67_machine.specs.Parts.{private_part, part_list, FirstDiffer}
+use Rattle.b67_plant.specs.Parcels.{Stretch, StartsAs}
 
 -- the run has ended, and not for want of memory
 abbrev pub IsOver : ℕ → Running → Type 0
 IsOver budget s = (answer_of budget s ≡ Some Ended) ⊎ (answer_of budget s ≡ Some BudgetSpent)
 
 -- ---- take
+
+-- the process at the place that is picked is taken; or nobody waits, and nothing has changed
+abbrev pub Picks : Pick → ℕ → Running → Option ℕ → Running → Type 0
+Picks pick me old (Some p) new = TakesOne pick me old p new
+Picks pick me old None new = (old.waiting ≡ []) × (new ≡ old)
 
 abbrev pub Takes : Pick → ℕ → ℕ → Running → Taken → ℕ → Running → Type 0
 Takes pick budget me old taken.Work p new = (answer_of budget old ≡ None) × TakesOne pick me old p new
@@ -31,11 +40,30 @@ Takes pick budget me old taken.Lacked p new = (answer_of budget old ≡ Some NoM
 
 -- ---- land
 
-abbrev pub Lands : ℕ → ℕ → ℕ → Running → PlantLanding → Type 0
-Lands budget me p old landings.Landed = (answer_of budget old ≡ None) × (holder_of old.out p ≡ me)
-Lands budget me p old landings.NotOut = (answer_of budget old ≡ None) × (holder_of old.out p ≢ me)
-Lands budget me p old landings.Over = IsOver budget old
-Lands budget me p old landings.Lacked = answer_of budget old ≡ Some NoMemory
+-- the run goes on, and the parcel's process is out with the processor
+abbrev pub MayLand : ℕ → ℕ → Stretch → Running → Type 0
+MayLand budget me s old = (answer_of budget old ≡ None) × (holder_of old.out s.process ≡ me)
+
+-- The parcel's operators are performed on the machine, whose process still has the parcel's start. All else is as it was, and the run has
+-- ended exactly where its operators have reached the budget.
+pub record LandsWell (budget : ℕ) (s : Stretch) (old new : Running) : Type 0 where
+  pub starts : StartsAs old.machine.image s
+  pub lands : LandsOnce old s.process s.count new
+  pub then : answer_of budget new ≡ spends (nat_le budget new.spent)
+
+-- The process has another private part than the parcel's start: here the words of both first differ. It has gone back to the queue.
+pub record IsStale (s : Stretch) (old : Running) (place : ℕ) (kept given : Word) (new : Running) : Type 0 where
+  pub part : Private
+  pub has : private_part old.machine.image s.process ≡ Some part
+  pub differ : FirstDiffer (part_list part) (part_list s.start) place kept given
+  pub back : GoesBack old s.process new
+
+abbrev pub Lands : ℕ → ℕ → Stretch → Running → PlantLanding → Running → Type 0
+Lands budget me s old landings.Landed new = MayLand budget me s old × LandsWell budget s old new
+Lands budget me s old (landings.Stale place kept given) new = MayLand budget me s old × IsStale s old place kept given new
+Lands budget me s old landings.NotOut new = (answer_of budget old ≡ None) × (holder_of old.out s.process ≢ me) × (new ≡ old)
+Lands budget me s old landings.Over new = IsOver budget old × (new ≡ old)
+Lands budget me s old landings.Lacked new = (answer_of budget old ≡ Some NoMemory) × (new ≡ old)
 
 -- ---- act
 
@@ -84,6 +112,6 @@ pub record LackingIsKept : Type 0 where
   -- and then each call says it, and all is as it was
   pub act : (budget me p : ℕ) (old : Running) (answer : Acted) (new : Running) → HasLacked budget old → Acts budget me p old answer new → (answer ≡ acted.NoMemory) × (new ≡ old)
   pub take : (pick : Pick) (budget me : ℕ) (old : Running) (answer : Taken) (p : ℕ) (new : Running) → HasLacked budget old → Takes pick budget me old answer p new → (answer ≡ taken.Lacked) × (new ≡ old)
-  pub land : (budget me p : ℕ) (old : Running) (answer : PlantLanding) → HasLacked budget old → Lands budget me p old answer → answer ≡ landings.Lacked
+  pub land : (budget me : ℕ) (s : Stretch) (old : Running) (answer : PlantLanding) (new : Running) → HasLacked budget old → Lands budget me s old answer new → (answer ≡ landings.Lacked) × (new ≡ old)
   -- but that processors leave
   pub leave : (budget : ℕ) (old : Running) (has_left : Bool) (new : Running) → HasLacked budget old → LeavesOr has_left old new → HasLacked budget new × (new.machine ≡ old.machine)

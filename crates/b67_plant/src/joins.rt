@@ -8,6 +8,7 @@ ghost use Rattle.b67_stands.specs.Stands.{Stands};
 use crate::{Named, Plant, Post, Seat, SharedPlant};
 use b67_processors::{Gate, serve};
 use b67_ready::Rule;
+use b67_segment::Code;
 use b67_store::Core;
 use std::sync::Wait;
 use std::sync::ledger::Ledger;
@@ -31,7 +32,10 @@ pub fn gather<N: Named, L: Ledger, C: Core, P: Rule>(
     let Some(first) = posts.pop() else {
         unreachable!()
     };
-    let Post { parcel: _, seat } = first;
+    let Post {
+        parcel: _parcel,
+        seat,
+    } = first;
     let Seat {
         count: _,
         left: _,
@@ -39,7 +43,10 @@ pub fn gather<N: Named, L: Ledger, C: Core, P: Rule>(
         mut leaves,
     } = seat;
     while let Some(post) = posts.pop() {
-        let Post { parcel: _, seat } = post;
+        let Post {
+            parcel: _parcel,
+            seat,
+        } = post;
         let Seat {
             count: _,
             left: _,
@@ -78,13 +85,20 @@ pub fn run_all<
     P: Rule + Send,
     G: Gate + Sync,
     R: Threads + Wait + Sync,
->(rt: &R, gate: &G, plant: Plant<N, L, C, P>, posts: &mut [Post<N, L>]) -> Plant<N, L, C, P>
+>(
+    rt: &R,
+    gate: &G,
+    plant: Plant<N, L, C, P>,
+    code: Code,
+    posts: &mut [Post<N, L>],
+) -> Plant<N, L, C, P>
+    requires code { code ≡ N.code }
     requires processors { (length posts.old ≡ N.processors) × (length posts.old < 9) }
     ensures stands { Stands N.code N.budget result }
     ensures posts { length posts.new ≡ length posts.old }
     ensures left { All (λ post. 0 < post.seat.left) posts.new }
 {
-    let shop = SharedPlant::new(plant);
+    let shop = SharedPlant::new(plant, code);
     let shared = &shop;
     let count = posts.len();
     thread::for_each_mut(

@@ -4,12 +4,14 @@
 //! what was done. Whenever its lock is free it stands: what the machine holds is a run of the code under that schedule.
 #![tactic(auto)]
 
+mod entering;
 mod joins;
 mod making;
 mod placing;
 mod running;
 mod shared;
 mod taking;
+mod working;
 
 ghost use Rattle.std.specs.Prelude.{◌≡◌, ℕ, [], length};
 ghost use Rattle.b67_segment.specs.declared.code.Code.{Code as MachineCode};
@@ -24,6 +26,7 @@ pub use shared::{Pass, SharedPlant};
 use std::marker::{Brand, Model};
 use std::sync::ledger::{Book, Ledger, Share};
 pub use taking::{PlantLanding, Taken, lacking_is_kept};
+pub use working::Parcel;
 
 /// Which run a plant is of: nothing of a plant is known across its lock but what its type says.
 pub trait Named: Ledger {
@@ -68,25 +71,10 @@ impl<N: Named, L: Ledger> Seat<N, L> {
     }
 }
 
-/// What a processor works on.
-#[derive(Drop)]
-pub struct Parcel {
-    process: u32,
-}
-
-impl Parcel {
-    /// The process that was taken.
-    pub fn process(&self) -> u32
-        ensures { result ≡ self.now.process }
-    {
-        self.process
-    }
-}
-
 /// What a processor brings along.
 #[derive(Drop)]
 pub struct Post<N: Named, L: Ledger> {
-    pub parcel: Parcel,
+    pub parcel: Parcel<N>,
     pub seat: Seat<N, L>,
 }
 

@@ -18,13 +18,13 @@ use b67_table::first_image_is_valid;
 use std::alloc::{AllocError, Global};
 use std::sync::ledger::{Blank, Ledger, Share};
 
-// A processor's place, with its shares.
-fn post<N: Named, L: Ledger>(acts: Share<N>, leaves: Share<L>) -> Post<N, L>
+// A processor's place, with its parcel and its shares.
+fn post<N: Named, L: Ledger>(parcel: Parcel<N>, acts: Share<N>, leaves: Share<L>) -> Post<N, L>
     requires acts { (acts.parts ≡ 1) × (acts.amount ≡ 0) }
     requires leaves { (leaves.parts ≡ 1) × (leaves.amount ≡ 0) }
 {
     Post {
-        parcel: Parcel { process: 0 },
+        parcel,
         seat: Seat {
             count: 0,
             left: 0,
@@ -34,24 +34,37 @@ fn post<N: Named, L: Ledger>(acts: Share<N>, leaves: Share<L>) -> Post<N, L>
     }
 }
 
-// One place for each of so many processors. Takes no memory.
+// A parcel for each of so many processors.
+fn parcels_of<N: Named>(alloc: Global, processors: u32) -> Result<Vec<Parcel<N>>, AllocError>
+    requires { All (λ segment. length segment.words ≤ MOST_SEGMENT_WORDS) N.code.segments }
+    ensures { IfOk result (λ parcels. length parcels.items ≡ processors) }
+{
+    let mut parcels = Vec::with_capacity(alloc, processors as usize)?;
+    'parcels: while parcels.len() < processors as usize {
+        parcels.push(Parcel::new(alloc)?)?;
+    }
+    Ok(parcels)
+}
+
+// One place for each of these parcels. Takes no memory.
 fn fill_posts<N: Named, L: Ledger>(
     posts: &mut Vec<Post<N, L>>,
-    processors: u32,
+    parcels: Vec<Parcel<N>>,
     acts: Share<N>,
     leaves: Share<L>,
 )
     requires none { posts.old.items ≡ [] }
-    requires room { processors ≤ vec_capacity posts.old }
-    requires acts { (acts.parts ≡ processors) × (acts.amount ≡ 0) }
-    requires leaves { (leaves.parts ≡ processors) × (leaves.amount ≡ 0) }
-    ensures { length posts.new.items ≡ processors }
+    requires room { length parcels.items ≤ vec_capacity posts.old }
+    requires acts { (acts.parts ≡ length parcels.items) × (acts.amount ≡ 0) }
+    requires leaves { (leaves.parts ≡ length parcels.items) × (leaves.amount ≡ 0) }
+    ensures { length posts.new.items ≡ length parcels.items }
 {
+    let mut parcels = parcels;
     let mut acts = acts;
     let mut leaves = leaves;
-    'posts: while posts.len() < processors as usize {
+    'posts: while let Some(parcel) = parcels.pop() {
         posts
-            .push(post(acts.split_off(1, 0), leaves.split_off(1, 0)))
+            .push(post(parcel, acts.split_off(1, 0), leaves.split_off(1, 0)))
             .unwrap();
     }
 }
@@ -109,10 +122,11 @@ impl<N: Named, L: Ledger, C: Core, P: Rule> Plant<N, L, C, P> {
         ensures first { IfOk result (IsFirst N.code) }
     {
         first_image_is_valid();
+        let parcels = parcels_of(alloc, processors)?;
         let rooms = rooms_of(alloc, rule, budget)?;
         let (acts, all) = acts.open::<N>();
         let (leaves, all_left) = leaves.open::<L>();
-        fill_posts(posts, processors, all, all_left);
+        fill_posts(posts, parcels, all, all_left);
         let Rooms {
             ready,
             out,

@@ -13,11 +13,12 @@ ghost use Rattle.b67_stands.specs.Running.{answer_of};
 ghost use Rattle.b67_stands.specs.Stands.{Stands};
 
 use crate::joins::{gather, run_all};
-use crate::{Named, Plant, Post, Taken};
+use crate::{Named, Plant, Post};
 use b67_machine::{Machine, Replayed};
 use b67_processors::Gate;
 use b67_ready::{Order, Rule};
 use b67_schedule::Schedule;
+use b67_segment::Code;
 use b67_store::Core;
 use std::alloc::{AllocError, Global};
 use std::marker::Brand;
@@ -53,7 +54,7 @@ fn left_by<N: Named, L: Ledger, C: Core, P: Rule>(plant: Plant<N, L, C, P>) -> R
 
 // ---- by the caller
 
-// The first processor does all the work, turn by turn, until the run has ended.
+// The first processor does all the work, turn by turn, until the run has ended: where nobody else waits, many turns at once.
 fn work_alone<N: Named, L: Ledger, C: Core, P: Rule>(
     plant: &mut Plant<N, L, C, P>,
     post: &mut Post<N, L>,
@@ -65,14 +66,16 @@ fn work_alone<N: Named, L: Ledger, C: Core, P: Rule>(
     ensures answered { answer_of N.budget plant.new ≡ Some result }
     ensures stands { Stands N.code N.budget plant.new }
 {
-    'turns: while let Taken::Work = plant.take(1, &mut post.parcel) {
-        let process = post.parcel.process();
-        let _acted = plant.enter(process, &mut post.seat);
+    'turns: loop {
+        if let Some(answer) = plant.answer() {
+            return answer;
+        }
+        let Some(process) = plant.pick(1) else {
+            unreachable!()
+        };
+        let entries = if plant.is_alone() { u32::MAX } else { 0 };
+        let _acted = plant.enter_many(process, entries, &mut post.seat);
     }
-    let Some(answer) = plant.answer() else {
-        unreachable!()
-    };
-    answer
 }
 
 // The run of a named plant by the caller.
@@ -154,6 +157,7 @@ fn run_named<
     alloc: Global,
     gate: &G,
     machine: Machine<C>,
+    named: Code,
     rule: P,
     budget: u32,
     processors: u32,
@@ -166,6 +170,7 @@ fn run_named<
     requires sound { Sound machine.code }
     requires segments { All (λ segment. length segment.words ≤ MOST_SEGMENT_WORDS) machine.code.segments }
     requires budget { (budget ≡ N.budget) × (1 ≤ budget) × (budget ≤ MOST_BUDGET) }
+    requires named { named ≡ N.code }
     requires processors { (processors ≡ N.processors) × (1 ≤ processors) × (processors ≤ MOST_PROCESSORS) }
     requires acts { (acts.name ≡ N.name) × (acts.parts ≡ N.parts) × (acts.parts ≡ processors) }
     requires leaves { (leaves.name ≡ L.name) × (leaves.parts ≡ L.parts) × (leaves.parts ≡ processors) }
@@ -182,7 +187,7 @@ fn run_named<
     let plant = Plant::<N, L, C, P>::new(
         alloc, machine, rule, budget, processors, acts, leaves, &mut posts,
     )?;
-    let mut plant = run_all(rt, gate, plant, posts.as_mut_slice());
+    let mut plant = run_all(rt, gate, plant, named, posts.as_mut_slice());
     note_acts(counts, posts.as_slice());
     gather(&mut plant, posts);
     Ok(left_by(plant))
@@ -213,11 +218,13 @@ pub fn run_by_processors<C: Core + Send, G: Gate + Sync, R: Threads + Wait + Syn
     ensures numbers { IfOk result (λ ran. All (λ count. count < 2 ^ 64) counts.new.items) }
     ensures no_counts { OnErr result (counts.new.items ≡ []) }
 {
+    let code = machine.code().copy()?;
     run_named::<Brand, Brand, C, Order, G, R>(
         rt,
         alloc,
         gate,
         machine,
+        code,
         order,
         budget,
         processors,

@@ -1,22 +1,22 @@
 // The calls on a plant.
-ghost use Rattle.std.specs.Prelude.{◌≡◌, ◌≢◌, ℕ, ◌+◌, ◌-◌, ◌<◌, ◌≤◌, ◌^◌, nat_le, true, false, None, Some, length};
-ghost use Rattle.b67_machine.specs.declared.entry.Performed.{Performed as ThePerformed};
+ghost use Rattle.std.specs.Prelude.{◌≡◌, ◌≢◌, ℕ, ◌+◌, ◌-◌, ◌<◌, ◌≤◌, ◌^◌, nat_le, true, false, None, Some, IfSome, length};
 ghost use Rattle.b67_processors.specs.Acts.{IsActed};
 ghost use Rattle.b67_table.specs.Limits.{most_processes};
-ghost use Rattle.b67_plant.specs.Calls.{Takes, Lands, Acts, LeavesOr, LackingIsKept, answer_to};
-ghost use Rattle.b67_stands.specs.Calls.{ActsOnce};
+ghost use Rattle.b67_plant.specs.Calls.{Picks, Takes, Lands, LandsWell, Acts, LeavesOr, LackingIsKept};
+ghost use Rattle.b67_plant.specs.Parcels.{IsCopied, StartsAs};
+ghost use Rattle.b67_stands.specs.Calls.{GoesBack};
 ghost use Rattle.b67_stands.specs.Placing.{holder_of};
 ghost use Rattle.b67_stands.specs.Running.{answer_of, spends};
 ghost use Rattle.b67_stands.specs.Stands.{Stands};
 
-use crate::placing::{answer_to, is_action, lacks, refusal};
+use crate::placing::refusal;
 use crate::{Named, Parcel, Plant, Seat};
-use b67_joining::join_queue;
 use b67_machine::{Machine, Replayed};
 use b67_processors::Acted;
 use b67_ready::Rule;
 use b67_schedule::Schedule;
 use b67_store::Core;
+use b67_word::Word;
 use std::sync::ledger::Ledger;
 
 /// What a take answers.
@@ -37,6 +37,8 @@ pub enum Taken {
 pub enum PlantLanding {
     /// The parcel's end is in place.
     Landed,
+    /// The parcel's start is not the private part that is kept. Of the registers and the words of both the first that differ are these.
+    Stale { place: u32, kept: Word, given: Word },
     /// The process is not out with the processor.
     NotOut,
     /// The run has an end.
@@ -98,10 +100,26 @@ impl<N: Named, L: Ledger, C: Core, P: Rule> Plant<N, L, C, P> {
         }
     }
 
-    /// Takes the process at the place that the rule picks: it is out with the processor then. Takes no memory.
-    pub fn take(&mut self, me: u32, parcel: &mut Parcel) -> Taken
+    // Takes the process at the place that the rule picks: it is out with the processor then. None comes exactly where nobody waits.
+    pub fn pick(&mut self, me: u32) -> Option<u32>
+        requires me { 1 ≤ me }
+        requires going { answer_of N.budget self.old ≡ None }
+        ensures picked { Picks N.pick me self.old result self.new }
+        ensures out { IfSome result (λ process. holder_of self.new.out process ≡ me) }
+        ensures going { answer_of N.budget self.new ≡ None }
+        ensures stands { Stands N.code N.budget self.new }
+    {
+        let process = self.ready.take()?;
+        self.out[process as usize - 1] = me;
+        Some(process)
+    }
+
+    /// Takes the process at the place that the rule picks: it is out with the processor then, and its private part goes into the parcel.
+    /// Takes no memory.
+    pub fn take(&mut self, me: u32, parcel: &mut Parcel<N>) -> Taken
         requires { 1 ≤ me }
         ensures taken { Takes N.pick N.budget me self.old result parcel.new.process self.new }
+        ensures copied { result ≡ Taken.Work → IsCopied self.new.machine.image parcel.new }
         ensures other { result ≢ Taken.Work → parcel.new ≡ parcel.old }
         ensures stands { Stands N.code N.budget self.old }
     {
@@ -110,10 +128,9 @@ impl<N: Named, L: Ledger, C: Core, P: Rule> Plant<N, L, C, P> {
             Some(_) => return Taken::Over,
             None => {}
         }
-        match self.ready.take() {
+        match self.pick(me) {
             Some(process) => {
-                self.out[process as usize - 1] = me;
-                parcel.process = process;
+                parcel.fill(&self.machine, process);
                 Taken::Work
             }
             None => Taken::Idle,
@@ -139,51 +156,50 @@ impl<N: Named, L: Ledger, C: Core, P: Rule> Plant<N, L, C, P> {
         self.enter(process, seat)
     }
 
-    /// Lands a parcel. Until parcels hold more than their process, nothing changes.
-    pub fn land(&mut self, me: u32, parcel: &Parcel) -> PlantLanding
+    /// Lands a parcel: its operators are performed on the machine, where its start is the private part that is kept. Else its process goes
+    /// back to the queue.
+    pub fn land(&mut self, me: u32, parcel: &Parcel<N>) -> PlantLanding
         requires { 1 ≤ me }
-        ensures same { self.new ≡ self.old }
-        ensures landed { Lands N.budget me parcel.now.process self.old result }
+        ensures { Lands N.budget me parcel.now self.old result self.new }
     {
         match self.answer() {
             Some(Replayed::NoMemory) => return PlantLanding::Lacked,
             Some(_) => return PlantLanding::Over,
             None => {}
         }
-        if self.holder(parcel.process) != me {
+        if self.holder(parcel.process()) != me {
             return PlantLanding::NotOut;
         }
+        let process = parcel.process();
+        if let Some((place, kept, given)) = self.machine.differs(process, parcel.start()) {
+            self.put_back(process);
+            return PlantLanding::Stale { place, kept, given };
+        }
+        self.put_end(parcel);
         PlantLanding::Landed
     }
 
-    // The entry of a process that is out.
-    pub fn enter(&mut self, process: u32, seat: &mut Seat<N, L>) -> Acted
+    // A process that is out goes back to the queue.
+    fn put_back(&mut self, process: u32)
         requires going { answer_of N.budget self.old ≡ None }
         requires out { 1 ≤ holder_of self.old.out process }
-        ensures acts { (performed : ThePerformed) × ActsOnce N.budget self.old process performed self.new × (result ≡ answer_to performed.done) }
-        ensures count { IsActed result seat.old.count seat.new.count }
-        ensures fits { seat.new.count < 2 ^ 64 }
-        ensures leaves { seat.new.left ≡ seat.old.left }
+        ensures { GoesBack self.old process self.new }
     {
-        let _count = seat.count;
-        let before = self.machine.started();
-        let performed = self
-            .machine
-            .perform_entry(process, self.budget - self.spent);
-        self.spent += performed.plain;
-        self.lacked = lacks(performed.done);
-        let answer = answer_to(performed.done);
-        if !is_action(performed.done) {
-            return answer;
-        }
-        self.spent += 1;
-        self.schedule.push(process);
         self.out[process as usize - 1] = 0;
-        join_queue(&self.machine, &mut self.ready, before, process);
-        self.acts.audit(&mut seat.acts);
-        self.acts.add(&mut seat.acts, 1);
-        seat.count += 1;
-        answer
+        self.ready.put(process);
+    }
+
+    // The end of a parcel takes the place of its start, which the machine has.
+    fn put_end(&mut self, parcel: &Parcel<N>)
+        requires going { answer_of N.budget self.old ≡ None }
+        requires out { 1 ≤ holder_of self.old.out parcel.now.process }
+        requires starts { StartsAs self.old.machine.image parcel.now }
+        ensures { LandsWell N.budget parcel.now self.old self.new }
+    {
+        let count = parcel.count();
+        self.machine
+            .put_private(parcel.process(), parcel.end(), count);
+        self.spent += count;
     }
 
     /// A processor stops, since the run has an end or lacked memory; the machine is as it was. It does not where that can not be counted.

@@ -1,35 +1,32 @@
 -- An entry comes before the tails of others.
-use Rattle.std.specs.Prelude.{if◌then◌else◌, ◌&&◌, reverse}
+use Rattle.std.specs.Prelude.{if◌then◌else◌, ◌&&◌}
 use Rattle.std.proofs.Common.{◌≡◌, ◌≢◌, refl, sym, ap, subst, ◌∙◌, ℕ, zero, suc, ◌+◌, ◌≤◌, Bool, true, false, List, [], ◌∷◌, ◌++◌, length, Option, Some, None, arith}
 use Rattle.std.proofs.Math.Decide.{ℕ_discrete}
 use Rattle.std.proofs.lemmas.List.{reverse-append}
 use Rattle.b67_list.specs.Numbered.{numbered}
 use Rattle.b67_num.specs.declared.FaultKind.{FaultKind}
-use Rattle.b67_word.specs.declared.Place.{Place}
 use Rattle.b67_control.specs.declared.Registers.{Registers}
 use Rattle.b67_segment.specs.declared.code.Code.{Code}
 use Rattle.b67_store.specs.Store.{Rows, row_limit}
 use Rattle.b67_table.specs.declared.ProcessState.{ProcessState}
 use Rattle.b67_table.specs.declared.ProcessState.TheVariants as states
-use Rattle.b67_table.specs.declared.Private.{Private}
 use Rattle.b67_table.specs.Effect.{Effect}
 use Rattle.b67_table.specs.Effect as effects
 use Rattle.b67_table.specs.Ending.{ImageEnd, finished, has_ended, end_by, image_end, may_act, goes_on, failed}
 use Rattle.b67_table.specs.Image.{Image, Failure, is_able, is_live, private_of, with_private, with_effect}
-use Rattle.b67_table.specs.Outcome.{Outcome, gives, faults, limited}
+use Rattle.b67_table.specs.Outcome.{Outcome, gives, limited}
 use Rattle.b67_table.specs.Private.{floor}
 use Rattle.b67_table.specs.Privacy.{Commute}
-use Rattle.b67_table.specs.Runs.{Plains, stay, go, Acts, acts, fails, Runs, entry, Tails, none, next}
-use Rattle.b67_table.specs.Sound.{Sound, OperatorTouches}
+use Rattle.b67_table.specs.Runs.{Plains, stay, go, Acts, acts, fails, entry, Tails, none, next}
+use Rattle.b67_table.specs.Sound.{Sound}
 use Rattle.b67_table.specs.Table.{raw, table, plain, private_in, private_next, is_new, stack_length}
-use Rattle.b67_table.specs.Touches.{IsPrivate}
 use Rattle.b67_table.specs.Valid.{IsValid}
 use Rattle.b67_table.proofs.AllValid.{operators_keep_valid}
 use Rattle.b67_table.proofs.Limit.{limit_comes_last, fits, new_of}
 use Rattle.b67_table.proofs.Privacy.{next_private, raw_is, put_by}
-use Rattle.b67_stands.specs.Tails.{more_at, none_at, at_place, with_more, without, tail_of}
-use Rattle.b67_stands.specs.Going.{Leads, SameEntries, OneMore, LeadsOn, LeadsTo, RunsTakeOperators, RunsTakeEntries}
-use Rattle.b67_stands.proofs.Steps.{Same, one_same, private_of_plain, plain_of, lives, number_from, registers_of, others_next, commutes}
+use Rattle.b67_stands.specs.Tails.{more_at, none_at, at_place, with_more}
+use Rattle.b67_stands.specs.Going.{Leads, OneMore, LeadsOn, LeadsTo, RunsTakeOperators, RunsTakeEntries}
+use Rattle.b67_stands.proofs.Steps.{one_same, private_of_plain, plain_of, lives, number_from, registers_of, others_next, commutes}
 use Rattle.b67_stands.proofs.Past.{plains_same, and_then, none_stays}
 use Rattle.b67_stands.proofs.Tailing.{tails_same, HasNone, has_none_on, before_tails, tail_grows, tail_first}
 

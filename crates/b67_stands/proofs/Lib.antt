@@ -1,4 +1,5 @@
 pub mod Steps
+pub mod Commuting
 pub mod Past
 pub mod Tailing
 pub mod Advancing
@@ -10,7 +11,9 @@ pub mod Showing
 pub mod Firsts
 pub mod Taking
 pub mod Landing
+pub mod Returning
 pub mod Acting
 pub mod Idle
 pub mod Kept
 pub mod Alone
+pub mod Turns

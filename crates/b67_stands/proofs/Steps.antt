@@ -1,13 +1,12 @@
 -- What a plain operator of a process leaves as it is, and that it comes before or after another's alike.
-use Rattle.std.specs.Prelude.{◌&&◌, is_some}
-use Rattle.std.proofs.Common.{◌≡◌, ◌≢◌, refl, sym, ap, subst, ◌∙◌, ℕ, zero, suc, ◌≤◌, Bool, true, false, List, [], ◌∷◌, length, Option, Some, None, Result, Ok, Err, cond, arith}
+use Rattle.std.specs.Prelude.{◌&&◌}
+use Rattle.std.proofs.Common.{◌≡◌, ◌≢◌, refl, sym, ap, subst, ◌∙◌, ℕ, zero, suc, ◌≤◌, Bool, true, false, List, [], ◌∷◌, length, Option, Some, None, Result, Ok, cond, arith}
 use Rattle.b67_list.specs.Numbered.{numbered}
 use Rattle.b67_word.specs.declared.Place.{Place}
 use Rattle.b67_control.specs.declared.Registers.{Registers}
 use Rattle.b67_ops.specs.declared.Operator.{Operator}
 use Rattle.b67_ops.specs.declared.BadCode.{BadCode}
 use Rattle.b67_segment.specs.declared.code.Code.{Code}
-use Rattle.b67_store.specs.Store.{Rows}
 use Rattle.b67_table.specs.declared.ProcessState.{ProcessState}
 use Rattle.b67_table.specs.declared.InterruptKind.TheVariants.{BadCode as bad_code}
 use Rattle.b67_table.specs.Effect.{Effect, gives, interrupts}
@@ -17,7 +16,7 @@ use Rattle.b67_table.specs.Image.{Image, is_live}
 use Rattle.b67_table.specs.Privacy.{Stands, LeavesAllElse, Commute}
 use Rattle.b67_table.specs.Rows.{Row, private_part, row}
 use Rattle.b67_table.specs.Sound.{OperatorTouches}
-use Rattle.b67_table.specs.Table.{raw, table, plain, private_in, private_next, is_new, by_registers, operator_at, stack_length}
+use Rattle.b67_table.specs.Table.{raw, table, plain, private_in, private_next, is_new, by_registers}
 use Rattle.b67_table.specs.Touches.{IsPrivate, RowTouches}
 use Rattle.b67_table.specs.Valid.{IsValid}
 use Rattle.b67_table.proofs.AllValid.{operators_keep_valid}

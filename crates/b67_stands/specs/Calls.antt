@@ -45,6 +45,10 @@ pub record LandsOnce (old : Running) (p n : ℕ) (new : Running) : Type 0 where
   pub machine : Goes old.machine p n new.machine
   pub new_is : new ≡ record old { machine = new.machine; spent = old.spent + n }
 
+-- the process is out no more, and stands at the rear of the queue
+abbrev pub GoesBack : Running → ℕ → Running → Type 0
+GoesBack old p new = new ≡ record old { waiting = old.waiting ++ p ∷ []; out = set_numbered old.out p 0 }
+
 -- ---- an act
 
 -- whether an action was performed: a fault is one

@@ -7,4 +7,6 @@ pub mod Calls
 pub mod Laws
 pub mod Picked
 pub mod Alone
+pub mod Turns
 pub mod Ran
+pub mod Commuting

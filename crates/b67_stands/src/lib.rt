@@ -9,8 +9,16 @@
 #![tactic(auto)]
 
 ghost use Rattle.b67_stands.specs.Alone.{TurnsKeepByOne};
+ghost use Rattle.b67_stands.specs.Commuting.{PlainOperatorsCommuteInRuns};
 ghost use Rattle.b67_stands.specs.Going.{RunsTakeOperators, RunsTakeEntries};
 ghost use Rattle.b67_stands.specs.Laws.{CallsKeepStands};
+ghost use Rattle.b67_stands.specs.Turns.{TurnsKeepOn};
+
+/// Law: in a run of sound code, a plain operator of one process may come before or after every operator of another: the image after both is
+/// the same, and neither is stopped otherwise.
+pub fn plain_operators_commute_in_runs()
+    ensures { PlainOperatorsCommuteInRuns }
+{}
 
 /// Law: where a process of a run performs plain operators, the image is that of the run with so many more in the process's tail.
 pub fn runs_take_operators()
@@ -31,4 +39,10 @@ pub fn calls_keep_stands()
 /// Law: where one processor does all the work, each entry of the schedule is of the process that the rule picks.
 pub fn turns_keep_by_one()
     ensures { TurnsKeepByOne }
+{}
+
+/// Law: so do turns of one process, one after another, where nobody else waits: the plant stands after them, and each entry is of the
+/// process that the rule picks.
+pub fn turns_keep_on()
+    ensures { TurnsKeepOn }
 {}

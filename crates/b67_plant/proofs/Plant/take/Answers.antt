@@ -1,13 +1,12 @@
-use Rattle.std.specs.Prelude.{slice_set}
-use Rattle.std.proofs.Common.{◌≡◌, ◌-◌, refl, sym, subst, ◌∙◌, None, arith}
+use Rattle.std.proofs.Common.{◌≡◌, sym, subst, None, arith}
 use Rattle.b67_stands.specs.Running.{Running, answer_of}
-use Rattle.b67_stands.specs.Calls.{TakesOne}
-use Rattle.b67_plant.proofs.Handing.{number, room_is, still_chosen, takes_one, still_stands}
+use Rattle.b67_stands.specs.Placing.{holder_of}
+use Rattle.b67_stands.proofs.Places.{held_able}
 use Rattle.b67_plant.proofs.Plant.take.Goals as goal
 
-pub overflow_sub-process : goal.overflow_sub-process
-overflow_sub-process g c =
-    let old : Running = record {
+pub fill-requires-clause-able : goal.fill-requires-clause-able
+fill-requires-clause-able g c =
+    let going : answer_of g.N.Named.budget (record {
       machine = c.self.inside.machine;
       waiting = c.self.inside.ready.waiting;
       takes = c.self.inside.ready.takes;
@@ -16,88 +15,8 @@ overflow_sub-process g c =
       spent = c.self.inside.spent;
       acts = c.self.inside.acts.total;
       leaves = c.self.inside.leaves.total;
-    } in
-    let i = c.self.invariant in
-    let going : answer_of g.N.Named.budget old ≡ None =
-    subst (λ (s : Running). answer_of g.N.Named.budget s ≡ None) (sym c.self.view_is) (sym c.answer.ensures.value ∙ c.in-None.is) in
-    (number g.P.Rule.pick g.N.Named.pick g.N.Named.code g.N.Named.budget old c.self.inside.ready c.take.new.self c.in-Some-take.process c.args.me i.0 going
-    c.requires refl refl i.4 c.take.result c.in-Some-take.is c.take.ensures).0
-
-pub index_mut-requires : goal.index_mut-requires
-index_mut-requires g c =
-    let old : Running = record {
-      machine = c.self.inside.machine;
-      waiting = c.self.inside.ready.waiting;
-      takes = c.self.inside.ready.takes;
-      out = c.self.inside.out.items;
-      schedule = c.self.inside.schedule;
-      spent = c.self.inside.spent;
-      acts = c.self.inside.acts.total;
-      leaves = c.self.inside.leaves.total;
-    } in
-    let i = c.self.invariant in
-    let going : answer_of g.N.Named.budget old ≡ None =
-    subst (λ (s : Running). answer_of g.N.Named.budget s ≡ None) (sym c.self.view_is) (sym c.answer.ensures.value ∙ c.in-None.is) in
-    let n = number g.P.Rule.pick g.N.Named.pick g.N.Named.code g.N.Named.budget old c.self.inside.ready c.take.new.self c.in-Some-take.process c.args.me i.0 going
-    c.requires refl refl i.4 c.take.result c.in-Some-take.is c.take.ensures in
-    omega (arith, n.0, n.1, i.0.holders)
-
-pub invariant_of-self : goal.invariant_of-self
-invariant_of-self g c =
-    let old : Running = record {
-      machine = c.self.inside.machine;
-      waiting = c.self.inside.ready.waiting;
-      takes = c.self.inside.ready.takes;
-      out = c.self.inside.out.items;
-      schedule = c.self.inside.schedule;
-      spent = c.self.inside.spent;
-      acts = c.self.inside.acts.total;
-      leaves = c.self.inside.leaves.total;
-    } in
-    let i = c.self.invariant in
-    let going : answer_of g.N.Named.budget old ≡ None =
-    subst (λ (s : Running). answer_of g.N.Named.budget s ≡ None) (sym c.self.view_is) (sym c.answer.ensures.value ∙ c.in-None.is) in
-    let out = slice_set c.self.inside.out.items (c.in-Some-take.process - 1) c.args.me in (
-      still_stands g.P.Rule.pick g.N.Named.pick g.N.Named.code g.N.Named.budget old c.self.inside.ready c.take.new.self c.in-Some-take.process c.args.me i.0 going
-          c.requires refl refl i.4 c.take.result c.in-Some-take.is c.take.ensures
-          c.take.new.self.waiting c.take.new.self.takes out refl refl refl,
-      i.1,
-      i.2,
-      i.3,
-      still_chosen g.P.Rule.pick g.N.Named.pick g.N.Named.code g.N.Named.budget old c.self.inside.ready c.take.new.self c.in-Some-take.process c.args.me i.0 going
-          c.requires refl refl i.4 c.take.result c.in-Some-take.is c.take.ensures,
-      omega (
-        arith,
-        i.5,
-        room_is g.P.Rule.pick g.N.Named.pick g.N.Named.code g.N.Named.budget old c.self.inside.ready c.take.new.self c.in-Some-take.process c.args.me i.0 going
-            c.requires refl refl i.4 c.take.result c.in-Some-take.is c.take.ensures,
-      ),
-      i.6,
-      i.7,
-      i.8,
-      i.9,
-    )
-
-pub returns-in-Some-take-clause-taken : goal.returns-in-Some-take-clause-taken
-returns-in-Some-take-clause-taken g c =
-    let old : Running = record {
-      machine = c.self.inside.machine;
-      waiting = c.self.inside.ready.waiting;
-      takes = c.self.inside.ready.takes;
-      out = c.self.inside.out.items;
-      schedule = c.self.inside.schedule;
-      spent = c.self.inside.spent;
-      acts = c.self.inside.acts.total;
-      leaves = c.self.inside.leaves.total;
-    } in
-    let i = c.self.invariant in
-    let going : answer_of g.N.Named.budget old ≡ None =
-    subst (λ (s : Running). answer_of g.N.Named.budget s ≡ None) (sym c.self.view_is) (sym c.answer.ensures.value ∙ c.in-None.is) in
-    let out = slice_set c.self.inside.out.items (c.in-Some-take.process - 1) c.args.me in
-    let new : Running = record old { waiting = c.take.new.self.waiting; takes = c.take.new.self.takes; out = out } in
-    subst (λ (s : Running). (answer_of g.N.Named.budget s ≡ None) × TakesOne g.N.Named.pick c.args.me s c.in-Some-take.process new) c.self.view_is (
-      going,
-      takes_one g.P.Rule.pick g.N.Named.pick g.N.Named.code g.N.Named.budget old c.self.inside.ready c.take.new.self c.in-Some-take.process c.args.me i.0 going
-          c.requires refl refl i.4 c.take.result c.in-Some-take.is c.take.ensures
-          c.take.new.self.waiting c.take.new.self.takes out refl refl refl,
-    )
+    }) ≡ None = subst (λ (s : Running). answer_of g.N.Named.budget s ≡ None) (sym c.self.view_is) c.pick.ensures.going in
+    let out : holder_of c.self.inside.out.items c.in-Some-pick.process ≡ c.args.me =
+    subst (λ (s : Running). holder_of s.out c.in-Some-pick.process ≡ c.args.me) (sym c.self.view_is) c.in-Some-pick.ensures.out in
+    held_able c.self.inside.machine.image c.self.inside.ready.waiting c.self.inside.out.items c.in-Some-pick.process (c.self.invariant.0.placed going)
+    (omega (arith, out, c.requires))

@@ -1,0 +1,201 @@
+-- Turns of one process, one after another: what they keep.
+use Rattle.std.specs.Prelude.{nat_le, nat_lt, slice_get, slice_set, remove, if◌then◌else◌}
+use Rattle.std.proofs.Common.{◌≡◌, refl, sym, ap, subst, ◌∙◌, ℕ, zero, suc, ◌+◌, ◌-◌, ◌≤◌, ◌<◌, Bool, true, false, List, [], ◌∷◌, ◌++◌, length, Option, Some, None, replicate, append_assoc, arith}
+use Rattle.std.proofs.lemmas.Bool.{leb-true}
+use Rattle.std.proofs.lemmas.List.{append-nil, replicate_more}
+use Rattle.b67_list.specs.Numbered.{numbered, set_numbered}
+use Rattle.b67_schedule.specs.Schedules.{entries, Kept as Schedule}
+use Rattle.b67_schedule.proofs.Pushes.{entries-push}
+use Rattle.b67_segment.specs.declared.code.Code.{Code}
+use Rattle.b67_words.specs.declared.TheConstants.{MOST_BUDGET}
+use Rattle.b67_table.specs.declared.ProcessState.{ProcessState}
+use Rattle.b67_table.specs.Image.{Image, is_able}
+use Rattle.b67_table.specs.Sound.{Sound}
+use Rattle.b67_action.specs.Able.{one_if, able_in, newly}
+use Rattle.b67_action.specs.declared.done.Done.TheVariants as dones
+use Rattle.b67_machine.specs.declared.entry.Performed.{Performed}
+use Rattle.b67_machine.specs.declared.reads.End.{End}
+use Rattle.b67_machine.specs.Entries.{Passes, Enters}
+use Rattle.b67_machine.specs.Entries as machine
+use Rattle.b67_machine.specs.Kept.{Kept, or_none}
+use Rattle.b67_machine.specs.Reads.{machine_end}
+use Rattle.b67_machine.specs.Stepping.{Performs}
+use Rattle.b67_ready.specs.Ready.{counted_times}
+use Rattle.b67_joining.specs.Joining.{if_able, joining}
+use Rattle.b67_stands.specs.Running.{Running, answer_by, answer_of}
+use Rattle.b67_stands.specs.Placing.{holder_of}
+use Rattle.b67_stands.specs.Picked.{Pick}
+use Rattle.b67_stands.specs.Stands.{Stands}
+use Rattle.b67_stands.specs.Calls.{TakesOne, is_action}
+use Rattle.b67_stands.specs.Turns.{ActsAgain, ActsOn, stay, go, StandsOut, TakenByOne, TurnsKeepOn}
+use Rattle.b67_stands.proofs.Places.{holder_own}
+use Rattle.b67_stands.proofs.Taking.{taken_number, takes_keep}
+use Rattle.b67_stands.proofs.Acting.{acts_keep}
+use Rattle.b67_stands.proofs.Alone.{turns_keep_by_one}
+
+-- ---- a take of a plant that stands leaves one that does, and the process is out
+
+module _ (code : Code) (budget : ℕ) (pick : Pick) (old new : Running) (me p : ℕ) (some : 1 ≤ me) (stands : Stands code budget old) (going : answer_of budget old ≡ None)
+    (takes : TakesOne pick me old p new) where
+  pub going_taken : answer_of budget new ≡ None
+  going_taken = subst (λ (s : Running). answer_of budget s ≡ None) (sym takes.new_is) going
+
+  held : holder_of new.out p ≡ me
+  held =
+      let n = taken_number code budget old stands (pick (length old.waiting) old.takes) p going takes.picked in
+      ap (λ (s : Running). holder_of s.out p) takes.new_is ∙ holder_own old.out p me n.0 (omega (arith, n.1, stands.holders))
+
+  pub stands_taken : StandsOut code budget p new
+  stands_taken = record { stands = takes_keep code budget old stands new pick me p going some takes; going = going_taken; out = omega (arith, held, some) }
+
+pub stands_on : (code : Code) (budget : ℕ) (pick : Pick) (me p n : ℕ) (old new : Running) → Sound code → 1 ≤ me → StandsOut code budget p old → ActsOn pick budget me p old n new
+    → StandsOut code budget p new
+stands_on code budget pick me p n old new sound some s stay = s
+stands_on code budget pick me p n old new sound some s (go {b = b} {n = k} acts more) =
+    let t = stands_on code budget pick me p k old b sound some s acts in
+    let acted = acts_keep code budget b more.acted p more.performed sound t.stands t.going t.out more.valid more.acts in
+    stands_taken code budget pick more.acted new me p some acted more.going more.takes
+
+by_one_on : (code : Code) (budget : ℕ) (pick : Pick) (me p n : ℕ) (old new : Running) → Sound code → budget ≤ MOST_BUDGET → 1 ≤ me → TakenByOne code budget pick me p old
+    → ActsOn pick budget me p old n new → TakenByOne code budget pick me p new
+by_one_on code budget pick me p n old new sound small some t stay = t
+by_one_on code budget pick me p n old new sound small some t (go {b = b} {n = k} acts more) =
+    let u = by_one_on code budget pick me p k old b sound small some t acts in
+    let out = stands_taken code budget pick u.before b me p some u.stands u.going u.takes in
+    record {
+      before = more.acted;
+      stands = acts_keep code budget b more.acted p more.performed sound out.stands out.going out.out more.valid more.acts;
+      by_one = (turns_keep_by_one.turn code budget pick u.before b more.acted me p more.performed sound small u.stands u.by_one u.going u.takes more.acts).by_one;
+      going = more.going;
+      takes = more.takes;
+    }
+
+pub spent_on : (budget : ℕ) (pick : Pick) (me p n : ℕ) (old new : Running) → ActsOn pick budget me p old n new → old.spent ≤ new.spent
+spent_on budget pick me p n old new stay = omega arith
+spent_on budget pick me p n old new (go {b = b} {n = k} acts more) =
+    let before = spent_on budget pick me p k old b acts in
+    let same : new.spent ≡ more.acted.spent = ap (λ (s : Running). s.spent) more.takes.new_is in
+    omega (arith, before, more.acts.spent, same)
+
+pub turns_keep_on : TurnsKeepOn
+turns_keep_on = record { stands = stands_on; by_one = by_one_on; spent = spent_on }
+
+-- ---- entries that a machine performed one after another are such turns, where nobody waits
+
+set_back_at : (out : List ℕ) (k v : ℕ) → k < length out → or_none (slice_get out k) ≡ v → slice_set (slice_set out k 0) k v ≡ out
+set_back_at [] k v h e = absurd (omega (arith, h))
+set_back_at (x ∷ out) zero v h e = ap (λ (y : ℕ). y ∷ out) (sym e)
+set_back_at (x ∷ out) (suc k) v h e = ap (λ (ys : List ℕ). x ∷ ys) (set_back_at out k v (omega (arith, h)) e)
+
+-- who is out no more, and then again
+set_back : (out : List ℕ) (p v : ℕ) → 1 ≤ p → p ≤ length out → holder_of out p ≡ v → set_numbered (set_numbered out p 0) p v ≡ out
+set_back out zero v one h e = absurd (omega (arith, one))
+set_back out (suc k) v one h e = set_back_at out k v (omega (arith, h)) e
+
+nobody_new : (n m : ℕ) (b : Bool) → nat_lt n m ≡ b → m ≡ n → (if b then m ∷ [] else []) ≡ []
+nobody_new n m true e s = absurd (omega (arith, s, leb-true (suc n) m e))
+nobody_new n m false e s = refl
+
+-- who releases and starts nobody is the only one that joins
+only_joins : (before : ℕ) (after : Image) (p : ℕ) (released : List ℕ) → released ≡ [] → after.started ≡ before → able_in after p ≡ true → joining before after p released ≡ p ∷ []
+only_joins before after p released r s able =
+    ap (λ (xs : List ℕ). xs ++ newly before after.started ++ if_able (able_in after p) p) r
+    ∙ ap (λ (xs : List ℕ). xs ++ if_able (able_in after p) p) (nobody_new before after.started (nat_lt before after.started) refl s)
+    ∙ ap (λ (b : Bool). if_able b p) able
+
+less_is : (n m : ℕ) (b : Bool) → nat_le n m ≡ b → m < n → b ≡ false
+less_is n m true e h = absurd (omega (arith, h, leb-true n m e))
+less_is n m false e h = refl
+
+goes_by : (budget : ℕ) (s : Running) → s.machine.lacked ≡ false → machine_end s.machine ≡ None → s.spent < budget → answer_of budget s ≡ None
+goes_by budget s l e h =
+    ap (λ (b : Bool). answer_by b (machine_end s.machine) (nat_le budget s.spent)) l
+    ∙ ap (λ (o : Option End). answer_by false o (nat_le budget s.spent)) e
+    ∙ ap (answer_by false None) (less_is budget s.spent (nat_le budget s.spent) refl h)
+
+states_same : (p most n m : ℕ) (a b : Kept) → Enters p most a n m b → b.image.states ≡ a.image.states
+states_same p most n m a b machine.stay = refl
+states_same p most n m a b (machine.go {b = d} {n = k} {m = l} enters more) = more.states ∙ states_same p most k l a d enters
+
+-- the plant after so many turns
+abbrev pub turned : Running → ℕ → ℕ → Kept → Schedule → Running
+turned old n m machine schedule = record old {
+  machine = machine;
+  takes = counted_times n old.takes;
+  schedule = schedule;
+  spent = old.spent + m;
+  acts = old.acts + n;
+}
+
+-- some schedule with so many more entries
+pub record Grown (old : Schedule) (p n : ℕ) (new : Schedule) : Type 0 where
+  pub added : entries new.runs ≡ entries old.runs ++ replicate n p
+  pub none : n ≡ 0 → new ≡ old
+
+some_grown : (old : Schedule) (p n : ℕ) → (new : Schedule) × Grown old p n new
+some_grown old p zero = (old, record { added = sym (append-nil (entries old.runs)); none = λ e. refl })
+some_grown old p (suc n) = (
+  record { runs = old.runs ++ record { process = p; times = suc n } ∷ []; room = old.room },
+  record { added = entries-push old.runs (record { process = p; times = suc n }); none = λ e. absurd (omega (arith, e)) },
+)
+
+module _ (budget : ℕ) (pick : Pick) (me p : ℕ) (old : Running) (first : (takes : ℕ) → pick 1 takes ≡ 0) (one : 1 ≤ p) (within : p ≤ length old.out)
+    (mine : holder_of old.out p ≡ me) (able : able_in old.machine.image p ≡ true) where
+  -- one more turn
+  once_more : (n m k : ℕ) (b c : Kept) (s z : Schedule) → Enters p (budget - old.spent) old.machine n m b → Passes b p (budget - old.spent - m) k c → Grown old.schedule p n s
+      → Grown old.schedule p (suc n) z → old.waiting ≡ [] → m + (k + 1) < budget - old.spent
+      → ActsAgain pick budget me p (turned old n m b s) (turned old (suc n) (m + (k + 1)) c z)
+  once_more n m k b c s z enters more grown longer nobody less =
+      let before : Running = turned old n m b s in
+      let after : Running = turned old (suc n) (m + (k + 1)) c z in
+      let performed : Performed = record { plain = k; done = Some dones.Went } in
+      let acted : Running = record after { waiting = p ∷ []; takes = before.takes; out = set_numbered old.out p 0 } in
+      let able_then : able_in c.image p ≡ true =
+      ap (λ (ss : List ProcessState). is_able (numbered ss p)) (more.states ∙ states_same p (budget - old.spent) n m old.machine b enters) ∙ able in
+      let left : budget - old.spent - m ≡ budget - (old.spent + m) = omega arith in
+      let counted : one_if (is_action performed.done) ≡ 1 = refl in
+      let next : suc n ≡ n + 1 = omega arith in
+      record {
+        performed = performed;
+        acted = acted;
+        acts = record {
+          machine = subst (λ (most : ℕ). Performs b p most performed c) left more.performs;
+          spent = omega (arith, counted);
+          records = record {
+            schedule = longer.added ∙ ap (λ (j : ℕ). entries old.schedule.runs ++ replicate j p) next ∙ ap (λ (xs : List ℕ). entries old.schedule.runs ++ xs) (sym (replicate_more n p))
+                ∙ sym (append_assoc (entries old.schedule.runs) (replicate n p) (p ∷ [])) ∙ ap (λ (xs : List ℕ). xs ++ p ∷ []) (sym grown.added);
+            out = refl;
+            waiting = sym (only_joins b.image.started c.image p c.released more.released more.started able_then)
+                ∙ ap (λ (xs : List ℕ). xs ++ joining b.image.started c.image p c.released) (sym nobody);
+            acts = omega arith;
+          };
+          takes = refl;
+          leaves = refl;
+        };
+        valid = more.valid;
+        going = goes_by budget acted more.lacked more.ends (omega (arith, less));
+        takes = record {
+          picked = ap (slice_get (p ∷ [])) (first before.takes);
+          new_is =
+              ap (λ (ws : List ℕ). record after { waiting = ws }) (nobody ∙ sym (ap (remove (p ∷ [])) (first before.takes)))
+              ∙ ap (λ (os : List ℕ). record after { waiting = remove (p ∷ []) (pick 1 before.takes); out = os }) (sym (set_back old.out p me one within mine));
+        };
+      }
+
+  pub turns_are : (n m : ℕ) (b : Kept) (s : Schedule) → Enters p (budget - old.spent) old.machine n m b → Grown old.schedule p n s → (1 ≤ n → old.waiting ≡ [])
+      → (1 ≤ n → m < budget - old.spent) → ActsOn pick budget me p old n (turned old n m b s)
+  turns_are n m b s machine.stay grown nobody less =
+      subst (ActsOn pick budget me p old 0) (
+      ap (λ (z : Schedule). record old { schedule = z }) (sym (grown.none refl))
+      ∙ ap (λ (k : ℕ). record old { schedule = s; spent = k }) (omega arith)
+      ∙ ap (λ (k : ℕ). record old { schedule = s; spent = old.spent + 0; acts = k }) (omega arith)
+      ) stay
+  turns_are n m c z (machine.go {b = b} {n = i} {m = j} {k = k} enters more) grown nobody less =
+      let none = nobody (omega arith) in
+      let before = some_grown old.schedule p i in
+      let small : j + (k + 1) < budget - old.spent = less (omega arith) in
+      let next : suc i ≡ i + 1 = omega arith in
+      subst (λ (x : ℕ). ActsOn pick budget me p old x (turned old x (j + (k + 1)) c z)) next (
+      go (turns_are i j b before.0 enters before.1 (λ h. none) (λ h. omega (arith, small)))
+      (once_more i j k b c before.0 z enters more before.1 (subst (λ (x : ℕ). Grown old.schedule p x z) (sym next) grown) none small)
+      )
