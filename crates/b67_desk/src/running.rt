@@ -14,6 +14,7 @@ ghost use Rattle.b67_desk.specs.Calls.{CanBeMade, IsLeft, IsReported};
 
 use crate::asking::Job;
 use b67_explain::{acts_of, report_of};
+use b67_flat::FlatCore;
 use b67_list::{Line, List};
 use b67_listing::listing;
 use b67_machine::{Machine, Replayed};
@@ -23,7 +24,6 @@ use b67_ready::Order;
 use b67_report::Report;
 use b67_schedule::Schedule;
 use b67_segment::Code;
-use b67_store::ListCore;
 use b67_words::Rule;
 use std::alloc::{AllocError, Global};
 use std::sync::Wait;
@@ -43,7 +43,7 @@ fn order_of(rule: Rule) -> Order
 /// The report of what a run has left, where memory did not lack: so many acts of each processor, and the lines of its code.
 fn left_report(
     alloc: Global,
-    ran: Ran<ListCore>,
+    ran: Ran<FlatCore>,
     acts: List<u64>,
     lines: List<Line>,
 ) -> Result<Report, AllocError>
@@ -75,7 +75,7 @@ pub fn run_report(alloc: Global, job: Job) -> Result<Report, AllocError>
         code,
     } = job;
     let lines = listing(alloc, &code)?;
-    let machine = Machine::load(alloc, code, ListCore::new(alloc))?;
+    let machine = Machine::load(alloc, code, FlatCore::new(alloc))?;
     let ran = run_by_caller(alloc, machine, order_of(rule), budget as u32)?;
     let acts = acts_of(alloc, processors, ran.schedule.len())?;
     left_report(alloc, ran, acts, lines)
@@ -99,7 +99,7 @@ pub fn share_report<R: Threads + Wait + Sync, G: Gate + Sync>(
     } = job;
     let mut acts = Vec::with_capacity(alloc, processors as usize)?;
     let lines = listing(alloc, &code)?;
-    let machine = Machine::load(alloc, code, ListCore::new(alloc))?;
+    let machine = Machine::load(alloc, code, FlatCore::new(alloc))?;
     let ran = run_by_processors(
         rt,
         alloc,
@@ -125,7 +125,7 @@ pub fn replay_report(
     ensures { IfOk result (λ report. (tree : PProgram) → Faithful tree code → ExplainsReplay tree (entries given.now.runs) budget report) }
 {
     let lines = listing(alloc, &code)?;
-    let mut machine = Machine::load(alloc, code, ListCore::new(alloc))?;
+    let mut machine = Machine::load(alloc, code, FlatCore::new(alloc))?;
     let mut done = Schedule::with_room(alloc, given.len().min(budget) as usize)?;
     let answer = machine.replay(given, budget as u32, &mut done);
     let acts = acts_of(alloc, 1, done.len())?;

@@ -8,11 +8,12 @@ ghost use Rattle.b67_exec.specs.Turns.{exec_run};
 ghost use Rattle.b67_exec.specs.Texts.{interrupt_words, stopped_words, counts_in, machine_text, exec_text};
 
 use crate::{Stopped, exec};
+use b67_flat::FlatCore;
 use b67_list::{List, push_number};
 use b67_machine::Machine;
 use b67_report::{EndWords, push_counts, push_end, push_lines};
 use b67_segment::Code;
-use b67_store::{Core, ListCore};
+use b67_store::Core;
 use b67_table::InterruptKind;
 use std::alloc::{AllocError, Global};
 
@@ -90,7 +91,7 @@ pub fn exec_told(alloc: Global, code: Code, budget: u32) -> Result<Told, AllocEr
     ensures text { IfOk result (λ told. told.text.items ≡ exec_text code budget) }
     ensures why { IfOk result (λ told. told.why ≡ (exec_run code budget).why) }
 {
-    let mut machine = Machine::load(alloc, code, ListCore::new(alloc))?;
+    let mut machine = Machine::load(alloc, code, FlatCore::new(alloc))?;
     let why = exec(alloc, &mut machine, budget)?;
     let text = text_of(alloc, &machine, why)?;
     Ok(Told { text, why })
