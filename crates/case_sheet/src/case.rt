@@ -1,6 +1,6 @@
 //! One case.
 
-use crate::lines::push_line;
+use crate::signs::push_line;
 use std::alloc::{AllocError, Global};
 
 /// A case of a sheet.

@@ -1,4 +1,4 @@
-//! Cases that stand in a text: what is called, and what it has to be answered by.
+//! Cases that stand in a text: what is called, and what it has to be answered by; and parts of such answers.
 //!
 //! A sheet begins with prose. Then each case has a head, an input and an answer, each line of which ends with LF:
 //!
@@ -17,8 +17,10 @@
 #![tactic(auto)]
 
 mod case;
-mod lines;
 mod sheet;
+mod signs;
+mod told;
 
 pub use case::Case;
 pub use sheet::cases_of;
+pub use told::{lines, number, say};

@@ -2,9 +2,9 @@
 
 ghost use Rattle.b67_asm.specs.Writable.{IsWritable};
 
-use crate::told::{number, say};
 use b67_asm_writer::source;
 use b67_segment::{Code, Format, Phrase, Segment};
+use case_sheet::{number, say};
 use std::alloc::{AllocError, Global};
 
 /// Appends the words and the marks of a segment.

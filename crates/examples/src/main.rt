@@ -8,7 +8,7 @@
 //! number of bytes for which the sink has room, or `cut N`, that of the bytes of the input that there are. Each source is read at most 7
 //! bytes at a time. The cases of `shared.sheet`, where nothing fails, are answered by processors that share the work, each in a thread of
 //! its own; by the setting `hold N` they are held at the gate from their passing N on, counted from 0, until two of them stand there. The
-//! schedule that is printed has to have the same listing, output and end when it is replayed.
+//! schedule that is printed has to have the same listing, output and end when it is replayed. Of `landings.sheet` it is told in `landings`.
 //!
 //! These cases are the tests of `b67_desk` and, through it, of what it calls: the front end, the compiler, the listing, the
 //! machine from its first image to its end, the schedules and the reports, and by texts of code the assembler, the operators, the
@@ -19,39 +19,36 @@
 //! `read_listing` (b67_listing_reader), `listing` (b67_listing), `copy` (b67_segment), `read_report` and `text` (b67_report); of `lex`
 //! (algol_lexer), `front` (algol_front), of what `Scopes` (algol_scope) answers, of `scopes_of` (algol_names), `start` (algol_perform),
 //! `step`, `end_of` and `follow` (algol_run), and through them of the crates of the meaning; of `put` and `take` (b67_ready), and of `new`,
-//! `take`, `land`, `act`, `machine` and `schedule` (b67_plant).
+//! `take`, `land`, `act`, `machine` and `schedule` (b67_plant); those of landings are the tests of `work` and of `SharedPlant`'s calls there.
 //!
 //! Worked values that no text shows are those of whole numbers (b67_num), words (b67_word), control words and the display (b67_control),
 //! of sources and sinks that fail in mid-stream (b67_io), and of processors that serve a shop (b67_processors).
 #![tactic(auto)]
 
 mod answer;
-mod cells;
 mod codes;
 mod control_words;
-mod language;
+mod landings;
 mod numbers;
 mod outside;
 mod parts;
 mod replays;
 mod rules;
-mod runs;
 mod serving;
 mod shared;
 mod streams;
 mod tables;
 mod texts;
-mod tokens;
 mod told;
-mod turns;
 mod words;
 
 use crate::answer::{answered, call_told};
+use crate::landings::push_landings;
 use crate::outside::Outside;
 use crate::parts::part_told;
 use crate::shared::shared_text;
-use crate::told::{push_case, push_told, say};
-use case_sheet::cases_of;
+use crate::told::{push_case, push_told};
+use case_sheet::{cases_of, say};
 use std::alloc::{AllocError, Global};
 use std::sync::Wait;
 use std::thread::Threads;
@@ -162,18 +159,21 @@ fn push_all_worked<R: Threads + Wait + Sync>(
     Ok(())
 }
 
-/// Whether the cases of a sheet, whose work processors share, have their answers, and whether worked values are what they should be.
+/// Whether the cases of the sheets whose work processors share, and those of landings, have their answers, and whether worked values are what
+/// they should be.
 fn last_text<R: Threads + Wait + Sync>(
     rt: &R,
     alloc: Global,
-    sheet: &[u8],
+    shared: &[u8],
+    landings: &[u8],
 ) -> Result<Vec<u8>, AllocError> {
-    let mut text = shared_text(rt, alloc, sheet)?;
+    let mut text = shared_text(rt, alloc, shared)?;
+    push_landings(&mut text, rt, alloc, landings)?;
     push_all_worked(&mut text, rt, alloc)?;
     Ok(text)
 }
 
-/// Answers the examples, the texts of code, and the cases of all sheets but one.
+/// Answers the examples, the texts of code, and the cases of all sheets but two.
 fn tell_all_sheets(rt: &HostRuntime) -> io::Result<()> {
     tell_examples(rt, "examples", EXAMPLE, "alg")?;
     tell_examples(rt, "codes", CODE, "asm")?;
@@ -183,7 +183,8 @@ fn tell_all_sheets(rt: &HostRuntime) -> io::Result<()> {
 
 fn main(rt: HostRuntime) -> io::Result<()> {
     tell_all_sheets(&rt)?;
-    let sheet = bytes_of(&rt, "shared", "sheet")?;
-    let text = last_text(&rt, rt.alloc(), sheet.as_slice())?;
+    let shared = bytes_of(&rt, "shared", "sheet")?;
+    let landings = bytes_of(&rt, "landings", "sheet")?;
+    let text = last_text(&rt, rt.alloc(), shared.as_slice(), landings.as_slice())?;
     tell(&rt, text.as_slice())
 }

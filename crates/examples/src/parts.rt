@@ -1,4 +1,5 @@
-//! The answers that no one command shows. Those of the front end and of the meaning are told of in `language`.
+//! The answers that no one command shows. Those of the front end and of the meaning are told of in `language_cases`, that of
+//! `rules.sheet` in `rules`.
 //!
 //! In `segments.sheet` the input of a case is a text of the assembler. The answer has, for each segment, the line `SEGMENT n` with its
 //! number of words, the words, and `MARK place level` for each mark; then, for each format, the line `FORMAT n` with its number of
@@ -12,12 +13,13 @@
 
 use crate::answer::Told;
 use crate::codes::code_text;
-use crate::language::language_text;
+use crate::rules::rules_text;
 use crate::tables::table_text;
 use crate::texts::{listing_text, report_text};
 use algol_tree::MOST_SOURCE_BYTES;
 use b67_asm::assemble;
 use case_sheet::Case;
+use language_cases::language_text;
 use std::alloc::{AllocError, Global};
 
 /// The code of a text, or the text that is written for it; nothing where the text is not assembled.
@@ -39,6 +41,7 @@ fn part_text(alloc: Global, sheet: &str, case: &Case) -> Result<Vec<u8>, AllocEr
         "read-listings" => listing_text(alloc, case.input.as_slice()),
         "read-reports" => report_text(alloc, case.input.as_slice()),
         "tables" => table_text(alloc, case),
+        "rules" => rules_text(alloc, case),
         _ => language_text(alloc, sheet, case),
     }
 }

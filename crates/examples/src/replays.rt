@@ -2,8 +2,7 @@
 
 use crate::answer::{Told, answered};
 use crate::outside::Outside;
-use crate::told::say;
-use case_sheet::Case;
+use case_sheet::{Case, say};
 use std::alloc::{AllocError, Global};
 
 /// Of a report what stands before the counts of its operators, and its schedule.

@@ -11,15 +11,18 @@ ghost use Rattle.b67_segment.specs.declared.TheConstants.{MOST_SEGMENT_WORDS};
 ghost use Rattle.b67_table.specs.Sound.{Sound};
 ghost use Rattle.b67_machine.specs.Beginning.{IsFresh};
 
-use crate::told::{lines, number, say};
+use crate::landings::push_landing;
 use algol_front::Checked;
 use b67_compile::compile;
+use b67_flat::FlatCore;
+use b67_list::discard;
 use b67_machine::{End, Machine};
-use b67_plant::{Named, Plant, PlantLanding, Post, Taken};
+use b67_plant::{Named, Plant, Post, Taken};
 use b67_processors::Acted;
 use b67_ready::{Dispatcher, Order, Rule};
 use b67_report::{EndWords, push_end};
-use b67_store::ListCore;
+use case_sheet::{Case, lines, number, say};
+use language_cases::{Front, front_of};
 use std::alloc::{AllocError, Global};
 use std::marker::Brand;
 use std::sync::ledger::{Blank, Ledger};
@@ -30,8 +33,11 @@ struct Middle;
 
 impl Rule for Middle {
     ghost use Rattle.std.specs.Prelude.{◌/◌};
+    ghost use Rattle.std.proofs.Common.{arith};
 
     ghost pick = { λ rule length takes. length / 2 };
+
+    ghost within = { λ rule length takes some. omega (arith, some) };
 
     fn pick(&self, length: u32, _takes: u64) -> u32 {
         length / 2
@@ -44,8 +50,11 @@ struct Ends;
 
 impl Rule for Ends {
     ghost use Rattle.std.specs.Prelude.{◌-◌, ◌%◌, nat_le, if◌then◌else◌};
+    ghost use Rattle.std.proofs.Common.{rules};
 
     ghost pick = { λ rule length takes. if nat_le 1 (takes % 2) then length - 1 else 0 };
+
+    ghost within = { Prim.search rules };
 
     fn pick(&self, length: u32, takes: u64) -> u32 {
         if takes % 2 >= 1 { length - 1 } else { 0 }
@@ -70,7 +79,7 @@ fn push_takes<P: Rule>(text: &mut Vec<u8>, alloc: Global, rule: P) -> Result<(),
 }
 
 /// What a take answers, in words.
-fn taken_words(taken: Taken) -> &'static [u8] {
+pub(crate) fn taken_words(taken: Taken) -> &'static [u8] {
     match taken {
         Taken::Work => b" WORK",
         Taken::Idle => b" IDLE",
@@ -79,18 +88,8 @@ fn taken_words(taken: Taken) -> &'static [u8] {
     }
 }
 
-/// What a landing answers, in words.
-fn landing_words(landing: PlantLanding) -> &'static [u8] {
-    match landing {
-        PlantLanding::Landed => b" LANDED",
-        PlantLanding::NotOut => b" NOT OUT",
-        PlantLanding::Over => b" OVER",
-        PlantLanding::Lacked => b" LACKED",
-    }
-}
-
 /// What an act answers, in words.
-fn acted_words(acted: Acted) -> &'static [u8] {
+pub(crate) fn acted_words(acted: Acted) -> &'static [u8] {
     match acted {
         Acted::Went => b" WENT",
         Acted::Waits => b" WAITS",
@@ -124,14 +123,14 @@ fn push_end_line(text: &mut Vec<u8>, end: Option<End>) {
 /// Makes a run of a plant's only processor, and appends what the calls answer.
 fn push_calls<N: Named, L: Ledger, P: Rule>(
     text: &mut Vec<u8>,
-    plant: &mut Plant<N, L, ListCore, P>,
+    plant: &mut Plant<N, L, FlatCore, P>,
     post: &mut Post<N, L>,
 ) {
     say(text, b"CALLS");
     say(text, taken_words(plant.take(1, &mut post.parcel)));
     number(text, b" ", u64::from(post.parcel.process()));
     say(text, taken_words(plant.take(1, &mut post.parcel)));
-    say(text, landing_words(plant.land(1, &post.parcel)));
+    push_landing(text, plant.land(1, &post.parcel));
     let process = post.parcel.process();
     say(text, acted_words(plant.act(1, process, &mut post.seat)));
     let mut taken = plant.take(1, &mut post.parcel);
@@ -152,7 +151,7 @@ fn push_calls<N: Named, L: Ledger, P: Rule>(
 fn push_run<N: Named, L: Ledger, P: Rule>(
     text: &mut Vec<u8>,
     alloc: Global,
-    machine: Machine<ListCore>,
+    machine: Machine<FlatCore>,
     rule: P,
     acts: Blank,
     leaves: Blank,
@@ -168,7 +167,7 @@ fn push_run<N: Named, L: Ledger, P: Rule>(
     requires rule { (n takes : ℕ) → P.pick rule n takes ≡ N.pick n takes }
 {
     let mut posts = Vec::with_capacity(alloc, 1)?;
-    let mut plant = Plant::<N, L, ListCore, P>::new(
+    let mut plant = Plant::<N, L, FlatCore, P>::new(
         alloc, machine, rule, 1_000, 1, acts, leaves, &mut posts,
     )?;
     push_calls(text, &mut plant, &mut posts[0]);
@@ -178,13 +177,13 @@ fn push_run<N: Named, L: Ledger, P: Rule>(
 }
 
 /// The machine of a source's code, which has performed nothing.
-fn machine_of(alloc: Global, checked: &Checked) -> Result<Machine<ListCore>, AllocError>
+pub(crate) fn machine_of(alloc: Global, checked: &Checked) -> Result<Machine<FlatCore>, AllocError>
     ensures fresh { IfOk result IsFresh }
     ensures sound { IfOk result (λ machine. Sound machine.code) }
     ensures segments { IfOk result (λ machine. All (λ segment. length segment.words ≤ MOST_SEGMENT_WORDS) machine.code.segments) }
 {
     let code = compile(alloc, checked)?;
-    let machine = Machine::load(alloc, code, ListCore::new(alloc))?;
+    let machine = Machine::load(alloc, code, FlatCore::new(alloc))?;
     Ok(machine)
 }
 
@@ -204,17 +203,33 @@ fn told<P: Rule + Copy>(alloc: Global, checked: &Checked, rule: P) -> Result<Vec
     Ok(text)
 }
 
-/// What comes of a source under the rule of this word.
-pub(crate) fn rule_text(
-    alloc: Global,
-    checked: &Checked,
-    word: &str,
-) -> Result<Vec<u8>, AllocError> {
+/// What comes of an accepted source under the rule of this word.
+fn rule_text(alloc: Global, checked: &Checked, word: &str) -> Result<Vec<u8>, AllocError> {
     match word {
         "fifo" => told(alloc, checked, Order::Fifo),
         "lifo" => told(alloc, checked, Order::Lifo),
         "seed" => told(alloc, checked, Order::Seed(1)),
         "middle" => told(alloc, checked, Middle),
         _ => told(alloc, checked, Ends),
+    }
+}
+
+/// The first word of a case.
+fn first_word(case: &Case) -> &str {
+    match case.words.first() {
+        Some(word) => word.as_str(),
+        None => "",
+    }
+}
+
+/// The answer to a case of `rules.sheet`.
+pub(crate) fn rules_text(alloc: Global, case: &Case) -> Result<Vec<u8>, AllocError> {
+    match front_of(alloc, case.input.as_slice())? {
+        Front::Accepted(checked) => {
+            let text = rule_text(alloc, &checked, first_word(case));
+            discard(checked);
+            text
+        }
+        Front::Told(told) => Ok(Vec::from_slice(alloc, told)?),
     }
 }

@@ -8,8 +8,7 @@
 
 use crate::answer::{Told, answered};
 use crate::outside::Outside;
-use crate::told::{number, say};
-use case_sheet::Case;
+use case_sheet::{Case, number, say};
 use std::alloc::{AllocError, Global};
 
 /// The most numbers of a table.

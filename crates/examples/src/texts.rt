@@ -2,12 +2,13 @@
 
 ghost use Rattle.b67_listing.specs.Listings.{IsListable};
 
-use crate::told::{bits, number, say};
+use crate::told::bits;
 use b67_list::{Line, discard};
 use b67_listing::listing;
 use b67_listing_reader::{ReadListing, read_listing};
 use b67_report::{ReadReport, read_report, text};
 use b67_segment::Code;
+use case_sheet::{number, say};
 use std::alloc::{AllocError, Global};
 
 /// The lines of a text.

@@ -1,18 +1,7 @@
 //! Parts of an answer. Where memory lacks for one it is missing, so that its case is not met.
 
 use crate::answer::Told;
-use b67_list::{Line, push_number};
-use case_sheet::Case;
-
-/// Appends words.
-pub(crate) fn say(text: &mut Vec<u8>, words: &[u8]) {
-    let _ = text.extend_from_slice(words);
-}
-
-/// Appends words and a number.
-pub(crate) fn number(text: &mut Vec<u8>, words: &[u8], value: u64) {
-    let _ = push_number(text, words, value);
-}
+use case_sheet::{Case, number, say};
 
 /// Appends a blank and the bits of a word, as 12 hexadecimal digits.
 pub(crate) fn bits(text: &mut Vec<u8>, bits: u64) {
@@ -24,16 +13,6 @@ pub(crate) fn bits(text: &mut Vec<u8>, bits: u64) {
             great => b'A' + (great & 15) - 10,
         };
         let _ = text.push(sign);
-    }
-}
-
-/// Appends the number of lines, and the lines.
-pub(crate) fn lines(text: &mut Vec<u8>, written: &[Line]) {
-    number(text, b"OUTPUT ", written.len() as u64);
-    say(text, b"\n");
-    for line in written {
-        say(text, line.bytes());
-        say(text, b"\n");
     }
 }
 

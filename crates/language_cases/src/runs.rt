@@ -7,7 +7,6 @@ ghost use Rattle.algol_tree.specs.Image.{program as plain};
 ghost use Rattle.algol_paths.specs.Arrays.{lows_at};
 ghost use Rattle.algol_lows.specs.Lows.{under};
 
-use crate::told::{lines, number, say};
 use algol_front::Checked;
 use algol_lows::{LowsByPlace, lows_of_program};
 use algol_names::scopes_of;
@@ -16,6 +15,7 @@ use algol_run::{End, Stepped, end_of, follow, step};
 use algol_world::World;
 use b67_list::discard;
 use b67_report::{EndWords, push_end};
+use case_sheet::{lines, number, say};
 use std::alloc::{AllocError, Global};
 
 /// The lower bounds of the arrays of an accepted source.

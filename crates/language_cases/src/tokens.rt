@@ -1,9 +1,9 @@
 //! The tokens of a text.
 
-use crate::told::{number, say};
 use algol_lexer::lex;
 use algol_tree::{Refusal, Spot, Token, TokenKind};
 use b67_list::push_number;
+use case_sheet::{number, say};
 use std::alloc::{AllocError, Global};
 
 /// Appends a line and a column.

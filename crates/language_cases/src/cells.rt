@@ -1,9 +1,9 @@
 //! What the names of a source mean, and where cells lie.
 
 use crate::tokens::push_spot;
-use crate::told::{number, say};
 use algol_scope::{Couple, Scopes};
 use algol_tree::{Spot, Token};
+use case_sheet::{number, say};
 
 /// Appends a word and the couple of a cell, nothing where there is no cell.
 fn push_couple(told: &mut Vec<u8>, word: &[u8], couple: Option<Couple>) {
