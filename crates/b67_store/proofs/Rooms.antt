@@ -2,7 +2,7 @@
 use Rattle.std.proofs.Common.{◌≡◌, ◌≤◌, ◌∙◌, sym, ap, ℕ, ◌+◌, ◌-◌, List, ◌++◌, length, take, drop, arith, le_refl}
 use Rattle.std.specs.Prelude.{reverse}
 use Rattle.std.specs.List.{copy_within}
-use Rattle.std.proofs.lemmas.List.{drop-take, length-drop, length-reverse, length-take-le, take-take}
+use Rattle.std.proofs.lemmas.List.{drop-take, length-drop, length-reverse, length-take-le, take-append-le, take-take}
 use Rattle.std.proofs.lemmas.List.Edits.{take-paste}
 use Rattle.std.proofs.Math.Seq.{drop-append_seam}
 use Rattle.b67_store.proofs.TopFirst.{cut_is}
@@ -60,3 +60,8 @@ pub lent_from : {A : Type 0} (xs new room value : List A) (from end base : ℕ) 
 lent_from xs new room value from end base v p q m e =
     let size : length value ≡ end - from = ap length (sym v) ∙ length-reverse (drop from (take end xs)) ∙ size_between xs from end p q in
     ap (λ n. reverse (drop base (take (base + n) room))) size ∙ ap (λ ys. reverse (drop base (take (base + (end - from)) ys))) e ∙ ap reverse m ∙ v
+
+-- the words between two places stay where more are reached
+pub filled_between : {A : Type 0} (xs after more value : List A) (from end : ℕ) → reverse (drop from (take end xs)) ≡ value → end ≤ length xs → after ≡ xs ++ more → reverse (drop from (take end after)) ≡ value
+filled_between xs after more value from end v q e =
+    ap (λ ys. reverse (drop from (take end ys))) e ∙ ap (λ ys. reverse (drop from ys)) (take-append-le end xs more q) ∙ v

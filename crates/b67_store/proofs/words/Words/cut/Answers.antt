@@ -4,4 +4,4 @@ use Rattle.b67_store.proofs.words.Words.cut.Goals as goal
 
 pub returns : goal.returns
 returns c =
-    cut_between c.self.inside.room.items c.args.self.now c.self.inside.base c.self.inside.used c.args.count c.self.view_is c.self.invariant.1 (search rules) c.requires
+    cut_between c.self.inside.room.items c.args.self.now c.self.inside.base c.self.inside.used c.args.count c.self.view_is c.self.invariant.0 (search rules) c.requires
