@@ -1,5 +1,6 @@
 pub mod Fits
 pub mod Walks
+pub mod Bounds
 pub mod Opening
 pub mod Areas
 pub mod Stores

@@ -15,12 +15,14 @@ use std::marker::Model;
 
 /// A store that keeps all stacks and all rows in one list of words.
 ///
-/// Reading, writing, pushing, popping, cutting and lending are constant work. Opening among n spans finds its place by at
-/// most n / 64 + 64 steps: one for each 64 spans before the place, of which the widest gap is kept, and one for each span
-/// of the 64 in which it is. Closing finds the span by a step for each halving of n. Then the spans after it are moved by
-/// one, and their gaps looked at again: work that grows with their number; at the end, where a program closes first what
-/// it opened last, there are none. A row's words are zeroed; those of a stack are only where the list is lengthened. No
-/// word is moved.
+/// Reading, writing, pushing, popping, cutting and lending are constant work. Opening finds its place by one step for each
+/// 4,096 spans before it, one for each 64 of the 4,096 in which it is, and one for each of the 64: for n spans by
+/// n / 4,096 + 128 steps. For each 64 spans it is kept how wide the gaps before them are at most. A bound may be wider than
+/// all of them where spans below others were opened or closed; the first search that comes to such a bound in vain
+/// makes it exact, by 192 steps. Closing finds the span by a step for each halving of n. The spans after one that is opened
+/// or closed are moved by one in their list, and one gap is looked at for each 64 of them, which may come into the bound
+/// of these; at the end, where a program closes first what it opened last, there are none. A row's words are zeroed; those
+/// of a stack are only where the list is lengthened. No word is moved.
 #[derive(Drop)]
 pub struct FlatCore {
     words: Vec<Word>,

@@ -12,6 +12,7 @@ mod memory;
 mod row_table;
 mod spans;
 mod stack_table;
+mod widest;
 
 pub use flat_core::FlatCore;
 
@@ -39,6 +40,3 @@ pub struct Span {
 pub fn places_are_least()
     ensures { PlacesAreLeast }
 {}
-
-#[cfg(test)]
-mod tests;

@@ -73,7 +73,7 @@ pub fn open_span(
 }
 
 // Lengthens the words with operands 0, where they do not reach so far. Their list grows as lists do, twice as long at
-// least; what of it was never reached takes no memory from the system.
+// least; what of it was never reached takes no memory from the system, which lengthens a large block without copying it.
 fn reach(words: &mut Vec<Word>, end: u64) -> Result<(), AllocError>
     ensures reaches { OnOk result ((end ≤ vec_len words.new) × (end ≤ 2 ^ 47)) }
     ensures words { (more : ℕ) × (words.new.items ≡ lengthened words.old.items more) }

@@ -1,11 +1,12 @@
 // The spans of a memory in ascending order, and where there is room for another one.
-ghost use Rattle.std.specs.Prelude.{◌≡◌, ℕ, ◌+◌, ◌-◌, ◌*◌, ◌/◌, ◌^◌, ◌<◌, ◌≤◌, List, [], length, take, OnErr, slice_index_or, is_ok, if◌then◌else◌};
+ghost use Rattle.std.specs.Prelude.{◌≡◌, ◌≢◌, ℕ, ◌+◌, ◌*◌, ◌/◌, ◌%◌, ◌^◌, ◌<◌, ◌≤◌, [], length, take, IfSome, IfNone, slice_index_or, is_ok, if◌then◌else◌};
 ghost use Rattle.std.specs.List.{insert, remove};
-ghost use Rattle.std.specs.Vec.{vec_len, vec_capacity};
+ghost use Rattle.std.specs.Vec.{vec_len};
 ghost use Rattle.b67_flat.specs.Spans.{Ascend, end_after, gap_before, first_fit, below, closed};
 ghost use Rattle.b67_flat.specs.Widest.{AreWidest};
 
 use crate::Span;
+use crate::widest::Widest;
 use std::alloc::{AllocError, Global};
 use std::marker::Model;
 
@@ -15,13 +16,13 @@ pub const CHUNK: usize = 64;
 #[derive(Drop)]
 pub struct Spans {
     spans: Vec<Span>,
-    // The widest gap before a span of each chunk.
-    widest: Vec<u64>,
+    // How wide a gap before a span of each chunk is at most.
+    widest: Widest,
 }
 
 impl Model for Spans {
-    ghost use Rattle.std.specs.Prelude.{List, ◌*◌, ◌+◌, ◌^◌, ◌<◌, ◌≤◌};
-    ghost use Rattle.std.specs.Vec.{vec_len, vec_capacity};
+    ghost use Rattle.std.specs.Prelude.{List, length, ◌*◌, ◌^◌, ◌<◌, ◌≤◌};
+    ghost use Rattle.std.specs.Vec.{vec_len};
     ghost use Rattle.b67_flat.specs.declared.Span.{Span as Seen};
     ghost use Rattle.b67_flat.specs.Spans.{Ascend, end_after};
     ghost use Rattle.b67_flat.specs.Widest.{AreWidest};
@@ -30,7 +31,7 @@ impl Model for Spans {
 
     ghost view = { λ s. s.spans.items };
 
-    ghost invariant = { λ s. Ascend 0 s.spans.items × (end_after 0 s.spans.items < 2 ^ 48) × AreWidest s.spans.items s.widest.items × (vec_len s.spans ≤ vec_len s.widest * 64) × (vec_len s.widest * 64 < vec_len s.spans + 64) × (vec_len s.spans ≤ vec_capacity s.widest) };
+    ghost invariant = { λ s. Ascend 0 s.spans.items × (end_after 0 s.spans.items < 2 ^ 48) × AreWidest s.spans.items s.widest × (vec_len s.spans ≤ length s.widest * 64) × (length s.widest ≤ 2 ^ 42) };
 }
 
 // Where the spans before this one end.
@@ -73,13 +74,57 @@ fn widest_from(spans: &Vec<Span>, first: usize) -> u64
     widest
 }
 
+// The first span of the chunk that begins with this one before which there is room for so many words.
+fn fit_in(spans: &Vec<Span>, first: usize, count: u64) -> Option<usize>
+    requires ascending { Ascend 0 spans.now.items }
+    requires within { end_after 0 spans.now.items < 2 ^ 48 }
+    requires there { first < vec_len spans.now }
+    requires some { 1 ≤ count }
+    ensures fits { IfSome result (λ at. (at < vec_len spans.now) × (count ≤ gap_before 0 spans.now.items at)) }
+    ensures before { IfSome result (λ at. (k : ℕ) → first ≤ k → k < at → gap_before 0 spans.now.items k < count) }
+    ensures none { IfNone result ((k : ℕ) → first ≤ k → k < first + CHUNK → gap_before 0 spans.now.items k < count) }
+{
+    let mut at = first;
+    'fitting: while at < spans.len() && at - first < CHUNK {
+        if count <= gap(spans, at) {
+            return Some(at);
+        }
+        at += 1;
+    }
+    None
+}
+
+// The index of the first span before which there is room for so many words; how many there are where there is none.
+fn fit_among(spans: &Vec<Span>, widest: &mut Widest, count: u64) -> usize
+    requires ascending { Ascend 0 spans.now.items }
+    requires within { end_after 0 spans.now.items < 2 ^ 48 }
+    requires widest { AreWidest spans.now.items widest.old }
+    requires all { vec_len spans.now ≤ length widest.old * CHUNK }
+    requires few { length widest.old ≤ 2 ^ 42 }
+    requires some { 1 ≤ count }
+    ensures at { result ≡ first_fit 0 count spans.now.items }
+    ensures widest { AreWidest spans.now.items widest.new }
+    ensures size { length widest.new ≡ length widest.old }
+{
+    let mut chunk = widest.next_wide(0, count);
+    'chunks: while chunk * CHUNK < spans.len() {
+        if let Some(at) = fit_in(spans, chunk * CHUNK, count) {
+            return at;
+        }
+        let width = widest_from(spans, chunk * CHUNK);
+        widest.narrow(chunk, width);
+        chunk = widest.next_wide(chunk + 1, count);
+    }
+    spans.len()
+}
+
 impl Spans {
     pub fn new(alloc: Global) -> Spans
         ensures { result ≡ [] }
     {
         Spans {
             spans: Vec::new(alloc),
-            widest: Vec::new(alloc),
+            widest: Widest::new(alloc),
         }
     }
 
@@ -89,21 +134,15 @@ impl Spans {
         self.spans.as_slice()
     }
 
-    // The index of the first span before which there is room for so many words. Work for one step in each chunk before it,
-    // and in each span of its chunk.
-    pub fn first_fit(&self, count: u64) -> usize
+    // The index of the first span before which there is room for so many words; how many there are where there is none.
+    // Work for a step for each group of chunks before it, for each chunk of its group and for each span of its chunk. Where
+    // no gap of a chunk is so wide, though its bound is, the bound becomes the width of the widest.
+    pub fn first_fit(&mut self, count: u64) -> usize
         requires { 1 ≤ count }
-        ensures { result ≡ first_fit 0 count self.now }
+        ensures at { result ≡ first_fit 0 count self.old }
+        ensures same { self.new ≡ self.old }
     {
-        let mut chunk = 0;
-        'chunks: while chunk < self.widest.len() && self.widest[chunk] < count {
-            chunk += 1;
-        }
-        let mut at = chunk * CHUNK;
-        'spans: while at < self.spans.len() && gap(&self.spans, at) < count {
-            at += 1;
-        }
-        at.min(self.spans.len())
+        fit_among(&self.spans, &mut self.widest, count)
     }
 
     // Where the spans before this one end.
@@ -114,8 +153,8 @@ impl Spans {
         end_before(&self.spans, at)
     }
 
-    // Puts a span before the one of this index. Nothing is changed where there is no memory. Work that grows with the
-    // number of spans after it.
+    // Puts a span before the one of this index. Nothing is changed where there is no memory. The spans after it are moved
+    // by one, and one gap of each chunk of them is looked at.
     pub fn insert(&mut self, at: usize, span: Span) -> Result<(), AllocError>
         requires there { at ≤ length self.old }
         requires ascending { Ascend 0 (insert self.old at span) }
@@ -123,20 +162,25 @@ impl Spans {
         ensures { self.new ≡ (if is_ok result then insert self.old at span else self.old) }
     {
         self.spans.reserve(1)?;
-        let count = self.spans.len() + 1 - self.widest.len();
-        self.widest.reserve(count)?;
+        self.widest.cover(self.spans.len() + 1)?;
         self.spans.insert(at, span).unwrap();
-        renew(&self.spans, &mut self.widest, at);
+        renew(&self.spans, &mut self.widest, at, (at / CHUNK + 1) * CHUNK);
         Ok(())
     }
 
-    // Takes a span away, and takes no memory. Work that grows with the number of spans after it.
+    // Takes a span away, and takes no memory. The spans after it are moved by one, and one gap of each chunk of them is
+    // looked at.
     pub fn remove(&mut self, at: usize)
         requires { at < length self.old }
         ensures { self.new ≡ remove self.old at }
     {
         let _span = self.spans.remove(at);
-        renew(&self.spans, &mut self.widest, at);
+        renew(
+            &self.spans,
+            &mut self.widest,
+            at,
+            at / CHUNK * CHUNK + (CHUNK - 1),
+        );
     }
 
     // How many spans begin below a place. Work that grows with the logarithm of their number.
@@ -166,22 +210,34 @@ impl Spans {
     }
 }
 
-// The widest gaps, where those of the chunks below that of this span are kept.
-fn renew(spans: &Vec<Span>, widest: &mut Vec<u64>, from: usize)
+// The bound of its chunk is raised by the gap before a span, where there is one of this index.
+fn raise_by(spans: &Vec<Span>, widest: &mut Widest, at: usize)
     requires ascending { Ascend 0 spans.now.items }
     requires within { end_after 0 spans.now.items < 2 ^ 48 }
-    requires room { vec_len spans.now ≤ vec_capacity widest.old }
-    requires there { from ≤ vec_len spans.now }
-    requires reaches { from ≤ vec_len widest.old * CHUNK }
-    requires kept { (k : ℕ) → k / CHUNK < from / CHUNK → gap_before 0 spans.now.items k ≤ slice_index_or widest.old.items (k / CHUNK) 0 }
-    ensures widest { AreWidest spans.now.items widest.new.items }
-    ensures all { vec_len spans.now ≤ vec_len widest.new * CHUNK }
-    ensures few { vec_len widest.new * CHUNK < vec_len spans.now + CHUNK }
-    ensures room { vec_len spans.now ≤ vec_capacity widest.new }
+    requires all { vec_len spans.now ≤ length widest.old * CHUNK }
+    ensures raised { gap_before 0 spans.now.items at ≤ slice_index_or widest.new (at / CHUNK) 0 }
+    ensures others { (k : ℕ) → slice_index_or widest.old k 0 ≤ slice_index_or widest.new k 0 }
+    ensures size { length widest.new ≡ length widest.old }
 {
-    widest.truncate(from / CHUNK);
-    'renewing: while widest.len() * CHUNK < spans.len() {
-        let next = widest_from(spans, widest.len() * CHUNK);
-        widest.push_reserved(next);
+    if at < spans.len() {
+        widest.raise(at / CHUNK, gap(spans, at));
+    }
+}
+
+// The bounds of the chunks are raised by the gaps that came into them: that before one span, and, from another on, that
+// before each span as many after it as a chunk has.
+fn renew(spans: &Vec<Span>, widest: &mut Widest, at: usize, from: usize)
+    requires ascending { Ascend 0 spans.now.items }
+    requires within { end_after 0 spans.now.items < 2 ^ 48 }
+    requires all { vec_len spans.now ≤ length widest.old * CHUNK }
+    requires kept { (k : ℕ) → k ≢ at → (from ≤ k → k % CHUNK ≢ from % CHUNK) → gap_before 0 spans.now.items k ≤ slice_index_or widest.old (k / CHUNK) 0 }
+    ensures widest { AreWidest spans.now.items widest.new }
+    ensures size { length widest.new ≡ length widest.old }
+{
+    raise_by(spans, widest, at);
+    let mut next = from;
+    'raising: while next < spans.len() {
+        widest.raise(next / CHUNK, gap(spans, next));
+        next += CHUNK;
     }
 }
