@@ -1,6 +1,6 @@
 -- What is done on the lent room of a process's own stack, in the image that it is given back to.
 use Rattle.std.specs.Prelude.{reverse, ◌&&◌}
-use Rattle.std.proofs.Common.{◌≡◌, refl, sym, ap, subst, ◌∙◌, ℕ, zero, suc, ◌<◌, Bool, true, false, List, ◌++◌, length, take, Option, Some, None, is_some, Result, Ok}
+use Rattle.std.proofs.Common.{◌≡◌, refl, sym, ap, subst, ◌∙◌, ℕ, zero, suc, ◌<◌, Bool, true, false, List, ◌++◌, length, take, Option, Some, None, is_some, Result, Ok, arith}
 use Rattle.std.proofs.lemmas.List.{reverse-append, reverse-reverse}
 use Rattle.b67_list.specs.Numbered.{numbered, set_numbered}
 use Rattle.b67_word.specs.Word.{Word}
@@ -24,7 +24,7 @@ use Rattle.b67_table.specs.Valid.{IsProcess, IsValid}
 use Rattle.b67_table.proofs.AllValid.{operators_keep_valid}
 use Rattle.b67_table.proofs.FirstValid.{valid_stands, counted}
 use Rattle.b67_table.proofs.Limit.{limit_comes_last}
-use Rattle.b67_table.proofs.Lists.{numbered_set, numbered_same, numbered_within}
+use Rattle.b67_table.proofs.Lists.{numbered_set, numbered_same, numbered_within, set_there}
 use Rattle.b67_table.proofs.OwnValid.{opened}
 use Rattle.b67_table.proofs.Privacy.{private_is_private}
 use Rattle.b67_table.proofs.Stacks.{set_here, set_set_here}
@@ -33,19 +33,28 @@ use Rattle.b67_operators.proofs.Leaves.{in_process}
 use Rattle.b67_private.specs.declared.operators.Row.TheVariants as ready
 use Rattle.b67_private.specs.declared.operators.WordsRow.{WordsRow}
 use Rattle.b67_private.specs.Actions.{words_program}
-use Rattle.b67_private.specs.Parts.{IsPart, PlainParts, is_plain, part_with, part_in}
+use Rattle.b67_private.specs.Parts.{IsPart, PlainParts, is_plain, own_next, part_with, part_in}
+use Rattle.b67_private.specs.Parts as parts
+use Rattle.b67_private.specs.Performing.{Steps}
+use Rattle.b67_private.proofs.Above.{all_leave}
 use Rattle.b67_private.proofs.Plains.{stretches_are_own, Shallow, shallow_whole, shallow_plain}
 use Rattle.b67_private.proofs.ValidParts.{valid_whole}
 use Rattle.b67_reach.specs.Answers.{Acts}
 use Rattle.b67_reach.specs.Images.{own, with_own}
 use Rattle.b67_reach.proofs.Looking.{acts_by}
 use Rattle.b67_action.specs.OnRoom.{IsRoom, PerformsOn}
-use Rattle.b67_action.specs.Running.{IsLent, given_back, IsStretchOf, GoesOn}
+use Rattle.b67_action.specs.Running.{IsLent, given_back, IsStretchOf, GoesOn, StepsTo, plain_step, act_step}
 use Rattle.b67_action.proofs.Coming.{comes_by, operator_is}
 use Rattle.b67_action.proofs.Gone.{gone}
 use Rattle.b67_action.proofs.Ready.{live_of, registers_there}
 
 -- ---- plain operators keep an image valid
+
+-- an action was performed, or none
+pub act_steps : (code : Code) (p : ℕ) (old new : Image) (b : Bool) → (b ≡ true → GoesOn code p old new) → (b ≡ false → IsStretchOf code p 0 1 old new)
+    → StepsTo (act_step b) code p old new
+act_steps code p old new true goes stays = goes refl
+act_steps code p old new false goes stays = stays refl
 
 both : (a b : Bool) → (a && b) ≡ true → a ≡ true
 both true b e = refl
@@ -97,7 +106,7 @@ not_plain code img p r op next program has here is =
 
 -- ---- given back again
 
-numbered_twice : {X : Type 0} (xs : List X) (p : ℕ) (a b : X) → set_numbered (set_numbered xs p a) p b ≡ set_numbered xs p b
+pub numbered_twice : {X : Type 0} (xs : List X) (p : ℕ) (a b : X) → set_numbered (set_numbered xs p a) p b ≡ set_numbered xs p b
 numbered_twice xs zero a b = refl
 numbered_twice xs (suc k) a b = set_set_here xs k a b
 
@@ -123,6 +132,16 @@ module _ (code : Code) (img : Image) (p : ℕ) (r : Registers) (room : List Word
       ∙ opened code img p r l.valid live l.has
       ∙ ap (λ (n : ℕ). Some (words_of img.stacks n)) (sym process.stack)
       ∙ ap (λ (ws : List Word). Some ws) l.words
+
+  same : with_own (own img.stacks img.rows r) p img ≡ img
+  same = ap (λ (rs : List Registers). record img { regs = rs }) (numbered_same img.regs p r l.has)
+
+  -- given back as it was lent
+  pub back_same : given_back r room p img ≡ img
+  back_same = ap (λ (z : Stacks). with_own (own z img.rows r) p img) (set_there img.stacks r.stack (take r.s room) open_is) ∙ same
+
+  pub lent_same : IsLent code (given_back r room p img) p r room
+  lent_same = subst (λ (z : Image). IsLent code z p r room) (sym back_same) l
 
   pub room_is : length room ≡ stack_limit → IsRoom r room
   room_is e = record { level = process.display.known; size = e; within = process.room }
@@ -184,16 +203,56 @@ module _ (code : Code) (img : Image) (p : ℕ) (r : Registers) (room : List Word
           ∙ (stretches_are_own code img p r l.valid live l.has shallow.part n shallow.plains).next
           ∙ sym (shallow_plain code img p r l.valid live l.has (part_in q more) n shallow)
           ∙ stops less;
-      calm = record { rows = refl; states = refl; started = refl; fault = refl };
+      calm = record { states = refl; started = refl; fault = refl };
     }
+
+  -- ---- one plain operator, or none
+
+  module _ (q : Registers) (more : List Word) where
+    how_many : Bool → ℕ
+    how_many true = 1
+    how_many false = 0
+
+    parts_by : (b : Bool) → Steps (own_next code (part_in r room)) (part_in r room) b (part_in q more) → PlainParts code (part_in r room) (how_many b) (part_in q more)
+    unfolding how_many
+    parts_by true s = parts.go s parts.stay
+    parts_by false s = subst (λ (x : Private). PlainParts code (part_in r room) 0 x) (sym s.1) parts.stay
+
+    stops_by : (b : Bool) → Steps (own_next code (part_in r room)) (part_in r room) b (part_in q more) → how_many b < 1 → is_plain code (part_in q more) ≡ false
+    unfolding how_many
+    stops_by true s less = absurd (omega (arith, less))
+    stops_by false s less = ap (is_plain code) s.1 ∙ s.0
+
+    steps_of : (b : Bool) (new : Image) → IsStretchOf code p (how_many b) 1 img new → StepsTo (plain_step b) code p img new
+    unfolding how_many
+    steps_of true new h = h
+    steps_of false new h = h
+
+    module _ (b : Bool) (s : Steps (own_next code (part_in r room)) (part_in r room) b (part_in q more)) where
+      pub plain_keeps : Keeps r q
+      plain_keeps = (all_leave code l.valid.segments (part_in r room) (part_in q more) (how_many b) part_is (parts_by b s)).keeps
+
+      pub plain_steps : StepsTo (plain_step b) code p img (given_back q more p img)
+      plain_steps = steps_of b (given_back q more p img) (stretch_is q more (how_many b) 1 plain_keeps (parts_by b s) (stops_by b s))
+
+      pub plain_lends : IsLent code (given_back q more p img) p q more
+      plain_lends = stretch_lends q more (how_many b) 1 plain_keeps (parts_by b s) (stops_by b s)
 
   -- ---- an action
 
+  -- an action that is not performed here
+  pub action_waits : (op : Operator) (next : ℕ) (kind : WordsRow) → found code r.segment r.ll r.place ≡ Some (op, next) → row op r.place ≡ acts (words_program kind)
+      → IsStretchOf code p 0 1 img (given_back r room p img)
+  action_waits op next kind here is = record {
+    plains = subst (λ (x : Image). Plains code p img 0 x) (sym back_same) stay;
+    stops = λ less.
+        ap (λ (x : Image). plain code x p) back_same
+        ∙ not_plain code img p r op next (words_program kind) l.has (operator_is code img p r l.able l.has (op, next) here) is;
+    calm = record { states = refl; started = refl; fault = refl };
+  }
+
   module _ (q : Registers) (more : List Word) (op : Operator) (next : ℕ) (kind : WordsRow) (k : Keeps r q) (here : found code r.segment r.ll r.place ≡ Some (op, next))
       (is : row op r.place ≡ acts (words_program kind)) (x : PerformsOn (words_program kind r next) r room q more) where
-    same : with_own (own img.stacks img.rows r) p img ≡ img
-    same = ap (λ (rs : List Registers). record img { regs = rs }) (numbered_same img.regs p r l.has)
-
     acted : Acts {A = Unit {0}} p (program_in (words_program kind) (numbered img.regs p) next) img (given_back q more p img) (Ok (tt {0}))
     acted =
         in_process p (words_program kind) (numbered img.regs p) r next img (given_back q more p img) (Ok (tt {0})) l.has
@@ -205,7 +264,7 @@ module _ (code : Code) (img : Image) (p : ℕ) (r : Registers) (room : List Word
       action = not_plain code img p r op next (words_program kind) l.has (operator_is code img p r l.able l.has (op, next) here) is;
       gone = gone code img (given_back q more p img) p r op next l.valid l.able l.has here refl l.valid.rows.few (ready.Words kind) is
           ((λ o. comes_by p (program_in (words_program kind) (numbered img.regs p) next) img (given_back q more p img) (Ok (tt {0})) acted), refl);
-      calm = record { rows = refl; states = refl; started = refl; fault = refl };
+      calm = record { states = refl; started = refl; fault = refl };
     }
 
     pub action_lends : IsLent code (given_back q more p img) p q more

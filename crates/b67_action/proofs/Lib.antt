@@ -1,5 +1,6 @@
 pub mod Able
 pub mod Among
+pub mod ArraysOnRoom
 pub mod Calling
 pub mod CalmWords
 pub mod Coming
@@ -9,10 +10,14 @@ pub mod Kept
 pub mod Lent
 pub mod MakeAble
 pub mod OnRoom
+pub mod Open
 pub mod OwnOutcome
 pub mod OwnWords
 pub mod Ready
 pub mod Released
 pub mod Releasing
+pub mod Remaining
 pub mod InRoom
+pub mod InStore
 pub mod Runs
+pub mod Told

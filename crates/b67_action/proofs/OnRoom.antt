@@ -1,6 +1,6 @@
 -- Actions on the lent room of a process's own stack: what their programs find there, and what they leave.
 use Rattle.std.specs.Prelude.{◌==◌, if◌then◌else◌, slice_get}
-use Rattle.std.proofs.Common.{◌≡◌, refl, sym, ap, subst, ◌∙◌, ℕ, zero, suc, ◌+◌, ◌-◌, ◌<◌, ◌≤◌, Bool, true, false, List, [], ◌∷◌, ◌++◌, take, set, Option, Some, None, Ok, arith}
+use Rattle.std.proofs.Common.{◌≡◌, refl, sym, ap, subst, ◌∙◌, ℕ, zero, suc, ◌+◌, ◌-◌, ◌<◌, ◌≤◌, Bool, true, false, List, [], ◌∷◌, ◌++◌, length, take, set, Option, Some, None, Ok, arith}
 use Rattle.std.proofs.lemmas.Bool.{eqb-true, le-leb}
 use Rattle.std.proofs.lemmas.List.{take_more_set}
 use Rattle.b67_list.specs.Numbered.{numbered}
@@ -60,16 +60,21 @@ found_by : (w : Word) (b : Bool) → b ≡ true → (if b then found w else inva
 found_by w true e = refl
 found_by w false e = cc
 
-operand_found : (w : Word) → (w.tag == 0) ≡ true → operand_in w ≡ found w
+pub operand_found : (w : Word) → (w.tag == 0) ≡ true → operand_in w ≡ found w
 operand_found w e = found_by w (w.tag == 0) e
 
 -- ---- words of a room
 
-get_front : (ws : List Word) (n at : ℕ) → at < n → slice_get (take n ws) at ≡ slice_get ws at
+pub get_front : (ws : List Word) (n at : ℕ) → at < n → slice_get (take n ws) at ≡ slice_get ws at
 get_front ws zero at h = absurd (omega (arith, h))
 get_front [] (suc n) at h = refl
 get_front (w ∷ ws) (suc n) zero h = refl
 get_front (w ∷ ws) (suc n) (suc at) h = get_front ws n at (omega (arith, h))
+
+pub held_at : (ws : List Word) (n : ℕ) → n < length ws → (w : Word) × (slice_get ws n ≡ Some w)
+held_at [] n h = absurd (omega (arith, h))
+held_at (w ∷ ws) zero h = (w, refl)
+held_at (w ∷ ws) (suc n) h = held_at ws n (omega (arith, h))
 
 -- a word is set in the first of some words, of which fewer are left
 set_front : (ws : List Word) (n k at : ℕ) (w : Word) → n ≤ k → take n (set (take k ws) at w) ≡ take n (set ws at w)
@@ -94,7 +99,7 @@ module _ (r q : Registers) (st new : Stacks) (rows : Rows) (short : q.s ≤ stac
   fits_in : (p : ℕ) (img : Image) → numbered img.regs p ≡ Some r → stack_length p (with_own (own new rows q) p img) ≤ stack_limit
   fits_in p img has = omega (arith, size_is p img has, short)
 
-  answered : (change : Change)
+  pub answered : (change : Change)
       → ((p : ℕ) (img : Image) → img.stacks ≡ st → img.rows ≡ rows → numbered img.regs p ≡ Some r → changed p change img ≡ with_own (own new rows q) p img)
       → Performs (answer change) (own st rows r) (own new rows q) (Ok (tt {0}))
   answered change h = record {
@@ -103,20 +108,20 @@ module _ (r q : Registers) (st new : Stacks) (rows : Rows) (short : q.s ≤ stac
   }
 
   -- the stacks and the registers, of which the rows stay
-  put : (p : ℕ) (img : Image) (more : Stacks) → more ≡ new → img.rows ≡ rows → with_registers (with_stacks img more) p q ≡ with_own (own new rows q) p img
+  pub put : (p : ℕ) (img : Image) (more : Stacks) → more ≡ new → img.rows ≡ rows → with_registers (with_stacks img more) p q ≡ with_own (own new rows q) p img
   put p img more s t =
       ap (λ (z : Stacks). with_registers (with_stacks img z) p q) s ∙ ap (λ (z : Rows). with_own (own new z q) p img) t
 
 -- ---- on a room
 
 module _ (r : Registers) (room : List Word) (is : IsRoom r room) (st : Stacks) (rows : Rows) (there : stack_at st r.stack ≡ Some (take r.s room)) where
-  own_words : words_of st r.stack ≡ take r.s room
+  pub own_words : words_of st r.stack ≡ take r.s room
   own_words = ap words_or there
 
-  put_twice : (a b : List Word) → with_stack (with_stack st r.stack a) r.stack b ≡ with_stack st r.stack b
+  pub put_twice : (a b : List Word) → with_stack (with_stack st r.stack a) r.stack b ≡ with_stack st r.stack b
   put_twice a b = set_set_here st r.stack (Some a) (Some b)
 
-  words_then : (a : List Word) → words_of (with_stack st r.stack a) r.stack ≡ a
+  pub words_then : (a : List Word) → words_of (with_stack st r.stack a) r.stack ≡ a
   words_then a = ap words_or (set_here st r.stack (take r.s room) a there)
 
   module _ (level index at : ℕ) (h : HoldsOperand r room level index at) where
@@ -187,7 +192,7 @@ module _ (r : Registers) (room : List Word) (is : IsRoom r room) (st : Stacks) (
     below_is : word_at st (place r.stack (r.s - 2)) ≡ Some y
     below_is = ap (λ (ws : List Word). slice_get ws (r.s - 2)) own_words ∙ get_front room r.s (r.s - 2) (omega (arith, enough)) ∙ below
 
-    popped_is : seen st (popped_two r) ≡ Ok two
+    pub popped_is : seen st (popped_two r) ≡ Ok two
     popped_is =
         ap (λ (b : Bool). seen st ((if b then from_top r 0 else stops StackUnderflow) >-> (λ (u : Word). from_top r 1 >-> (λ (v : Word). found (record { x = u; y = v })))))
         (le-leb (floor r + 2) r.s enough)

@@ -5,5 +5,6 @@ pub mod Done
 pub mod OnRoom
 pub mod Onward
 pub mod Own
+pub mod Reaching
 pub mod Rows
 pub mod Running

@@ -1,5 +1,5 @@
 -- A run of a process on the lent room of its own stack: plain operators, and actions of its own that go on.
-use Rattle.std.specs.Prelude.{◌≡◌, ℕ, ◌+◌, ◌<◌, true, false, List, [], take, Some}
+use Rattle.std.specs.Prelude.{◌≡◌, ℕ, ◌+◌, ◌<◌, Bool, true, false, List, [], take, Some}
 use Rattle.b67_list.specs.Numbered.{numbered}
 use Rattle.b67_word.specs.Word.{Word}
 use Rattle.b67_control.specs.declared.Registers.{Registers}
@@ -30,7 +30,6 @@ given_back r room p img = with_own (own (with_stack img.stacks r.stack (take r.s
 
 -- these are as they were
 pub record StaysCalm (old new : Image) : Type 0 where
-  pub rows : new.rows ≡ old.rows
   pub states : new.states ≡ old.states
   pub started : new.started ≡ old.started
   pub fault : new.fault ≡ old.fault
@@ -46,6 +45,27 @@ pub record GoesOn (code : Code) (p : ℕ) (old new : Image) : Type 0 where
   pub action : plain code old p ≡ false
   pub gone : HasGone code old p new []
   pub calm : StaysCalm old new
+
+-- one operator of a run: a plain one, an action that went on, or none, where what comes next is not plain
+pub data Step : Type 0 where
+  Plain : Step
+  Action : Step
+  Neither : Step
+
+abbrev pub StepsTo : Step → Code → ℕ → Image → Image → Type 0
+StepsTo Plain code p old new = IsStretchOf code p 1 1 old new
+StepsTo Action code p old new = GoesOn code p old new
+StepsTo Neither code p old new = IsStretchOf code p 0 1 old new
+
+-- whether a plain operator was performed, as a step
+abbrev pub plain_step : Bool → Step
+plain_step true = Plain
+plain_step false = Neither
+
+-- whether an action was
+abbrev pub act_step : Bool → Step
+act_step true = Action
+act_step false = Neither
 
 -- so many entries, with so many operators in all: each some plain operators, and then an action that went on
 pub data Walks (code : Code) (p : ℕ) : Image → ℕ → ℕ → Image → Type 0 where

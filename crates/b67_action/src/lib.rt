@@ -4,12 +4,16 @@
 #![tactic(auto)]
 
 mod acting;
+mod arrays;
+mod cells;
 mod done;
+mod elements;
 mod entering;
 mod laws;
 mod next;
 mod onward;
 mod own;
+mod reaching;
 mod room;
 mod rows;
 mod running;
@@ -20,4 +24,5 @@ pub use laws::actions_make_able;
 pub use next::action;
 pub use onward::go_on;
 pub use own::{put_words, take_words};
-pub use running::{Ran, run_own};
+pub use reaching::run_own;
+pub use running::Ran;

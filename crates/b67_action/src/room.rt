@@ -1,4 +1,4 @@
-// VALC, STOD and BRUN back on the lent room of a process's own stack, where they read and write operands of its cells only.
+// VALC, STOD, BRUN back and INDX on the lent room of a process's own stack, where they read and write its cells only.
 ghost use Rattle.std.specs.Prelude.{◌≡◌, ◌<◌, IfSome, false, true};
 ghost use Rattle.b67_control.specs.Display.{levels};
 ghost use Rattle.b67_table.specs.Privacy.{Keeps};
@@ -6,10 +6,12 @@ ghost use Rattle.b67_table.specs.Rows.{value_call, store, turn};
 ghost use Rattle.b67_private.specs.Actions.{words_program, IsHeldWords};
 ghost use Rattle.b67_action.specs.OnRoom.{HoldsOperand, IsRoom, PerformsOn};
 
+use crate::arrays::index;
+use crate::cells::cell_at;
 use b67_control::Irw;
 use b67_ops::{BranchKind, Couple};
 use b67_private::WordsRow;
-use b67_reach::{Registers, floor, frame_at, is_operand};
+use b67_reach::{Registers, floor, is_operand};
 use b67_store::MOST_STACK_WORDS;
 use b67_word::Word;
 
@@ -20,13 +22,7 @@ fn operand_at(regs: &Registers, room: &[Word], level: u8, index: u16) -> Option<
     requires room { IsRoom regs.now room.now }
     ensures { IfSome result (λ at. HoldsOperand regs.now room.now level index at) }
 {
-    let Some(frame) = frame_at(regs, level) else {
-        return None;
-    };
-    let at = u32::from(frame.at) + u32::from(index);
-    if frame.stack != regs.stack || at >= regs.s {
-        return None;
-    }
+    let at = cell_at(regs, room, level, index)?;
     if is_operand(room[at as usize]) {
         Some(at)
     } else {
@@ -120,6 +116,7 @@ pub fn perform_on_room(regs: &mut Registers, room: &mut [Word], row: WordsRow, n
             }
         }
         WordsRow::Turn(kind, target) => turn(regs, room, kind, target, next),
+        WordsRow::Index => index(regs, room, next),
         _ => false,
     }
 }

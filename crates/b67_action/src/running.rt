@@ -1,13 +1,15 @@
 // A run of a process on the lent room of its own stack: its plain operators, and actions of its own that go on.
-ghost use Rattle.std.specs.Prelude.{◌≡◌, ◌+◌, ◌<◌, ◌≤◌, ℕ, IfSome, false, true, length};
-ghost use Rattle.b67_segment.specs.Decoded.{AreDecoded};
+ghost use Rattle.std.specs.Prelude.{◌≡◌, ◌+◌, ◌≤◌, ℕ, IfSome, true, length};
+ghost use Rattle.b67_segment.specs.Decoded.{found, AreDecoded};
 ghost use Rattle.b67_store.specs.Store.{stack_limit};
 ghost use Rattle.b67_table.specs.Image.{Image};
 ghost use Rattle.b67_table.specs.Privacy.{Keeps};
-ghost use Rattle.b67_action.specs.Running.{IsLent, given_back, GoesOn, HasRun, IsStretchOf};
+ghost use Rattle.b67_private.specs.Prepared.{IsRowOf};
+ghost use Rattle.b67_private.specs.declared.operators.Row.TheVariants.{Words};
+ghost use Rattle.b67_action.specs.Running.{IsLent, given_back, HasRun, StepsTo, plain_step, act_step};
 
 use crate::room::perform_on_room;
-use b67_private::{Prepared, Row, burst_in_place, row_at};
+use b67_private::{Prepared, Row, WordsRow, perform, perform_fetched, row_at};
 use b67_reach::Registers;
 use b67_segment::Code;
 use b67_word::Word;
@@ -23,30 +25,22 @@ pub struct Ran {
     pub plain: u32,
 }
 
-// The plain operators that come next, at most so many.
+// Performs the next operator by its row, where it is plain; and answers whether it did. Else nothing is done.
 #[inline(always)]
-fn perform_plains(
-    regs: &mut Registers,
-    room: &mut [Word],
-    code: &Code,
-    table: Option<&Prepared>,
-    most: u32,
-) -> u32
+fn plain_by_row(regs: &mut Registers, room: &mut [Word], code: &Code, row: Row, next: u16) -> bool
     requires lent { (img : Image) × (p : ℕ) × IsLent code.now img p regs.old room.old }
     requires room { length room.old ≡ stack_limit }
-    requires table { IfSome table (λ t. AreDecoded code.now regs.old.segment regs.old.ll t.now) }
-    ensures plains { (img : Image) (p : ℕ) → IsLent code.now img p regs.old room.old → IsStretchOf code.now p result most img (given_back regs.new room.new p img) }
-    ensures most { result ≤ most }
+    requires row { IsRowOf regs.old.place (found code.now regs.old.segment regs.old.ll regs.old.place) (row, next) }
+    ensures steps { (img : Image) (p : ℕ) → IsLent code.now img p regs.old room.old → StepsTo (plain_step result) code.now p img (given_back regs.new room.new p img) }
     ensures lends { (img : Image) (p : ℕ) → IsLent code.now img p regs.old room.old → IsLent code.now (given_back regs.new room.new p img) p regs.new room.new }
     ensures keeps { Keeps regs.old regs.new }
 {
-    burst_in_place(regs, room, code, table, most)
+    perform(regs, room, row, next).is_ok()
 }
 
-// Performs the next operator where it is an action of the process's own that goes on, and its row was made ready; and answers whether it did.
-// Else nothing is done.
+// Performs the next operator where it is plain, whether its row was made ready or not; and answers whether it did. Else nothing is done.
 #[inline(always)]
-fn go_on_room(
+fn plain_fetched(
     regs: &mut Registers,
     room: &mut [Word],
     code: &Code,
@@ -55,24 +49,42 @@ fn go_on_room(
     requires lent { (img : Image) × (p : ℕ) × IsLent code.now img p regs.old room.old }
     requires room { length room.old ≡ stack_limit }
     requires table { IfSome table (λ t. AreDecoded code.now regs.old.segment regs.old.ll t.now) }
-    ensures went { result ≡ true → (img : Image) (p : ℕ) → IsLent code.now img p regs.old room.old → GoesOn code.now p img (given_back regs.new room.new p img) }
-    ensures none { result ≡ false → (regs.new ≡ regs.old) × (room.new ≡ room.old) }
-    ensures lends { result ≡ true → (img : Image) (p : ℕ) → IsLent code.now img p regs.old room.old → IsLent code.now (given_back regs.new room.new p img) p regs.new room.new }
+    ensures steps { (img : Image) (p : ℕ) → IsLent code.now img p regs.old room.old → StepsTo (plain_step result) code.now p img (given_back regs.new room.new p img) }
+    ensures lends { (img : Image) (p : ℕ) → IsLent code.now img p regs.old room.old → IsLent code.now (given_back regs.new room.new p img) p regs.new room.new }
     ensures keeps { Keeps regs.old regs.new }
 {
-    let Some((row, next)) = row_at(table, regs.place) else {
+    perform_fetched(regs, room, code, table)
+}
+
+// Performs the next operator, an action, where it is allowed and is one of the process's own that goes on; and answers whether it did. Else
+// nothing is done.
+#[inline(always)]
+fn act_by_row(
+    regs: &mut Registers,
+    room: &mut [Word],
+    code: &Code,
+    kind: WordsRow,
+    next: u16,
+    allowed: bool,
+) -> bool
+    requires lent { (img : Image) × (p : ℕ) × IsLent code.now img p regs.old room.old }
+    requires room { length room.old ≡ stack_limit }
+    requires row { IsRowOf regs.old.place (found code.now regs.old.segment regs.old.ll regs.old.place) (Words kind, next) }
+    ensures steps { (img : Image) (p : ℕ) → IsLent code.now img p regs.old room.old → StepsTo (act_step result) code.now p img (given_back regs.new room.new p img) }
+    ensures lends { (img : Image) (p : ℕ) → IsLent code.now img p regs.old room.old → IsLent code.now (given_back regs.new room.new p img) p regs.new room.new }
+    ensures keeps { Keeps regs.old regs.new }
+    ensures allowed { result ≡ true → allowed ≡ true }
+{
+    if !allowed {
         return false;
-    };
-    let Row::Words(kind) = row else {
-        return false;
-    };
+    }
     perform_on_room(regs, room, kind, next)
 }
 
-/// Performs operators of a process that come next, one after another, on its registers and on the room of its stack: plain ones, and VALC, STOD
-/// and BRUN back where they read and write operands of its own stack only. At most so many of these actions are performed, and at most so many
+/// Performs operators of a process that come next, one after another, on its registers and on the room of its stack: plain ones, and VALC, STOD,
+/// BRUN back and INDX where they read and write its own stack only. At most so many of these actions are performed, and at most so many
 /// operators in all. It stops before anything else.
-pub fn run_own(
+pub fn run_on_room(
     regs: &mut Registers,
     room: &mut [Word],
     code: &Code,
@@ -91,15 +103,33 @@ pub fn run_own(
     let mut ran = Ran {
         entries: 0,
         operators: 0,
-        plain: perform_plains(regs, room, code, table, most),
+        plain: 0,
     };
-    'running: while ran.entries < entries && ran.operators + ran.plain < most {
-        if !go_on_room(regs, room, code, table) {
-            return ran;
+    let mut left = most;
+    'running: while ran.plain < left {
+        match row_at(table, regs.place) {
+            Some((Row::Words(kind), next)) => {
+                if !act_by_row(regs, room, code, kind, next, ran.entries < entries) {
+                    return ran;
+                }
+                ran.entries += 1;
+                ran.operators += ran.plain + 1;
+                ran.plain = 0;
+                left = most - ran.operators;
+            }
+            Some((row, next)) => {
+                if !plain_by_row(regs, room, code, row, next) {
+                    return ran;
+                }
+                ran.plain += 1;
+            }
+            None => {
+                if !plain_fetched(regs, room, code, table) {
+                    return ran;
+                }
+                ran.plain += 1;
+            }
         }
-        ran.entries += 1;
-        ran.operators += ran.plain + 1;
-        ran.plain = perform_plains(regs, room, code, table, most - ran.operators);
     }
     ran
 }

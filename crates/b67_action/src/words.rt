@@ -17,7 +17,8 @@ use b67_private::WordsRow;
 use b67_reach::{Registers, Stop};
 use b67_store::Core;
 
-fn perform<C: Core>(
+/// An operator on words and rows is performed, on its process's registers.
+pub fn perform<C: Core>(
     core: &mut C,
     regs: &mut Registers,
     row: WordsRow,

@@ -14,9 +14,9 @@ mod taking;
 use b67_num::{FaultKind, NumFault};
 use b67_table::InterruptKind;
 pub use laws::{operators_are_own, parts_of_valid_images, stretches_are_own};
-pub use operators::{Row, WordsRow, operate, row_of};
+pub use operators::{Row, WordsRow, operate, perform, row_of};
 pub use prepared::Prepared;
-pub use stretch::{burst, burst_in_place, next_operator, row_at};
+pub use stretch::{burst, burst_in_place, next_operator, perform_fetched, row_at};
 
 /// Why an operator has no effect.
 #[derive(Clone, Copy)]

@@ -179,7 +179,8 @@ fn change_top(regs: &mut Registers, room: &mut [Word], row: TopRow, next: u16) -
     }
 }
 
-// Does what a row says.
+/// Does to a private part, in the room of its stack, what a row says, given the place after the operator; or stops, and changes
+/// nothing. An action is `BadCode`: it is no operator of a private part.
 #[inline(always)]
 pub fn perform(regs: &mut Registers, room: &mut [Word], row: Row, next: u16) -> Result<(), Stop>
     requires ready { AreReady regs.old }

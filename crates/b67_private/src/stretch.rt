@@ -54,9 +54,10 @@ pub fn row_at(table: Option<&Prepared>, place: u16) -> Option<(Row, u16)>
     }
 }
 
-// Performs the next operator where it is plain, and no row of it is made ready.
+/// Performs the next operator of a private part in the room of its stack where it is plain, whether a row of it is made ready or not, and answers
+/// whether it did. Else nothing is done.
 #[cold]
-fn perform_fetched(
+pub fn perform_fetched(
     regs: &mut Registers,
     room: &mut [Word],
     code: &Code,

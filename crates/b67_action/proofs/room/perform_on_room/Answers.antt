@@ -20,3 +20,8 @@ pub returns-in-Turn-clause-done : goal.returns-in-Turn-clause-done
 returns-in-Turn-clause-done c = λ done.
     subst (λ (w : WordsRow). PerformsOn (words_program w c.args.regs.now c.args.next) c.args.regs.now c.args.room.now c.turn.new.regs c.args.room.now)
     (sym c.in-Turn.is) (c.turn.ensures.done done)
+
+pub returns-in-Index-clause-done : goal.returns-in-Index-clause-done
+returns-in-Index-clause-done c = λ done.
+    subst (λ (w : WordsRow). PerformsOn (words_program w c.args.regs.now c.args.next) c.args.regs.now c.args.room.now c.index.new.regs c.index.new.room)
+    (sym c.in-Index.is) (c.index.ensures.done done)

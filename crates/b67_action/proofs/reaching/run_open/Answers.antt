@@ -1,0 +1,76 @@
+use Rattle.std.proofs.Common.{sym, subst, ◌∙◌, ◌+◌, arith}
+use Rattle.b67_table.specs.Image.{Image}
+use Rattle.b67_private.proofs.Stepping.{kept_all}
+use Rattle.b67_store.specs.Store.{with_cut}
+use Rattle.b67_reach.specs.Images.{Own, with_own}
+use Rattle.b67_action.specs.declared.running.Ran.{Ran}
+use Rattle.b67_action.specs.Reaching.{own_of}
+use Rattle.b67_action.specs.Running.{HasRun}
+use Rattle.b67_action.proofs.InStore.{in_again, own_twice}
+use Rattle.b67_action.proofs.Runs.{run_then}
+use Rattle.b67_action.proofs.reaching.run_open.Goals as goal
+
+pub running-init : goal.running-init
+running-init g c = record { ran = c.run_lent-ran.ensures.ran; «open» = c.run_lent-ran.ensures.«open»; entries = c.run_lent-ran.ensures.entries; most = c.run_lent-ran.ensures.most; keeps = c.run_lent-ran.ensures.keeps }
+
+pub reach-requires-clause-stands : goal.reach-requires-clause-stands
+reach-requires-clause-stands g c =
+    let code = c.args.code.now in
+    let img = c.requires.stands.0 in
+    let p = c.requires.stands.1 in
+    let x = own_of (g.C.Core.stacks c.running.core) (g.C.Core.rows c.running.core) c.running.regs in (
+      with_own x p img,
+      p,
+      in_again code img p (with_cut (g.C.Core.stacks c.args.core.now) c.args.regs.now.stack c.args.regs.now.s) (g.C.Core.rows c.args.core.now) c.args.regs.now c.requires.stands.2 x (c.running.invariant.ran img p c.requires.stands.2).valid,
+    )
+
+pub returns-then-not-reach-clause-ran : goal.returns-then-not-reach-clause-ran
+returns-then-not-reach-clause-ran g c = λ img p h.
+    subst (λ (x : Own). HasRun c.args.code.now p c.args.most img c.running.ran (with_own x p img)) (sym (c.reach.ensures.none c.if-not-reach.true))
+    (c.running.invariant.ran img p h)
+
+pub run_lent-more-requires-clause-stands : goal.run_lent-more-requires-clause-stands
+run_lent-more-requires-clause-stands g c =
+    let code = c.args.code.now in
+    let img = c.requires.stands.0 in
+    let p = c.requires.stands.1 in
+    let x = own_of (g.C.Core.stacks c.running.core) (g.C.Core.rows c.running.core) c.running.regs in
+    let y = own_of (g.C.Core.stacks c.reach.new.core) (g.C.Core.rows c.reach.new.core) c.reach.new.regs in
+    let hx = in_again code img p (with_cut (g.C.Core.stacks c.args.core.now) c.args.regs.now.stack c.args.regs.now.s) (g.C.Core.rows c.args.core.now) c.args.regs.now c.requires.stands.2 x (c.running.invariant.ran img p c.requires.stands.2).valid in (
+      with_own y p (with_own x p img),
+      p,
+      in_again code (with_own x p img) p x.stacks x.rows x.regs hx y (c.reach.ensures.went c.if-not-reach.false (with_own x p img) p hx).gone.valid,
+    )
+
+pub running-preserved : goal.running-preserved
+running-preserved g c =
+    let code = c.args.code.now in
+    let st = with_cut (g.C.Core.stacks c.args.core.now) c.args.regs.now.stack c.args.regs.now.s in
+    let rows = g.C.Core.rows c.args.core.now in
+    let r = c.args.regs.now in
+    let x = own_of (g.C.Core.stacks c.running.core) (g.C.Core.rows c.running.core) c.running.regs in
+    let y = own_of (g.C.Core.stacks c.reach.new.core) (g.C.Core.rows c.reach.new.core) c.reach.new.regs in
+    let z = own_of (g.C.Core.stacks c.run_lent-more.new.core) (g.C.Core.rows c.run_lent-more.new.core) c.run_lent-more.new.regs in
+    let more = c.run_lent-more.result in
+    let old = c.running.ran in
+    let ran : Ran = record { entries = old.entries + 1 + more.entries; operators = old.operators + (old.plain + 1) + more.operators; plain = more.plain } in
+    record {
+      ran = λ img p h.
+          let a = with_own x p img in
+          let b = with_own y p a in
+          let ha = in_again code img p st rows r h x (c.running.invariant.ran img p h).valid in
+          let went = c.reach.ensures.went c.if-not-reach.false a p ha in
+          let hb = in_again code a p x.stacks x.rows x.regs ha y went.gone.valid in
+          subst (λ (i : Image). HasRun code p c.args.most img ran i) (own_twice a p y z ∙ own_twice img p x z)
+          (run_then code p img c.args.most old more a b (with_own z p b) (c.running.invariant.ran img p h) went (c.run_lent-more.ensures.ran b p hb));
+      «open» = c.run_lent-more.ensures.«open»;
+      entries = omega (arith, c.run_lent-more.ensures.entries, c.running-test.true);
+      most = omega (arith, c.run_lent-more.ensures.most, c.running-test.true);
+      keeps = kept_all r y.regs z.regs (kept_all r x.regs y.regs c.running.invariant.keeps c.reach.ensures.keeps) c.run_lent-more.ensures.keeps;
+    }
+
+pub returns-else-ran-most-clause-ran : goal.returns-else-ran-most-clause-ran
+returns-else-ran-most-clause-ran g c = c.running.invariant.ran
+
+pub returns-after-running-clause-ran : goal.returns-after-running-clause-ran
+returns-after-running-clause-ran g c = c.running.invariant.ran

@@ -1,0 +1,20 @@
+use Rattle.std.proofs.Common.{◌-◌, ◌+◌, ◌≤◌, ℕ}
+use Rattle.b67_table.specs.Image.{Image}
+use Rattle.b67_table.specs.Privacy.{Keeps}
+use Rattle.b67_reach.specs.Images.{with_own}
+use Rattle.b67_action.specs.Reaching.{IsInOpen, IsOpen, own_of}
+use Rattle.b67_action.specs.Running.{HasRun}
+use Rattle.b67_action.proofs.reaching.run_open.Given as goal
+
+abbrev pub invariant-running : goal.invariant-running
+invariant-running g l = record {
+  ran : (img : Image) (p : ℕ) → IsInOpen l.fn.code img p (g.C.Core.stacks l.fn.core) (g.C.Core.rows l.fn.core) l.fn.regs
+      → HasRun l.fn.code p l.fn.most img l.ran (with_own (own_of (g.C.Core.stacks l.core) (g.C.Core.rows l.core) l.regs) p img);
+  «open» : IsOpen (g.C.Core.stacks l.core) l.regs;
+  entries : l.ran.entries ≤ l.fn.entries;
+  most : l.ran.operators + l.ran.plain ≤ l.fn.most;
+  keeps : Keeps l.fn.regs l.regs;
+}
+
+abbrev pub decreases-running : goal.decreases-running
+decreases-running g l = l.fn.entries - l.ran.entries
