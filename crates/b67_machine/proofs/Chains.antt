@@ -13,20 +13,22 @@ use Rattle.b67_table.proofs.Lists.{numbered_set}
 use Rattle.b67_table.proofs.Stacks.{get_numbered_other}
 use Rattle.b67_action.specs.declared.done.Done.{Done}
 use Rattle.b67_action.specs.declared.done.Done.TheVariants.{Went}
-use Rattle.b67_action.specs.Able.{AbleAfter}
+use Rattle.b67_action.specs.Able.{able_in, AbleAfter}
 use Rattle.b67_action.specs.declared.running.Ran.{Ran}
 use Rattle.b67_machine.specs.declared.entry.Performed.{Performed}
 use Rattle.b67_action.specs.Running.{GoesOn, Walks, stay, go}
+use Rattle.b67_action.proofs.Runs.{plains_then}
 use Rattle.b67_machine.specs.Kept.{Kept, Counts, counted, or_none}
 use Rattle.b67_machine.specs.Reads.{machine_end}
 use Rattle.b67_machine.specs.Stepping.{operators_in, Acts, Steps, StepsBy, Goes, Follows, Performs}
-use Rattle.b67_machine.specs.Entries.{IsCalm, Passes, Enters}
+use Rattle.b67_machine.specs.Entries.{Passes, Enters}
 use Rattle.b67_machine.specs.Entries as entries
 use Rattle.b67_machine.specs.Chaining.{released_after, Runs, Passing}
 use Rattle.b67_machine.proofs.Enabling.{able_after, able_from}
 use Rattle.b67_machine.proofs.Ends.{goes_on, same_end, no_end}
 use Rattle.b67_machine.proofs.Failures.{acts_by, without}
 use Rattle.b67_machine.proofs.Going.{still_goes}
+use Rattle.b67_machine.proofs.Lasting.{went_goes}
 use Rattle.b67_machine.proofs.Plainly.{live_of, plains_keep}
 
 -- ---- counts
@@ -74,18 +76,18 @@ long_more counts p n h = omega (arith, h, same_length counts p (counted counts p
 -- ---- an entry that goes on
 
 module _ (a b c : Kept) (p most k : ℕ) (going : machine_end b ≡ None) (goes : Goes a p k b) (less : k < most) (action : plain b.code b.image p ≡ false)
-    (steps : Steps b p Went c) (calm : IsCalm b c) (here : b.lacked ≡ false) (valid : IsValid c.code c.image) where
+    (steps : Steps b p Went c) (started : c.image.started ≡ b.image.started) (released : c.released ≡ []) (here : b.lacked ≡ false) (valid : IsValid c.code c.image) where
   pub acts : Acts b p Went c
   acts = subst (λ (x : Bool). StepsBy x b p Went c) here steps
 
   pub passes_by : Passes a p most k c
   passes_by = record {
     performs = record { between = b; plains = goes; then = (less, action, steps) };
-    states = calm.states ∙ goes.states;
-    started = calm.started ∙ goes.started;
-    released = calm.released;
+    still = ap (λ (i : Image). able_in i p) acts.image ∙ acts.came.1;
+    started = started ∙ goes.started;
+    released = released;
     able = able_after a b c p k Went goes steps refl;
-    ends = no_end c (same_end b.image c.image calm.states calm.fault ∙ (goes_on b going).end) acts.limit;
+    ends = went_goes b c p going acts;
     lacked = acts.lacked;
     valid = valid;
   }
@@ -171,13 +173,10 @@ module _ (p most : ℕ) (old : Kept) (n m : ℕ) (a : Kept) (chain : Enters p mo
         (counts_more (more_counts e.last.counts p j) p 1 number (long_more e.last.counts p j e.known)) on.gone.woken (λ q. on.gone.able)
         (goes_on e.last e.ends).limit lacked_is code_is)
 
-    calm_then : IsCalm quiet after
-    calm_then = record { states = on.calm.states; started = on.calm.started; fault = on.calm.fault; released = refl }
-
     passes_then : Passes e.last p (most - (m + l)) j after
     passes_then =
         passes_by e.last quiet after p (most - (m + l)) j (still_goes e.last quiet p j e.ends goes_then) goes_then (omega (arith, within))
-        (subst (λ (x : Code). plain x c p ≡ false) (sym code_is) on.action) steps_then calm_then lacked_is
+        (subst (λ (x : Code). plain x c p ≡ false) (sym code_is) on.action) steps_then on.calm.started refl lacked_is
         (subst (λ (x : Code). IsValid x d) (sym code_is) on.gone.valid)
 
     one_extended : Extended (k + 1) (l + (j + 1)) d
@@ -230,6 +229,10 @@ module _ (p most : ℕ) (old : Kept) (n m : ℕ) (a : Kept) (chain : Enters p mo
 
 -- ---- after what a process does on its own stack
 
+no_walks : (code : Code) (p : ℕ) (old new : Image) (n m : ℕ) → Walks code p old n m new → n ≡ 0 → (new ≡ old) × (m ≡ 0)
+no_walks code p old new n m stay e = (refl, refl)
+no_walks code p old new n m (go {n = k} rest plains on) e = absurd (omega (arith, e))
+
 module _ (a new : Kept) (p limit : ℕ) (ran : Ran) (h : Runs a p limit ran new) where
   pub runs_able : is_able (numbered a.image.states p) ≡ true → is_able (numbered new.image.states p) ≡ true
   runs_able able = ap (λ (ss : List ProcessState). is_able (numbered ss p)) h.run.calm.states ∙ able
@@ -242,19 +245,26 @@ module _ (a new : Kept) (p limit : ℕ) (ran : Ran) (h : Runs a p limit ran new)
   pub runs_here : a.lacked ≡ false → new.lacked ≡ false
   runs_here here = ap (λ (x : Kept). x.lacked) h.others ∙ here
 
+  -- with no entries there are plain operators only
+  pub runs_plainly : ran.entries ≡ 0 → Goes a p ran.plain new × (ran.operators ≡ 0)
+  runs_plainly none =
+      let k = no_walks a.code p a.image h.run.between ran.entries ran.operators h.run.walks none in
+      let all : ran.operators + ran.plain ≡ ran.plain = omega (arith, k.1) in (
+        record {
+          performed = subst (λ (x : Image). Plains a.code p x ran.plain new.image) k.0 h.run.plains;
+          counts = subst (λ (n : ℕ). Counts a.counts p n new.counts) all h.counts;
+          others = h.others ∙ ap (λ (n : ℕ). record a { image = new.image; counts = new.counts; released = released_after n a.released }) none;
+          states = h.run.calm.states;
+          started = h.run.calm.started;
+          fault = h.run.calm.fault;
+        },
+        k.1,
+      )
+
   pub runs_action : ran.operators + ran.plain < limit → plain new.code new.image p ≡ false
   runs_action less = ap (λ (x : Code). plain x new.image p) (ap (λ (x : Kept). x.code) h.others) ∙ h.run.stops less
 
 -- ---- before the last entry
-
-plains_then : (code : Code) (p : ℕ) (a b c : Image) (k n : ℕ) → Plains code p a k b → Plains code p b n c → Plains code p a (k + n) c
-plains_then code p a b c k n runs.stay more = subst (λ (x : ℕ). Plains code p b x c) none more
-  where
-    none : n ≡ 0 + n
-    none = omega arith
-plains_then code p a b c k n (runs.go {b = d} {n = j} e t rest) more =
-    let sum : j + n + 1 ≡ j + 1 + n = omega arith in
-    subst (λ (x : ℕ). Plains code p a x c) sum (runs.go e t (plains_then code p d b c j n rest more))
 
 goes_after : (a b c : Kept) (p k n z : ℕ) → z ≡ k + n → Goes a p k b → Goes b p n c → Goes a p z c
 goes_after a b c p k n z e h g = subst (λ (x : ℕ). Goes a p x c) (sym e) (record {
@@ -284,12 +294,3 @@ pub able_then_from : (a b c : Kept) (p k : ℕ) (o : Option Done) → Goes a p k
     → IfSome o (λ done. operators_in done ≡ 1 → AbleAfter a.image c.image p c.released)
 able_then_from a b c p k None goes h = h
 able_then_from a b c p k (Some done) goes h = λ e. able_from a.image b.image c.image p c.released goes.states goes.started (h e)
-
--- ---- nothing yet
-
-pub passing_none : (a : Kept) (p most : ℕ) → Passing a p most (record { entries = 0; operators = 0; plain = 0 }) a
-passing_none a p most = record {
-  between = a;
-  enters = entries.stay;
-  goes = record { performed = runs.stay; counts = counts_none a.counts p; others = refl; states = refl; started = refl; fault = refl };
-}

@@ -80,6 +80,9 @@ may_by : (img : Image) (p : ℕ) → image_end img ≡ None → is_able (numbere
 unfolding may_act
 may_by img p e able = ap (λ (o : Option ImageEnd). ending.goes_on o (is_able (numbered img.states p))) e ∙ able
 
+abbrev pub HasState : ℕ → Image → Type 0
+HasState p img = (x : ProcessState) × (numbered img.states p ≡ Some x)
+
 -- what an entry comes to
 abbrev pub Comes : Code → ℕ → List ℕ → ℕ → ℕ → Kept → Option Done → Type 0
 Comes code budget done spent p new None = Advances code budget done (p ∷ []) spent done new (Some replayed.BudgetSpent)
@@ -87,7 +90,7 @@ Comes code budget done spent p new (Some dones.StackLimit) = Advances code budge
 Comes code budget done spent p new (Some dones.NoMemory) = Advances code budget done (p ∷ []) spent done new (Some replayed.NoMemory)
 Comes code budget done spent p new (Some (dones.Interrupt kind)) = ⊥
 Comes code budget done spent p new (Some d) =
-    Between code (done ++ p ∷ []) (spent + 1) new × (spent + 1 ≤ budget) × ((x : ProcessState) × (numbered new.image.states p ≡ Some x))
+    Between code (done ++ p ∷ []) (spent + 1) new × (spent + 1 ≤ budget) × HasState p new.image
 
 state_of : (o : Option ProcessState) → is_able o ≡ true → (x : ProcessState) × (o ≡ Some x)
 state_of None e = cc
@@ -186,31 +189,49 @@ module _ (code : Code) (budget : ℕ) (done : List ℕ) (spent : ℕ) (m : Kept)
       subst (λ (c : Code). runs.Acts c p quiet.image new) same_code
       (subst (λ (x : Image). runs.Acts quiet.code p quiet.image x) (sym (same ∙ ap (λ (x : Image). failed x p kind) left)) (fails kind t))
 
-  state_then : (new acted : Image) → new ≡ acted → (x : ProcessState) × (numbered acted.states p ≡ Some x) → (x : ProcessState) × (numbered new.states p ≡ Some x)
+  state_then : (new acted : Image) → new ≡ acted → (x : ProcessState) × (numbered acted.states p ≡ Some x) → HasState p new
   state_then new acted same k = (k.0, ap (λ (i : Image). numbered i.states p) same ∙ k.1)
+
+  state_stays : (new : Image) → new.states ≡ quiet.image.states → HasState p new
+  state_stays new same =
+      let k = state_of (numbered quiet.image.states p) able_then in (k.0, ap (λ (ss : List ProcessState). numbered ss p) same ∙ k.1)
+
+  -- the process is there still
+  state_by : (d : Done) (new : Kept) → Acts quiet p d new → HasState p new.image
+  unfolding failed
+  state_by dones.Went new a = state_then new.image a.acted a.image (state_of (numbered a.acted.states p) a.came.1)
+  state_by dones.Waits new a = state_then new.image a.acted a.image (state_waits (numbered a.acted.states p) a.came.1)
+  state_by dones.Ended new a = state_then new.image a.acted a.image (states.Ended, a.came.1)
+  state_by (dones.Fault kind) new a = state_stays new.image (ap (λ (i : Image). i.states) a.image ∙ ap (λ (i : Image). i.states) a.came.1)
+  state_by (dones.Interrupt kind) new a = state_stays new.image (ap (λ (i : Image). i.states) (a.image ∙ a.came.1))
+  state_by dones.StackLimit new a = state_stays new.image (ap (λ (i : Image). i.states) (a.image ∙ a.came.1))
+  state_by dones.NoMemory new a = state_stays new.image (ap (λ (i : Image). i.states) a.image ∙ ap (λ (i : Image). i.states) a.came.1.others)
+
+  state_after : (o : Option Done) (new : Kept) → Follows quiet p n (budget - spent) o new → HasState p new.image
+  state_after None new f = state_stays new.image (ap (λ (k : Kept). k.image.states) f.1)
+  state_after (Some d) new f = state_by d new (subst (λ (x : Bool). StepsBy x quiet p d new) none_lacked f.2)
 
   comes_by : Sound code → (d : Done) (new : Kept) → n < budget - spent → plain quiet.code quiet.image p ≡ false → Acts quiet p d new → Comes code budget done (spent + n) p new (Some d)
   unfolding failed
   comes_by sound dones.Went new less e a = (
     next dones.Went new a refl refl refl (gives_next new.image a.acted e a.came.0 a.image),
     omega (arith, less),
-    state_then new.image a.acted a.image (state_of (numbered a.acted.states p) a.came.1),
+    state_by dones.Went new a,
   )
   comes_by sound dones.Waits new less e a = (
     next dones.Waits new a refl refl refl (gives_next new.image a.acted e a.came.0 a.image),
     omega (arith, less),
-    state_then new.image a.acted a.image (state_waits (numbered a.acted.states p) a.came.1),
+    state_by dones.Waits new a,
   )
   comes_by sound dones.Ended new less e a = (
     next dones.Ended new a refl refl refl (gives_next new.image a.acted e a.came.0 a.image),
     omega (arith, less),
-    state_then new.image a.acted a.image (states.Ended, a.came.1),
+    state_by dones.Ended new a,
   )
   comes_by sound (dones.Fault kind) new less e a = (
     next (dones.Fault kind) new a refl refl refl (fails_next new.image a.acted kind a.came.0 a.came.1 a.image),
     omega (arith, less),
-    let k = state_of (numbered quiet.image.states p) able_then in
-        (k.0, ap (λ (i : Image). numbered i.states p) a.image ∙ ap (λ (i : Image). numbered i.states p) a.came.1 ∙ k.1),
+    state_by (dones.Fault kind) new a,
   )
   comes_by sound (dones.Interrupt kind) new less e a =
       sound.tagged done (tails_of (p ∷ []) n) quiet.image
@@ -228,6 +249,10 @@ pub comes : (code : Code) (budget : ℕ) (done : List ℕ) (spent : ℕ) (m : Ke
 comes code budget done spent m p performed new sound b going able less k =
     comes_then code budget done spent m b p going able performed.plain k.between k.plains sound performed.done new less k.then
 
+pub performed_state : (code : Code) (budget : ℕ) (done : List ℕ) (spent : ℕ) (m : Kept) (p : ℕ) (performed : Performed) (new : Kept) → Between code done spent m → machine_end m ≡ None
+    → is_able (numbered m.image.states p) ≡ true → Performs m p (budget - spent) performed new → HasState p new.image
+performed_state code budget done spent m p performed new b going able k = state_after code budget done spent m b p going able performed.plain k.between k.plains performed.done new k.then
+
 -- the replay ends within the entry
 pub ends_within : (code : Code) (budget : ℕ) (done : List ℕ) (spent p : ℕ) (new : Kept) (o : Option Done) (answer : Replayed) → within_entry o ≡ Some answer
     → Comes code budget done spent p new o → Advances code budget done (p ∷ []) spent done new (Some answer)
@@ -242,7 +267,7 @@ ends_within code budget done spent p new (Some (dones.Fault kind)) answer e k = 
 
 -- or the entry is performed
 pub goes_through : (code : Code) (budget : ℕ) (done : List ℕ) (spent p : ℕ) (new : Kept) (o : Option Done) → within_entry o ≡ None → Comes code budget done spent p new o
-    → Between code (done ++ p ∷ []) (spent + 1) new × (spent + 1 ≤ budget) × ((x : ProcessState) × (numbered new.image.states p ≡ Some x))
+    → Between code (done ++ p ∷ []) (spent + 1) new × (spent + 1 ≤ budget) × HasState p new.image
 goes_through code budget done spent p new None e k = cc
 goes_through code budget done spent p new (Some dones.StackLimit) e k = cc
 goes_through code budget done spent p new (Some dones.NoMemory) e k = cc
@@ -253,7 +278,7 @@ goes_through code budget done spent p new (Some dones.Ended) e k = k
 goes_through code budget done spent p new (Some (dones.Fault kind)) e k = k
 
 -- the process has a number that a schedule can hold
-pub number_within : (code : Code) (img : Image) (p : ℕ) → IsValid code img → (x : ProcessState) × (numbered img.states p ≡ Some x) → p ≤ 256
+pub number_within : (code : Code) (img : Image) (p : ℕ) → IsValid code img → HasState p img → p ≤ 256
 number_within code img p v k = omega (arith, numbered_within img.states p k.0 k.1, v.states, v.most)
 
 -- ---- before an entry

@@ -1,7 +1,7 @@
 -- Runs of a schedule one after another.
 use Rattle.std.specs.Prelude.{replicate}
 use Rattle.std.proofs.Common.{◌≡◌, ◌⊎◌, refl, sym, ap, subst, ◌∙◌, inl, inr, ℕ, zero, suc, ◌+◌, ◌-◌, ◌≤◌, ◌<◌, List, [], ◌∷◌, ◌++◌, length, take, drop, get_or, append-nil, append_assoc, length-append, arith}
-use Rattle.std.proofs.lemmas.List.{length-replicate}
+use Rattle.std.proofs.lemmas.List.{length-replicate, replicate-append-replicate}
 use Rattle.b67_segment.specs.declared.code.Code.{Code}
 use Rattle.b67_schedule.specs.declared.Run.{Run}
 use Rattle.b67_schedule.specs.Schedules.{entries}
@@ -67,30 +67,21 @@ module _ (code : Code) (budget : ℕ) (runs : List Run) (i : ℕ) (d : Run) (les
 
 -- ---- the entries of one run
 
--- so many of them, the next one and those after it
-replicate_split : (p n k t : ℕ) → t ≡ n + (k + 1) → replicate t p ≡ replicate n p ++ p ∷ replicate k p
-replicate_split p zero k t e =
-    let all : t ≡ suc k = omega (arith, e) in ap (λ (m : ℕ). replicate m p) all
-replicate_split p (suc n) k zero e = absurd (omega (arith, e))
-replicate_split p (suc n) k (suc t) e = ap (λ (xs : List ℕ). p ∷ xs) (replicate_split p n k t (omega (arith, e)))
+-- so many of them, and so many more
+pub more_of_run : (start before : List ℕ) (p n k t : ℕ) → before ≡ start ++ replicate n p → t ≡ n + k → before ++ replicate k p ≡ start ++ replicate t p
+more_of_run start before p n k t here e =
+    ap (λ (xs : List ℕ). xs ++ replicate k p) here
+    ∙ append_assoc start (replicate n p) (replicate k p)
+    ∙ ap (λ (xs : List ℕ). start ++ xs) (replicate-append-replicate n k p ∙ ap (λ (m : ℕ). replicate m p) (sym e))
 
-module _ (code : Code) (budget : ℕ) (start : List ℕ) (p times total : ℕ) (less : times < total) (before : List ℕ) (here : before ≡ start ++ replicate times p) where
-  rest_of : List ℕ
-  rest_of = replicate (total - (times + 1)) p
-
-  all_of : (more : List ℕ) → (before ++ p ∷ []) ++ (rest_of ++ more) ≡ (start ++ replicate total p) ++ more
-  unfolding rest_of
-  all_of more =
-      append_assoc before (p ∷ []) (rest_of ++ more)
-      ∙ ap (λ (xs : List ℕ). xs ++ (p ∷ (rest_of ++ more))) here
-      ∙ sym (append_assoc (start ++ replicate times p) (p ∷ rest_of) more)
-      ∙ ap (λ (xs : List ℕ). xs ++ more)
-      (append_assoc start (replicate times p) (p ∷ rest_of)
-      ∙ ap (λ (xs : List ℕ). start ++ xs) (sym (replicate_split p times (total - (times + 1)) total (omega (arith, less)))))
-
-  -- the replay has ended at an entry of the run
-  pub ends_in_run : (its : Code) → its ≡ code → (done : List ℕ) (new : Kept) (answer : Replayed) → ((more : List ℕ) → Replays its ((before ++ p ∷ []) ++ more) budget done new answer)
-      → (more : List ℕ) → Replays code (start ++ replicate total p ++ more) budget done new answer
-  ends_in_run its same done new answer h more =
-      subst (λ (given : List ℕ). Replays code given budget done new answer) (all_of more)
-      (subst (λ (k : Code). Replays k ((before ++ p ∷ []) ++ (rest_of ++ more)) budget done new answer) same (h (rest_of ++ more)))
+-- the replay has ended at one of the first of them
+pub ends_in_run : (code : Code) (budget : ℕ) (start : List ℕ) (p first total : ℕ) → first ≤ total → (before : List ℕ) → before ≡ start ++ replicate first p → (its : Code) → its ≡ code
+    → (done : List ℕ) (new : Kept) (answer : Replayed) → ((more : List ℕ) → Replays its (before ++ more) budget done new answer)
+    → (more : List ℕ) → Replays code (start ++ replicate total p ++ more) budget done new answer
+ends_in_run code budget start p first total few before here its same done new answer h more =
+    let rest : List ℕ = replicate (total - first) p in
+    let all : before ++ (rest ++ more) ≡ start ++ replicate total p ++ more =
+    sym (append_assoc before rest more)
+    ∙ ap (λ (xs : List ℕ). xs ++ more) (more_of_run start before p first (total - first) total here (omega (arith, few))) in
+    subst (λ (given : List ℕ). Replays code given budget done new answer) all
+    (subst (λ (k : Code). Replays k (before ++ (rest ++ more)) budget done new answer) same (h (rest ++ more)))

@@ -5,7 +5,7 @@ use Rattle.b67_list.specs.Numbered.{numbered}
 use Rattle.b67_control.specs.declared.Registers.{Registers}
 use Rattle.b67_segment.specs.declared.code.Code.{Code}
 use Rattle.b67_table.specs.declared.Private.{Private}
-use Rattle.b67_table.specs.Image.{Image, private_of, is_able, is_live}
+use Rattle.b67_table.specs.Image.{Image, private_of, is_live}
 use Rattle.b67_table.specs.Runs.{Plains}
 use Rattle.b67_table.specs.Table.{plain}
 use Rattle.b67_table.specs.Valid.{IsValid}
@@ -16,7 +16,7 @@ use Rattle.b67_machine.specs.Kept.{Kept, Counts}
 use Rattle.b67_machine.specs.Reads.{machine_end}
 use Rattle.b67_machine.specs.Stepping.{IsStretched, Goes}
 use Rattle.b67_machine.proofs.Ends.{goes_on, same_end, no_end}
-use Rattle.b67_machine.proofs.Plainly.{live_of, plains_keep}
+use Rattle.b67_machine.proofs.Plainly.{plains_keep}
 
 -- ---- a stretch
 
@@ -40,11 +40,6 @@ goes_live old new code img p n most c i v live s counts others =
       started = k.started ∙ ap (λ (x : Image). x.started) (sym i);
       fault = k.fault ∙ ap (λ (x : Image). x.fault) (sym i);
     }
-
-pub goes_by : (old new : Kept) (code : Code) (img : Image) (p n most : ℕ) → old.code ≡ code → old.image ≡ img → IsValid code img → is_able (numbered img.states p) ≡ true
-    → IsStretched code p n most img new.image → Counts old.counts p n new.counts → new ≡ record old { image = new.image; counts = new.counts } → Goes old p n new
-goes_by old new code img p n most c i v able s counts others =
-    goes_live old new code img p n most c i v (live_of (numbered img.states p) able) s counts others
 
 -- ---- between a stretch and its action
 

@@ -3,6 +3,7 @@ pub mod Failures
 pub mod Plainly
 pub mod Going
 pub mod Enabling
+pub mod Lasting
 pub mod Raised
 pub mod Begun
 pub mod Chains
@@ -10,6 +11,7 @@ pub mod Tailing
 pub mod Entering
 pub mod Finishing
 pub mod Following
+pub mod Advancing
 pub mod Lacking
 pub mod Lending
 pub mod Differing

@@ -1,31 +1,22 @@
 -- What plain operators of a process leave as it is.
 use Rattle.std.specs.Prelude.{◌&&◌}
-use Rattle.std.proofs.Common.{◌≡◌, refl, sym, ap, subst, ◌∙◌, ℕ, zero, suc, ◌-◌, ◌<◌, ◌≤◌, Bool, true, false, List, [], ◌∷◌, length, set, take, get_or, ◌++◌, Option, Some, None, IsSome, arith}
-use Rattle.std.specs.Prelude.{reverse}
+use Rattle.std.proofs.Common.{◌≡◌, refl, ap, ◌∙◌, ℕ, zero, suc, ◌-◌, ◌≤◌, Bool, true, false, List, [], ◌∷◌, length, get_or, Option, Some, None, IsSome, arith}
 use Rattle.std.proofs.lemmas.Option.{get_or_from_slice_get}
-use Rattle.b67_list.specs.Numbered.{numbered, set_numbered}
+use Rattle.b67_list.specs.Numbered.{numbered}
 use Rattle.b67_control.specs.declared.Registers.{Registers}
 use Rattle.b67_segment.specs.declared.code.Code.{Code}
-use Rattle.b67_operators.proofs.Leaves.{set_here}
-use Rattle.b67_store.specs.Store.{Stacks, Rows, words_of, with_stack}
 use Rattle.b67_table.specs.declared.ProcessState.{ProcessState}
 use Rattle.b67_table.specs.declared.ProcessState.TheVariants as states
-use Rattle.b67_table.specs.declared.Private.{Private}
-use Rattle.b67_table.specs.Image.{Image, with_private, private_of, is_able, is_live}
+use Rattle.b67_table.specs.Image.{Image, is_able, is_live}
 use Rattle.b67_table.specs.Outcome.{gives}
-use Rattle.b67_table.specs.Private.{floor}
 use Rattle.b67_table.specs.Runs.{Plains, stay, go}
 use Rattle.b67_table.specs.Table.{table, plain, private_next, is_new}
 use Rattle.b67_table.specs.Valid.{IsValid}
 use Rattle.b67_table.proofs.AllValid.{operators_keep_valid}
-use Rattle.b67_table.proofs.FirstValid.{valid_stands, counted}
+use Rattle.b67_table.proofs.FirstValid.{valid_stands}
 use Rattle.b67_table.proofs.Limit.{limit_comes_last}
 use Rattle.b67_table.proofs.Lists.{numbered_from, numbered_within}
-use Rattle.b67_table.specs.Privacy.{Keeps as RegistersKeep}
 use Rattle.b67_table.proofs.Privacy.{private_is_private}
-use Rattle.b67_private.specs.Parts.{PlainParts, is_plain}
-use Rattle.b67_private.proofs.Plains.{stretches_are_own}
-use Rattle.b67_machine.specs.Stepping.{IsStretched}
 
 pub live_of : (o : Option ProcessState) → is_able o ≡ true → is_live o ≡ true
 live_of None e = cc
@@ -82,43 +73,8 @@ plains_keep code p a b n v live (go {b = c} e t rest) =
     let more = plains_keep code p c b _ one.valid (ap (λ (ss : List ProcessState). is_live (numbered ss p)) one.states ∙ live) rest in
     record { valid = more.valid; states = more.states ∙ one.states; started = more.started ∙ one.started; fault = more.fault ∙ one.fault }
 
--- the same stack's
-pub ends_at_stack : (a r b : Registers) → a ≡ r → RegistersKeep a b → b.stack ≡ r.stack
-ends_at_stack a r b e k = k.0 ∙ ap (λ (q : Registers). q.stack) e
-
 -- the registers at a process's place are the process's
 pub own_is : (all : List Registers) (p : ℕ) (r q : Registers) → numbered all p ≡ Some r → q ≡ get_or all (p - 1) q → q ≡ r
 own_is all zero r q e f = cc
 own_is all (suc k) r q e f =
     let k_is : suc k - 1 ≡ k = omega arith in f ∙ ap (λ (n : ℕ). get_or all n q) k_is ∙ get_or_from_slice_get all k r q e
-
--- what a stretch leaves is put back, and is the process's
-module _ (code : Code) (img : Image) (p : ℕ) (r : Registers) (v : IsValid code img) (able : is_able (numbered img.states p) ≡ true) (has : numbered img.regs p ≡ Some r)
-    (part : Private) (n : ℕ) (plains : PlainParts code (private_of img r) n part) where
-  live : is_live (numbered img.states p) ≡ true
-  live = live_of (numbered img.states p) able
-
-  new : Image
-  new = with_private img p (floor r) part
-
-  pub kept : Keeps code img (with_private img p (floor r) part)
-  kept = plains_keep code p img (with_private img p (floor r) part) n v live (stretches_are_own code img p r v live has part n plains).performed
-
-  pub put_is : (st : Stacks) (rows : Rows) (q : Registers)
-      → st ≡ with_stack img.stacks part.regs.stack (take (floor r) (words_of img.stacks part.regs.stack) ++ reverse part.words) → rows ≡ img.rows → q ≡ part.regs
-      → record img { stacks = st; rows = rows; regs = set img.regs (p - 1) q } ≡ with_private img p (floor r) part
-  unfolding new
-  put_is st rows q s t u =
-      ap (λ (z : Stacks). record img { stacks = z; rows = rows; regs = set img.regs (p - 1) q }) s
-      ∙ ap (λ (z : Rows). record img { stacks = new.stacks; rows = z; regs = set img.regs (p - 1) q }) t
-      ∙ ap (λ (rs : List Registers). record img { stacks = new.stacks; regs = rs })
-      (set_here img.regs p q (counted p r img.regs has) ∙ ap (λ (z : Registers). set_numbered img.regs p z) u)
-
-  pub stretched_is : (put : Image) (most : ℕ) → put ≡ with_private img p (floor r) part → (n < most → is_plain code part ≡ false) → IsStretched code p n most img put
-  stretched_is put most e h =
-      let k = stretches_are_own code img p r v live has part n plains in
-      subst (λ (x : Image). IsStretched code p n most img x) (sym e) (record {
-        performed = k.performed;
-        stops = λ less. k.next ∙ h less;
-        valid = kept.valid;
-      })

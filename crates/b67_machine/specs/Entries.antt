@@ -1,8 +1,8 @@
 -- Entries of one process, one after another.
-use Rattle.std.specs.Prelude.{◌≡◌, ℕ, ◌+◌, ◌-◌, ◌<◌, ◌≤◌, false, [], Some, None, IfSome}
+use Rattle.std.specs.Prelude.{◌≡◌, ℕ, ◌+◌, ◌-◌, ◌<◌, ◌≤◌, true, false, [], Some, None, IfSome}
 use Rattle.b67_table.specs.Valid.{IsValid}
 use Rattle.b67_action.specs.declared.done.Done.TheVariants.{Went}
-use Rattle.b67_action.specs.Able.{AbleAfter}
+use Rattle.b67_action.specs.Able.{able_in, AbleAfter}
 use Rattle.b67_machine.specs.declared.entries.Entered.{Entered}
 use Rattle.b67_machine.specs.Kept.{Kept}
 use Rattle.b67_machine.specs.Reads.{machine_end}
@@ -18,7 +18,8 @@ pub record IsCalm (old new : Kept) : Type 0 where
 -- an entry that went on, and whose action released nobody and started nobody
 pub record Passes (old : Kept) (p most plain : ℕ) (new : Kept) : Type 0 where
   pub performs : Performs old p most (record { plain = plain; done = Some Went }) new
-  pub states : new.image.states ≡ old.image.states
+  -- the process is able still
+  pub still : able_in new.image p ≡ true
   pub started : new.image.started ≡ old.image.started
   pub released : new.released ≡ []
   pub able : AbleAfter old.image new.image p new.released

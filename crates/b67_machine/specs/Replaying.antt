@@ -1,5 +1,5 @@
 -- What a replay does.
-use Rattle.std.specs.Prelude.{◌≡◌, ◌≢◌, ◌⊎◌, ℕ, ◌+◌, ◌-◌, ◌<◌, ◌≤◌, nat_eq, if◌then◌else◌, Bool, true, false, List, [], ◌∷◌, ◌++◌, length, reverse, replicate, sum, Option, Some, None}
+use Rattle.std.specs.Prelude.{◌≡◌, ◌≢◌, ◌⊎◌, ℕ, ◌+◌, ◌-◌, ◌<◌, ◌≤◌, nat_eq, if◌then◌else◌, Bool, true, false, List, [], ◌∷◌, ◌++◌, length, reverse, replicate, sum, Option, Some, None, Result, Ok, Err}
 use Rattle.b67_list.specs.Numbered.{numbered}
 use Rattle.b67_segment.specs.declared.code.Code.{Code}
 use Rattle.b67_table.specs.Image.{Image, is_able}
@@ -103,6 +103,11 @@ pub record Between (code : Code) (done : List ℕ) (spent : ℕ) (m : Kept) : Ty
 abbrev pub Advances : Code → ℕ → List ℕ → List ℕ → ℕ → List ℕ → Kept → Option Replayed → Type 0
 Advances code budget before next spent done new None = (done ≡ before ++ next) × Between code done spent new × (spent ≤ budget)
 Advances code budget before next spent done new (Some answer) = (more : List ℕ) → Replays code (before ++ next ++ more) budget done new answer
+
+-- some of so many entries of a process are performed, and one at least, or the replay has ended within them
+abbrev pub AdvancesBy : Code → ℕ → List ℕ → ℕ → ℕ → ℕ → List ℕ → Kept → Result ℕ Replayed → Type 0
+AdvancesBy code budget before p times spent done new (Ok n) = (1 ≤ n) × (n ≤ times) × Advances code budget before (replicate n p) spent done new None
+AdvancesBy code budget before p times spent done new (Err answer) = Advances code budget before (replicate times p) spent done new (Some answer)
 
 -- what ends a replay before an entry: the end of the run is looked at first, then the budget, then the entry
 abbrev pub StopsBefore : Kept → ℕ → ℕ → ℕ → ℕ → Option Replayed → Type 0

@@ -1,15 +1,15 @@
 // Entries of one process, one after another.
-ghost use Rattle.std.specs.Prelude.{◌≡◌, ◌+◌, ◌<◌, ◌≤◌, ◌^◌, None, true};
+ghost use Rattle.std.specs.Prelude.{◌≡◌, ◌+◌, ◌<◌, ◌≤◌, ◌^◌, [], None, false, true};
 ghost use Rattle.b67_list.specs.Numbered.{numbered};
 ghost use Rattle.b67_table.specs.Image.{is_able};
 ghost use Rattle.b67_table.specs.Valid.{IsValid};
-ghost use Rattle.b67_machine.specs.Chaining.{Passing};
+ghost use Rattle.b67_action.specs.declared.done.Done.TheVariants.{Went};
 ghost use Rattle.b67_machine.specs.Entries.{PerformsEntries};
 ghost use Rattle.b67_machine.specs.Kept.{counted};
 ghost use Rattle.b67_machine.specs.Reads.{machine_end};
 
 use crate::{Machine, Performed};
-use b67_action::Ran;
+use b67_action::{Done, Ran};
 use b67_store::Core;
 
 /// What was performed of entries of one process.
@@ -24,34 +24,36 @@ pub struct Entered {
 }
 
 impl<C: Core> Machine<C> {
-    // Entries that go on, at most so many, which leave an operator of so many at least; and the plain operators after them.
-    fn pass(&mut self, process: u32, entries: u32, most: u32) -> Ran
+    // Tests that an entry whose operator came to this is passed over: it went on, no process was started above so many, and nobody was released.
+    fn is_passed(&self, done: Done, before: u32) -> bool
+        ensures { result ≡ true → (done ≡ Went) × (self.now.image.started ≡ before) × (self.now.released ≡ []) }
+    {
+        matches!(done, Done::Went) && self.started() == before && self.released().is_empty()
+    }
+
+    // Entries one after another on a machine that found memory, where an operator is allowed.
+    fn pass(&mut self, process: u32, entries: u32, most: u32) -> Entered
         requires able { is_able (numbered self.old.image.states process) ≡ true }
         requires going { machine_end self.old ≡ None }
         requires count { counted self.old.counts process + most < 2 ^ 64 }
-        ensures passes { Passing self.old process most result self.new }
-        ensures entries { result.entries ≤ entries }
-        ensures most { result.operators + result.plain ≤ most }
-        ensures less { 1 ≤ most → result.operators + result.plain < most }
-        ensures able { is_able (numbered self.new.image.states process) ≡ true }
-        ensures going { machine_end self.new ≡ None }
-        ensures counts { counted self.new.counts process ≡ counted self.old.counts process + (result.operators + result.plain) }
+        requires here { self.old.lacked ≡ false }
+        requires some { 1 ≤ most }
+        ensures performs { PerformsEntries self.old process entries most result self.new }
+        ensures valid { IsValid self.new.code self.new.image }
     {
-        let none = Ran {
-            entries: 0,
-            operators: 0,
-            plain: 0,
-        };
-        if self.lacked {
-            return none;
-        }
-        if most == 0 {
-            return none;
-        }
+        let before = self.started();
         let mut ran = self.run_process(process, entries, most - 1);
-        'passing: while ran.entries < entries && ran.operators + ran.plain + 1 < most {
-            if !self.go_on(process) {
-                return ran;
+        'passing: while ran.operators + ran.plain + 1 < most {
+            let done = self.act(process);
+            if ran.entries == entries || !self.is_passed(done, before) {
+                return Entered {
+                    entries: ran.entries,
+                    operators: ran.operators,
+                    last: Performed {
+                        plain: ran.plain,
+                        done: Some(done),
+                    },
+                };
             }
             let operators = ran.operators + ran.plain + 1;
             let more = self.run_process(process, entries - ran.entries - 1, most - 1 - operators);
@@ -61,7 +63,13 @@ impl<C: Core> Machine<C> {
                 plain: more.plain,
             };
         }
-        ran
+        let mut last = self.perform_entry(process, most - ran.operators - ran.plain);
+        last.plain += ran.plain;
+        Entered {
+            entries: ran.entries,
+            operators: ran.operators,
+            last,
+        }
     }
 
     /// Performs entries of a process one after another, as long as each goes on and neither releases nor starts anybody, at most so many
@@ -73,13 +81,14 @@ impl<C: Core> Machine<C> {
         ensures performs { PerformsEntries self.old process entries most result self.new }
         ensures valid { IsValid self.new.code self.new.image }
     {
-        let passed = self.pass(process, entries, most);
-        let mut last = self.perform_entry(process, most - passed.operators - passed.plain);
-        last.plain += passed.plain;
-        Entered {
-            entries: passed.entries,
-            operators: passed.operators,
-            last,
+        if self.lacked || most == 0 {
+            let last = self.perform_entry(process, most);
+            return Entered {
+                entries: 0,
+                operators: 0,
+                last,
+            };
         }
+        self.pass(process, entries, most)
     }
 }

@@ -23,7 +23,7 @@ pub struct Performed {
 
 impl<C: Core> Machine<C> {
     // Performs the next operator of a process: at once by its row, where that was made ready and nothing stops it.
-    fn act(&mut self, process: u32) -> Done
+    pub(crate) fn act(&mut self, process: u32) -> Done
         requires able { is_able (numbered self.old.image.states process) ≡ true }
         requires going { machine_end self.old ≡ None }
         requires count { counted self.old.counts process + 1 < 2 ^ 64 }

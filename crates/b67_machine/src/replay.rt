@@ -1,8 +1,8 @@
 // Whole schedules.
-ghost use Rattle.std.specs.Prelude.{◌≡◌, ◌+◌, ◌<◌, ◌≤◌, ◌⊎◌, [], ◌∷◌, length, replicate};
+ghost use Rattle.std.specs.Prelude.{◌≡◌, ◌+◌, ◌<◌, ◌≤◌, ◌⊎◌, [], length, replicate};
 ghost use Rattle.b67_schedule.specs.Schedules.{most, entries};
 ghost use Rattle.b67_table.specs.Sound.{Sound};
-ghost use Rattle.b67_machine.specs.Replaying.{Advances, Between, EndsAfter, Replays, StopsBefore, within_entry};
+ghost use Rattle.b67_machine.specs.Replaying.{Advances, AdvancesBy, Between, EndsAfter, Replays, StopsBefore, within_entry};
 ghost use Rattle.b67_machine.specs.Beginning.{IsFresh};
 
 use crate::Machine;
@@ -67,43 +67,46 @@ impl<C: Core> Machine<C> {
     {
         let mut times = 0;
         'times: while times < run.times {
-            if let Some(answer) = self.replay_entry(run.process, budget, spent, done) {
-                return Some(answer);
+            match self.replay_entries(run.process, run.times - times, budget, spent, done) {
+                Ok(entries) => times += entries,
+                Err(answer) => return Some(answer),
             }
-            times += 1;
         }
         None
     }
 
-    // One entry, and what ends the replay there.
-    fn replay_entry(
+    // Entries of a process, at most so many and one at least, and what ends the replay there.
+    fn replay_entries(
         &mut self,
         process: u32,
+        times: u32,
         budget: u32,
         spent: &mut u32,
         done: &mut Schedule,
-    ) -> Option<Replayed>
+    ) -> Result<u32, Replayed>
         requires sound { Sound self.old.code }
         requires between { Between self.old.code (entries done.old.runs) spent.old self.old }
         requires within { spent.old ≤ budget }
+        requires some { 1 ≤ times }
         requires longer { length done.old.runs ≤ length (entries done.old.runs) }
-        requires room { (length (entries done.old.runs) < done.old.room) ⊎ (budget ≤ done.old.room) }
-        requires few { (length (entries done.old.runs) < most) ⊎ (budget ≤ most) }
-        ensures entries { Advances self.old.code budget (entries done.old.runs) (process ∷ []) spent.new (entries done.new.runs) self.new result }
+        requires room { (length (entries done.old.runs) + times ≤ done.old.room) ⊎ (budget ≤ done.old.room) }
+        requires few { (length (entries done.old.runs) + times ≤ most) ⊎ (budget ≤ most) }
+        ensures entries { AdvancesBy self.old.code budget (entries done.old.runs) process times spent.new (entries done.new.runs) self.new result }
         ensures longer { length done.new.runs ≤ length (entries done.new.runs) }
         ensures room { done.old.room ≤ done.new.room }
     {
         if let Some(answer) = self.before_entry(process, budget, *spent, done.len() + 1) {
-            return Some(answer);
+            return Err(answer);
         }
-        let performed = self.perform_entry(process, budget - *spent);
-        *spent += performed.plain;
-        if let Some(answer) = within_entry(performed.done) {
-            return Some(answer);
+        let entered = self.perform_entries(process, times - 1, budget - *spent);
+        *spent += entered.operators + entered.last.plain;
+        done.push_many(process, entered.entries);
+        if let Some(answer) = within_entry(entered.last.done) {
+            return Err(answer);
         }
         *spent += 1;
         done.push(process);
-        None
+        Ok(entered.entries + 1)
     }
 
     // What ends a replay before an entry of this number.

@@ -16,7 +16,6 @@ use crate::counting::count;
 use crate::tables::{Levels, decoded, prepare};
 use b67_action::{Ran, run_own};
 use b67_intrinsics::registers;
-use b67_linkage::cut_words;
 use b67_reach::Parts;
 use b67_store::Core;
 
@@ -41,11 +40,8 @@ fn run_in<C: Core>(
 {
     let regs = registers(&parts.regs, process);
     let table = decoded(tables, regs.segment, regs.ll);
-    let stack = regs.stack;
-    let room = core.room(stack);
     let own = &mut parts.regs[process as usize - 1];
-    let ran = run_own(own, room, &parts.code, table, entries, most);
-    cut_words(core, stack, own.s);
+    let ran = run_own(core, own, &parts.code, table, entries, most);
     if ran.entries > 0 {
         parts.woken.processes.clear();
     }

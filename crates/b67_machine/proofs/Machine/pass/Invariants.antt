@@ -17,6 +17,7 @@ invariant-passing g l = record {
   able : is_able (numbered l.self.image.states l.fn.process) ≡ true;
   going : machine_end l.self ≡ None;
   here : l.self.lacked ≡ false;
+  started : l.self.image.started ≡ l.before;
 }
 
 abbrev pub decreases-passing : goal.decreases-passing
