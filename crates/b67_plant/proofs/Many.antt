@@ -24,7 +24,6 @@ use Rattle.b67_stands.specs.Stands.{Stands}
 use Rattle.b67_stands.specs.Turns.{ActsOn, ActsMany, StandsOut}
 use Rattle.b67_stands.specs.Turns as turns
 use Rattle.b67_stands.proofs.Ends.{goes_on}
-use Rattle.b67_stands.proofs.Places.{held_able}
 use Rattle.b67_stands.proofs.Turns.{turned, Grown, turns_are, stands_on}
 use Rattle.b67_plant.proofs.Entered.{entries_spent, held_number}
 
@@ -130,8 +129,7 @@ module _ (code : Code) (budget : ℕ) (pick : Pick) (old : Running) (p many b : 
   module _ (s : Schedule) (grown : Grown old.schedule p entered.entries s) where
     pub acts_on : ActsOn pick budget (holder_of old.out p) p old entered.entries (between s)
     acts_on =
-        turns_are budget pick (holder_of old.out p) p old first number.0 (omega (arith, number.1, stands.holders)) refl
-        (held_able old.machine.image old.waiting old.out p (stands.placed going) held) entered.entries entered.operators performs.between s
+        turns_are budget pick (holder_of old.out p) p old first number.0 (omega (arith, number.1, stands.holders)) refl entered.entries entered.operators performs.between s
         (subst (λ (n : ℕ). Enters p (n - old.spent) old.machine entered.entries entered.operators performs.between) is performs.enters) grown
         (λ h. alone (omega (arith, h, performs.few))) (λ h. omega (arith, is, operators_few))
 

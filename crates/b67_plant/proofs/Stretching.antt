@@ -1,6 +1,6 @@
 -- What a parcel keeps as it is made, filled and worked.
-use Rattle.std.specs.Prelude.{nat_le}
-use Rattle.std.proofs.Common.{◌≡◌, ◌⊎◌, inl, inr, refl, sym, ap, subst, ◌∙◌, ℕ, ◌+◌, ◌-◌, ◌<◌, ◌≤◌, Bool, true, false, List, [], Some, arith}
+use Rattle.std.specs.Prelude.{nat_le, slice_get}
+use Rattle.std.proofs.Common.{◌≡◌, ◌⊎◌, inl, inr, refl, sym, ap, subst, ◌∙◌, ℕ, zero, suc, ◌+◌, ◌-◌, ◌<◌, ◌≤◌, Bool, true, false, List, [], ◌∷◌, drop, Some, arith}
 use Rattle.std.proofs.lemmas.Bool.{leb-true, leb-false}
 use Rattle.b67_list.specs.Numbered.{numbered}
 use Rattle.b67_word.specs.Word.{Word}
@@ -17,7 +17,7 @@ use Rattle.b67_private.proofs.ValidParts.{first_part}
 use Rattle.b67_machine.specs.declared.tables.Levels.{Levels}
 use Rattle.b67_machine.specs.Tables.{AreTables}
 use Rattle.b67_machine.specs.Parts.{private_part, IsWhole}
-use Rattle.b67_plant.specs.Parcels.{IsStretch, IsCopied, IsWorked}
+use Rattle.b67_plant.specs.Parcels.{IsStretch, IsCopied, IsWorked, Fetched, IsFetched}
 
 same_part : (a b : Private) → Some a ≡ Some b → b ≡ a
 same_part a b e = cc
@@ -48,6 +48,31 @@ module _ (code : Code) (image : Image) (p : ℕ) (start end : Private) (valid : 
   pub copied : IsCopied image (record { process = p; start = start; end = end; count = 0 })
   copied = record { start = has; end = alike; none = refl }
 
+-- ---- as it begins with what was taken ahead
+
+-- the words from one on
+from_one : (ws : List Word) (n : ℕ) (w : Word) → slice_get ws n ≡ Some w → w ∷ drop (suc n) ws ≡ drop n ws
+from_one [] zero w e = cc
+from_one [] (suc n) w e = cc
+from_one (x ∷ ws) zero w e = let same : x ≡ w = cc in ap (λ (z : Word). z ∷ ws) (sym same)
+from_one (x ∷ ws) (suc n) w e = from_one ws n w e
+
+pub next_copied : (ws : List Word) (at : ℕ) (w : Word) → 0 < at → slice_get ws (at - 1) ≡ Some w → w ∷ drop at ws ≡ drop (at - 1) ws
+next_copied ws zero w some e = absurd (omega (arith, some))
+next_copied ws (suc n) w some e =
+    let same : suc n - 1 ≡ n = omega arith in
+    from_one ws n w (subst (λ (k : ℕ). slice_get ws k ≡ Some w) same e) ∙ ap (λ (k : ℕ). drop k ws) (sym same)
+
+pub begun_with : (code : Code) (f : Fetched) (p : ℕ) (start end : Private) → IsFetched code f → p ≡ f.process → start ≡ f.part → end ≡ start
+    → IsStretch code (record { process = p; start = start; end = end; count = 0 })
+begun_with code f p start end is e s x =
+    let image = is.taken.image in
+    let able : is_able (numbered image.states p) ≡ true = subst (λ (q : ℕ). is_able (numbered image.states q) ≡ true) (sym e) is.taken.able in
+    let has : private_part image p ≡ Some start = ap (private_part image) e ∙ is.taken.part ∙ ap (λ (y : Private). Some y) (sym s) in
+    let whole : IsWhole start = subst IsWhole (sym s) is.whole in
+    let part : IsPart end = subst IsPart (sym (x ∙ s)) is.is_part in
+    filled code image p start end is.taken.valid able has (has ∙ ap (λ (y : Private). Some y) (sym x)) whole part
+
 -- ---- as it is made
 
 first_taken : private_part first_image 1 ≡ Some (record { regs = first_registers; words = [] })
@@ -69,6 +94,12 @@ begun code start end valid e f =
     filled code first_image 1 first first valid first_able first_taken first_taken refl first_part in
     subst (λ (x : Private). IsStretch code (record { process = 1; start = x; end = end; count = 0 })) (sym (part_is start first_registers [] e.0 e.1))
     (subst (λ (x : Private). IsStretch code (record { process = 1; start = first; end = x; count = 0 })) (sym (part_is end first_registers [] f.0 f.1)) at)
+
+pub none_fetched : (code : Code) (part : Private) → IsValid code first_image → (part.regs ≡ first_registers) × (part.words ≡ [])
+    → IsFetched code (record { is_there = false; process = 1; part = part })
+none_fetched code part valid e =
+    let b = begun code part part valid e e in
+    record { taken = b.taken; whole = b.whole; is_part = b.part }
 
 pub no_tables : (code : Code) (tables : List Levels) → tables ≡ [] → AreTables code tables
 no_tables code tables e = subst (AreTables code) (sym e) (λ segment level table h. cc)

@@ -1,5 +1,6 @@
 -- What the calls on a plant answer.
 use Rattle.std.specs.Prelude.{◌≡◌, ◌≢◌, ◌⊎◌, ℕ, nat_le, Bool, true, false, [], Option, Some, None}
+use Rattle.b67_segment.specs.declared.code.Code.{Code}
 use Rattle.b67_word.specs.Word.{Word}
 use Rattle.b67_table.specs.declared.Private.{Private}
 use Rattle.b67_action.specs.declared.done.Done.{Done}
@@ -19,7 +20,7 @@ use Rattle.b67_stands.specs.Placing.{holder_of}
 use Rattle.b67_stands.specs.Picked.{Pick}
 use Rattle.b67_stands.specs.Calls.{TakesOne, LandsOnce, GoesBack, ActsOnce, Leaves}
 use Rattle.b67_machine.specs.Parts.{private_part, part_list, FirstDiffer}
-use Rattle.b67_plant.specs.Parcels.{Stretch, StartsAs}
+use Rattle.b67_plant.specs.Parcels.{Stretch, StartsAs, IsWorked}
 
 -- the run has ended, and not for want of memory
 abbrev pub IsOver : ℕ → Running → Type 0
@@ -64,6 +65,15 @@ Lands budget me s old (landings.Stale place kept given) new = MayLand budget me 
 Lands budget me s old landings.NotOut new = (answer_of budget old ≡ None) × (holder_of old.out s.process ≢ me) × (new ≡ old)
 Lands budget me s old landings.Over new = IsOver budget old × (new ≡ old)
 Lands budget me s old landings.Lacked new = (answer_of budget old ≡ Some NoMemory) × (new ≡ old)
+
+-- a worked parcel of this process has landed, which a processor brought, and nothing else was done since then
+pub record HasLanded (code : Code) (budget p : ℕ) (s : Running) : Type 0 where
+  pub me : ℕ
+  pub stretch : Stretch
+  pub before : Running
+  pub whose : stretch.process ≡ p
+  pub worked : IsWorked code stretch
+  pub landed : Lands budget me stretch before landings.Landed s
 
 -- ---- act
 

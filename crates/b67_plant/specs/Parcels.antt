@@ -1,5 +1,5 @@
 -- What a parcel is: a stretch of a process, performed on a copy of its private part.
-use Rattle.std.specs.Prelude.{◌≡◌, ◌⊎◌, ℕ, ◌≤◌, true, false, Some}
+use Rattle.std.specs.Prelude.{◌≡◌, ◌⊎◌, ℕ, ◌≤◌, Bool, true, false, Some}
 use Rattle.b67_list.specs.Numbered.{numbered}
 use Rattle.b67_words.specs.declared.TheConstants.{MOST_STRETCH}
 use Rattle.b67_segment.specs.declared.code.Code.{Code}
@@ -25,6 +25,20 @@ pub record IsTaken (code : Code) (process : ℕ) (start : Private) : Type 0 wher
   pub valid : IsValid code image
   pub able : is_able (numbered image.states process) ≡ true
   pub part : private_part image process ≡ Some start
+
+-- what contracts see of a process that was taken ahead
+pub record Fetched : Type 0 where
+  -- whether a parcel is still to begin with it
+  pub is_there : Bool
+  pub process : ℕ
+  -- its private part as it was taken
+  pub part : Private
+
+-- what is kept of it: so was its private part, with as many words as its registers say
+pub record IsFetched (code : Code) (f : Fetched) : Type 0 where
+  pub taken : IsTaken code f.process f.part
+  pub whole : IsWhole f.part
+  pub is_part : IsPart f.part
 
 -- What a parcel keeps: so was its start, and its end is the start after so many plain operators of the code, no more than a stretch has. The
 -- words of the end are those from the start's floor up, also where a PUSH raised the floor.

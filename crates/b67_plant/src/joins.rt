@@ -39,6 +39,7 @@ pub fn gather<N: Named, L: Ledger, C: Core, P: Rule>(
     let Seat {
         count: _,
         left: _,
+        ahead: _ahead,
         mut acts,
         mut leaves,
     } = seat;
@@ -50,6 +51,7 @@ pub fn gather<N: Named, L: Ledger, C: Core, P: Rule>(
         let Seat {
             count: _,
             left: _,
+            ahead: _ahead,
             acts: more,
             leaves: others,
         } = seat;
@@ -74,7 +76,7 @@ fn serve_post<
 {
     let me = at as u32 + 1;
     let Post { parcel, seat } = post;
-    let _acts = serve(rt, shop, gate, me, parcel, seat);
+    let _acts = serve(rt, &shop, gate, me, parcel, seat);
 }
 
 /// The run by all processors, one for each post, to its end.

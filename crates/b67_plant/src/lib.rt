@@ -4,7 +4,9 @@
 //! what was done. Whenever its lock is free it stands: what the machine holds is a run of the code under that schedule.
 #![tactic(auto)]
 
+mod copying;
 mod entering;
+mod fetching;
 mod joins;
 mod making;
 mod placing;
@@ -20,6 +22,7 @@ use b67_machine::Machine;
 use b67_ready::{Dispatcher, Rule};
 use b67_schedule::Schedule;
 use b67_store::Core;
+pub use fetching::Ahead;
 pub use joins::{gather, run_all};
 pub use running::{Ran, run_by_caller, run_by_processors};
 pub use shared::{Pass, SharedPlant};
@@ -49,11 +52,12 @@ impl Named for Brand {
     ghost pick = { λ length takes. 0 };
 }
 
-/// A processor's shares of the books of acts and of leaves.
+/// A processor's shares of the books of acts and of leaves, and the process that it has taken ahead.
 #[derive(Drop)]
 pub struct Seat<N: Named, L: Ledger> {
     count: u64,
     left: u64,
+    ahead: Ahead<N>,
     acts: Share<N>,
     leaves: Share<L>,
     ghost counted: { count ≡ acts.amount },

@@ -1,5 +1,5 @@
 // A plant before its first take.
-ghost use Rattle.std.specs.Prelude.{◌≡◌, ℕ, ◌+◌, ◌≤◌, [], ◌∷◌, All, IfOk, OnErr, length, replicate, vec_capacity};
+ghost use Rattle.std.specs.Prelude.{◌≡◌, ℕ, ◌+◌, ◌≤◌, false, [], ◌∷◌, All, IfOk, OnErr, length, replicate, vec_capacity};
 ghost use Rattle.b67_segment.specs.declared.TheConstants.{MOST_SEGMENT_WORDS};
 ghost use Rattle.b67_table.specs.Limits.{most_processes};
 ghost use Rattle.b67_table.specs.Sound.{Sound};
@@ -7,7 +7,7 @@ ghost use Rattle.b67_words.specs.declared.TheConstants.{MOST_BUDGET};
 ghost use Rattle.b67_machine.specs.Beginning.{IsFresh};
 ghost use Rattle.b67_stands.specs.Calls.{IsFirst};
 
-use crate::{Named, Parcel, Plant, Post, Seat};
+use crate::{Ahead, Named, Parcel, Plant, Post, Seat};
 use b67_joining::ROOM;
 use b67_limits::MOST_PROCESSES;
 use b67_machine::Machine;
@@ -18,53 +18,72 @@ use b67_table::first_image_is_valid;
 use std::alloc::{AllocError, Global};
 use std::sync::ledger::{Blank, Ledger, Share};
 
-// A processor's place, with its parcel and its shares.
-fn post<N: Named, L: Ledger>(parcel: Parcel<N>, acts: Share<N>, leaves: Share<L>) -> Post<N, L>
+// The memory of a processor.
+#[derive(Drop)]
+struct Bench<N: Named> {
+    parcel: Parcel<N>,
+    ahead: Ahead<N>,
+}
+
+// A processor's place, with its memory and its shares.
+fn post<N: Named, L: Ledger>(bench: Bench<N>, acts: Share<N>, leaves: Share<L>) -> Post<N, L>
     requires acts { (acts.parts ≡ 1) × (acts.amount ≡ 0) }
     requires leaves { (leaves.parts ≡ 1) × (leaves.amount ≡ 0) }
 {
+    let Bench { parcel, ahead } = bench;
     Post {
         parcel,
         seat: Seat {
             count: 0,
             left: 0,
+            ahead,
             acts,
             leaves,
         },
     }
 }
 
-// A parcel for each of so many processors.
-fn parcels_of<N: Named>(alloc: Global, processors: u32) -> Result<Vec<Parcel<N>>, AllocError>
+// The memory of one processor, which has taken nothing.
+fn first_bench<N: Named>(alloc: Global) -> Result<Bench<N>, AllocError>
     requires { All (λ segment. length segment.words ≤ MOST_SEGMENT_WORDS) N.code.segments }
-    ensures { IfOk result (λ parcels. length parcels.items ≡ processors) }
+    ensures { IfOk result (λ bench. bench.ahead.is_there ≡ false) }
 {
-    let mut parcels = Vec::with_capacity(alloc, processors as usize)?;
-    'parcels: while parcels.len() < processors as usize {
-        parcels.push(Parcel::new(alloc)?)?;
-    }
-    Ok(parcels)
+    let parcel = Parcel::new(alloc)?;
+    let ahead = Ahead::new(alloc)?;
+    Ok(Bench { parcel, ahead })
 }
 
-// One place for each of these parcels. Takes no memory.
+// The memory of each of so many processors.
+fn benches_of<N: Named>(alloc: Global, processors: u32) -> Result<Vec<Bench<N>>, AllocError>
+    requires { All (λ segment. length segment.words ≤ MOST_SEGMENT_WORDS) N.code.segments }
+    ensures { IfOk result (λ benches. length benches.items ≡ processors) }
+{
+    let mut benches = Vec::with_capacity(alloc, processors as usize)?;
+    'benches: while benches.len() < processors as usize {
+        benches.push(first_bench(alloc)?)?;
+    }
+    Ok(benches)
+}
+
+// One place for each of these benches. Takes no memory.
 fn fill_posts<N: Named, L: Ledger>(
     posts: &mut Vec<Post<N, L>>,
-    parcels: Vec<Parcel<N>>,
+    benches: Vec<Bench<N>>,
     acts: Share<N>,
     leaves: Share<L>,
 )
     requires none { posts.old.items ≡ [] }
-    requires room { length parcels.items ≤ vec_capacity posts.old }
-    requires acts { (acts.parts ≡ length parcels.items) × (acts.amount ≡ 0) }
-    requires leaves { (leaves.parts ≡ length parcels.items) × (leaves.amount ≡ 0) }
-    ensures { length posts.new.items ≡ length parcels.items }
+    requires room { length benches.items ≤ vec_capacity posts.old }
+    requires acts { (acts.parts ≡ length benches.items) × (acts.amount ≡ 0) }
+    requires leaves { (leaves.parts ≡ length benches.items) × (leaves.amount ≡ 0) }
+    ensures { length posts.new.items ≡ length benches.items }
 {
-    let mut parcels = parcels;
+    let mut benches = benches;
     let mut acts = acts;
     let mut leaves = leaves;
-    'posts: while let Some(parcel) = parcels.pop() {
+    'posts: while let Some(bench) = benches.pop() {
         posts
-            .push(post(parcel, acts.split_off(1, 0), leaves.split_off(1, 0)))
+            .push(post(bench, acts.split_off(1, 0), leaves.split_off(1, 0)))
             .unwrap();
     }
 }
@@ -122,11 +141,11 @@ impl<N: Named, L: Ledger, C: Core, P: Rule> Plant<N, L, C, P> {
         ensures first { IfOk result (IsFirst N.code) }
     {
         first_image_is_valid();
-        let parcels = parcels_of(alloc, processors)?;
+        let benches = benches_of(alloc, processors)?;
         let rooms = rooms_of(alloc, rule, budget)?;
         let (acts, all) = acts.open::<N>();
         let (leaves, all_left) = leaves.open::<L>();
-        fill_posts(posts, parcels, all, all_left);
+        fill_posts(posts, benches, all, all_left);
         let Rooms {
             ready,
             out,

@@ -1,6 +1,12 @@
 // The plant behind its lock.
-ghost use Rattle.std.specs.Prelude.{◌≡◌, ◌≢◌, ◌+◌, ◌<◌, ◌≤◌, ◌^◌, Some};
+//
+// Under the lock lie landing, action and the copy of the process that is taken next: an entry holds it once, from its landing until the next
+// process is taken. Where nobody is ready a processor waits, and takes the lock once more. A parcel is worked outside, and so it begins and
+// ends there.
+ghost use Rattle.std.specs.Prelude.{◌≡◌, ◌≢◌, ◌+◌, ◌<◌, ◌≤◌, ◌^◌, true, false, Some};
+ghost use Rattle.std.specs.Sync.Mutex.{mutex_guard_value};
 ghost use Rattle.b67_processors.specs.Acts.{IsActed};
+ghost use Rattle.b67_plant.specs.Calls.{HasLanded};
 ghost use Rattle.b67_plant.specs.Parcels.{IsWorked};
 
 use crate::{Named, Parcel, Plant, PlantLanding, Seat, Taken};
@@ -9,7 +15,7 @@ use b67_ready::Rule;
 use b67_segment::Code;
 use b67_store::Core;
 use std::sync::ledger::Ledger;
-use std::sync::{Condvar, Mutex, Wait};
+use std::sync::{Condvar, Mutex, MutexGuard, Wait};
 use std::thread::Threads;
 
 /// The plant behind a lock, and the code of its run beside it.
@@ -20,25 +26,39 @@ pub struct SharedPlant<N: Named, L: Ledger, C: Core, P: Rule> {
     ghost named: { code ≡ N.code },
 }
 
-/// The leave to act in a process.
+/// The leave to act in a process: a worked parcel of it has landed, and nobody else had the plant since then.
 #[derive(Drop)]
-pub struct Pass {
+pub struct Pass<'a, N: Named, L: Ledger, C: Core, P: Rule> {
+    plant: MutexGuard<'a, Plant<N, L, C, P>>,
     process: u32,
+    ghost landed: { ∥ HasLanded N.code N.budget process (mutex_guard_value plant) ∥₁ },
+}
+
+// The leave to act after a landing.
+fn passed<'a, N: Named, L: Ledger, C: Core, P: Rule>(
+    plant: MutexGuard<'a, Plant<N, L, C, P>>,
+    process: u32,
+) -> Pass<'a, N, L, C, P>
+    requires { HasLanded N.code N.budget process (mutex_guard_value plant) }
+{
+    Pass { plant, process }
 }
 
 // A take under the lock, or nothing where the processor has to wait.
 fn tried<N: Named, L: Ledger, C: Core, P: Rule>(
     plant: &mut Plant<N, L, C, P>,
     me: u32,
-    parcel: &mut Parcel<N>,
     seat: &mut Seat<N, L>,
 ) -> Option<Work>
-    requires { 1 ≤ me }
+    requires me { 1 ≤ me }
+    requires free { seat.old.ahead.is_there ≡ false }
     ensures over { result ≡ Some Work.Over → seat.new.left ≡ seat.old.left + 1 }
     ensures other { result ≢ Some Work.Over → seat.new.left ≡ seat.old.left }
     ensures count { seat.new.count ≡ seat.old.count }
+    ensures there { result ≡ Some Work.Parcel → seat.new.ahead.is_there ≡ true }
+    ensures free { result ≢ Some Work.Parcel → seat.new.ahead.is_there ≡ false }
 {
-    match plant.take(me, parcel) {
+    match plant.take_ahead(me, &mut seat.ahead) {
         Taken::Work => Some(Work::Parcel),
         Taken::Idle => None,
         Taken::Over | Taken::Lacked => {
@@ -48,6 +68,26 @@ fn tried<N: Named, L: Ledger, C: Core, P: Rule>(
                 None
             }
         }
+    }
+}
+
+// Takes the next process, where the processor has none, and says whether the run has an end or lacked memory.
+fn take_next<N: Named, L: Ledger, C: Core, P: Rule>(
+    plant: &mut Plant<N, L, C, P>,
+    me: u32,
+    seat: &mut Seat<N, L>,
+) -> bool
+    requires { 1 ≤ me }
+    ensures count { seat.new.count ≡ seat.old.count }
+    ensures left { seat.new.left ≡ seat.old.left }
+    ensures kept { seat.old.ahead.is_there ≡ true → seat.new.ahead ≡ seat.old.ahead }
+{
+    if seat.ahead.is_there() {
+        return plant.answer().is_some();
+    }
+    match plant.take_ahead(me, &mut seat.ahead) {
+        Taken::Work | Taken::Idle => false,
+        Taken::Over | Taken::Lacked => true,
     }
 }
 
@@ -73,37 +113,47 @@ impl<N: Named, L: Ledger, C: Core, P: Rule> SharedPlant<N, L, C, P> {
         plant.into_inner()
     }
 
-    // Waits while nothing is ready, and leaves at the end.
-    fn take_one<R: Wait>(
-        &self,
-        rt: &R,
-        me: u32,
-        parcel: &mut Parcel<N>,
-        seat: &mut Seat<N, L>,
-    ) -> Work
+    // Sees to it that a process is taken ahead: waits while nothing is ready, and leaves at the end.
+    fn take_one<R: Wait>(&self, rt: &R, me: u32, seat: &mut Seat<N, L>) -> Work
         requires { 1 ≤ me }
         ensures over { result ≡ Work.Over → seat.new.left ≡ seat.old.left + 1 }
         ensures other { result ≢ Work.Over → seat.new.left ≡ seat.old.left }
         ensures count { seat.new.count ≡ seat.old.count }
+        ensures there { result ≢ Work.Over → seat.new.ahead.is_there ≡ true }
+        ensures kept { seat.old.ahead.is_there ≡ true → (result ≢ Work.Over) × (seat.new.ahead ≡ seat.old.ahead) }
     {
-        let mut guard = self.plant.lock(rt);
+        if seat.ahead.is_there() {
+            return Work::Parcel;
+        }
+        let mut plant = self.plant.lock(rt);
         for _ in rt.forever() {
-            match tried(&mut *guard, me, parcel, seat) {
+            match tried(&mut *plant, me, seat) {
                 Some(work) => return work,
-                None => guard = self.moved.wait(rt, guard),
+                None => plant = self.moved.wait(rt, plant),
             }
         }
         unreachable!()
     }
+
+    // Wakes those who wait: all of them at the end of the run, else one for each who has joined the queue.
+    fn wake(&self, has_ended: bool, joined: u32) {
+        if has_ended {
+            self.moved.notify_all();
+            return;
+        }
+        'joined: for _ in 0..joined {
+            self.moved.notify_one();
+        }
+    }
 }
 
-impl<N: Named + Send + Sync, L: Ledger + Send + Sync, C: Core + Send, P: Rule + Send> Shop
-    for SharedPlant<N, L, C, P> {
+impl<'a, N: Named + Send + Sync, L: Ledger + Send + Sync, C: Core + Send, P: Rule + Send> Shop
+    for &'a SharedPlant<N, L, C, P> {
     type Parcel = Parcel<N>;
 
     type Seat = Seat<N, L>;
 
-    type Pass = Pass;
+    type Pass = Pass<'a, N, L, C, P>;
 
     ghost processors = { λ s. N.processors };
 
@@ -122,25 +172,38 @@ impl<N: Named + Send + Sync, L: Ledger + Send + Sync, C: Core + Send, P: Rule + 
         parcel: &mut Parcel<N>,
         seat: &mut Seat<N, L>,
     ) -> Work {
-        self.take_one(rt, me, parcel, seat)
+        match self.take_one(rt, me, seat) {
+            Work::Over => Work::Over,
+            Work::Parcel => {
+                parcel.begin(&mut seat.ahead);
+                Work::Parcel
+            }
+        }
     }
 
     fn work(&self, parcel: &mut Parcel<N>) -> u32 {
         parcel.work(&self.code)
     }
 
-    fn land<R: Threads + Wait + Sync>(&self, rt: &R, me: u32, parcel: &Parcel<N>) -> Landing<Pass> {
-        let mut guard = self.plant.lock(rt);
-        match guard.land(me, parcel) {
+    // The lock stays held by what is answered, so that nothing comes between a landing and its action.
+    fn land<R: Threads + Wait + Sync>(
+        &self,
+        rt: &R,
+        me: u32,
+        parcel: &Parcel<N>,
+    ) -> Landing<Pass<'a, N, L, C, P>> {
+        let shared: &'a SharedPlant<N, L, C, P> = *self;
+        let mut plant = shared.plant.lock(rt);
+        match plant.land(me, parcel) {
             PlantLanding::Landed => {
-                if guard.answer().is_some() {
-                    self.moved.notify_all();
+                if plant.is_spent() {
+                    shared.moved.notify_all();
                 }
                 let process = parcel.process();
-                Landing::Landed(Pass { process })
+                Landing::Landed(passed(plant, process))
             }
             PlantLanding::Stale { .. } => {
-                self.moved.notify_one();
+                shared.moved.notify_one();
                 Landing::Stale
             }
             PlantLanding::NotOut => Landing::NotOut,
@@ -148,16 +211,21 @@ impl<N: Named + Send + Sync, L: Ledger + Send + Sync, C: Core + Send, P: Rule + 
         }
     }
 
+    // Under the lock of the landing the processor takes its next process too, where one is ready. The others are woken after it.
     fn act<R: Threads + Wait + Sync>(
         &self,
-        rt: &R,
+        _rt: &R,
         me: u32,
-        pass: Pass,
+        pass: Pass<'a, N, L, C, P>,
         seat: &mut Seat<N, L>,
     ) -> Acted {
-        let mut guard = self.plant.lock(rt);
-        let acted = guard.act(me, pass.process, seat);
-        self.moved.notify_all();
+        let Pass { mut plant, process } = pass;
+        let before = plant.waiting();
+        let acted = plant.act(me, process, seat);
+        let has_ended = take_next(&mut *plant, me, seat);
+        let joined = plant.waiting().saturating_sub(before);
+        drop(plant);
+        self.wake(has_ended, joined);
         acted
     }
 }

@@ -87,6 +87,20 @@ impl<N: Named, L: Ledger, C: Core, P: Rule> Plant<N, L, C, P> {
         &self.schedule
     }
 
+    // How many wait for a processor.
+    pub fn waiting(&self) -> u32
+        ensures { result ≡ length self.now.waiting }
+    {
+        self.ready.len()
+    }
+
+    // Tests that the budget is spent.
+    pub fn is_spent(&self) -> bool
+        ensures { result ≡ nat_le N.budget self.now.spent }
+    {
+        self.budget <= self.spent
+    }
+
     // The processor with which a process is out.
     fn holder(&self, process: u32) -> u32
         ensures { result ≡ holder_of self.now.out process }
@@ -209,6 +223,7 @@ impl<N: Named, L: Ledger, C: Core, P: Rule> Plant<N, L, C, P> {
         ensures left { result ≡ true → seat.new.left ≡ seat.old.left + 1 }
         ensures refused { result ≡ false → seat.new.left ≡ seat.old.left }
         ensures count { seat.new.count ≡ seat.old.count }
+        ensures ahead { seat.new.ahead ≡ seat.old.ahead }
     {
         if self.left == u64::MAX || seat.left == u64::MAX {
             return false;

@@ -1,5 +1,5 @@
 // What a processor works on: a stretch of a process, on a copy of its private part.
-ghost use Rattle.std.specs.Prelude.{◌≡◌, ◌≤◌, [], All, IfOk, true, length};
+ghost use Rattle.std.specs.Prelude.{◌≡◌, ◌≤◌, [], All, IfOk, true, false, length};
 ghost use Rattle.b67_list.specs.Numbered.{numbered};
 ghost use Rattle.b67_segment.specs.declared.TheConstants.{MOST_SEGMENT_WORDS};
 ghost use Rattle.b67_table.specs.Beginning.{first_registers};
@@ -7,7 +7,8 @@ ghost use Rattle.b67_table.specs.Image.{is_able};
 ghost use Rattle.b67_table.specs.Valid.{IsValid};
 ghost use Rattle.b67_plant.specs.Parcels.{IsStretch, IsWorked, IsCopied};
 
-use crate::Named;
+use crate::copying::copy_part;
+use crate::{Ahead, Named};
 use b67_load::first_registers;
 use b67_machine::{Levels, Machine, decoded, prepare};
 use b67_private::burst;
@@ -44,7 +45,7 @@ impl<N: Named> Model for Parcel<N> {
 }
 
 // The private part of process 1 before its first operator.
-fn first_part(alloc: Global) -> Result<Private, AllocError>
+pub fn first_part(alloc: Global) -> Result<Private, AllocError>
     ensures { IfOk result (λ part. (part.regs ≡ first_registers) × (part.words ≡ [])) }
 {
     let words = Words::new(alloc)?;
@@ -81,9 +82,23 @@ impl<N: Named> Parcel<N> {
         ensures copied { IsCopied machine.now.image self.new }
     {
         machine.copy_private(process, &mut self.start);
-        machine.copy_private(process, &mut self.end);
+        copy_part(&self.start, &mut self.end);
         self.process = process;
         self.count = 0;
+    }
+
+    // The parcel begins with a process that was taken ahead, and with its private part as it was taken.
+    pub fn begin(&mut self, ahead: &mut Ahead<N>)
+        requires there { ahead.old.is_there ≡ true }
+        ensures process { self.new.process ≡ ahead.old.process }
+        ensures start { (self.new.start ≡ ahead.old.part) × (self.new.end ≡ ahead.old.part) × (self.new.count ≡ 0) }
+        ensures begun { ahead.new ≡ record ahead.old { is_there = false } }
+    {
+        copy_part(ahead.part(), &mut self.start);
+        copy_part(&self.start, &mut self.end);
+        self.process = ahead.process();
+        self.count = 0;
+        ahead.clear();
     }
 
     /// Performs the plain operators of the code that come next at the end, so that there are at most

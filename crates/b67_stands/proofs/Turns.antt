@@ -3,13 +3,12 @@ use Rattle.std.specs.Prelude.{nat_le, nat_lt, slice_get, slice_set, remove, if�
 use Rattle.std.proofs.Common.{◌≡◌, refl, sym, ap, subst, ◌∙◌, ℕ, zero, suc, ◌+◌, ◌-◌, ◌≤◌, ◌<◌, Bool, true, false, List, [], ◌∷◌, ◌++◌, length, Option, Some, None, replicate, append_assoc, arith}
 use Rattle.std.proofs.lemmas.Bool.{leb-true}
 use Rattle.std.proofs.lemmas.List.{append-nil, replicate_more}
-use Rattle.b67_list.specs.Numbered.{numbered, set_numbered}
+use Rattle.b67_list.specs.Numbered.{set_numbered}
 use Rattle.b67_schedule.specs.Schedules.{entries, Kept as Schedule}
 use Rattle.b67_schedule.proofs.Pushes.{entries-push}
 use Rattle.b67_segment.specs.declared.code.Code.{Code}
 use Rattle.b67_words.specs.declared.TheConstants.{MOST_BUDGET}
-use Rattle.b67_table.specs.declared.ProcessState.{ProcessState}
-use Rattle.b67_table.specs.Image.{Image, is_able}
+use Rattle.b67_table.specs.Image.{Image}
 use Rattle.b67_table.specs.Sound.{Sound}
 use Rattle.b67_action.specs.Able.{one_if, able_in, newly}
 use Rattle.b67_action.specs.declared.done.Done.TheVariants as dones
@@ -113,10 +112,6 @@ goes_by budget s l e h =
     ∙ ap (λ (o : Option End). answer_by false o (nat_le budget s.spent)) e
     ∙ ap (answer_by false None) (less_is budget s.spent (nat_le budget s.spent) refl h)
 
-states_same : (p most n m : ℕ) (a b : Kept) → Enters p most a n m b → b.image.states ≡ a.image.states
-states_same p most n m a b machine.stay = refl
-states_same p most n m a b (machine.go {b = d} {n = k} {m = l} enters more) = more.states ∙ states_same p most k l a d enters
-
 -- the plant after so many turns
 abbrev pub turned : Running → ℕ → ℕ → Kept → Schedule → Running
 turned old n m machine schedule = record old {
@@ -140,18 +135,16 @@ some_grown old p (suc n) = (
 )
 
 module _ (budget : ℕ) (pick : Pick) (me p : ℕ) (old : Running) (first : (takes : ℕ) → pick 1 takes ≡ 0) (one : 1 ≤ p) (within : p ≤ length old.out)
-    (mine : holder_of old.out p ≡ me) (able : able_in old.machine.image p ≡ true) where
+    (mine : holder_of old.out p ≡ me) where
   -- one more turn
-  once_more : (n m k : ℕ) (b c : Kept) (s z : Schedule) → Enters p (budget - old.spent) old.machine n m b → Passes b p (budget - old.spent - m) k c → Grown old.schedule p n s
+  once_more : (n m k : ℕ) (b c : Kept) (s z : Schedule) → Passes b p (budget - old.spent - m) k c → Grown old.schedule p n s
       → Grown old.schedule p (suc n) z → old.waiting ≡ [] → m + (k + 1) < budget - old.spent
       → ActsAgain pick budget me p (turned old n m b s) (turned old (suc n) (m + (k + 1)) c z)
-  once_more n m k b c s z enters more grown longer nobody less =
+  once_more n m k b c s z more grown longer nobody less =
       let before : Running = turned old n m b s in
       let after : Running = turned old (suc n) (m + (k + 1)) c z in
       let performed : Performed = record { plain = k; done = Some dones.Went } in
       let acted : Running = record after { waiting = p ∷ []; takes = before.takes; out = set_numbered old.out p 0 } in
-      let able_then : able_in c.image p ≡ true =
-      ap (λ (ss : List ProcessState). is_able (numbered ss p)) (more.states ∙ states_same p (budget - old.spent) n m old.machine b enters) ∙ able in
       let left : budget - old.spent - m ≡ budget - (old.spent + m) = omega arith in
       let counted : one_if (is_action performed.done) ≡ 1 = refl in
       let next : suc n ≡ n + 1 = omega arith in
@@ -165,7 +158,7 @@ module _ (budget : ℕ) (pick : Pick) (me p : ℕ) (old : Running) (first : (tak
             schedule = longer.added ∙ ap (λ (j : ℕ). entries old.schedule.runs ++ replicate j p) next ∙ ap (λ (xs : List ℕ). entries old.schedule.runs ++ xs) (sym (replicate_more n p))
                 ∙ sym (append_assoc (entries old.schedule.runs) (replicate n p) (p ∷ [])) ∙ ap (λ (xs : List ℕ). xs ++ p ∷ []) (sym grown.added);
             out = refl;
-            waiting = sym (only_joins b.image.started c.image p c.released more.released more.started able_then)
+            waiting = sym (only_joins b.image.started c.image p c.released more.released more.started more.still)
                 ∙ ap (λ (xs : List ℕ). xs ++ joining b.image.started c.image p c.released) (sym nobody);
             acts = omega arith;
           };
@@ -197,5 +190,5 @@ module _ (budget : ℕ) (pick : Pick) (me p : ℕ) (old : Running) (first : (tak
       let next : suc i ≡ i + 1 = omega arith in
       subst (λ (x : ℕ). ActsOn pick budget me p old x (turned old x (j + (k + 1)) c z)) next (
       go (turns_are i j b before.0 enters before.1 (λ h. none) (λ h. omega (arith, small)))
-      (once_more i j k b c before.0 z enters more before.1 (subst (λ (x : ℕ). Grown old.schedule p x z) (sym next) grown) none small)
+      (once_more i j k b c before.0 z more before.1 (subst (λ (x : ℕ). Grown old.schedule p x z) (sym next) grown) none small)
       )

@@ -2,16 +2,16 @@ use Rattle.std.proofs.Common.{◌≡◌, ◌+◌, ◌≤◌, length}
 use Rattle.std.specs.Prelude.{vec_capacity}
 use Rattle.b67_plant.proofs.making.fill_posts.Given as goal
 
--- what is left is the shares of those parcels that have no place yet
+-- what is left is the shares of those benches that have no place yet
 abbrev pub invariant-posts : goal.invariant-posts
 invariant-posts g l = record {
-  acts : l.acts.parts ≡ length l.parcels.items;
+  acts : l.acts.parts ≡ length l.benches.items;
   no_acts : l.acts.amount ≡ 0;
-  leaves : l.leaves.parts ≡ length l.parcels.items;
+  leaves : l.leaves.parts ≡ length l.benches.items;
   no_leaves : l.leaves.amount ≡ 0;
-  all : length l.posts.items + length l.parcels.items ≡ length l.fn.parcels.items;
-  room : length l.fn.parcels.items ≤ vec_capacity l.posts;
+  all : length l.posts.items + length l.benches.items ≡ length l.fn.benches.items;
+  room : length l.fn.benches.items ≤ vec_capacity l.posts;
 }
 
 abbrev pub decreases-posts : goal.decreases-posts
-decreases-posts g l = length l.parcels.items
+decreases-posts g l = length l.benches.items

@@ -1,0 +1,15 @@
+use Rattle.std.proofs.Common.{sym, subst}
+use Rattle.b67_plant.specs.declared.taking.PlantLanding.{PlantLanding}
+use Rattle.b67_plant.specs.Calls.{Lands}
+use Rattle.b67_plant.proofs.shared.RefSharedPlantShop.land.Goals as goal
+
+pub passed-requires : goal.passed-requires
+passed-requires g c = record {
+  me = c.args.me;
+  stretch = c.args.parcel.now;
+  before = c.deref_mut.result.now;
+  whose = sym c.process-process.ensures;
+  worked = c.requires.worked;
+  landed =
+      subst (λ (answer : PlantLanding). Lands g.N.Named.budget c.args.me c.args.parcel.now c.deref_mut.result.now answer c.land.new.self) c.in-Landed.is c.land.ensures;
+}
