@@ -1,6 +1,7 @@
 -- A subscript is moved by a lower bound.
-use Rattle.std.proofs.Common.{◌≡◌, refl, subst, ℕ, Bool, ℤ, pos, List, [], ◌∷◌, Ok, arith}
+use Rattle.std.proofs.Common.{◌≡◌, refl, sym, subst, ℕ, Bool, true, false, ℤ, pos, int_eq, List, [], ◌∷◌, Ok, arith}
 use Rattle.std.specs.Prelude.{neg_ℤ, if◌then◌else◌}
+use Rattle.std.proofs.lemmas.Bool.Decides.{Decides-int_eq}
 use Rattle.algol_tree.specs.Scopes.{Scopes}
 use Rattle.algol_meaning.specs.Value.{number}
 use Rattle.b67_num.specs.declared.Calculation.{Calculation}
@@ -16,7 +17,7 @@ use Rattle.b67_segment.specs.declared.code.Code.{Code}
 use Rattle.b67_templates.specs.Contexts.{Context}
 use Rattle.b67_table.specs.PrivateRows.{arithmetic, relation}
 use Rattle.b67_table.specs.Rows.{row, own}
-use Rattle.b67_templates.specs.Fragments.{IsWhole, Has, AllAt, two_bytes, Low, zero, above, near, far, low_of, moved_by, moved, MovedBy, MovedAt}
+use Rattle.b67_templates.specs.Fragments.{IsWhole, Has, AllAt, two_bytes, Low, zero, above, near, far, low_of, moved_by, moved, TimesBy, TimesAt, MovedBy, MovedAt}
 use Rattle.b67_standing.specs.Stepping.{Slot, operand, HasRoom}
 use Rattle.b67_cores.specs.Cores.{Core}
 use Rattle.b67_cores.specs.Slots.{Known}
@@ -61,6 +62,29 @@ module _ (sc : Scopes) (known : List Known) (context : Context) (code : Code) (p
   goes_on : {a b c : ℕ} {x y z : List Slot} → Gets a x b y → Gets b y c z → Gets a x c z
   goes_on f g = on sc known code ps level most bound core st f g
 
+  -- a comparison is multiplied by a number
+  times_by : (t b : Bool) (factor : ℤ) (x : List Slot) (from to : ℕ) → int_eq factor (pos 1) ≡ t → HasRoom most x 2 → TimesBy ps level t factor from to
+      → Gets from (num (one_if b) ∷ x) to (num (if b then factor else pos 0) ∷ x)
+  unfolding row
+  times_by true b factor x from to e room at =
+      subst (λ z. Gets from (num (one_if b) ∷ x) to (num (if b then z else pos 0) ∷ x)) (sym ((Decides-int_eq factor (pos 1)).0 e))
+      (subst (λ t. Gets from (num (one_if b) ∷ x) t (num (one_if b) ∷ x)) at (nothing sc known code ps level most bound core st from (num (one_if b) ∷ x)))
+  times_by false b factor x from to e room at =
+      goes_on (push_number sc known context code ps level most bound core st from at.0 factor (num (one_if b) ∷ x) at.1 (omega (arith, room)))
+      (result_at kinds.Mult Product (λ place. refl) (one_if b) factor (if b then factor else pos 0) x (bound_product b factor at.1.whole) at.0 to at.2)
+
+  times_at : (b : Bool) (factor : ℤ) (x : List Slot) (from to : ℕ) → HasRoom most x 2 → TimesAt ps level factor from to
+      → Gets from (num (one_if b) ∷ x) to (num (if b then factor else pos 0) ∷ x)
+  times_at b factor x from to room at = times_by (int_eq factor (pos 1)) b factor x from to refl room at
+
+  -- and the number is a whole one
+  factor_by : (t : Bool) (factor : ℤ) (from to : ℕ) → int_eq factor (pos 1) ≡ t → TimesBy ps level t factor from to → IsWhole factor
+  factor_by true factor from to e at = subst IsWhole (sym ((Decides-int_eq factor (pos 1)).0 e)) (omega arith)
+  factor_by false factor from to e at = at.1.whole
+
+  factor_whole : (factor : ℤ) (from to : ℕ) → TimesAt ps level factor from to → IsWhole factor
+  factor_whole factor from to at = factor_by (int_eq factor (pos 1)) factor from to refl at
+
   module _ (low i : ℤ) (x : List Slot) (whole : IsWhole i) (room : HasRoom most x 4) where
     from_above : (from to : ℕ) → low_of low ≡ above → MovedBy ps level above low from to → Gets from (num i ∷ x) to (num (moved_by above low i) ∷ x)
     unfolding row related
@@ -70,12 +94,10 @@ module _ (sc : Scopes) (known : List Known) (context : Context) (code : Code) (p
         next (double_at i x (omega (arith, room)))
         (next (zero_on (num i ∷ num i ∷ x) (omega (arith, room)))
         (next (compared kinds.Greq GreaterOrEqual (λ place. refl) i (pos 0) (num i ∷ x)) done)) in
-        let move : Runs (kinds.Mult ∷ kinds.Subt ∷ []) (num low ∷ num (one_if b) ∷ num i ∷ x) (num (moved_by above low i) ∷ x) =
-        next (result_at kinds.Mult Product (λ place. refl) (one_if b) low (if b then low else pos 0) (num i ∷ x) (bound_product b low at.3.whole))
-        (next (result_at kinds.Subt Difference (λ place. refl) i (if b then low else pos 0) (moved_by above low i) x (above_moved low i at.3.whole whole e)) done) in
         goes_on (run_on from at.0 test at.2)
-        (goes_on (push_number sc known context code ps level most bound core st at.0 at.1 low (num (one_if b) ∷ num i ∷ x) at.3 (omega (arith, room)))
-        (run_on at.1 to move at.4))
+        (goes_on (times_at b low (num i ∷ x) at.0 at.1 (omega (arith, room)) at.3)
+        (result_at kinds.Subt Difference (λ place. refl) i (if b then low else pos 0) (moved_by above low i) x
+        (above_moved low i (factor_whole low at.0 at.1 at.3) whole e) at.1 to at.4))
 
     from_near : (from to : ℕ) → low_of low ≡ near → IsWhole low → MovedBy ps level near low from to → Gets from (num i ∷ x) to (num (moved_by near low i) ∷ x)
     unfolding row related
@@ -85,15 +107,12 @@ module _ (sc : Scopes) (known : List Known) (context : Context) (code : Code) (p
         next (double_at (pos 65535) (num i ∷ num i ∷ x) (omega (arith, room)))
         (next (result_at kinds.Mult Product (λ place. refl) (pos 65535) (pos 65535) (pos 4294836225) (num i ∷ num i ∷ x) square)
         (next (compared kinds.Lseq LessOrEqual (λ place. refl) i (pos 4294836225) (num i ∷ x)) done)) in
-        let move : Runs (kinds.Mult ∷ kinds.Add ∷ []) (num (neg_ℤ low) ∷ num (one_if b) ∷ num i ∷ x) (num (moved_by near low i) ∷ x) =
-        next (result_at kinds.Mult Product (λ place. refl) (one_if b) (neg_ℤ low) (if b then neg_ℤ low else pos 0) (num i ∷ x) (bound_product b (neg_ℤ low) at.7.whole))
-        (next (result_at kinds.Add Sum (λ place. refl) i (if b then neg_ℤ low else pos 0) (moved_by near low i) x (near_moved low i small whole e)) done) in
         goes_on (double_at i x (omega (arith, room)) from at.0 at.4)
         (goes_on (push_number sc known context code ps level most bound core st at.0 at.1 (pos 65535) (num i ∷ num i ∷ x)
         (record { op = ops.Lt16 65535; stands = at.5; literal = two_bytes 65535; whole = omega arith }) (omega (arith, room)))
         (goes_on (run_on at.1 at.2 test at.6)
-        (goes_on (push_number sc known context code ps level most bound core st at.2 at.3 (neg_ℤ low) (num (one_if b) ∷ num i ∷ x) at.7 (omega (arith, room)))
-        (run_on at.3 to move at.8))))
+        (goes_on (times_at b (neg_ℤ low) (num i ∷ x) at.2 at.3 (omega (arith, room)) at.7)
+        (result_at kinds.Add Sum (λ place. refl) i (if b then neg_ℤ low else pos 0) (moved_by near low i) x (near_moved low i small whole e) at.3 to at.8))))
 
     from_far : (from to : ℕ) → low_of low ≡ far → IsWhole low → MovedBy ps level far low from to → Gets from (num i ∷ x) to (num (moved_by far low i) ∷ x)
     unfolding row related
@@ -111,7 +130,7 @@ module _ (sc : Scopes) (known : List Known) (context : Context) (code : Code) (p
     from_bound : (l : Low) (from to : ℕ) → low_of low ≡ l → MovedBy ps level l low from to → Gets from (num i ∷ x) to (num (moved_by l low i) ∷ x)
     from_bound zero from to e at = subst (λ t. Gets from (num i ∷ x) t (num i ∷ x)) at (nothing sc known code ps level most bound core st from (num i ∷ x))
     from_bound above from to e at = from_above from to e at
-    from_bound near from to e at = from_near from to e (whole_again low at.7.whole) at
+    from_bound near from to e at = from_near from to e (whole_again low (factor_whole (neg_ℤ low) at.2 at.3 at.7)) at
     from_bound far from to e at = from_far from to e (whole_again low at.3.whole) at
 
     pub subscript_moved : (from to : ℕ) → MovedAt ps level low from to → Gets from (num i ∷ x) to (num (moved low i) ∷ x)

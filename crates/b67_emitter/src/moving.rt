@@ -8,7 +8,7 @@ ghost use Rattle.b67_segment.specs.declared.TheConstants.{MOST_SEGMENT_SYLLABLES
 ghost use Rattle.b67_segment.specs.Operators.{size};
 ghost use Rattle.b67_segment.specs.Building.{level_set};
 ghost use Rattle.b67_templates.specs.Fragments as fragments;
-ghost use Rattle.b67_templates.specs.Fragments.{IsWhole, MovedBy, MovedAt};
+ghost use Rattle.b67_templates.specs.Fragments.{IsWhole, TimesAt, MovedBy, MovedAt};
 ghost use Rattle.b67_templates.specs.Emitting.{Emitted};
 
 use crate::appending::{append_all, append_number, append_operator, append_plain};
@@ -19,6 +19,23 @@ use std::alloc::AllocError;
 
 /// The most elements that a row has.
 const MOST_ELEMENTS: i64 = b67_limits::MOST_ELEMENTS as i64;
+
+/// Multiplies the comparison on top, 1 or 0, by this number.
+fn append_times(out: &mut Builder, factor: Whole) -> Result<(), AllocError>
+    requires set { IsSome out.old.level }
+    requires room { size out.old.operators + 13 ≤ MOST_SEGMENT_SYLLABLES }
+    ensures code { OnOk result (Emitted out.old out.new
+        (λ qs. TimesAt qs (level_set out.old) factor (size out.old.operators) (size out.new.operators))) }
+    ensures level { OnOk result (out.new.level ≡ out.old.level) }
+    ensures size { OnOk result (size out.new.operators ≤ size out.old.operators + 13) }
+{
+    if factor.number() == 1 {
+        Ok(())
+    } else {
+        append_number(out, factor)?;
+        append_plain(out, PlainKind::Mult)
+    }
+}
 
 /// By a bound above 0: what is below 0 stays.
 fn append_above(out: &mut Builder, low: i64) -> Result<(), AllocError>
@@ -31,8 +48,8 @@ fn append_above(out: &mut Builder, low: i64) -> Result<(), AllocError>
     ensures size { OnOk result (size out.new.operators ≤ size out.old.operators + 17) }
 {
     append_all(out, &[PlainKind::Dupl, PlainKind::Zero, PlainKind::Greq])?;
-    append_number(out, Whole::fitting(low))?;
-    append_all(out, &[PlainKind::Mult, PlainKind::Subt])
+    append_times(out, Whole::fitting(low))?;
+    append_plain(out, PlainKind::Subt)
 }
 
 /// By a bound that lies as near below 0 as a row is long: what is greater than the square of 65,535 stays.
@@ -48,8 +65,8 @@ fn append_near(out: &mut Builder, low: i64) -> Result<(), AllocError>
     append_plain(out, PlainKind::Dupl)?;
     append_operator(out, &Operator::Lt16(65_535))?;
     append_all(out, &[PlainKind::Dupl, PlainKind::Mult, PlainKind::Lseq])?;
-    append_number(out, Whole::fitting(-low))?;
-    append_all(out, &[PlainKind::Mult, PlainKind::Add])
+    append_times(out, Whole::fitting(-low))?;
+    append_plain(out, PlainKind::Add)
 }
 
 /// By a bound further below: what is not below 0 becomes 0 before.

@@ -1,5 +1,6 @@
 -- Subscripts: each is moved by its lower bound, and the head then reads the element, or leads to the row in which the next subscript counts.
-use Rattle.std.proofs.Common.{◌≡◌, refl, sym, ap, subst, ℕ, ◌+◌, ◌<◌, ℤ, arith, List, [], ◌∷◌}
+use Rattle.std.proofs.Common.{◌≡◌, refl, sym, ap, subst, ℕ, ◌+◌, ◌<◌, ◌≤◌, Bool, true, false, ℤ, pos, int_eq, arith, List, [], ◌∷◌}
+use Rattle.std.specs.Prelude.{neg_ℤ}
 use Rattle.algol_tree.specs.declared.tree.Kind.{Kind}
 use Rattle.algol_tree.specs.declared.tree.Kind.TheVariants as types
 use Rattle.algol_tree.specs.declared.tree.Named.{Named}
@@ -16,7 +17,7 @@ use Rattle.b67_ops.specs.declared.Operator.TheVariants as ops
 use Rattle.b67_ops.specs.declared.PlainKind.TheVariants as kinds
 use Rattle.b67_segment.specs.Operators.{Placed}
 use Rattle.b67_templates.specs.Contexts.{Context}
-use Rattle.b67_templates.specs.Fragments.{IsWhole, Has, Low, zero, above, near, far, low_of, moved_by, moved, MovedBy, MovedAt, Goes}
+use Rattle.b67_templates.specs.Fragments.{IsWhole, Has, Low, zero, above, near, far, low_of, moved_by, moved, TimesBy, MovedBy, MovedAt, Goes}
 use Rattle.b67_templates.specs.Cells.{IsArray}
 use Rattle.b67_templates.specs.Code.{ExprAt, SubscriptsAt, SecondAt}
 use Rattle.b67_templates.specs.Depths.{depth, line_depth}
@@ -29,13 +30,17 @@ use Rattle.b67_standing.proofs.Halves.{Comes, here}
 
 -- where a lower bound is not 0, what moves a subscript is some code
 module _ (ps : List Placed) (level : ℕ) where
+  times_forward : (t : Bool) (factor : ℤ) (from to : ℕ) → TimesBy ps level t factor from to → from ≤ to
+  times_forward true factor from to e = omega (arith, e)
+  times_forward false factor from to h = omega (arith, forward ps level (h.1).stands, forward ps level h.2)
+
   above_forward : (low : ℤ) (from to : ℕ) → MovedBy ps level above low from to → from < to
   above_forward low from to h =
       omega (
         arith,
         all_forward ps level (kinds.Dupl ∷ kinds.Zero ∷ kinds.Greq ∷ []) from h.0 h.2,
-        forward ps level (h.3).stands,
-        all_forward ps level (kinds.Mult ∷ kinds.Subt ∷ []) h.1 to h.4,
+        times_forward (int_eq low (pos 1)) low h.0 h.1 h.3,
+        forward ps level h.4,
       )
 
   near_forward : (low : ℤ) (from to : ℕ) → MovedBy ps level near low from to → from < to
@@ -45,8 +50,8 @@ module _ (ps : List Placed) (level : ℕ) where
         forward ps level h.4,
         forward ps level h.5,
         all_forward ps level (kinds.Dupl ∷ kinds.Mult ∷ kinds.Lseq ∷ []) h.1 h.2 h.6,
-        forward ps level (h.7).stands,
-        all_forward ps level (kinds.Mult ∷ kinds.Add ∷ []) h.3 to h.8,
+        times_forward (int_eq (neg_ℤ low) (pos 1)) (neg_ℤ low) h.2 h.3 h.7,
+        forward ps level h.8,
       )
 
   far_forward : (low : ℤ) (from to : ℕ) → MovedBy ps level far low from to → from < to

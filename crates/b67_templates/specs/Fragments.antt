@@ -1,5 +1,6 @@
 -- The small pieces of which templates are made, in a segment of these operators, at one level.
 use Rattle.std.specs.Prelude.{◌≡◌, ℕ, ◌+◌, ◌/◌, ◌%◌, ◌<◌, ◌≤◌, unsigned_abs, ℤ, pos, neg_ℤ, ◌-ℤ◌, int_le, int_lt, if◌then◌else◌, Bool, true, false, List, [], ◌∷◌, map}
+use Rattle.std.specs.Ordering.{int_eq}
 use Rattle.b67_limits.specs.declared.TheConstants.{MOST_ELEMENTS}
 use Rattle.algol_tree.specs.declared.tree.Op.{Op}
 use Rattle.algol_tree.specs.declared.tree.Op.TheVariants as operators
@@ -163,15 +164,23 @@ module _ (ps : List Placed) (level : ℕ) where
   ControlsAt [] from to = from ≡ to
   ControlsAt (pcw ∷ pcws) from to = (m : ℕ) × Has from (ops.Mpcw (pcw_word pcw).bits) m × Fits_pcw pcw × ControlsAt pcws m to
 
+  -- A comparison on top, 1 or 0, is multiplied by a number: where the number is 1, nothing has to be done.
+  abbrev pub TimesBy : Bool → ℤ → ℕ → ℕ → Type 0
+  TimesBy true factor from to = from ≡ to
+  TimesBy false factor from to = (m : ℕ) × NumberAt factor from m × Has m (ops.Plain kinds.Mult) to
+
+  abbrev pub TimesAt : ℤ → ℕ → ℕ → Type 0
+  TimesAt factor from to = TimesBy (int_eq factor (pos 1)) factor from to
+
   -- A subscript on top is moved to an index from 0: by the product of the bound with a comparison that says whether it may be.
   abbrev pub MovedBy : Low → ℤ → ℕ → ℕ → Type 0
   MovedBy zero low from to = from ≡ to
   MovedBy above low from to =
-      (m : ℕ) × (n : ℕ) × AllAt (kinds.Dupl ∷ kinds.Zero ∷ kinds.Greq ∷ []) from m × NumberAt low m n × AllAt (kinds.Mult ∷ kinds.Subt ∷ []) n to
+      (m : ℕ) × (n : ℕ) × AllAt (kinds.Dupl ∷ kinds.Zero ∷ kinds.Greq ∷ []) from m × TimesAt low m n × Has n (ops.Plain kinds.Subt) to
   -- 4,294,836,225 is the square of 65,535
   MovedBy near low from to =
       (a : ℕ) × (b : ℕ) × (m : ℕ) × (n : ℕ) × Has from (ops.Plain kinds.Dupl) a × Has a (ops.Lt16 65535) b
-      × AllAt (kinds.Dupl ∷ kinds.Mult ∷ kinds.Lseq ∷ []) b m × NumberAt (neg_ℤ low) m n × AllAt (kinds.Mult ∷ kinds.Add ∷ []) n to
+      × AllAt (kinds.Dupl ∷ kinds.Mult ∷ kinds.Lseq ∷ []) b m × TimesAt (neg_ℤ low) m n × Has n (ops.Plain kinds.Add) to
   MovedBy far low from to =
       (m : ℕ) × (n : ℕ) × AllAt (kinds.Dupl ∷ kinds.Zero ∷ kinds.Less ∷ kinds.Mult ∷ []) from m × NumberAt (neg_ℤ low) m n
       × Has n (ops.Plain kinds.Add) to

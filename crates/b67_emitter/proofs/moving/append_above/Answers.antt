@@ -7,7 +7,7 @@ use Rattle.b67_emitter.proofs.moving.append_above.Goals as goal
 pub returns-clause-code : goal.returns-clause-code
 returns-clause-code c =
     let same : c.fitting.result ≡ c.args.low = grind (arith, ints, to_z-of_z, c.fitting.ensures, c.ranges.low.sfits) in
-    on_ok_weaker c.append_all-2.result
-    (above_part c.args.low c.fitting.result c.args.out.now c.append_all.new.out c.append_number.new.out c.append_all-2.new.out same
-    c.in_ok-append_all.ensures.level c.in_ok-append_number.ensures.level c.in_ok-append_all.ensures.code c.in_ok-append_number.ensures.code)
-    c.append_all-2.ensures.code
+    on_ok_weaker c.append_plain.result
+    (above_part c.args.low c.fitting.result c.args.out.now c.append_all.new.out c.append_times.new.out c.append_plain.new.out same
+    c.in_ok-append_all.ensures.level c.in_ok-append_times.ensures.level c.in_ok-append_all.ensures.code c.in_ok-append_times.ensures.code)
+    c.append_plain.ensures.code

@@ -8,9 +8,9 @@ use Rattle.b67_emitter.proofs.moving.append_near.Goals as goal
 pub returns-clause-code : goal.returns-clause-code
 returns-clause-code c =
     let same : c.fitting.result ≡ neg_ℤ c.args.low = grind (arith, ints, to_z-of_z, c.fitting.ensures, c.ranges.low.sfits, c.requires.whole) in
-    on_ok_weaker c.append_all-2.result
-    (near_part c.args.low c.fitting.result c.args.out.now c.append_plain.new.out c.append_operator.new.out c.append_all.new.out c.append_number.new.out
-    c.append_all-2.new.out same c.in_ok-append_plain.ensures.level c.in_ok-append_operator.ensures.level c.in_ok-append_all.ensures.level
-    c.in_ok-append_number.ensures.level c.in_ok-append_plain.ensures.code c.in_ok-append_operator.ensures.code c.in_ok-append_all.ensures.code
-    c.in_ok-append_number.ensures.code)
-    c.append_all-2.ensures.code
+    on_ok_weaker c.append_plain-2.result
+    (near_part c.args.low c.fitting.result c.args.out.now c.append_plain.new.out c.append_operator.new.out c.append_all.new.out c.append_times.new.out
+    c.append_plain-2.new.out same c.in_ok-append_plain.ensures.level c.in_ok-append_operator.ensures.level c.in_ok-append_all.ensures.level
+    c.in_ok-append_times.ensures.level c.in_ok-append_plain.ensures.code c.in_ok-append_operator.ensures.code c.in_ok-append_all.ensures.code
+    c.in_ok-append_times.ensures.code)
+    c.append_plain-2.ensures.code
