@@ -36,6 +36,7 @@ mod replays;
 mod rules;
 mod serving;
 mod shared;
+mod spans;
 mod streams;
 mod tables;
 mod texts;

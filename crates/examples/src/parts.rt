@@ -1,5 +1,5 @@
-//! The answers that no one command shows. Those of the front end and of the meaning are told of in `language_cases`, that of
-//! `rules.sheet` in `rules`.
+//! The answers that no one command shows. Those of the front end and of the meaning are told of in `language_cases`, those of
+//! `rules.sheet` and `spans.sheet` in `rules` and `spans`.
 //!
 //! In `segments.sheet` the input of a case is a text of the assembler. The answer has, for each segment, the line `SEGMENT n` with its
 //! number of words, the words, and `MARK place level` for each mark; then, for each format, the line `FORMAT n` with its number of
@@ -14,6 +14,7 @@
 use crate::answer::Told;
 use crate::codes::code_text;
 use crate::rules::rules_text;
+use crate::spans::spans_text;
 use crate::tables::table_text;
 use crate::texts::{listing_text, report_text};
 use algol_tree::MOST_SOURCE_BYTES;
@@ -42,6 +43,7 @@ fn part_text(alloc: Global, sheet: &str, case: &Case) -> Result<Vec<u8>, AllocEr
         "read-reports" => report_text(alloc, case.input.as_slice()),
         "tables" => table_text(alloc, case),
         "rules" => rules_text(alloc, case),
+        "spans" => Ok(spans_text(alloc, str::from_utf8(case.input.as_slice()).unwrap_or(""))),
         _ => language_text(alloc, sheet, case),
     }
 }
