@@ -97,7 +97,7 @@ impl Core for FlatCore {
         if held.used <= u32::from(at.at) {
             return None;
         }
-        Some(read_at(&self.words, held.place + u64::from(at.at)))
+        Some(read_at(&self.words, held.place, u32::from(at.at)))
     }
 
     #[inline(always)]
@@ -108,7 +108,7 @@ impl Core for FlatCore {
         if held.used <= u32::from(at.at) {
             return Err(NoSuchPlace);
         }
-        write_at(&mut self.words, held.place + u64::from(at.at), word);
+        write_at(&mut self.words, held.place, u32::from(at.at), word);
         Ok(())
     }
 
@@ -125,7 +125,7 @@ impl Core for FlatCore {
         if held.used as usize == MOST_STACK_WORDS {
             return Err(PushFault::StackLimit);
         }
-        write_at(&mut self.words, held.place + u64::from(held.used), word);
+        write_at(&mut self.words, held.place, held.used, word);
         use_words(&mut self.stacks, stack, held, held.used + 1);
         Ok(())
     }
@@ -138,7 +138,7 @@ impl Core for FlatCore {
         }
         let used = held.used - 1;
         use_words(&mut self.stacks, stack, held, used);
-        Some(read_at(&self.words, held.place + u64::from(used)))
+        Some(read_at(&self.words, held.place, used))
     }
 
     #[inline(always)]
@@ -219,7 +219,7 @@ impl Core for FlatCore {
         if held.length <= at {
             return None;
         }
-        Some(read_at(&self.words, held.place + u64::from(at)))
+        Some(read_at(&self.words, held.place, at))
     }
 
     #[inline(always)]
@@ -230,7 +230,7 @@ impl Core for FlatCore {
         if held.length <= at {
             return Err(NoSuchPlace);
         }
-        write_at(&mut self.words, held.place + u64::from(at), word);
+        write_at(&mut self.words, held.place, at, word);
         Ok(())
     }
 

@@ -10,29 +10,29 @@ use crate::{Holder, Span};
 use b67_word::{Word, operand};
 use std::alloc::AllocError;
 
-// The most words of a memory that belong to spans.
-const MOST_WORDS: u64 = 140_737_488_355_328;
+// The most words of a memory that belong to spans, so that a place has 32 bits.
+const MOST_WORDS: u64 = 4_294_967_296;
 
-// The word at a place that the memory has.
+// The word so many after a place, which the memory has.
 #[inline(always)]
-pub fn read_at(words: &Vec<Word>, place: u64) -> Word
-    requires { place < vec_len words.now }
-    ensures { Some result ≡ slice_get words.now.items place }
+pub fn read_at(words: &Vec<Word>, place: u32, at: u32) -> Word
+    requires { place + at < vec_len words.now }
+    ensures { Some result ≡ slice_get words.now.items (place + at) }
 {
-    words[place as usize]
+    words[place as usize + at as usize]
 }
 
-// Puts a word in place of the one at a place that the memory has.
+// Puts a word in place of the one so many after a place, which the memory has.
 #[inline(always)]
-pub fn write_at(words: &mut Vec<Word>, place: u64, word: Word)
-    requires { place < vec_len words.old }
-    ensures { words.new.items ≡ slice_set words.old.items place word }
+pub fn write_at(words: &mut Vec<Word>, place: u32, at: u32, word: Word)
+    requires { place + at < vec_len words.old }
+    ensures { words.new.items ≡ slice_set words.old.items (place + at) word }
 {
-    words[place as usize] = word;
+    words[place as usize + at as usize] = word;
 }
 
 // Puts operands 0 in place of so many words from a place on.
-pub fn zero(words: &mut Vec<Word>, place: u64, count: u32)
+pub fn zero(words: &mut Vec<Word>, place: u32, count: u32)
     requires { place + count ≤ vec_len words.old }
     ensures { words.new.items ≡ zeroed words.old.items place count }
 {
@@ -52,7 +52,7 @@ pub fn open_span(
     spans: &mut Spans,
     count: u32,
     holder: Holder,
-) -> Result<u64, AllocError>
+) -> Result<u32, AllocError>
     requires some { 1 ≤ count }
     requires memory { IsMemory (memory_of words.old.items spans.old) }
     ensures place { IfOk result (λ place. place ≡ place_for count spans.old) }
@@ -69,13 +69,13 @@ pub fn open_span(
         holder,
     };
     spans.insert(at, span)?;
-    Ok(place)
+    Ok(place as u32)
 }
 
 // Lengthens the words with operands 0, where they do not reach so far. Their list grows as lists do, twice as long at
 // least; what of it was never reached takes no memory from the system, which lengthens a large block without copying it.
 fn reach(words: &mut Vec<Word>, end: u64) -> Result<(), AllocError>
-    ensures reaches { OnOk result ((end ≤ vec_len words.new) × (end ≤ 2 ^ 47)) }
+    ensures reaches { OnOk result ((end ≤ vec_len words.new) × (end ≤ MOST_WORDS)) }
     ensures words { (more : ℕ) × (words.new.items ≡ lengthened words.old.items more) }
 {
     if MOST_WORDS < end {

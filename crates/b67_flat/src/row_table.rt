@@ -11,7 +11,7 @@ use std::marker::Model;
 // The span of a row: where it begins, and how many words it has; and whether they count.
 #[derive(Clone, Copy)]
 pub struct HeldRow {
-    pub place: u64,
+    pub place: u32,
     pub length: u32,
     pub counted: bool,
 }

@@ -26,12 +26,13 @@ impl Model for Spans {
     ghost use Rattle.b67_flat.specs.declared.Span.{Span as Seen};
     ghost use Rattle.b67_flat.specs.Spans.{Ascend, end_after};
     ghost use Rattle.b67_flat.specs.Widest.{AreWidest};
+    ghost use Rattle.b67_flat.specs.declared.spans.TheConstants.{CHUNK};
 
     ghost Value = { List Seen };
 
     ghost view = { λ s. s.spans.items };
 
-    ghost invariant = { λ s. Ascend 0 s.spans.items × (end_after 0 s.spans.items < 2 ^ 48) × AreWidest s.spans.items s.widest × (vec_len s.spans ≤ length s.widest * 64) × (length s.widest ≤ 2 ^ 42) };
+    ghost invariant = { λ s. Ascend 0 s.spans.items × (end_after 0 s.spans.items < 2 ^ 48) × AreWidest s.spans.items s.widest × (vec_len s.spans ≤ length s.widest * CHUNK) × (length s.widest ≤ 2 ^ 42) };
 }
 
 // Where the spans before this one end.
@@ -201,11 +202,11 @@ impl Spans {
     }
 
     // Takes the span away that begins at a place, and takes no memory.
-    pub fn close(&mut self, place: u64)
+    pub fn close(&mut self, place: u32)
         requires { below place self.old < length self.old }
         ensures { self.new ≡ closed place self.old }
     {
-        let at = self.below(place);
+        let at = self.below(u64::from(place));
         self.remove(at);
     }
 }

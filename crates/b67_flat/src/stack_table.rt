@@ -8,7 +8,7 @@ use std::alloc::{AllocError, Global};
 // The span of a stack: where it begins, and how many words at its start the stack has.
 #[derive(Clone, Copy)]
 pub struct HeldStack {
-    pub place: u64,
+    pub place: u32,
     pub used: u32,
 }
 

@@ -20,12 +20,13 @@ impl Model for Widest {
     ghost use Rattle.std.specs.Prelude.{ℕ, List, ◌*◌, ◌≤◌};
     ghost use Rattle.std.specs.Vec.{vec_len};
     ghost use Rattle.b67_flat.specs.Widest.{AreOver};
+    ghost use Rattle.b67_flat.specs.declared.widest.TheConstants.{GROUP};
 
     ghost Value = { List ℕ };
 
     ghost view = { λ w. w.chunks.items };
 
-    ghost invariant = { λ w. AreOver w.chunks.items w.groups.items × (vec_len w.chunks ≤ vec_len w.groups * 64) };
+    ghost invariant = { λ w. AreOver w.chunks.items w.groups.items × (vec_len w.chunks ≤ vec_len w.groups * GROUP) };
 }
 
 // The widest of the bounds of the group that begins with this chunk.

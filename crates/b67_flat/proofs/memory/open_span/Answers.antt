@@ -1,4 +1,5 @@
-use Rattle.std.proofs.Common.{◌≡◌, ◌≤◌, ◌^◌, length, ap, arith, rules}
+use Rattle.std.proofs.Common.{◌≡◌, ◌≤◌, length, ap, arith, rules}
+use Rattle.b67_flat.specs.declared.memory.TheConstants.{MOST_WORDS}
 use Rattle.b67_flat.specs.Spans.{first_fit, place_for, end_after}
 use Rattle.b67_flat.proofs.Fits.{fit_within}
 use Rattle.b67_flat.proofs.Opening.{opened_ascend, opened_end, place_within}
@@ -30,7 +31,7 @@ pub insert-requires-clause-within : goal.insert-requires-clause-within
 insert-requires-clause-within c =
     let at : c.first_fit-at.result ≡ first_fit 0 c.args.count c.args.spans.now = search rules in
     let place : c.end_before-place.result ≡ place_for c.args.count c.args.spans.now = search rules in
-    rw (at, place, c.first_fit-at.ensures.same) (omega (arith, opened_end c.args.count (2 ^ 47) c.args.holder c.args.spans.now c.requires.memory.0 c.requires.some c.requires.memory.2 (omega (arith, place, c.in_ok-reach.ensures.reaches.1, c.from-2.ensures))))
+    rw (at, place, c.first_fit-at.ensures.same) (omega (arith, opened_end c.args.count MOST_WORDS c.args.holder c.args.spans.now c.requires.memory.0 c.requires.some c.requires.memory.2 (omega (arith, place, c.in_ok-reach.ensures.reaches.1, c.from-2.ensures))))
 
 pub returns-clause-memory : goal.returns-clause-memory
 returns-clause-memory c =
@@ -41,5 +42,5 @@ returns-clause-memory c =
     rw (c.in_ok-insert.ensures, at, place, c.first_fit-at.ensures.same) (
       opened_ascend c.args.count c.args.holder c.args.spans.now c.requires.memory.0 c.requires.some,
       opened_end c.args.count (length c.reach.new.words.items) c.args.holder c.args.spans.now c.requires.memory.0 c.requires.some low (omega (arith, place, c.in_ok-reach.ensures.reaches.0, c.from-2.ensures, c.reach.new.words.ok)),
-      opened_end c.args.count (2 ^ 47) c.args.holder c.args.spans.now c.requires.memory.0 c.requires.some c.requires.memory.2 (omega (arith, place, c.in_ok-reach.ensures.reaches.1, c.from-2.ensures)),
+      opened_end c.args.count MOST_WORDS c.args.holder c.args.spans.now c.requires.memory.0 c.requires.some c.requires.memory.2 (omega (arith, place, c.in_ok-reach.ensures.reaches.1, c.from-2.ensures)),
     )

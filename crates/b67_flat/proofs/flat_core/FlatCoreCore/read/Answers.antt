@@ -5,11 +5,6 @@ use Rattle.b67_flat.specs.Flat.{memory_of}
 use Rattle.b67_flat.proofs.Stores.{stack_low, stack_within, word_there}
 use Rattle.b67_flat.proofs.flat_core.FlatCoreCore.read.Goals as goal
 
-pub overflow_add-held : goal.overflow_add-held
-overflow_add-held c =
-    let h : at_number c.self.inside.stacks.items c.args.at.stack ≡ Some c.in_ok-held.held = search rules in
-    omega (arith, c.from-2.ensures, c.from.ensures, c.if-held-from.false, stack_low (memory_of c.self.inside.words.items c.self.inside.spans) c.self.inside.stacks.items c.self.inside.rows c.args.at.stack c.in_ok-held.held c.self.invariant.0 c.self.invariant.1 h)
-
 pub read_at-requires : goal.read_at-requires
 read_at-requires c =
     let h : at_number c.self.inside.stacks.items c.args.at.stack ≡ Some c.in_ok-held.held = search rules in

@@ -4,11 +4,6 @@ use Rattle.b67_flat.specs.Flat.{memory_of, stacks_in}
 use Rattle.b67_flat.proofs.Stores.{stack_low, stack_within, words_seen, stack_written, rows_stay, word_found}
 use Rattle.b67_flat.proofs.flat_core.FlatCoreCore.write.Goals as goal
 
-pub overflow_add-held : goal.overflow_add-held
-overflow_add-held c =
-    let h : at_number c.self.inside.stacks.items c.args.at.stack ≡ Some c.in-Some.held = search rules in
-    omega (arith, c.from-2.ensures, c.from.ensures, c.if-held-from.false, stack_low (memory_of c.self.inside.words.items c.self.inside.spans) c.self.inside.stacks.items c.self.inside.rows c.args.at.stack c.in-Some.held c.self.invariant.0 c.self.invariant.1 h)
-
 pub write_at-requires : goal.write_at-requires
 write_at-requires c =
     let h : at_number c.self.inside.stacks.items c.args.at.stack ≡ Some c.in-Some.held = search rules in
