@@ -6,14 +6,39 @@ ghost use Rattle.b67_stands.specs.Running.{answer_of};
 ghost use Rattle.b67_stands.specs.Stands.{Stands};
 
 use crate::{Named, Plant, Post, Seat, SharedPlant};
+use b67_list::discard;
 use b67_processors::{Gate, serve};
 use b67_ready::Rule;
 use b67_segment::Code;
 use b67_store::Core;
 use std::sync::Wait;
-use std::sync::ledger::Ledger;
+use std::sync::ledger::{Ledger, Share};
 use std::thread;
 use std::thread::Threads;
+
+// The shares of a place whose run is over.
+struct Shares<N: Named, L: Ledger> {
+    acts: Share<N>,
+    leaves: Share<L>,
+}
+
+// What a place leaves: its shares of the books.
+fn shares_of<N: Named, L: Ledger>(post: Post<N, L>) -> Shares<N, L>
+    ensures acts { (result.acts.parts ≡ 1) × (result.acts.amount ≡ post.seat.count) }
+    ensures leaves { (result.leaves.parts ≡ 1) × (result.leaves.amount ≡ post.seat.left) }
+{
+    let Post { parcel, seat } = post;
+    discard(parcel);
+    let Seat {
+        count: _,
+        left: _,
+        ahead,
+        acts,
+        leaves,
+    } = seat;
+    discard(ahead);
+    Shares { acts, leaves }
+}
 
 /// The acts of all posts are the book's, and since each has left, the run has an end or lacked memory.
 pub fn gather<N: Named, L: Ledger, C: Core, P: Rule>(
@@ -32,29 +57,15 @@ pub fn gather<N: Named, L: Ledger, C: Core, P: Rule>(
     let Some(first) = posts.pop() else {
         unreachable!()
     };
-    let Post {
-        parcel: _parcel,
-        seat,
-    } = first;
-    let Seat {
-        count: _,
-        left: _,
-        ahead: _ahead,
+    let Shares {
         mut acts,
         mut leaves,
-    } = seat;
+    } = shares_of(first);
     while let Some(post) = posts.pop() {
-        let Post {
-            parcel: _parcel,
-            seat,
-        } = post;
-        let Seat {
-            count: _,
-            left: _,
-            ahead: _ahead,
+        let Shares {
             acts: more,
             leaves: others,
-        } = seat;
+        } = shares_of(post);
         acts.merge(more);
         leaves.merge(others);
     }

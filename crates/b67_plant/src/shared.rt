@@ -44,6 +44,15 @@ fn passed<'a, N: Named, L: Ledger, C: Core, P: Rule>(
     Pass { plant, process }
 }
 
+// What a processor is answered whose parcel did not land.
+fn refused<T>(landing: PlantLanding) -> Landing<T> {
+    match landing {
+        PlantLanding::Stale { .. } => Landing::Stale,
+        PlantLanding::NotOut => Landing::NotOut,
+        PlantLanding::Landed | PlantLanding::Over | PlantLanding::Lacked => Landing::Over,
+    }
+}
+
 // A take under the lock, or nothing where the processor has to wait.
 fn tried<N: Named, L: Ledger, C: Core, P: Rule>(
     plant: &mut Plant<N, L, C, P>,
@@ -194,21 +203,18 @@ impl<'a, N: Named + Send + Sync, L: Ledger + Send + Sync, C: Core + Send, P: Rul
     ) -> Landing<Pass<'a, N, L, C, P>> {
         let shared: &'a SharedPlant<N, L, C, P> = *self;
         let mut plant = shared.plant.lock(rt);
-        match plant.land(me, parcel) {
-            PlantLanding::Landed => {
-                if plant.is_spent() {
-                    shared.moved.notify_all();
-                }
-                let process = parcel.process();
-                Landing::Landed(passed(plant, process))
+        let landing = plant.land(me, parcel);
+        if let PlantLanding::Landed = landing {
+            if plant.is_spent() {
+                shared.moved.notify_all();
             }
-            PlantLanding::Stale { .. } => {
-                shared.moved.notify_one();
-                Landing::Stale
-            }
-            PlantLanding::NotOut => Landing::NotOut,
-            PlantLanding::Over | PlantLanding::Lacked => Landing::Over,
+            return Landing::Landed(passed(plant, parcel.process()));
         }
+        drop(plant);
+        if let PlantLanding::Stale { .. } = landing {
+            shared.moved.notify_one();
+        }
+        refused(landing)
     }
 
     // Under the lock of the landing the processor takes its next process too, where one is ready. The others are woken after it.

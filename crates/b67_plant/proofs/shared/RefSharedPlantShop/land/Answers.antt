@@ -8,8 +8,8 @@ passed-requires g c = record {
   me = c.args.me;
   stretch = c.args.parcel.now;
   before = c.deref_mut.result.now;
-  whose = sym c.process-process.ensures;
+  whose = sym c.process.ensures;
   worked = c.requires.worked;
   landed =
-      subst (λ (answer : PlantLanding). Lands g.N.Named.budget c.args.me c.args.parcel.now c.deref_mut.result.now answer c.land.new.self) c.in-Landed.is c.land.ensures;
+      subst (λ (answer : PlantLanding). Lands g.N.Named.budget c.args.me c.args.parcel.now c.deref_mut.result.now answer c.land-landing.new.self) c.in-Landed.is c.land-landing.ensures;
 }
