@@ -1,8 +1,9 @@
 //! The answer to a call.
 
-use crate::outside::Outside;
+use crate::outside::{AMPLE_ROOM, Outside, PIECE};
 use b67_desk::{Status, desk, desk_alone};
 use b67_io::{MemorySink, MemorySource};
+use b67_list::discard;
 use b67_processors::Gate;
 use case_sheet::Case;
 use std::alloc::{AllocError, Global};
@@ -31,11 +32,21 @@ pub(crate) fn answered(
     mut bytes: Vec<u8>,
     outside: Outside,
 ) -> Result<Told, AllocError> {
-    bytes.truncate(outside.left);
-    let mut sink = MemorySink::new(alloc, outside.room, outside.writes)?;
-    let mut source = MemorySource::new(bytes, outside.piece.max(1), outside.reads);
+    let Outside {
+        reads,
+        writes,
+        piece,
+        left,
+        room,
+    } = outside;
+    bytes.truncate(left);
+    let mut sink = MemorySink::new(alloc, room, writes)?;
+    let mut source = MemorySource::new(bytes, piece.max(1), reads);
     let status = desk_alone(alloc, words, &mut source, &mut sink);
-    written(alloc, status, &sink)
+    let told = written(alloc, status, &sink);
+    discard(source);
+    discard(sink);
+    told
 }
 
 /// What a case is answered by.
@@ -52,10 +63,9 @@ pub(crate) fn shared<R: Threads + Wait + Sync, G: Gate + Sync>(
     case: &Case,
     gate: &G,
 ) -> Result<Told, AllocError> {
-    let outside = Outside::whole(alloc);
-    let mut sink = MemorySink::new(alloc, outside.room, outside.writes)?;
     let input = Vec::from_slice(alloc, case.input.as_slice())?;
-    let mut source = MemorySource::new(input, outside.piece.max(1), outside.reads);
+    let mut sink = MemorySink::new(alloc, AMPLE_ROOM, Vec::new(alloc))?;
+    let mut source = MemorySource::new(input, PIECE, Vec::new(alloc));
     let status = desk(
         rt,
         alloc,
@@ -64,5 +74,8 @@ pub(crate) fn shared<R: Threads + Wait + Sync, G: Gate + Sync>(
         &mut sink,
         gate,
     );
-    written(alloc, status, &sink)
+    let told = written(alloc, status, &sink);
+    discard(source);
+    discard(sink);
+    told
 }

@@ -45,11 +45,11 @@ fn push_format(text: &mut Vec<u8>, format: &Format) {
 }
 
 /// The segments and the formats of a code, or the text that is written for it where there is a word.
-pub(crate) fn code_text(alloc: Global, code: Code, words: &[String]) -> Result<Vec<u8>, AllocError>
-    requires { IsWritable code }
+pub(crate) fn code_text(alloc: Global, code: &Code, words: &[String]) -> Result<Vec<u8>, AllocError>
+    requires { IsWritable code.now }
 {
     if !words.is_empty() {
-        return source(alloc, &code);
+        return source(alloc, code);
     }
     let mut text = Vec::new(alloc);
     for segment in code.segments.items() {

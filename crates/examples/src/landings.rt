@@ -63,16 +63,15 @@ fn push_take<N: Named, L: Ledger, P: Rule>(
 /// Takes, works, lands and acts, and appends what the calls answer.
 fn push_calls<N: Named, L: Ledger, P: Rule>(
     text: &mut Vec<u8>,
-    plant: Plant<N, L, FlatCore, P>,
-    code: Code,
+    plant: &mut Plant<N, L, FlatCore, P>,
+    code: &Code,
     first: &mut Post<N, L>,
     second: &mut Post<N, L>,
 )
-    requires { code ≡ N.code }
+    requires { code.now ≡ N.code }
 {
-    let mut plant = plant;
-    push_take(text, &mut plant, 1, first);
-    number(text, b"WORK ", u64::from(first.parcel.work(&code)));
+    push_take(text, plant, 1, first);
+    number(text, b"WORK ", u64::from(first.parcel.work(code)));
     say(text, b"\nLAND");
     push_landing(text, plant.land(2, &first.parcel));
     push_landing(text, plant.land(1, &first.parcel));
@@ -80,11 +79,11 @@ fn push_calls<N: Named, L: Ledger, P: Rule>(
     say(text, acted_words(plant.act(1, 1, &mut first.seat)));
     number(text, b" ", plant.machine().count(1));
     say(text, b"\n");
-    push_take(text, &mut plant, 1, second);
+    push_take(text, plant, 1, second);
     say(text, b"LAND");
     push_landing(text, plant.land(1, &first.parcel));
     say(text, b"\n");
-    push_take(text, &mut plant, 2, second);
+    push_take(text, plant, 2, second);
 }
 
 /// Takes, works and lands behind the lock, and answers how many operators were landed.
@@ -100,7 +99,10 @@ fn landed<N: Named + Send + Sync, L: Ledger + Send + Sync, R: Threads + Wait + S
     };
     let count = shop.work(&mut post.parcel);
     match shop.land(rt, 1, &post.parcel) {
-        Landing::Landed(_pass) => count,
+        Landing::Landed(pass) => {
+            discard(pass);
+            count
+        }
         Landing::Stale | Landing::NotOut | Landing::Over => 0,
     }
 }
@@ -122,6 +124,30 @@ fn push_shared<N: Named + Send + Sync, L: Ledger + Send + Sync, R: Threads + Wai
     number(text, b"SHARED ", u64::from(count));
     number(text, b" ", plant.machine().count(1));
     say(text, b"\n");
+    discard(plant);
+}
+
+/// Appends what is told of the calls on a plant, which is behind a lock or not.
+fn push_either<N: Named + Send + Sync, L: Ledger + Send + Sync, R: Threads + Wait + Sync>(
+    text: &mut Vec<u8>,
+    rt: &R,
+    is_shared: bool,
+    plant: Plant<N, L, FlatCore, Order>,
+    code: Code,
+    first: &mut Post<N, L>,
+    second: &mut Post<N, L>,
+)
+    requires named { code ≡ N.code }
+    requires processors { 1 ≤ N.processors }
+{
+    if is_shared {
+        push_shared(text, rt, plant, code, first);
+        return;
+    }
+    let mut plant = plant;
+    push_calls(text, &mut plant, &code, first, second);
+    discard(plant);
+    discard(code);
 }
 
 /// Appends what is told of the calls on a named plant of two processors, which is behind a lock or not.
@@ -144,8 +170,8 @@ fn push_plant<N: Named + Send + Sync, L: Ledger + Send + Sync, R: Threads + Wait
     requires leaves { (leaves.name ≡ L.name) × (leaves.parts ≡ L.parts) × (leaves.parts ≡ 2) }
     requires rule { (n takes : ℕ) → 0 ≡ N.pick n takes }
 {
-    let code = machine.code().copy()?;
     let mut posts = Vec::with_capacity(alloc, 2)?;
+    let code = machine.code().copy()?;
     let plant = Plant::<N, L, FlatCore, Order>::new(
         alloc,
         machine,
@@ -156,14 +182,16 @@ fn push_plant<N: Named + Send + Sync, L: Ledger + Send + Sync, R: Threads + Wait
         leaves,
         &mut posts,
     )?;
-    let (Some(mut second), Some(mut first)) = (posts.pop(), posts.pop()) else {
-        return Ok(());
-    };
-    if is_shared {
-        push_shared(text, rt, plant, code, &mut first);
-    } else {
-        push_calls(text, plant, code, &mut first, &mut second);
-    }
+    let (first, second) = posts.as_mut_slice().split_at_mut(1);
+    push_either(
+        text,
+        rt,
+        is_shared,
+        plant,
+        code,
+        &mut first[0],
+        &mut second[0],
+    );
     Ok(())
 }
 

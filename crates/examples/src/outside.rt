@@ -4,10 +4,10 @@
 use std::alloc::{AllocError, Global};
 
 /// The room where nothing is said of it.
-const AMPLE_ROOM: usize = 1_048_576;
+pub(crate) const AMPLE_ROOM: usize = 1_048_576;
 
 /// How many bytes a read gives at most where nothing is said of it.
-const PIECE: usize = 7;
+pub(crate) const PIECE: usize = 7;
 
 /// The numbers of the reads and writes that fail, counted from 0, how many bytes a read gives at most, how many bytes of the input
 /// there are, and the room of the sink.

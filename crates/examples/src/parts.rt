@@ -19,6 +19,7 @@ use crate::tables::table_text;
 use crate::texts::{listing_text, report_text};
 use algol_tree::MOST_SOURCE_BYTES;
 use b67_asm::assemble;
+use b67_list::discard;
 use case_sheet::Case;
 use language_cases::language_text;
 use std::alloc::{AllocError, Global};
@@ -32,7 +33,9 @@ fn assembled(alloc: Global, case: &Case) -> Result<Vec<u8>, AllocError> {
     let Ok(code) = assemble(alloc, input) else {
         return Ok(Vec::new(alloc));
     };
-    code_text(alloc, code, case.words.as_slice())
+    let text = code_text(alloc, &code, case.words.as_slice());
+    discard(code);
+    text
 }
 
 /// The answer to a case of a sheet.
