@@ -1,6 +1,6 @@
 //! What a call and the start of a process do.
 
-ghost use Rattle.std.specs.Prelude.{◌≡◌, map, IfOk};
+ghost use Rattle.std.specs.Prelude.{◌≡◌, ◌++◌, ◌∷◌, [], map, IfOk, OnOk};
 ghost use Rattle.algol_tree.specs.Scopes as scoping;
 ghost use Rattle.algol_meaning.specs.Settle as settling;
 ghost use Rattle.algol_meaning.specs.Asks as asks;
@@ -36,8 +36,24 @@ fn given_cell<'p>(
     }
 }
 
-/// What the parameters hold for actuals that are done.
+/// Adds what a parameter holds for an actual that is done.
 #[tactic(auto, using(crate::proofs::Parameters::giving))]
+fn push_given<'p>(
+    cells: &mut Vec<Cell<'p>>,
+    world: &World<'p>,
+    alloc: Global,
+    process: usize,
+    part: &Part<'p>,
+    given: &Given<'p>,
+) -> Result<(), AllocError>
+    ensures { OnOk result (map seen.cell cells.new.items ≡ map seen.cell cells.old.items ++ given_cells_in world.now process part.now (seen.done given.now ∷ [])) }
+{
+    let cell = given_cell(world, alloc, process, part, given)?;
+    cells.push(cell)?;
+    Ok(())
+}
+
+/// What the parameters hold for actuals that are done.
 fn given_cells<'p>(
     world: &World<'p>,
     alloc: Global,
@@ -49,7 +65,7 @@ fn given_cells<'p>(
 {
     let mut cells = Vec::new(alloc);
     'giving: for given in givens {
-        cells.push(given_cell(world, alloc, process, part, given)?)?;
+        push_given(&mut cells, world, alloc, process, part, given)?;
     }
     Ok(cells)
 }

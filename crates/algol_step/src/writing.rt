@@ -1,6 +1,6 @@
 //! The line that a WRITE adds.
 
-ghost use Rattle.std.specs.Prelude.{◌≡◌, ◌++◌, ◌∷◌, List, ℕ, map, IfOk};
+ghost use Rattle.std.specs.Prelude.{◌≡◌, ◌++◌, ◌∷◌, List, ℕ, map, IfOk, OnOk};
 ghost use Rattle.algol_tree.specs.Spelling.{value_of};
 ghost use Rattle.algol_tree.specs.declared.tree.PhraseText.{PhraseText};
 ghost use Rattle.algol_meaning.specs.Value as plain;
@@ -81,15 +81,27 @@ fn push_phrase<'v>(
     }
 }
 
+/// Adds the line that phrases make of values.
+fn push_phrases(
+    text: &mut Vec<u8>,
+    phrases: &[PhraseText],
+    values: &[Value],
+) -> Result<(), AllocError>
+    ensures { OnOk result (text.new.items ≡ text.old.items ++ lines.line_of phrases.now (map value values.now)) }
+{
+    let mut left = values;
+    'writing: for phrase in phrases {
+        left = push_phrase(text, phrase, left)?;
+    }
+    Ok(())
+}
+
 /// The line that phrases make of values.
 fn line_of(alloc: Global, phrases: &[PhraseText], values: &[Value]) -> Result<Line, AllocError>
     ensures { IfOk result (λ line. line ≡ lines.line_of phrases.now (map value values.now)) }
 {
     let mut text = Vec::new(alloc);
-    let mut left = values;
-    'writing: for phrase in phrases {
-        left = push_phrase(&mut text, phrase, left)?;
-    }
+    push_phrases(&mut text, phrases, values)?;
     Ok(Line::of(text))
 }
 

@@ -2,9 +2,9 @@ use Rattle.std.proofs.Common.{◌≡◌, ◌++◌, drop, map}
 use Rattle.algol_meaning.specs.Arrays as arrays
 use Rattle.algol_rest.specs.SeenExpression as seen
 use Rattle.algol_world.specs.SeenInstance.{named_cells}
-use Rattle.algol_step.proofs.making.new_arrays.Given as goal
+use Rattle.algol_step.proofs.making.push_arrays.Given as goal
 
 abbrev pub invariant-making : goal.invariant-making
 invariant-making l =
     named_cells l.cells.items ++ arrays.new_arrays l.kind (map seen.bounds l.bounds) (drop l.n-index l.names)
-    ≡ arrays.new_arrays l.kind (map seen.bounds l.bounds) l.names
+    ≡ named_cells l.initial.cells.items ++ arrays.new_arrays l.kind (map seen.bounds l.bounds) l.names

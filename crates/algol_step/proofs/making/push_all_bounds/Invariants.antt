@@ -3,9 +3,9 @@ use Rattle.algol_meaning.specs.Arrays as arrays
 use Rattle.algol_meaning.specs.SeenTree.{pairs}
 use Rattle.algol_rest.specs.SeenValue.{value}
 use Rattle.algol_rest.specs.SeenExpression as seen
-use Rattle.algol_step.proofs.making.bounds_of.Given as goal
+use Rattle.algol_step.proofs.making.push_all_bounds.Given as goal
 
 abbrev pub invariant-pairing : goal.invariant-pairing
 invariant-pairing l =
     map seen.bounds l.bounds.items ++ arrays.bounds_of (pairs (drop l.pair-index l.pairs)) (map value l.left)
-    ≡ arrays.bounds_of (pairs l.pairs) (map value l.highs)
+    ≡ map seen.bounds l.initial.bounds.items ++ arrays.bounds_of (pairs l.pairs) (map value l.highs)
