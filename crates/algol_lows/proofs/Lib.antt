@@ -1,3 +1,4 @@
 pub mod Specifying
 pub mod LowerBounds
 pub mod Formals
+pub mod Paired

@@ -215,6 +215,25 @@ names_step scopes ns i n lows old new h e adds spot =
     ∙ or_same (under old spot) (lows_meant (declaration_of scopes n.spot) lows spot) (lows_of_names scopes (drop (i + 1) ns) lows spot)
     ∙ ap (λ (ms : List Named). or_lows (under old spot) (lows_of_names scopes ms lows spot)) (sym split)
 
+-- one more statement, and one more declaration
+pub stmts_step : (scopes : Scopes) (ss : List Stmt) (i : ℕ) (s : Stmt) (old new : BTreeMap Spot kept.Lows) → i < length ss → s ≡ get_or ss i s → Adds old new (lows_in_stmt scopes (plain.stmt s)) →
+    (spot : Spot) → or_lows (under new spot) (lows_in_stmts scopes (plain.stmts (drop (i + 1) ss)) spot) ≡ or_lows (under old spot) (lows_in_stmts scopes (plain.stmts (drop i ss)) spot)
+stmts_step scopes ss i s old new h e adds spot =
+    let next : suc i ≡ i + 1 = omega arith in
+    let split : drop i ss ≡ s ∷ drop (i + 1) ss = drop-cons ss i s h ∙ ap (λ (r : Stmt). r ∷ drop (suc i) ss) (sym e) ∙ ap (λ (k : ℕ). s ∷ drop k ss) next in
+    ap (λ (o : Option Lows). or_lows o (lows_in_stmts scopes (plain.stmts (drop (i + 1) ss)) spot)) (adds spot)
+    ∙ or_same (under old spot) (lows_in_stmt scopes (plain.stmt s) spot) (lows_in_stmts scopes (plain.stmts (drop (i + 1) ss)) spot)
+    ∙ ap (λ (rs : List Stmt). or_lows (under old spot) (lows_in_stmts scopes (plain.stmts rs) spot)) (sym split)
+
+pub decls_step : (scopes : Scopes) (ds : List Decl) (i : ℕ) (d : Decl) (old new : BTreeMap Spot kept.Lows) → i < length ds → d ≡ get_or ds i d → Adds old new (lows_in_decl scopes (plain.decl d)) →
+    (spot : Spot) → or_lows (under new spot) (lows_in_decls scopes (plain.decls (drop (i + 1) ds)) spot) ≡ or_lows (under old spot) (lows_in_decls scopes (plain.decls (drop i ds)) spot)
+decls_step scopes ds i d old new h e adds spot =
+    let next : suc i ≡ i + 1 = omega arith in
+    let split : drop i ds ≡ d ∷ drop (i + 1) ds = drop-cons ds i d h ∙ ap (λ (r : Decl). r ∷ drop (suc i) ds) (sym e) ∙ ap (λ (k : ℕ). d ∷ drop k ds) next in
+    ap (λ (o : Option Lows). or_lows o (lows_in_decls scopes (plain.decls (drop (i + 1) ds)) spot)) (adds spot)
+    ∙ or_same (under old spot) (lows_in_decl scopes (plain.decl d) spot) (lows_in_decls scopes (plain.decls (drop (i + 1) ds)) spot)
+    ∙ ap (λ (rs : List Decl). or_lows (under old spot) (lows_in_decls scopes (plain.decls rs) spot)) (sym split)
+
 -- what is added one after the other
 both_added : (old middle new : BTreeMap Spot kept.Lows) (x y : Spot → Option Lows) → Adds old middle x → Adds middle new y → (spot : Spot) → under new spot ≡ or_lows (under old spot) (or_lows (x spot) (y spot))
 both_added old middle new x y first second spot =

@@ -6,3 +6,4 @@ pub mod Clear
 pub mod Kept
 pub mod Meant
 pub mod Together
+pub mod Adding
