@@ -1,7 +1,7 @@
 -- What plain operators of a process leave as it is.
 use Rattle.std.specs.Prelude.{◌&&◌}
-use Rattle.std.proofs.Common.{◌≡◌, refl, ap, ◌∙◌, ℕ, zero, suc, ◌-◌, ◌≤◌, Bool, true, false, List, [], ◌∷◌, length, get_or, Option, Some, None, IsSome, arith}
-use Rattle.std.proofs.lemmas.Option.{get_or_from_slice_get}
+use Rattle.std.proofs.Common.{◌≡◌, refl, ap, ◌∙◌, ℕ, zero, suc, ◌-◌, ◌<◌, ◌≤◌, Bool, true, false, List, [], ◌∷◌, length, get_or, Option, Some, None, IsSome, arith}
+use Rattle.std.proofs.lemmas.Option.{get_or_from_slice_get, slice_get_read}
 use Rattle.b67_list.specs.Numbered.{numbered}
 use Rattle.b67_control.specs.declared.Registers.{Registers}
 use Rattle.b67_segment.specs.declared.code.Code.{Code}
@@ -78,3 +78,9 @@ pub own_is : (all : List Registers) (p : ℕ) (r q : Registers) → numbered all
 own_is all zero r q e f = cc
 own_is all (suc k) r q e f =
     let k_is : suc k - 1 ≡ k = omega arith in f ∙ ap (λ (n : ℕ). get_or all n q) k_is ∙ get_or_from_slice_get all k r q e
+
+-- the item that was found at the place of a number
+pub numbered_at : {X : Type 0} (xs : List X) (p : ℕ) (x : X) → 1 ≤ p → p - 1 < length xs → x ≡ get_or xs (p - 1) x → numbered xs p ≡ Some x
+numbered_at xs zero x o h e = absurd (omega (arith, o))
+numbered_at xs (suc k) x o h e =
+    let k_is : suc k - 1 ≡ k = omega arith in slice_get_read xs (length xs) k x refl (omega (arith, h)) (e ∙ ap (λ (n : ℕ). get_or xs n x) k_is)

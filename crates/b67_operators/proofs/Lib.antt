@@ -1,6 +1,7 @@
 pub mod Accidents
 pub mod AtOnce
 pub mod Callings
+pub mod Changing
 pub mod Choices
 pub mod Leaves
 pub mod Loads

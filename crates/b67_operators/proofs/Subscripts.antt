@@ -1,21 +1,26 @@
 -- What is found of arrays and subscripts, step by step.
 use Rattle.std.specs.Result.{IsErrAnd}
-use Rattle.std.proofs.Common.{◌≡◌, refl, sym, ap, ◌∙◌, ℕ, ℤ, Bool, true, false, Option, Some, Result, Ok, Err}
+use Rattle.std.proofs.Common.{◌≡◌, refl, sym, ap, ◌∙◌, ℕ, ℤ, Bool, true, false, cond, Option, Some, None, Result, Ok, Err}
 use Rattle.b67_word.specs.Word.{Word, as_whole}
 use Rattle.b67_control.specs.declared.Registers.{Registers}
 use Rattle.b67_control.specs.declared.Descriptor.{Descriptor}
+use Rattle.b67_control.specs.Control.{as_descriptor, descriptor_word}
 use Rattle.b67_store.specs.Store.{Stacks, Rows}
+use Rattle.b67_table.specs.declared.Cell.{Cell}
+use Rattle.b67_table.specs.declared.Reached.{Reached}
 use Rattle.b67_table.specs.declared.InterruptKind.{InterruptKind}
-use Rattle.b67_table.specs.Look.{Look, found, ◌>->◌, seen, valid}
-use Rattle.b67_table.specs.References.{Two, popped_two}
-use Rattle.b67_table.specs.Program.{Test, see}
-use Rattle.b67_table.specs.Arrays.{array_of, Subscripted, subscripted, subscripted_element, index_and_load, index_mother}
+use Rattle.b67_table.specs.declared.InterruptKind.TheVariants.{InvalidOperand}
+use Rattle.b67_table.specs.Look.{Look, found, stops, ◌>->◌, seen, valid}
+use Rattle.b67_table.specs.Moves.{replaced}
+use Rattle.b67_table.specs.References.{Two, popped_two, cell_of, reached}
+use Rattle.b67_table.specs.Program.{Test, Program, answer, see, ◌>>=◌}
+use Rattle.b67_table.specs.Arrays.{is_array, array_in, array_by, array_of, Subscripted, subscripted, subscripted_element, index_in, index_or_fault, index, index_and_load, index_mother}
 use Rattle.b67_reach.specs.declared.Stop.{Stop}
 use Rattle.b67_reach.specs.declared.Stop.TheVariants.{Interrupt}
 use Rattle.b67_reach.specs.Images.{Own}
-use Rattle.b67_reach.specs.Answers.{looked, both, Tells, Performs}
-use Rattle.b67_reach.proofs.Looking.{seen_then, after_found, tells_look, tells_then, tells_stop, tells_exit, performs_then, performs_stop, exits}
-use Rattle.b67_operators.specs.Arrays.{as_pair, element_at, copy_replaces}
+use Rattle.b67_reach.specs.Answers.{answered, looked, both, Tells, Performs}
+use Rattle.b67_reach.proofs.Looking.{seen_then, after_found, look_then, tells_look, tells_then, tells_stop, tells_exit, performs_then, performs_stop, exits}
+use Rattle.b67_operators.specs.Arrays.{as_pair, array_found, subscript_found, element_at, copy_replaces}
 use Rattle.b67_operators.specs.Stages.{operand_replaces}
 
 two_is : (q : Result Two InterruptKind) (x y : Word) → Ok (x, y) ≡ looked (both q) → q ≡ Ok (record { x = x; y = y })
@@ -45,6 +50,38 @@ module _ (st : Stacks) (r : Registers) (mother : Bool) (x y : Word) (z : ℤ) (t
       ∙ sym (ap (λ (q : Result Subscripted InterruptKind). looked (as_pair q))
       (first ∙ seen_then st (array_of r mother x) (λ (d : Descriptor). found (record { array = d; subscript = z }))
       ∙ ap (λ (q : Result Descriptor InterruptKind). after_found q (λ (d : Descriptor). Ok (record { array = d; subscript = z }))) k.1))
+
+-- ---- an array that a word is or reaches
+
+array_found_is : (st : Stacks) (mother : Bool) (d : Option Descriptor) → array_found mother d ≡ looked (seen st (array_in mother d))
+array_found_is st mother None = refl
+array_found_is st mother (Some d) = by_test (is_array mother d)
+  where
+    by_test : (b : Bool) → cond b (Ok d) (Err (Interrupt InvalidOperand)) ≡ looked (seen st (cond b (found d) (stops InvalidOperand)))
+    by_test true = refl
+    by_test false = refl
+
+module _ (st : Stacks) (r : Registers) (mother : Bool) (w : Word) where
+  abbrev in_word : Reached → Look Descriptor
+  in_word v = array_in mother (as_descriptor v.word)
+
+  pub array_is : (res : Result Descriptor Stop) → None ≡ cell_of r w → res ≡ array_found mother (as_descriptor w) → res ≡ looked (seen st (array_of r mother w))
+  array_is res none e =
+      e ∙ array_found_is st mother (as_descriptor w) ∙ ap (λ (o : Option Cell). looked (seen st (array_by r mother w o))) none
+
+  pub array_reached : (c : Cell) (v : Reached) (res : Result Descriptor Stop) → Some c ≡ cell_of r w → Ok v ≡ looked (seen st (reached (Some c)))
+      → res ≡ array_found mother (as_descriptor v.word) → res ≡ looked (seen st (array_of r mother w))
+  array_reached c v res some e f =
+      look_then st (reached (Some c)) in_word v res e (f ∙ array_found_is st mother (as_descriptor v.word))
+      ∙ ap (λ (o : Option Cell). looked (seen st (array_by r mother w o))) some
+
+  pub array_stops : (c : Cell) (stop : Stop) → Some c ≡ cell_of r w → ◌≡◌ {A = Result Reached Stop} (Err stop) (looked (seen st (reached (Some c))))
+      → ◌≡◌ {A = Result Descriptor Stop} (Err stop) (looked (seen st (array_of r mother w)))
+  array_stops c stop some e =
+      let k = stopped_by (seen st (reached (Some c))) stop e in
+      ap (λ (s : Stop). Err s) k.2
+      ∙ sym (ap looked (seen_then st (reached (Some c)) in_word ∙ ap (λ (q : Result Reached InterruptKind). after_found q (λ v. seen st (in_word v))) k.1))
+      ∙ ap (λ (o : Option Cell). looked (seen st (array_by r mother w o))) some
 
 -- ---- the element
 
@@ -95,3 +132,41 @@ module _ (old : Own) (next : ℕ) (res : Result (Unit {0}) Stop) where
   copy_row_stops stop t e =
       exits (index_mother old.regs next) old old res stop e
       (performs_stop (subscripted_element old.regs true) (copy_replaces old.regs next) stop old old t refl)
+
+-- ---- the indexed copy
+
+tells_index : (stacks : Stacks) (rows : Rows) (o : Option ℕ) (r : Result ℕ Stop) → r ≡ subscript_found o → Tells (index_or_fault o) stacks rows r
+tells_index stacks rows None r e = record { told = λ img s t. sym (ap answered e) }
+tells_index stacks rows (Some n) r e = record { told = λ img s t. sym (ap answered e) }
+
+module _ (old : Own) (next : ℕ) (res : Result (Unit {0}) Stop) where
+  abbrev pair : Look Subscripted
+  pair = subscripted old.regs false
+
+  abbrev copied : Descriptor → ℕ → Program
+  copied d n = answer (replaced old.regs next 2 (descriptor_word (record d { copy = true; indexed = true; length = n })))
+
+  abbrev after_pair : Subscripted → Program
+  after_pair t = index_or_fault (index_in t.subscript t.array.length) >>= copied t.array
+
+  pub index_stops : (stop : Stop) → ◌≡◌ {A = Result (Descriptor × ℤ) Stop} (Err stop) (looked (as_pair (seen old.stacks pair))) → IsErrAnd res (λ e. e ≡ stop)
+      → Performs (index old.regs next) old old res
+  index_stops stop e i =
+      exits (index old.regs next) old old res stop i
+      (performs_stop (see pair) after_pair stop old old (tells_look pair old.stacks old.rows (Err stop) (pair_stops (seen old.stacks pair) stop e)) refl)
+
+  pub index_is_none : (d : Descriptor) (z k : ℤ) (stop : Stop) → Ok (d, z) ≡ looked (as_pair (seen old.stacks pair)) → k ≡ z
+      → ◌≡◌ {A = Result ℕ Stop} (Err stop) (subscript_found (index_in k d.length)) → IsErrAnd res (λ e. e ≡ stop) → Performs (index old.regs next) old old res
+  index_is_none d z k stop e same f i =
+      exits (index old.regs next) old old res stop i
+      (performs_then (see pair) after_pair (record { array = d; subscript = z }) old old (Err stop)
+      (tells_look pair old.stacks old.rows (Ok (record { array = d; subscript = z })) (pair_is (seen old.stacks pair) d z e))
+      (performs_stop (index_or_fault (index_in z d.length)) (copied d) stop old old (tells_index old.stacks old.rows (index_in z d.length) (Err stop) (f ∙ ap (λ (x : ℤ). subscript_found (index_in x d.length)) same)) refl))
+
+  pub index_found : (new : Own) (d : Descriptor) (z k : ℤ) (n : ℕ) → Ok (d, z) ≡ looked (as_pair (seen old.stacks pair)) → k ≡ z
+      → Ok n ≡ subscript_found (index_in k d.length)
+      → Performs (copied d n) old new res → Performs (index old.regs next) old new res
+  index_found new d z k n e same f q =
+      performs_then (see pair) after_pair (record { array = d; subscript = z }) old new res
+      (tells_look pair old.stacks old.rows (Ok (record { array = d; subscript = z })) (pair_is (seen old.stacks pair) d z e))
+      (performs_then (index_or_fault (index_in z d.length)) (copied d) n old new res (tells_index old.stacks old.rows (index_in z d.length) (Ok n) (f ∙ ap (λ (x : ℤ). subscript_found (index_in x d.length)) same)) q)

@@ -1,9 +1,9 @@
 use Rattle.std.specs.Prelude.{IfSome}
-use Rattle.std.proofs.Common.{◌≡◌, refl, sym, ap, subst, ◌∙◌, ℕ, Bool, true, Option, None, arith}
+use Rattle.std.proofs.Common.{◌≡◌, ◌≤◌, refl, sym, ap, subst, ◌∙◌, ℕ, Bool, true, Option, None, arith}
 use Rattle.b67_list.specs.Numbered.{numbered}
 use Rattle.b67_table.specs.Image.{is_able}
 use Rattle.b67_table.specs.Valid.{IsValid}
-use Rattle.b67_table.proofs.Lists.{numbered_within}
+use Rattle.b67_table.proofs.Lists.{numbered_from, numbered_within}
 use Rattle.b67_linkage.proofs.Linked.{live_are_linked}
 use Rattle.b67_reach.specs.Images.{image_of}
 use Rattle.b67_action.proofs.Ready.{registers_there, if_some}
@@ -11,15 +11,30 @@ use Rattle.b67_control.specs.declared.Registers.{Registers}
 use Rattle.b67_segment.specs.declared.code.Code.{Code}
 use Rattle.b67_segment.specs.Decoded.{AreDecoded}
 use Rattle.b67_action.specs.Able.{AbleAfter}
+use Rattle.b67_action.specs.declared.done.Done.{Done}
+use Rattle.b67_action.specs.declared.done.Done.TheVariants as dones
 use Rattle.b67_action.specs.Done.{is_performed}
 use Rattle.b67_machine.specs.declared.Failure.{Failure}
-use Rattle.b67_machine.specs.Kept.{Kept, Counts}
+use Rattle.b67_machine.specs.Kept.{Kept, counted, Counts}
 use Rattle.b67_machine.specs.Machines.{with_failure}
-use Rattle.b67_machine.specs.Stepping.{StepsBy}
+use Rattle.b67_machine.specs.Stepping.{operators_in, StepsBy}
 use Rattle.b67_machine.proofs.Ends.{goes_on}
 use Rattle.b67_machine.proofs.Failures.{none_kept, valid_with, released_so, acts_by}
 use Rattle.b67_machine.proofs.Plainly.{live_of}
 use Rattle.b67_machine.proofs.Machine.step.Goals as goal
+
+at_most_one : (done : Done) → operators_in done ≤ 1
+at_most_one dones.Went = omega arith
+at_most_one dones.Waits = omega arith
+at_most_one dones.Ended = omega arith
+at_most_one (dones.Fault kind) = omega arith
+at_most_one (dones.Interrupt kind) = omega arith
+at_most_one dones.StackLimit = omega arith
+at_most_one dones.NoMemory = omega arith
+
+pub returns-then-self-clause-steps : goal.returns-then-self-clause-steps
+returns-then-self-clause-steps g c =
+    subst (λ (b : Bool). StepsBy b c.args.self.now c.args.process dones.NoMemory c.args.self.now) (sym c.if-self.true ∙ ap (λ (k : Kept). k.lacked) c.self.view_is) (refl, refl)
 
 pub returns-then-self-clause-valid : goal.returns-then-self-clause-valid
 returns-then-self-clause-valid g c =
@@ -46,6 +61,19 @@ pub action-done-requires-clause-table : goal.action-done-requires-clause-table
 action-done-requires-clause-table g c =
     if_some (λ (r : Registers). IfSome c.decoded.result (λ t. AreDecoded c.self.inside.parts.code r.segment r.ll t.now)) (numbered c.self.inside.parts.regs.items c.args.process)
     c.registers-regs.result.now c.registers-regs.ensures (c.decoded.ensures c.self.inside.parts.code c.prepare.ensures)
+
+pub count-requires-clause-least : goal.count-requires-clause-least
+count-requires-clause-least g c = numbered_from c.self.inside.parts.regs.items c.args.process c.registers-regs.result.now c.registers-regs.ensures
+
+pub count-requires-clause-room : goal.count-requires-clause-room
+count-requires-clause-room g c =
+    omega (
+      arith,
+      c.requires.count,
+      ap (λ (k : Kept). counted k.counts c.args.process) c.self.view_is,
+      c.operators_in.ensures,
+      at_most_one c.action-done.result,
+    )
 
 pub count-requires-clause-most : goal.count-requires-clause-most
 count-requires-clause-most g c =
