@@ -2,7 +2,9 @@
 use Rattle.std.proofs.Common.{◌≡◌, ℕ, ◌+◌, ◌<◌, Option, Some, None, inl, inr, sym, subst}
 use Rattle.std.specs.Prelude.{IsSome}
 use Rattle.algol_tree.specs.declared.TheConstants.{MOST_BLOCK_CELLS}
+use Rattle.algol_tree.specs.declared.token.Spot.{Spot}
 use Rattle.algol_tree.specs.declared.tree.Kind.{Kind}
+use Rattle.algol_tree.specs.declared.tree.Kind.TheVariants as types
 use Rattle.algol_tree.specs.declared.tree.Named.{Named}
 use Rattle.algol_tree.specs.declared.tree.Op.{Op}
 use Rattle.algol_tree.specs.Plain as tree
@@ -38,6 +40,30 @@ module _ (s : Names) (level : ℕ) where
   -- the second of two operands
   pub second_code : (op : Op) (x y : PExpr) → HasCode s level (tree.two op x y) → HasCode s level y
   second_code op x y h = record { scopes = h.scopes; own = h.own; block = h.block; kind = taken_by op; outer = h.outer; fits = h.fits.2 }
+
+  -- what stands in parentheses or behind a sign
+  pub paren_code : (x : PExpr) (spot : Spot) → HasCode s level (tree.paren x spot) → HasCode s level x
+  paren_code x spot h = record { scopes = h.scopes; own = h.own; block = h.block; kind = h.kind; outer = h.outer; fits = h.fits }
+
+  pub plus_code : (x : PExpr) (spot : Spot) → HasCode s level (tree.plus x spot) → HasCode s level x
+  plus_code x spot h = record { scopes = h.scopes; own = h.own; block = h.block; kind = types.Number; outer = h.outer; fits = h.fits.1 }
+
+  pub neg_code : (x : PExpr) (spot : Spot) → HasCode s level (tree.neg x spot) → HasCode s level x
+  neg_code x spot h = record { scopes = h.scopes; own = h.own; block = h.block; kind = types.Number; outer = h.outer; fits = h.fits.1 }
+
+  pub not_code : (x : PExpr) (spot : Spot) → HasCode s level (tree.not x spot) → HasCode s level x
+  not_code x spot h = record { scopes = h.scopes; own = h.own; block = h.block; kind = types.Truth; outer = h.outer; fits = h.fits.1 }
+
+  -- the parts of a conditional expression
+  module _ (p x y : PExpr) (spot : Spot) (h : HasCode s level (tree.if p x y spot)) where
+    pub condition_code : HasCode s level p
+    condition_code = record { scopes = h.scopes; own = h.own; block = h.block; kind = types.Truth; outer = h.outer; fits = h.fits.0 }
+
+    pub then_code : HasCode s level x
+    then_code = record { scopes = h.scopes; own = h.own; block = h.block; kind = h.kind; outer = h.outer; fits = h.fits.1 }
+
+    pub else_code : HasCode s level y
+    else_code = record { scopes = h.scopes; own = h.own; block = h.block; kind = h.kind; outer = h.outer; fits = h.fits.2 }
 
   -- ---- names
 

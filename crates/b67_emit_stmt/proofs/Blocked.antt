@@ -1,6 +1,6 @@
 -- A block as a statement: one that declares nothing, and one within another.
-use Rattle.std.proofs.Common.{◌≡◌, ℕ, ◌+◌, ◌≤◌, Bool, true, false, List, [], ◌∷◌, length, refl, sym, ap, ◌∙◌, subst, arith}
-use Rattle.std.specs.Prelude.{◌==◌, unwrap_or, Option}
+use Rattle.std.proofs.Common.{rules, ◌≡◌, ℕ, ◌+◌, ◌≤◌, Bool, true, false, List, [], ◌∷◌, length, refl, sym, ap, ◌∙◌, subst, arith}
+use Rattle.std.specs.Prelude.{◌==◌, unwrap_or, Option, Some}
 use Rattle.std.proofs.lemmas.Bool.{ne_eqb}
 use Rattle.algol_tree.specs.declared.token.Spot.{Spot}
 use Rattle.algol_tree.specs.declared.tree.Body.{Body}
@@ -9,26 +9,26 @@ use Rattle.algol_tree.specs.declared.tree.Stmt.{Stmt}
 use Rattle.algol_tree.specs.declared.tree.Stmt.TheVariants as shapes
 use Rattle.algol_tree.specs.Image.{decls, stmt, stmts}
 use Rattle.algol_tree.specs.Plain as tree
-use Rattle.algol_tree.specs.Plain.{PStmt, PStmts}
+use Rattle.algol_tree.specs.Plain.{PDecls, PStmt, PStmts}
 use Rattle.b67_emit_stmt.specs.Places.{Later, Place, StmtAt, inside}
 use Rattle.b67_emit_stmt.specs.declared.draft.Known.{Known}
 use Rattle.b67_ops.specs.declared.TheConstants.{MOST_LEVEL}
 use Rattle.b67_segment.specs.Operators.{Placed, size}
-use Rattle.b67_segment.specs.Building.{level_set}
+use Rattle.b67_segment.specs.Building.{Built, level_set}
 use Rattle.algol_tree.specs.Blocks.{number_at}
 use Rattle.b67_templates.specs.Cells.{actuals_in_block}
 use Rattle.b67_templates.specs.Fitting.{BlockFits}
 use Rattle.b67_emit_stmt.specs.Fits.{InsideFits, StmtFits}
 use Rattle.b67_emit_stmt.specs.declared.draft.Draft.{Draft}
-use Rattle.b67_emit_stmt.specs.Bodies.{EmitsInner, HaveFitInside, InnerAt, IsSmall, inner_syllables, variables_in}
+use Rattle.b67_emit_stmt.specs.Bodies.{EmitsInner, HaveFitInside, HaveInside, InnerAt, IsSmall, inner_syllables, variables_in}
 use Rattle.b67_emit_stmt.specs.Drafts.{IsAt, IsReady}
-use Rattle.b67_emit_stmt.specs.Emits.{EmitsStmt, EmitsStmts, HasFit}
-use Rattle.b67_emit_stmt.specs.Lengths.{celled_in, stmt_syllables}
+use Rattle.b67_emit_stmt.specs.Emits.{EmitsStmt, EmitsStmts, HasFit, HaveFit}
+use Rattle.b67_emit_stmt.specs.Lengths.{celled_in, stmt_syllables, stmts_syllables}
 use Rattle.b67_emit_stmt.proofs.Arms.{Stands, block_arm}
 use Rattle.b67_emit_stmt.proofs.Blocks.{as_many}
 use Rattle.b67_emit_stmt.proofs.Celled.{celled_inside}
 use Rattle.b67_emit_stmt.proofs.Drafts.{emits_weaker}
-use Rattle.b67_emit_stmt.proofs.Matched.{emits_as, ready_as, ready_less}
+use Rattle.b67_emit_stmt.proofs.Matched.{emits_as, fit_as, ready_as, ready_less}
 use Rattle.b67_emit_stmt.proofs.Shapes.{block_as}
 
 -- ---- whether something is declared
@@ -53,7 +53,35 @@ compound_emitted s a b x body ss t n is same e m h k =
     emits_as s a b (stmt x) (tree.block (tree.body body.spot (decls body.decls) (stmts ss))) (block_as x body ss is same)
     (bare_emitted s a b body.spot body.decls (stmts ss) (none_of t body.decls (e ∙ ap (λ (i : ℕ). i == 0) m) h) k)
 
+-- .. has the room of its statements, and they fit where it does
+module _ (s : Known) (a : Draft) (x : Stmt) (body : Body) (ss : List Stmt) (t : Bool) (n : ℕ) (is : x ≡ shapes.Block body) (same : ss ≡ body.stmts) (e : t ≡ (n == 0))
+    (m : n ≡ length body.decls) (h : t ≡ true) where
+  compound : stmt x ≡ tree.block (tree.body body.spot tree.no_decls (stmts ss))
+  compound =
+      block_as x body ss is same ∙ ap (λ (l : List Decl). tree.block (tree.body body.spot (decls l) (stmts ss))) (none_of t body.decls (e ∙ ap (λ (i : ℕ). i == 0) m) h)
+
+  pub compound_ready : IsReady s a (stmt_syllables s (stmt x)) → IsReady s a (stmts_syllables s (stmts ss))
+  compound_ready r = ready_as s a (stmt x) (tree.block (tree.body body.spot tree.no_decls (stmts ss))) compound r
+
+  pub compound_fits : HasFit s a (stmt x) → HaveFit s a (stmts ss)
+  compound_fits f = fit_as s a (stmt x) (tree.block (tree.body body.spot tree.no_decls (stmts ss))) compound f
+
 -- ---- a block within another
+
+-- the level is set one further in
+module _ (s : Known) (level : ℕ) (a : Draft) (inner : Built) (is : inner ≡ record a.out { level = Some (level + 1) }) where
+  pub inner_at : IsAt level a → IsAt (level + 1) (record a { out = inner })
+  inner_at at = record { set = ap (λ (b : Built). b.level) is; outer = omega (arith, at.outer) }
+
+  pub inner_ready : (n : ℕ) → IsReady s a n → IsReady s (record a { out = inner }) n
+  inner_ready n r =
+      let R : Built → Type 0 = λ b. IsReady s (record a { out = b }) n in
+      subst R (sym is) (record { set = search rules; near = r.near; inner = r.inner; many = r.many; segment = r.segment; few = r.few; room = r.room })
+
+  pub inner_fits : (ds : PDecls) (ss : PStmts) → IsAt level a → HaveFitInside s a ds ss → HaveInside s (level + 1) ds ss
+  inner_fits ds ss at fits =
+      let F : ℕ → Type 0 = λ l. HaveInside s (l + 1) ds ss in
+      subst F (ap (λ (o : Option ℕ). unwrap_or o 0) at.set) fits
 
 -- the code of a block has room
 body_room : (s : Known) (spot : Spot) (t : Bool) (ds : List Decl) (ss : PStmts) → t ≡ (length ds == 0) → t ≡ false →

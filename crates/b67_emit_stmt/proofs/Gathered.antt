@@ -1,9 +1,10 @@
 -- The actuals that have cells, as they are gathered from each form of expression and of statement as it is matched.
-use Rattle.std.proofs.Common.{rules, ◌≡◌, ℕ, zero, suc, ◌+◌, Bool, true, false, List, [], ◌∷◌, ◌++◌, drop, length, Option, None, slice_get, refl, sym, ap, ◌∙◌, append_assoc, arith}
+use Rattle.std.proofs.Common.{rules, ◌≡◌, ℕ, zero, suc, ◌+◌, ◌<◌, Bool, true, false, List, [], ◌∷◌, ◌++◌, drop, length, get_or, Option, None, slice_get, refl, sym, ap, ◌∙◌, append_assoc, arith}
 use Rattle.std.specs.Prelude.{◌==◌, not}
 use Rattle.std.specs.declared.boxed.Box.{Box}
 use Rattle.std.specs.declared.alloc.Global.{Global}
 use Rattle.std.proofs.lemmas.Bool.{ne_eqb}
+use Rattle.std.proofs.lemmas.List.{drop_more}
 use Rattle.algol_tree.specs.declared.token.Spot.{Spot}
 use Rattle.algol_tree.specs.declared.tree.Op.{Op}
 use Rattle.algol_tree.specs.declared.tree.Named.{Named}
@@ -44,6 +45,14 @@ pub carried : (old before own after first second left rest all : List PExpr) →
 carried old before own after first second left rest all split one two h =
     ap (λ (l : List PExpr). l ++ rest) two ∙ ap (λ (l : List PExpr). (l ++ second) ++ rest) one ∙ ap (λ (l : List PExpr). l ++ rest) (append_assoc before first second)
     ∙ append_assoc before (first ++ second) rest ∙ ap (λ (l : List PExpr). before ++ l) (sym split) ∙ h
+
+-- one more part of a list
+pub next_part : {A : Type 0} (found : List A → List PExpr) (one : A → List PExpr) (each : (x : A) (xs : List A) → found (x ∷ xs) ≡ one x ++ found xs) (xs : List A) (i : ℕ) (x : A)
+    (before after old all : List PExpr) → i < length xs → x ≡ get_or xs i x → after ≡ before ++ one x → before ++ found (drop i xs) ≡ old ++ all → after ++ found (drop (i + 1) xs) ≡ old ++ all
+next_part {A} found one each xs i x before after old all more is here h =
+    let rest = drop (i + 1) xs in
+    let split : drop i xs ≡ x ∷ rest = drop_more xs i x more ∙ ap (λ (y : A). y ∷ rest) (sym is) in
+    ap (λ (l : List PExpr). l ++ found rest) here ∙ append_assoc before (one x) (found rest) ∙ ap (λ (l : List PExpr). before ++ l) (sym (ap found split ∙ each x rest)) ∙ h
 
 -- ---- forms of expressions
 

@@ -14,13 +14,13 @@ use Rattle.b67_templates.specs.Paying.{mode_at, given_syllables, inline, inline_
 use Rattle.b67_emitter.specs.Values.{meant, meanings, filled_syllables}
 use Rattle.b67_emitter.proofs.Appends.{same_level}
 use Rattle.b67_emit_expr.proofs.Shapes.{call_long, number_is, truth_is, paren_as, plus_as, neg_as, not_as, two_as, if_as}
-use Rattle.b67_emit_expr.proofs.Couples.{code_on, first_code, second_code, set_after}
+use Rattle.b67_emit_expr.proofs.Couples.{code_on, set_after, first_code, second_code, paren_code, plus_code, neg_code, not_code, condition_code, then_code, else_code}
 use Rattle.b67_emit_expr.proofs.Forms.{listed_as, plain_as, number_form, truth_form, moved_form, paren_form, plus_form, neg_form, not_form, applied_form, exits_aimed, operands_form, calculated_form, chosen_form}
 use Rattle.b67_emit_expr.proofs.Listed.{nowhere, list_grown, exits_lie, exits_back, hole_lies}
 use Rattle.b67_emit_expr.proofs.Called.{known_call, seen_call, call_syllables, rest_syllables, call_on, begin_left, next_is, next_tokens, next_syllables, next_wanted, next_one, filled_form, called_form}
 use Rattle.b67_emit_expr.proofs.Passed.{wanted_on, actual_on, wanted_as, actual_as, known_passed, known_actual, seen_actual, actual_syllables, passed_form, actual_code, value_form}
 use Rattle.b67_emit_expr.proofs.Modes.{own_modes, given_named, given_valued}
-use Rattle.b67_emit_expr.proofs.Arms.{on_ok_both, emitted_as, variable_as, variable_syllables, variable_has, variable_arm, calling_tokens, calling_syllables, call_has, call_arm, event_syllables, event_has, event_arm}
+use Rattle.b67_emit_expr.proofs.Arms.{on_ok_both, has_as, emitted_as, variable_as, variable_syllables, variable_has, variable_arm, calling_tokens, calling_syllables, call_has, call_arm, event_syllables, event_has, event_arm}
 use Rattle.b67_emit_expr.proofs.Subscripts.{first_tokens, both_tokens, first_syllables, both_syllables, subscripts_fewer, read_back, told_list, known_lows, known_element, seen_element, some_subscripts, as_many_lows, own_syllables, first_has, first_back, first_whole, second_has, second_back, second_whole, one_form, two_form}
 use Rattle.b67_emit_expr.proofs.Elements.{is_element, some_in, none_in, element_has, element_form, alone_has, alone_form}
 use Rattle.b67_emit_expr.proofs.values.+values.Goals as goal
@@ -707,3 +707,183 @@ value_with_exits-returns-in-Happened-clause-size t c =
     on_ok_weaker c.append_on_event.result
     (λ wide. omega (arith, event_syllables c.args.names.now (level_set c.args.out.now) c.args.e.now c.in-Happened.event c.in-Happened.field-1 c.in-Happened.is, wide))
     c.append_on_event.ensures.size
+
+pub value_with_exits-value_with_exits-requires : goal.value_with_exits-value_with_exits-requires
+value_with_exits-value_with_exits-requires t c =
+    let s = c.args.names.now in
+    let a = c.args.out.now in
+    let level = level_set a in
+    let d = c.deref.result.now in
+    let is = paren_as c.args.e.now d c.in-Paren.e c.in-Paren.field-1 c.deref.ensures c.in-Paren.is in
+    let smaller : 3 * expr_tokens (expr d) < t = omega (arith, ap expr_tokens is, c.decreases) in
+    let room : size a.operators + inline (meanings s) (expr d) ≤ MOST_SEGMENT_SYLLABLES = omega (arith, ap (inline (meanings s)) is, c.requires.room) in
+    let code = paren_code s level (expr d) c.in-Paren.field-1 (has_as s level c.args.e.now (tree.paren (expr d) c.in-Paren.field-1) is c.requires.code) in
+    (smaller, (c.requires.set, (c.requires.near, (code, room))))
+
+pub value_with_exits-returns-in-Paren-clause-size : goal.value_with_exits-returns-in-Paren-clause-size
+value_with_exits-returns-in-Paren-clause-size t c =
+    let d = c.deref.result.now in
+    let is = paren_as c.args.e.now d c.in-Paren.e c.in-Paren.field-1 c.deref.ensures c.in-Paren.is in
+    on_ok_weaker c.value_with_exits.result (λ wide. omega (arith, ap (inline (meanings c.args.names.now)) is, wide)) c.value_with_exits.ensures.size
+
+pub value_with_exits-value_with_exits-requires-in-Plus : goal.value_with_exits-value_with_exits-requires-in-Plus
+value_with_exits-value_with_exits-requires-in-Plus t c =
+    let s = c.args.names.now in
+    let a = c.args.out.now in
+    let level = level_set a in
+    let d = c.deref-in-Plus.result.now in
+    let is = plus_as c.args.e.now d c.in-Plus.e c.in-Plus.field-1 c.deref-in-Plus.ensures c.in-Plus.is in
+    let smaller : 3 * expr_tokens (expr d) < t = omega (arith, ap expr_tokens is, c.decreases) in
+    let room : size a.operators + inline (meanings s) (expr d) ≤ MOST_SEGMENT_SYLLABLES = omega (arith, ap (inline (meanings s)) is, c.requires.room) in
+    let code = plus_code s level (expr d) c.in-Plus.field-1 (has_as s level c.args.e.now (tree.plus (expr d) c.in-Plus.field-1) is c.requires.code) in
+    (smaller, (c.requires.set, (c.requires.near, (code, room))))
+
+pub value_with_exits-returns-in-Plus-clause-size : goal.value_with_exits-returns-in-Plus-clause-size
+value_with_exits-returns-in-Plus-clause-size t c =
+    let d = c.deref-in-Plus.result.now in
+    let is = plus_as c.args.e.now d c.in-Plus.e c.in-Plus.field-1 c.deref-in-Plus.ensures c.in-Plus.is in
+    on_ok_weaker c.value_with_exits-in-Plus.result (λ wide. omega (arith, ap (inline (meanings c.args.names.now)) is, wide)) c.value_with_exits-in-Plus.ensures.size
+
+pub value_with_exits-applied-requires : goal.value_with_exits-applied-requires
+value_with_exits-applied-requires t c =
+    let s = c.args.names.now in
+    let a = c.args.out.now in
+    let level = level_set a in
+    let d = c.deref-in-Neg.result.now in
+    let is = neg_as c.args.e.now d c.in-Neg.e c.in-Neg.field-1 c.deref-in-Neg.ensures c.in-Neg.is in
+    let smaller : 3 * expr_tokens (expr d) + 2 < t = omega (arith, ap expr_tokens is, c.decreases) in
+    let room : size a.operators + inline (meanings s) (expr d) + 1 ≤ MOST_SEGMENT_SYLLABLES = omega (arith, ap (inline (meanings s)) is, c.requires.room) in
+    let code = neg_code s level (expr d) c.in-Neg.field-1 (has_as s level c.args.e.now (tree.neg (expr d) c.in-Neg.field-1) is c.requires.code) in
+    (smaller, (c.requires.set, (c.requires.near, (code, room))))
+
+pub value_with_exits-returns-in-Neg-clause-size : goal.value_with_exits-returns-in-Neg-clause-size
+value_with_exits-returns-in-Neg-clause-size t c =
+    let d = c.deref-in-Neg.result.now in
+    let is = neg_as c.args.e.now d c.in-Neg.e c.in-Neg.field-1 c.deref-in-Neg.ensures c.in-Neg.is in
+    on_ok_weaker c.applied.result (λ wide. omega (arith, ap (inline (meanings c.args.names.now)) is, wide)) c.applied.ensures.size
+
+pub value_with_exits-applied-requires-in-Not : goal.value_with_exits-applied-requires-in-Not
+value_with_exits-applied-requires-in-Not t c =
+    let s = c.args.names.now in
+    let a = c.args.out.now in
+    let level = level_set a in
+    let d = c.deref-in-Not.result.now in
+    let is = not_as c.args.e.now d c.in-Not.e c.in-Not.field-1 c.deref-in-Not.ensures c.in-Not.is in
+    let smaller : 3 * expr_tokens (expr d) + 2 < t = omega (arith, ap expr_tokens is, c.decreases) in
+    let room : size a.operators + inline (meanings s) (expr d) + 1 ≤ MOST_SEGMENT_SYLLABLES = omega (arith, ap (inline (meanings s)) is, c.requires.room) in
+    let code = not_code s level (expr d) c.in-Not.field-1 (has_as s level c.args.e.now (tree.not (expr d) c.in-Not.field-1) is c.requires.code) in
+    (smaller, (c.requires.set, (c.requires.near, (code, room))))
+
+pub value_with_exits-returns-in-Not-clause-size : goal.value_with_exits-returns-in-Not-clause-size
+value_with_exits-returns-in-Not-clause-size t c =
+    let d = c.deref-in-Not.result.now in
+    let is = not_as c.args.e.now d c.in-Not.e c.in-Not.field-1 c.deref-in-Not.ensures c.in-Not.is in
+    on_ok_weaker c.applied-in-Not.result (λ wide. omega (arith, ap (inline (meanings c.args.names.now)) is, wide)) c.applied-in-Not.ensures.size
+
+pub value_with_exits-calculated-requires : goal.value_with_exits-calculated-requires
+value_with_exits-calculated-requires t c =
+    let s = c.args.names.now in
+    let a = c.args.out.now in
+    let level = level_set a in
+    let x = c.deref-in-Two.result.now in
+    let y = c.deref-in-Two-2.result.now in
+    let is = two_as c.args.e.now x y c.in-Two.op c.in-Two.a c.in-Two.b c.in-Two.is c.deref-in-Two.ensures c.deref-in-Two-2.ensures in
+    let smaller : 3 * (expr_tokens (expr x) + expr_tokens (expr y)) + 2 < t = omega (arith, ap expr_tokens is, c.decreases) in
+    let room : size a.operators + inline (meanings s) (tree.two c.in-Two.op (expr x) (expr y)) ≤ MOST_SEGMENT_SYLLABLES = omega (arith, ap (inline (meanings s)) is, c.requires.room) in
+    (smaller, (c.requires.set, (c.requires.near, (has_as s level c.args.e.now (tree.two c.in-Two.op (expr x) (expr y)) is c.requires.code, room))))
+
+pub value_with_exits-returns-in-Two-clause-size : goal.value_with_exits-returns-in-Two-clause-size
+value_with_exits-returns-in-Two-clause-size t c =
+    let is = two_as c.args.e.now c.deref-in-Two.result.now c.deref-in-Two-2.result.now c.in-Two.op c.in-Two.a c.in-Two.b c.in-Two.is c.deref-in-Two.ensures c.deref-in-Two-2.ensures in
+    on_ok_weaker c.calculated.result (λ wide. omega (arith, ap (inline (meanings c.args.names.now)) is, wide)) c.calculated.ensures.size
+
+pub value_with_exits-chosen-requires : goal.value_with_exits-chosen-requires
+value_with_exits-chosen-requires t c =
+    let s = c.args.names.now in
+    let a = c.args.out.now in
+    let level = level_set a in
+    let p = c.deref-in-If.result.now in
+    let x = c.deref-in-If-2.result.now in
+    let y = c.deref-in-If-3.result.now in
+    let spot = c.in-If.field-3 in
+    let is = if_as c.args.e.now p x y c.in-If.condition c.in-If.x c.in-If.y spot c.in-If.is c.deref-in-If.ensures c.deref-in-If-2.ensures c.deref-in-If-3.ensures in
+    let smaller : 3 * (expr_tokens (expr p) + expr_tokens (expr x) + expr_tokens (expr y)) + 2 < t = omega (arith, ap expr_tokens is, c.decreases) in
+    let room : size a.operators + inline (meanings s) (expr p) + inline (meanings s) (expr x) + inline (meanings s) (expr y) + 6 ≤ MOST_SEGMENT_SYLLABLES =
+    omega (arith, ap (inline (meanings s)) is, c.requires.room) in
+    let has = has_as s level c.args.e.now (tree.if (expr p) (expr x) (expr y) spot) is c.requires.code in
+    let condition = condition_code s level (expr p) (expr x) (expr y) spot has in
+    let first = then_code s level (expr p) (expr x) (expr y) spot has in
+    let second = else_code s level (expr p) (expr x) (expr y) spot has in
+    (smaller, (c.requires.set, (c.requires.near, (condition, (first, (second, room))))))
+
+pub value_with_exits-returns-in-If-clause-size : goal.value_with_exits-returns-in-If-clause-size
+value_with_exits-returns-in-If-clause-size t c =
+    let p = c.deref-in-If.result.now in
+    let x = c.deref-in-If-2.result.now in
+    let y = c.deref-in-If-3.result.now in
+    let spot = c.in-If.field-3 in
+    let is = if_as c.args.e.now p x y c.in-If.condition c.in-If.x c.in-If.y spot c.in-If.is c.deref-in-If.ensures c.deref-in-If-2.ensures c.deref-in-If-3.ensures in
+    on_ok_weaker c.chosen.result (λ wide. omega (arith, ap (inline (meanings c.args.names.now)) is, wide)) c.chosen.ensures.size
+
+pub value_with_exits-append_number-requires-clause-room : goal.value_with_exits-append_number-requires-clause-room
+value_with_exits-append_number-requires-clause-room t c =
+    let is = ap expr c.in-Number.is ∙ number_is c.in-Number.value c.in-Number.field-1 in
+    omega (arith, ap (inline (meanings c.args.names.now)) is, c.requires.room)
+
+pub value_with_exits-append_plain-requires-clause-room : goal.value_with_exits-append_plain-requires-clause-room
+value_with_exits-append_plain-requires-clause-room t c =
+    let is = ap expr c.in-Truth.is ∙ truth_is c.in-Truth.value c.in-Truth.field-1 in
+    omega (arith, ap (inline (meanings c.args.names.now)) is, c.requires.room)
+
+pub value_with_exits-returns-in-Number-clause-size : goal.value_with_exits-returns-in-Number-clause-size
+value_with_exits-returns-in-Number-clause-size t c =
+    let is = ap expr c.in-Number.is ∙ number_is c.in-Number.value c.in-Number.field-1 in
+    on_ok_weaker c.append_number.result (λ wide. omega (arith, ap (inline (meanings c.args.names.now)) is, wide)) c.append_number.ensures.size
+
+pub value_with_exits-returns-in-Truth-clause-size : goal.value_with_exits-returns-in-Truth-clause-size
+value_with_exits-returns-in-Truth-clause-size t c =
+    let is = ap expr c.in-Truth.is ∙ truth_is c.in-Truth.value c.in-Truth.field-1 in
+    on_ok_weaker c.append_plain.result (λ wide. omega (arith, ap (inline (meanings c.args.names.now)) is, wide)) c.append_plain.ensures.size
+
+pub value_with_exits-returns-in-Variable-clause-size : goal.value_with_exits-returns-in-Variable-clause-size
+value_with_exits-returns-in-Variable-clause-size t c =
+    let long = variable_syllables c.args.names.now (level_set c.args.out.now) c.args.e.now c.in-Variable.v c.in-Variable.is in
+    on_ok_weaker c.read.result (λ wide. omega (arith, long, wide)) c.read.ensures.size
+
+pub value_with_exits-returns-in-Call-clause-size : goal.value_with_exits-returns-in-Call-clause-size
+value_with_exits-returns-in-Call-clause-size t c =
+    let long = calling_syllables c.args.names.now (level_set c.args.out.now) c.args.e.now c.in-Call.c c.in-Call.is in
+    on_ok_weaker c.called.result (λ wide. omega (arith, long, wide)) c.called.ensures.size
+
+pub value_with_exits-returns-in-Number-clause-level : goal.value_with_exits-returns-in-Number-clause-level
+value_with_exits-returns-in-Number-clause-level t c = c.append_number.ensures.level
+
+pub value_with_exits-returns-in-Truth-clause-level : goal.value_with_exits-returns-in-Truth-clause-level
+value_with_exits-returns-in-Truth-clause-level t c = c.append_plain.ensures.level
+
+pub value_with_exits-returns-in-Variable-clause-level : goal.value_with_exits-returns-in-Variable-clause-level
+value_with_exits-returns-in-Variable-clause-level t c = c.read.ensures.level
+
+pub value_with_exits-returns-in-Paren-clause-level : goal.value_with_exits-returns-in-Paren-clause-level
+value_with_exits-returns-in-Paren-clause-level t c = c.value_with_exits.ensures.level
+
+pub value_with_exits-returns-in-Plus-clause-level : goal.value_with_exits-returns-in-Plus-clause-level
+value_with_exits-returns-in-Plus-clause-level t c = c.value_with_exits-in-Plus.ensures.level
+
+pub value_with_exits-returns-in-Neg-clause-level : goal.value_with_exits-returns-in-Neg-clause-level
+value_with_exits-returns-in-Neg-clause-level t c = c.applied.ensures.level
+
+pub value_with_exits-returns-in-Not-clause-level : goal.value_with_exits-returns-in-Not-clause-level
+value_with_exits-returns-in-Not-clause-level t c = c.applied-in-Not.ensures.level
+
+pub value_with_exits-returns-in-Two-clause-level : goal.value_with_exits-returns-in-Two-clause-level
+value_with_exits-returns-in-Two-clause-level t c = c.calculated.ensures.level
+
+pub value_with_exits-returns-in-If-clause-level : goal.value_with_exits-returns-in-If-clause-level
+value_with_exits-returns-in-If-clause-level t c = c.chosen.ensures.level
+
+pub value_with_exits-returns-in-Call-clause-level : goal.value_with_exits-returns-in-Call-clause-level
+value_with_exits-returns-in-Call-clause-level t c = c.called.ensures.level
+
+pub value_with_exits-returns-in-Happened-clause-level : goal.value_with_exits-returns-in-Happened-clause-level
+value_with_exits-returns-in-Happened-clause-level t c = c.append_on_event.ensures.level

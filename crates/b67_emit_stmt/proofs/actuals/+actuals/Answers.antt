@@ -6,8 +6,8 @@ use Rattle.algol_tree.specs.Image.{expr, exprs}
 use Rattle.algol_tree.specs.Plain.{PCall}
 use Rattle.b67_templates.specs.Paying.{if_known, modes_of}
 use Rattle.b67_emitter.specs.Values.{meanings, meant}
-use Rattle.b67_emit_stmt.specs.Actuals.{images, celled, cells_in, cells_in_call, cells_given}
-use Rattle.b67_emit_stmt.proofs.Gathered.{carried, given_next, joined, two_as, if_as}
+use Rattle.b67_emit_stmt.specs.Actuals.{images, celled, cells_in, cells_among, cells_in_call, cells_given}
+use Rattle.b67_emit_stmt.proofs.Gathered.{carried, given_next, next_part, joined, two_as, if_as}
 use Rattle.b67_emit_stmt.proofs.Shapes.{call_is}
 use Rattle.b67_emit_stmt.proofs.actuals.+actuals.Goals as goal
 
@@ -37,6 +37,13 @@ in_expr-returns-in_ok-in_expr-in-If-2 t c =
     (ap (cells_in told) (if_as c.args.e.now w.c w.x w.y w.field-3 k x y w.is c.deref-in-If.ensures c.deref-in-If-2.ensures c.deref-in-If-3.ensures))
     (joined old first second (cells_in told (expr k)) (cells_in told (expr x)) (cells_in told (expr k) ++ cells_in told (expr x)) refl c.in_ok-in_expr-in-If.ensures c.in_ok-in_expr-in-If-2.ensures))
     c.in_expr-in-If-3.ensures
+
+pub in_exprs-exprs-preserved : goal.in_exprs-exprs-preserved
+in_exprs-exprs-preserved t c =
+    let told = meanings c.args.names.now in
+    let xs = c.args.es.now in
+    next_part (λ (l : List Expr). cells_among told (exprs l)) (λ (e : Expr). cells_in told (expr e)) (λ e l. refl) xs c.exprs.e-index c.e-item.result
+    (images c.exprs.to.items) (images c.in_expr.new.to.items) (images c.args.to.now.items) (cells_among told (exprs xs)) c.exprs-test.true c.e-item.is c.in_ok-in_expr.ensures c.exprs.invariant
 
 pub in_call-actuals-preserved : goal.in_call-actuals-preserved
 in_call-actuals-preserved t c =

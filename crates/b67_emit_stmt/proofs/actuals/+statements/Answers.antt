@@ -1,10 +1,11 @@
 use Rattle.std.proofs.Common.{◌≡◌, ◌∙◌, ◌++◌, List, length, ap, sym, refl, append-nil, arith}
 use Rattle.std.proofs.lemmas.Result.{on_ok_weaker}
+use Rattle.algol_tree.specs.declared.tree.Stmt.{Stmt}
 use Rattle.algol_tree.specs.Image.{expr, exprs, stmt, stmts}
 use Rattle.algol_tree.specs.Plain.{PExpr}
 use Rattle.b67_emitter.specs.Values.{meanings}
 use Rattle.b67_emit_stmt.specs.Actuals.{images, cells_in, cells_among, cells_in_stmt, cells_in_stmts}
-use Rattle.b67_emit_stmt.proofs.Gathered.{joined, assign_cells, block_cells, if_then_as, while_as, until_as, thru_as, case_as}
+use Rattle.b67_emit_stmt.proofs.Gathered.{joined, next_part, assign_cells, block_cells, if_then_as, while_as, until_as, thru_as, case_as}
 use Rattle.b67_emit_stmt.proofs.Shapes.{for_as, if_else_as}
 use Rattle.b67_emit_stmt.proofs.actuals.+statements.Goals as goal
 
@@ -107,3 +108,10 @@ in_stmt-returns-in_ok-in_expr-in-Case t c =
     (joined (images c.args.to.now.items) (images c.in_expr-in-Case.new.to.items) (images c.in_stmts-in-Case.new.to.items) (cells_in told (expr w.e)) (cells_in_stmts told (stmts xs)) (cells_in_stmt told (stmt c.args.s.now))
     (ap (cells_in_stmt told) (case_as c.args.s.now w.e w.ss xs w.is (c.deref-in-Case.ensures.value ∙ c.items-in-Case.ensures))) c.in_ok-in_expr-in-Case.ensures)
     c.in_stmts-in-Case.ensures
+
+pub in_stmts-statements-preserved : goal.in_stmts-statements-preserved
+in_stmts-statements-preserved t c =
+    let told = meanings c.args.names.now in
+    let xs = c.args.ss.now in
+    next_part (λ (l : List Stmt). cells_in_stmts told (stmts l)) (λ (s : Stmt). cells_in_stmt told (stmt s)) (λ s l. refl) xs c.statements.s-index c.s-item.result
+    (images c.statements.to.items) (images c.in_stmt.new.to.items) (images c.args.to.now.items) (cells_in_stmts told (stmts xs)) c.statements-test.true c.s-item.is c.in_ok-in_stmt.ensures c.statements.invariant

@@ -21,7 +21,7 @@ use Rattle.b67_emit_stmt.specs.Fits.{StmtsFit}
 use Rattle.b67_emit_stmt.specs.declared.draft.Draft.{Draft}
 use Rattle.b67_emit_stmt.specs.declared.draft.Label.{Label}
 use Rattle.b67_emit_stmt.specs.Actuals.{images}
-use Rattle.b67_emit_stmt.specs.Bodies.{EmitsBlock, EmitsEnded, EmitsRoutines, inside_syllables, variables_in}
+use Rattle.b67_emit_stmt.specs.Bodies.{EmitsBlock, block_syllables, EmitsEnded, EmitsRoutines, inside_syllables, variables_in}
 use Rattle.b67_emit_stmt.specs.Lengths.{begin_syllables, celled_in, expr_syllables, stmt_syllables, stmts_syllables}
 use Rattle.b67_emit_stmt.specs.Drafts.{Emits}
 use Rattle.b67_emit_stmt.specs.Emits.{HaveFit}
@@ -32,6 +32,7 @@ use Rattle.b67_emit_stmt.proofs.Blocked as blocked
 use Rattle.b67_emit_stmt.proofs.Blocks as blocks
 use Rattle.b67_emit_stmt.proofs.Drafts.{at_level, emits_then, hole_there, level_after, level_same, piece}
 use Rattle.b67_emit_stmt.proofs.Fors as fors
+use Rattle.b67_emit_stmt.proofs.Gathered as gathered
 use Rattle.b67_emit_stmt.proofs.Going.{label_arm, label_piece}
 use Rattle.b67_emit_stmt.proofs.Listed.{StandTogether, done_level, done_set, next_fits, next_ready, together_more, together_none}
 use Rattle.b67_emit_stmt.proofs.Levels.{at_after, at_same}
@@ -1130,3 +1131,216 @@ stmt-returns-in-Event-clause-lines g t c =
     on_ok_weaker c.act.result
     (λ h. added.none_as a a (stmt c.args.s.now) (tree.event w.act w.e) (shaped.event_as c.args.s.now w.act w.e w.is) refl refl refl)
     c.act.ensures.size
+
+-- ---- the arms that go on in another function
+
+pub stmt-returns-in-While-clause-code : goal.stmt-returns-in-While-clause-code
+stmt-returns-in-While-clause-code g t c =
+    let w = c.in-While in
+    let p = c.deref-in-While.result.now in
+    let shape = gathered.while_as c.args.s.now w.c w.b p w.is c.deref-in-While.ensures in
+    on_ok_weaker c.while_loop.result (λ h. matched.emits_as c.args.self.now.known.now c.args.to.now c.while_loop.new.to (stmt c.args.s.now) (tree.while (expr w.c) (stmt p)) shape h) c.while_loop.ensures.code
+
+pub stmt-returns-in-While-clause-lines : goal.stmt-returns-in-While-clause-lines
+stmt-returns-in-While-clause-lines g t c =
+    let w = c.in-While in
+    let p = c.deref-in-While.result.now in
+    let shape = gathered.while_as c.args.s.now w.c w.b p w.is c.deref-in-While.ensures in
+    on_ok_weaker c.while_loop.result (λ h. added.added_as c.args.to.now c.while_loop.new.to (stmt c.args.s.now) (tree.while (expr w.c) (stmt p)) shape h) c.while_loop.ensures.lines
+
+pub stmt-returns-in-Until-clause-code : goal.stmt-returns-in-Until-clause-code
+stmt-returns-in-Until-clause-code g t c =
+    let w = c.in-Until in
+    let p = c.deref-in-Until.result.now in
+    let shape = gathered.until_as c.args.s.now w.b w.c p w.is c.deref-in-Until.ensures in
+    on_ok_weaker c.until_loop.result (λ h. matched.emits_as c.args.self.now.known.now c.args.to.now c.until_loop.new.to (stmt c.args.s.now) (tree.until (stmt p) (expr w.c)) shape h) c.until_loop.ensures.code
+
+pub stmt-returns-in-Until-clause-lines : goal.stmt-returns-in-Until-clause-lines
+stmt-returns-in-Until-clause-lines g t c =
+    let w = c.in-Until in
+    let p = c.deref-in-Until.result.now in
+    let shape = gathered.until_as c.args.s.now w.b w.c p w.is c.deref-in-Until.ensures in
+    on_ok_weaker c.until_loop.result (λ h. added.added_as c.args.to.now c.until_loop.new.to (stmt c.args.s.now) (tree.until (stmt p) (expr w.c)) shape h) c.until_loop.ensures.lines
+
+pub stmt-returns-in-For-clause-lines : goal.stmt-returns-in-For-clause-lines
+stmt-returns-in-For-clause-lines g t c =
+    let w = c.in-For in
+    let p = c.deref-in-For.result.now in
+    let shape = shaped.for_as c.args.s.now p w.v w.a w.s w.l w.b w.is c.deref-in-For.ensures in
+    on_ok_weaker c.for_loop.result (λ h. added.added_as c.args.to.now c.for_loop.new.to (stmt c.args.s.now) (tree.for w.v (expr w.a) (expr w.s) (expr w.l) (stmt p)) shape h) c.for_loop.ensures.lines
+
+pub stmt-returns-in-Thru-clause-code : goal.stmt-returns-in-Thru-clause-code
+stmt-returns-in-Thru-clause-code g t c =
+    let w = c.in-Thru in
+    let p = c.deref-in-Thru.result.now in
+    let shape = gathered.thru_as c.args.s.now w.e w.b p w.is c.deref-in-Thru.ensures in
+    on_ok_weaker c.thru_loop.result (λ h. matched.emits_as c.args.self.now.known.now c.args.to.now c.thru_loop.new.to (stmt c.args.s.now) (tree.thru (expr w.e) (stmt p)) shape h) c.thru_loop.ensures.code
+
+pub stmt-returns-in-Thru-clause-lines : goal.stmt-returns-in-Thru-clause-lines
+stmt-returns-in-Thru-clause-lines g t c =
+    let w = c.in-Thru in
+    let p = c.deref-in-Thru.result.now in
+    let shape = gathered.thru_as c.args.s.now w.e w.b p w.is c.deref-in-Thru.ensures in
+    on_ok_weaker c.thru_loop.result (λ h. added.added_as c.args.to.now c.thru_loop.new.to (stmt c.args.s.now) (tree.thru (expr w.e) (stmt p)) shape h) c.thru_loop.ensures.lines
+
+pub stmt-returns-in-Case-clause-code : goal.stmt-returns-in-Case-clause-code
+stmt-returns-in-Case-clause-code g t c =
+    let w = c.in-Case in
+    let p = c.deref-in-Case.result.now in
+    let shape = gathered.case_as c.args.s.now w.e w.ss p w.is (c.deref-in-Case.ensures.value ∙ c.items-in-Case.ensures) in
+    on_ok_weaker c.case.result (λ h. matched.emits_as c.args.self.now.known.now c.args.to.now c.case.new.to (stmt c.args.s.now) (tree.case (expr w.e) (stmts p)) shape h) c.case.ensures.code
+
+pub stmt-returns-in-Case-clause-lines : goal.stmt-returns-in-Case-clause-lines
+stmt-returns-in-Case-clause-lines g t c =
+    let w = c.in-Case in
+    let p = c.deref-in-Case.result.now in
+    let shape = gathered.case_as c.args.s.now w.e w.ss p w.is (c.deref-in-Case.ensures.value ∙ c.items-in-Case.ensures) in
+    on_ok_weaker c.case.result (λ h. added.added_as c.args.to.now c.case.new.to (stmt c.args.s.now) (tree.case (expr w.e) (stmts p)) shape h) c.case.ensures.lines
+
+pub stmt-returns-in-Label-clause-code : goal.stmt-returns-in-Label-clause-code
+stmt-returns-in-Label-clause-code g t c =
+    let w = c.in-Label in
+    let p = c.deref-in-Label.result.now in
+    let shape = shaped.label_as c.args.s.now p w.n w.s w.is c.deref-in-Label.ensures in
+    on_ok_weaker c.labelled.result (λ h. matched.emits_as c.args.self.now.known.now c.args.to.now c.labelled.new.to (stmt c.args.s.now) (tree.label w.n (stmt p)) shape h) c.labelled.ensures.code
+
+pub stmt-returns-in-Label-clause-lines : goal.stmt-returns-in-Label-clause-lines
+stmt-returns-in-Label-clause-lines g t c =
+    let w = c.in-Label in
+    let p = c.deref-in-Label.result.now in
+    let shape = shaped.label_as c.args.s.now p w.n w.s w.is c.deref-in-Label.ensures in
+    on_ok_weaker c.labelled.result (λ h. added.added_as c.args.to.now c.labelled.new.to (stmt c.args.s.now) (tree.label w.n (stmt p)) shape h) c.labelled.ensures.lines
+
+pub stmt-returns-in-None-clause-code : goal.stmt-returns-in-None-clause-code
+stmt-returns-in-None-clause-code g t c =
+    let w = c.in-If in
+    let p = c.deref-in-None.result.now in
+    let shape = gathered.if_then_as c.args.s.now w.c w.x w.other p w.is c.in-None.is c.deref-in-None.ensures in
+    on_ok_weaker c.if_then.result (λ h. matched.emits_as c.args.self.now.known.now c.args.to.now c.if_then.new.to (stmt c.args.s.now) (tree.if_then (expr w.c) (stmt p)) shape h) c.if_then.ensures.code
+
+pub stmt-returns-in-None-clause-lines : goal.stmt-returns-in-None-clause-lines
+stmt-returns-in-None-clause-lines g t c =
+    let w = c.in-If in
+    let p = c.deref-in-None.result.now in
+    let shape = gathered.if_then_as c.args.s.now w.c w.x w.other p w.is c.in-None.is c.deref-in-None.ensures in
+    on_ok_weaker c.if_then.result (λ h. added.added_as c.args.to.now c.if_then.new.to (stmt c.args.s.now) (tree.if_then (expr w.c) (stmt p)) shape h) c.if_then.ensures.lines
+
+pub stmt-while_loop-requires : goal.stmt-while_loop-requires
+stmt-while_loop-requires g t c κs within =
+    let w = c.in-While in
+    let p = c.deref-in-While.result.now in
+    let s = c.args.self.now.known.now in
+    let a = c.args.to.now in
+    let shape = gathered.while_as c.args.s.now w.c w.b p w.is c.deref-in-While.ensures in
+    let q = tree.while (expr w.c) (stmt p) in
+    (search (rules, stmts'.the_lemmas, decls'.the_lemmas, bodies'.the_lemmas), (within, (c.requires.level, (matched.ready_as s a (stmt c.args.s.now) q shape c.requires.ready, matched.fit_as s a (stmt c.args.s.now) q shape c.requires.fits))))
+
+pub stmt-until_loop-requires : goal.stmt-until_loop-requires
+stmt-until_loop-requires g t c κs within =
+    let w = c.in-Until in
+    let p = c.deref-in-Until.result.now in
+    let s = c.args.self.now.known.now in
+    let a = c.args.to.now in
+    let shape = gathered.until_as c.args.s.now w.b w.c p w.is c.deref-in-Until.ensures in
+    let q = tree.until (stmt p) (expr w.c) in
+    (search (rules, stmts'.the_lemmas, decls'.the_lemmas, bodies'.the_lemmas), (within, (c.requires.level, (matched.ready_as s a (stmt c.args.s.now) q shape c.requires.ready, matched.fit_as s a (stmt c.args.s.now) q shape c.requires.fits))))
+
+pub stmt-for_loop-requires : goal.stmt-for_loop-requires
+stmt-for_loop-requires g t c κs within =
+    let w = c.in-For in
+    let p = c.deref-in-For.result.now in
+    let s = c.args.self.now.known.now in
+    let a = c.args.to.now in
+    let shape = shaped.for_as c.args.s.now p w.v w.a w.s w.l w.b w.is c.deref-in-For.ensures in
+    let q = tree.for w.v (expr w.a) (expr w.s) (expr w.l) (stmt p) in
+    (search (rules, stmts'.the_lemmas, decls'.the_lemmas, bodies'.the_lemmas), (within, (c.requires.level, (matched.ready_as s a (stmt c.args.s.now) q shape c.requires.ready, matched.fit_as s a (stmt c.args.s.now) q shape c.requires.fits))))
+
+pub stmt-thru_loop-requires : goal.stmt-thru_loop-requires
+stmt-thru_loop-requires g t c κs within =
+    let w = c.in-Thru in
+    let p = c.deref-in-Thru.result.now in
+    let s = c.args.self.now.known.now in
+    let a = c.args.to.now in
+    let shape = gathered.thru_as c.args.s.now w.e w.b p w.is c.deref-in-Thru.ensures in
+    let q = tree.thru (expr w.e) (stmt p) in
+    (search (rules, stmts'.the_lemmas, decls'.the_lemmas, bodies'.the_lemmas), (within, (c.requires.level, (matched.ready_as s a (stmt c.args.s.now) q shape c.requires.ready, matched.fit_as s a (stmt c.args.s.now) q shape c.requires.fits))))
+
+pub stmt-case-requires : goal.stmt-case-requires
+stmt-case-requires g t c κs within =
+    let w = c.in-Case in
+    let p = c.deref-in-Case.result.now in
+    let s = c.args.self.now.known.now in
+    let a = c.args.to.now in
+    let shape = gathered.case_as c.args.s.now w.e w.ss p w.is (c.deref-in-Case.ensures.value ∙ c.items-in-Case.ensures) in
+    let q = tree.case (expr w.e) (stmts p) in
+    (search (rules, stmts'.the_lemmas, decls'.the_lemmas, bodies'.the_lemmas), (within, (c.requires.level, (matched.ready_as s a (stmt c.args.s.now) q shape c.requires.ready, matched.fit_as s a (stmt c.args.s.now) q shape c.requires.fits))))
+
+pub stmt-labelled-requires : goal.stmt-labelled-requires
+stmt-labelled-requires g t c κs within =
+    let w = c.in-Label in
+    let p = c.deref-in-Label.result.now in
+    let s = c.args.self.now.known.now in
+    let a = c.args.to.now in
+    let shape = shaped.label_as c.args.s.now p w.n w.s w.is c.deref-in-Label.ensures in
+    let q = tree.label w.n (stmt p) in
+    (search (rules, stmts'.the_lemmas, decls'.the_lemmas, bodies'.the_lemmas), (within, (c.requires.level, (matched.ready_as s a (stmt c.args.s.now) q shape c.requires.ready, matched.fit_as s a (stmt c.args.s.now) q shape c.requires.fits))))
+
+pub stmt-if_then-requires : goal.stmt-if_then-requires
+stmt-if_then-requires g t c κs within =
+    let w = c.in-If in
+    let p = c.deref-in-None.result.now in
+    let s = c.args.self.now.known.now in
+    let a = c.args.to.now in
+    let shape = gathered.if_then_as c.args.s.now w.c w.x w.other p w.is c.in-None.is c.deref-in-None.ensures in
+    let q = tree.if_then (expr w.c) (stmt p) in
+    (search (rules, stmts'.the_lemmas, decls'.the_lemmas, bodies'.the_lemmas), (within, (c.requires.level, (matched.ready_as s a (stmt c.args.s.now) q shape c.requires.ready, matched.fit_as s a (stmt c.args.s.now) q shape c.requires.fits))))
+
+pub stmt-then_part-requires : goal.stmt-then_part-requires
+stmt-then_part-requires g t c κs within =
+    let w = c.in-If in
+    let p = c.deref-in-Some.result.now in
+    let y = c.in-Some.y in
+    let s = c.args.self.now.known.now in
+    let a = c.args.to.now in
+    let shape = shaped.if_else_as c.args.s.now p y.value w.c w.x w.other y w.is c.in-Some.is c.deref-in-Some.ensures refl in
+    let q = tree.if_else (expr w.c) (stmt p) (stmt y.value) in
+    let fit = matched.fit_as s a (stmt c.args.s.now) q shape c.requires.fits in
+    let ready = matched.ready_less s a (stmt_syllables s q) (expr_syllables s (expr w.c) + stmt_syllables s (stmt p) + 6) (matched.ready_as s a (stmt c.args.s.now) q shape c.requires.ready) (omega arith) in
+    (search (rules, stmts'.the_lemmas, decls'.the_lemmas, bodies'.the_lemmas), (within, (c.requires.level, (ready, (fit.0, fit.1.0, fit.1.1)))))
+
+pub stmt-stmts-requires : goal.stmt-stmts-requires
+stmt-stmts-requires g t c κs within =
+    let s = c.args.self.now.known.now in
+    let a = c.args.to.now in
+    let x = c.args.s.now in
+    let b = c.in-Block.b in
+    let ss = c.deref.result.now in
+    let same = c.deref.ensures.value ∙ c.items-then-is_empty.ensures in
+    let n : c.items.result.now.len ≡ length b.decls = omega (arith, c.items.result.now.ok.0, ap length c.items.ensures) in
+    let ready = blocked.compound_ready s a x b ss c.is_empty.result c.items.result.now.len c.in-Block.is same c.is_empty.ensures n c.if-is_empty.true c.requires.ready in
+    let fit = blocked.compound_fits s a x b ss c.is_empty.result c.items.result.now.len c.in-Block.is same c.is_empty.ensures n c.if-is_empty.true c.requires.fits in
+    (search (rules, stmts'.the_lemmas, decls'.the_lemmas, bodies'.the_lemmas), (within, (c.requires.level, (ready, fit))))
+
+-- ---- calls with what was given, and a block one level further in
+
+pub loop_body-stmt-requires : goal.loop_body-stmt-requires
+loop_body-stmt-requires g t c κs within = (search (rules, stmts'.the_lemmas, decls'.the_lemmas, bodies'.the_lemmas), (within, (c.requires.level, (c.requires.ready, c.requires.fits))))
+
+pub until_loop-loop_body-requires : goal.until_loop-loop_body-requires
+until_loop-loop_body-requires g t c κs within =
+    let s = c.args.self.now.known.now in
+    let x = stmt c.args.b.now in
+    let fits = c.requires.fits in
+    let ready = matched.ready_less s c.args.to.now (stmt_syllables s (tree.until x (expr c.args.c.now))) (stmt_syllables s x) c.requires.ready (omega arith) in
+    (search (rules, stmts'.the_lemmas, decls'.the_lemmas, bodies'.the_lemmas), (within, (c.requires.level, (ready, (fits.0, fits.1.0)))))
+
+pub block_inside-block-requires : goal.block_inside-block-requires
+block_inside-block-requires g t c κs within =
+    let s = c.args.self.now.known.now in
+    let a = c.args.to.now in
+    let level = c.args.self.now.level in
+    let ds = decls c.args.ds.now in
+    let ss = stmts c.args.ss.now in
+    let set = c.in_ok-level.ensures.ok in
+    let ready = blocked.inner_ready s level a c.level.new.self set (block_syllables s ds ss) c.requires.ready in
+    (search (rules, stmts'.the_lemmas, decls'.the_lemmas, bodies'.the_lemmas), (within, (blocked.inner_at s level a c.level.new.self set c.requires.level, (ready, (c.requires.few, blocked.inner_fits s level a c.level.new.self set ds ss c.requires.level c.requires.fits)))))
