@@ -7,7 +7,7 @@ ghost use Rattle.b67_machine.specs.Reads.{machine_end};
 ghost use Rattle.b67_explain.specs.Telling.{CanBeTold, AreCounts, AreActs, IsReportOf};
 
 use crate::ends::words_of;
-use b67_list::{Line, List};
+use b67_list::{Line, List, discard};
 use b67_machine::{Machine, Replayed};
 use b67_report::Report;
 use b67_schedule::Schedule;
@@ -52,6 +52,26 @@ pub fn acts_of(alloc: Global, processors: u32, count: u64) -> Result<List<u64>, 
     Ok(List::of(acts))
 }
 
+/// What a machine tells of its run: its output, and how many operators each process performed.
+fn told_of<C: Core>(
+    alloc: Global,
+    machine: &Machine<C>,
+) -> Result<(List<Line>, List<u64>), AllocError>
+    ensures output { IfOk result (λ told. told.0 ≡ machine.now.image.output) }
+    ensures few { IfOk result (λ told. length told.0 < 2 ^ 64) }
+    ensures counts { IfOk result (λ told. AreCounts machine.now told.1) }
+    ensures numbers { IfOk result (λ told. AreNumbers told.1) }
+{
+    let output = copied(alloc, machine.output())?;
+    match operators_of(alloc, machine) {
+        Ok(operators) => Ok((output, operators)),
+        Err(lack) => {
+            discard(output);
+            Err(lack)
+        }
+    }
+}
+
 /// The report of a machine after a run in which each processor made so many acts, and whose code has these lines. The schedule is what
 /// was performed.
 pub fn report_of<C: Core>(
@@ -69,12 +89,20 @@ pub fn report_of<C: Core>(
 {
     // The number of the lines is read once, so that it is known to have 64 bits.
     let _count = lines.items().len();
-    Ok(Report {
-        output: copied(alloc, machine.output())?,
-        end: words_of(answer, machine.end()),
-        operators: operators_of(alloc, machine)?,
-        acts,
-        listing: lines,
-        schedule,
-    })
+    match told_of(alloc, machine) {
+        Ok((output, operators)) => Ok(Report {
+            output,
+            end: words_of(answer, machine.end()),
+            operators,
+            acts,
+            listing: lines,
+            schedule,
+        }),
+        Err(lack) => {
+            discard(acts);
+            discard(lines);
+            discard(schedule);
+            Err(lack)
+        }
+    }
 }

@@ -1,0 +1,40 @@
+use Rattle.std.proofs.Common.{◌≡◌, ◌<◌, ◌+◌, ◌^◌, ℕ, All, List, [], ◌∷◌, ◌++◌, length, sym, subst, ap, ◌∙◌, arith}
+use Rattle.std.specs.Prelude.{sum}
+use Rattle.std.proofs.lemmas.List.{length-append}
+use Rattle.std.proofs.lemmas.List.Elements.{All-nil, All-push}
+use Rattle.std.proofs.lemmas.List.Sums.{sum_by_push}
+use Rattle.b67_report.specs.Reading.{AreCounts as AreNumbers}
+use Rattle.b67_explain.specs.Telling.{AreActs}
+use Rattle.b67_explain.proofs.report.acts_of.Goals as goal
+
+sum_push : (xs : List ℕ) (y : ℕ) → sum (xs ++ y ∷ []) ≡ sum xs + y
+sum_push = sum_by_push (λ (n : ℕ). n)
+
+pub others-init : goal.others-init
+others-init c =
+    let is = c.in_ok-push.ensures.items ∙ ap (λ (xs : List ℕ). xs ++ c.args.count ∷ []) c.new-acts.ensures.items in
+    record {
+      processors = ap length is;
+      sum = ap sum is ∙ omega (arith, sum_push [] c.args.count);
+      numbers = subst (All (λ (n : ℕ). n < 2 ^ 64)) (sym is) (All-push (λ (n : ℕ). n < 2 ^ 64) [] c.args.count (All-nil (λ (n : ℕ). n < 2 ^ 64)) (omega arith));
+    }
+
+pub others-preserved : goal.others-preserved
+others-preserved c =
+    let xs = c.others.acts.items in
+    let is = c.in_ok-push-2.ensures.items in
+    record {
+      processors = ap length is ∙ omega (arith, length-append xs (0 ∷ []), c.others.invariant.processors);
+      sum = ap sum is ∙ omega (arith, sum_push xs 0, c.others.invariant.sum);
+      numbers = subst (All (λ (n : ℕ). n < 2 ^ 64)) (sym is) (All-push (λ (n : ℕ). n < 2 ^ 64) xs 0 c.others.invariant.numbers (omega arith));
+    }
+
+pub returns-clause-acts : goal.returns-clause-acts
+returns-clause-acts c =
+    subst (AreActs c.args.processors c.args.count) (sym c.of.ensures)
+    (record { each = omega (arith, c.others.invariant.processors, c.others-test.false, c.requires); sum_is = c.others.invariant.sum })
+
+pub returns-clause-numbers : goal.returns-clause-numbers
+returns-clause-numbers c =
+    subst AreNumbers (sym c.of.ensures)
+    (record { each = c.others.invariant.numbers; few = omega (arith, c.others.invariant.processors) })
