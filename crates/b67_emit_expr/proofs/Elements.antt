@@ -9,11 +9,12 @@ use Rattle.b67_ops.specs.declared.Operator.TheVariants as ops
 use Rattle.b67_ops.specs.declared.PlainKind.TheVariants as kinds
 use Rattle.b67_segment.specs.Operators.{size}
 use Rattle.b67_segment.specs.Building.{Built, level_set}
+use Rattle.b67_templates.specs.Paying.{inline}
 use Rattle.b67_templates.specs.Code.{ExprAt}
 use Rattle.b67_templates.specs.Fragments.{Has}
 use Rattle.b67_templates.specs.Emitting.{Emitted}
 use Rattle.b67_emitter.specs.declared.names.Names.{Names}
-use Rattle.b67_emitter.specs.Values.{HasCode, ValueEmitted}
+use Rattle.b67_emitter.specs.Values.{meanings, HasCode, ValueEmitted}
 use Rattle.b67_emitter.proofs.Appends.{same_level}
 use Rattle.b67_emitter.proofs.Composing.{then, weaker}
 use Rattle.b67_emit_expr.specs.Naming.{NameHasCode, NameEmitted}
@@ -79,6 +80,9 @@ module _ (s : Names) where
       let H : PVariable → Type 0 = λ w. HasCode s level (tree.variable w) in
       let own : HasCode s level (tree.variable (tree.subscripted v.name tree.none)) = subst H (is_alone v none) h in
       record { scopes = own.scopes; own = own.own; kind = own.kind; outer = own.outer; fits = own.fits.0 }
+
+  pub alone_syllables : (v : Variable) → v.subs ≡ [] → inline (meanings s) (tree.variable (variable v)) ≡ 12
+  alone_syllables v none = ap (λ (w : PVariable). inline (meanings s) (tree.variable w)) (is_alone v none)
 
   pub alone_form : (level : ℕ) (a b : Built) (v : Variable) → v.subs ≡ [] → NameEmitted s level a b v.name → ValueEmitted s level a b (tree.variable (variable v))
   alone_form level a b v none h =

@@ -8,7 +8,7 @@ use Rattle.algol_tree.specs.Plain as tree
 use Rattle.b67_segment.specs.declared.TheConstants.{MOST_SEGMENT_SYLLABLES}
 use Rattle.b67_segment.specs.Operators.{size}
 use Rattle.b67_segment.specs.Building.{level_set}
-use Rattle.b67_templates.specs.Fragments.{MovedAt, operator_for, truth_literal}
+use Rattle.b67_templates.specs.Fragments.{IsWhole, MovedAt, operator_for, truth_literal}
 use Rattle.b67_templates.specs.Emitting.{Emitted}
 use Rattle.b67_templates.specs.Paying.{mode_at, given_syllables, inline, inline_given}
 use Rattle.b67_emitter.specs.Values.{meant, meanings, filled_syllables}
@@ -22,7 +22,7 @@ use Rattle.b67_emit_expr.proofs.Passed.{wanted_on, actual_on, wanted_as, actual_
 use Rattle.b67_emit_expr.proofs.Modes.{own_modes, given_named, given_valued}
 use Rattle.b67_emit_expr.proofs.Arms.{on_ok_both, has_as, emitted_as, variable_as, variable_syllables, variable_has, variable_arm, calling_tokens, calling_syllables, call_has, call_arm, event_syllables, event_has, event_arm}
 use Rattle.b67_emit_expr.proofs.Subscripts.{first_tokens, both_tokens, first_syllables, both_syllables, subscripts_fewer, read_back, told_list, known_lows, known_element, seen_element, some_subscripts, as_many_lows, own_syllables, first_has, first_back, first_whole, second_has, second_back, second_whole, one_form, two_form}
-use Rattle.b67_emit_expr.proofs.Elements.{is_element, some_in, none_in, element_has, element_form, alone_has, alone_form}
+use Rattle.b67_emit_expr.proofs.Elements.{is_element, some_in, none_in, element_has, element_form, alone_has, alone_syllables, alone_form}
 use Rattle.b67_emit_expr.proofs.values.+values.Goals as goal
 
 pub operand-aim_exits-requires-clause-list : goal.operand-aim_exits-requires-clause-list
@@ -887,3 +887,235 @@ value_with_exits-returns-in-Call-clause-level t c = c.called.ensures.level
 
 pub value_with_exits-returns-in-Happened-clause-level : goal.value_with_exits-returns-in-Happened-clause-level
 value_with_exits-returns-in-Happened-clause-level t c = c.append_on_event.ensures.level
+
+pub chosen-operand-requires : goal.chosen-operand-requires
+chosen-operand-requires t c =
+    let s = c.args.names.now in
+    let a = c.args.out.now in
+    let smaller : 3 * expr_tokens (expr c.args.condition.now) + 1 < t = omega (arith, c.decreases) in
+    let room : size a.operators + inline (meanings s) (expr c.args.condition.now) ≤ MOST_SEGMENT_SYLLABLES = omega (arith, c.requires.room) in
+    (smaller, (c.requires.set, (c.requires.near, (c.requires.condition, room))))
+
+pub chosen-append_branch-requires-clause-room : goal.chosen-append_branch-requires-clause-room
+chosen-append_branch-requires-clause-room t c =
+    omega (arith, c.in_ok-operand.ensures.size, c.requires.room)
+
+pub chosen-value_with_exits-requires : goal.chosen-value_with_exits-requires
+chosen-value_with_exits-requires t c =
+    let s = c.args.names.now in
+    let a = c.args.out.now in
+    let b = c.append_branch.new.out in
+    let level = c.in_ok-otherwise.ensures.level ∙ c.in_ok-operand.ensures.level in
+    let smaller : 3 * expr_tokens (expr c.args.x.now) < t = omega (arith, c.decreases) in
+    let room : size b.operators + inline (meanings s) (expr c.args.x.now) ≤ MOST_SEGMENT_SYLLABLES = omega (arith, c.in_ok-otherwise.ensures.size, c.in_ok-operand.ensures.size, c.requires.room) in
+    let code = code_on s (level_set a) (level_set b) (expr c.args.x.now) (same_level a b level) c.requires.first in
+    (smaller, (set_after a b level c.requires.set, (c.requires.near, (code, room))))
+
+pub chosen-append_exit-requires-clause-room : goal.chosen-append_exit-requires-clause-room
+chosen-append_exit-requires-clause-room t c =
+    omega (arith, c.in_ok-value_with_exits.ensures.size, c.in_ok-otherwise.ensures.size, c.in_ok-operand.ensures.size, c.requires.room)
+
+pub chosen-value_with_exits-requires-2 : goal.chosen-value_with_exits-requires-2
+chosen-value_with_exits-requires-2 t c =
+    let s = c.args.names.now in
+    let a = c.args.out.now in
+    let b = c.aim.new.out in
+    let level = c.aim.ensures.level ∙ c.in_ok-append_exit.ensures.level ∙ c.in_ok-value_with_exits.ensures.level ∙ c.in_ok-otherwise.ensures.level ∙ c.in_ok-operand.ensures.level in
+    let smaller : 3 * expr_tokens (expr c.args.y.now) < t = omega (arith, c.decreases) in
+    let room : size b.operators + inline (meanings s) (expr c.args.y.now) ≤ MOST_SEGMENT_SYLLABLES =
+    omega (arith, c.aim.ensures.place, c.in_ok-append_exit.ensures.size, c.in_ok-value_with_exits.ensures.size, c.in_ok-otherwise.ensures.size, c.in_ok-operand.ensures.size, c.requires.room) in
+    let code = code_on s (level_set a) (level_set b) (expr c.args.y.now) (same_level a b level) c.requires.second in
+    (smaller, (set_after a b level c.requires.set, (c.requires.near, (code, room))))
+
+pub chosen-returns-clause-level : goal.chosen-returns-clause-level
+chosen-returns-clause-level t c =
+    let level = c.aim.ensures.level ∙ c.in_ok-append_exit.ensures.level ∙ c.in_ok-value_with_exits.ensures.level ∙ c.in_ok-otherwise.ensures.level ∙ c.in_ok-operand.ensures.level in
+    on_ok_weaker c.value_with_exits-2.result (λ same. same ∙ level) c.value_with_exits-2.ensures.level
+
+pub chosen-returns-clause-size : goal.chosen-returns-clause-size
+chosen-returns-clause-size t c =
+    on_ok_weaker c.value_with_exits-2.result
+    (λ wide. omega (arith, c.aim.ensures.place, c.in_ok-append_exit.ensures.size, c.in_ok-value_with_exits.ensures.size, c.in_ok-otherwise.ensures.size, c.in_ok-operand.ensures.size, wide))
+    c.value_with_exits-2.ensures.size
+
+pub applied-operand-requires : goal.applied-operand-requires
+applied-operand-requires t c =
+    let smaller : 3 * expr_tokens (expr c.args.e.now) + 1 < t = omega (arith, c.decreases) in
+    let room : size c.args.out.now.operators + inline (meanings c.args.names.now) (expr c.args.e.now) ≤ MOST_SEGMENT_SYLLABLES = omega (arith, c.requires.room) in
+    (smaller, (c.requires.set, (c.requires.near, (c.requires.code, room))))
+
+pub applied-append_plain-requires-clause-set : goal.applied-append_plain-requires-clause-set
+applied-append_plain-requires-clause-set t c = set_after c.args.out.now c.operand.new.out c.in_ok-operand.ensures.level c.requires.set
+
+pub applied-append_plain-requires-clause-room : goal.applied-append_plain-requires-clause-room
+applied-append_plain-requires-clause-room t c = omega (arith, c.in_ok-operand.ensures.size, c.requires.room)
+
+pub applied-returns-clause-level : goal.applied-returns-clause-level
+applied-returns-clause-level t c = on_ok_weaker c.append_plain.result (λ same. same ∙ c.in_ok-operand.ensures.level) c.append_plain.ensures.level
+
+pub applied-returns-clause-size : goal.applied-returns-clause-size
+applied-returns-clause-size t c = on_ok_weaker c.append_plain.result (λ wide. omega (arith, c.in_ok-operand.ensures.size, wide)) c.append_plain.ensures.size
+
+pub applied-returns-clause-exits : goal.applied-returns-clause-exits
+applied-returns-clause-exits t c = on_ok_weaker c.append_plain.result (λ done. c.in_ok-operand.ensures.exits) c.append_plain.ensures.level
+
+pub operand-value_with_exits-requires : goal.operand-value_with_exits-requires
+operand-value_with_exits-requires t c =
+    let smaller : 3 * expr_tokens (expr c.args.e.now) < t = omega (arith, c.decreases) in
+    (smaller, (c.requires.set, (c.requires.near, (c.requires.code, c.requires.room))))
+
+pub operand-returns-clause-level : goal.operand-returns-clause-level
+operand-returns-clause-level t c = c.aim_exits.ensures.aimed.level ∙ c.in_ok-value_with_exits.ensures.level
+
+pub operand-returns-clause-size : goal.operand-returns-clause-size
+operand-returns-clause-size t c = omega (arith, c.aim_exits.ensures.aimed.place, c.in_ok-value_with_exits.ensures.size)
+
+pub calculated-append_ready-requires-clause-set : goal.calculated-append_ready-requires-clause-set
+calculated-append_ready-requires-clause-set t c = set_after c.args.out.now c.operand.new.out c.in_ok-operand.ensures.level c.requires.set
+
+pub calculated-append_ready-requires-clause-room : goal.calculated-append_ready-requires-clause-room
+calculated-append_ready-requires-clause-room t c = omega (arith, c.in_ok-operand.ensures.size, c.requires.room)
+
+pub calculated-append_plain-requires-clause-set : goal.calculated-append_plain-requires-clause-set
+calculated-append_plain-requires-clause-set t c = set_after c.args.out.now c.operand-2.new.out (c.in_ok-operand-2.ensures.level ∙ c.in_ok-append_ready.ensures.level ∙ c.in_ok-operand.ensures.level) c.requires.set
+
+pub calculated-append_plain-requires-clause-room : goal.calculated-append_plain-requires-clause-room
+calculated-append_plain-requires-clause-room t c = omega (arith, c.in_ok-operand-2.ensures.size, c.in_ok-append_ready.ensures.size, c.in_ok-operand.ensures.size, c.requires.room)
+
+pub calculated-returns-clause-level : goal.calculated-returns-clause-level
+calculated-returns-clause-level t c = on_ok_weaker c.append_plain.result (λ same. same ∙ c.in_ok-operand-2.ensures.level ∙ c.in_ok-append_ready.ensures.level ∙ c.in_ok-operand.ensures.level) c.append_plain.ensures.level
+
+pub calculated-returns-clause-size : goal.calculated-returns-clause-size
+calculated-returns-clause-size t c =
+    on_ok_weaker c.append_plain.result (λ wide. omega (arith, c.in_ok-operand-2.ensures.size, c.in_ok-append_ready.ensures.size, c.in_ok-operand.ensures.size, wide))
+    c.append_plain.ensures.size
+
+pub calculated-returns-clause-exits : goal.calculated-returns-clause-exits
+calculated-returns-clause-exits t c = on_ok_weaker c.append_plain.result (λ done. ◌∙◌ {A = List ℕ} c.in_ok-operand-2.ensures.exits c.in_ok-operand.ensures.exits) c.append_plain.ensures.level
+
+pub chosen-append_branch-requires-clause-set : goal.chosen-append_branch-requires-clause-set
+chosen-append_branch-requires-clause-set t c = set_after c.args.out.now c.operand.new.out c.in_ok-operand.ensures.level c.requires.set
+
+pub chosen-append_exit-requires-clause-set : goal.chosen-append_exit-requires-clause-set
+chosen-append_exit-requires-clause-set t c = set_after c.args.out.now c.value_with_exits.new.out (c.in_ok-value_with_exits.ensures.level ∙ c.in_ok-otherwise.ensures.level ∙ c.in_ok-operand.ensures.level) c.requires.set
+
+pub subscript-operand-requires : goal.subscript-operand-requires
+subscript-operand-requires t c =
+    let smaller : 3 * expr_tokens (expr c.args.e.now) + 1 < t = omega (arith, c.decreases) in
+    let room : size c.args.out.now.operators + inline (meanings c.args.names.now) (expr c.args.e.now) ≤ MOST_SEGMENT_SYLLABLES = omega (arith, c.requires.room) in
+    (smaller, (c.requires.set, (c.requires.near, (c.requires.code, room))))
+
+pub subscript-append_moved-requires-clause-set : goal.subscript-append_moved-requires-clause-set
+subscript-append_moved-requires-clause-set t c = set_after c.args.out.now c.operand.new.out c.in_ok-operand.ensures.level c.requires.set
+
+pub subscript-append_moved-requires-clause-whole : goal.subscript-append_moved-requires-clause-whole
+subscript-append_moved-requires-clause-whole t c =
+    let W : ℤ → Type 0 = λ z. IsWhole z in subst W (sym (read_back c.args.low c.requires.whole)) c.requires.whole
+
+pub subscript-append_moved-requires-clause-room : goal.subscript-append_moved-requires-clause-room
+subscript-append_moved-requires-clause-room t c = omega (arith, c.in_ok-operand.ensures.size, c.requires.room)
+
+pub subscript-returns-clause-level : goal.subscript-returns-clause-level
+subscript-returns-clause-level t c = on_ok_weaker c.append_moved.result (λ same. same ∙ c.in_ok-operand.ensures.level) c.append_moved.ensures.level
+
+pub subscript-returns-clause-size : goal.subscript-returns-clause-size
+subscript-returns-clause-size t c = on_ok_weaker c.append_moved.result (λ wide. omega (arith, c.in_ok-operand.ensures.size, wide)) c.append_moved.ensures.size
+
+pub subscript-returns-clause-exits : goal.subscript-returns-clause-exits
+subscript-returns-clause-exits t c = on_ok_weaker c.append_moved.result (λ done. c.in_ok-operand.ensures.exits) c.append_moved.ensures.level
+
+pub called-returns-clause-level : goal.called-returns-clause-level
+called-returns-clause-level t c = on_ok_weaker c.filled.result (λ same. same ∙ c.in_ok-append_begun.ensures.level) c.filled.ensures.level
+
+pub called-returns-clause-exits : goal.called-returns-clause-exits
+called-returns-clause-exits t c = c.filled.ensures.exits
+
+pub filled-append_plain-requires-clause-set : goal.filled-append_plain-requires-clause-set
+filled-append_plain-requires-clause-set t c = set_after c.args.out.now c.actuals.out c.actuals.invariant.level c.requires.set
+
+pub filled-returns-clause-level : goal.filled-returns-clause-level
+filled-returns-clause-level t c = on_ok_weaker c.append_plain.result (λ same. same ∙ c.actuals.invariant.level) c.append_plain.ensures.level
+
+pub filled-returns-clause-exits : goal.filled-returns-clause-exits
+filled-returns-clause-exits t c = on_ok_weaker c.append_plain.result (λ done. c.actuals.invariant.exits) c.append_plain.ensures.level
+
+pub given-returns-then-by_name-clause-level : goal.given-returns-then-by_name-clause-level
+given-returns-then-by_name-clause-level t c = c.append_given.ensures.level
+
+pub given-returns-else-by_name-clause-level : goal.given-returns-else-by_name-clause-level
+given-returns-else-by_name-clause-level t c = c.valued.ensures.level
+
+pub given-returns-else-by_name-clause-exits : goal.given-returns-else-by_name-clause-exits
+given-returns-else-by_name-clause-exits t c = c.valued.ensures.exits
+
+pub given-returns-then-by_name-clause-exits : goal.given-returns-then-by_name-clause-exits
+given-returns-then-by_name-clause-exits t c = on_ok_weaker c.append_given.result (λ done. refl) c.append_given.ensures.level
+
+pub valued-returns-in-Some-clause-level : goal.valued-returns-in-Some-clause-level
+valued-returns-in-Some-clause-level t c = c.append_passed.ensures.level
+
+pub valued-returns-in-Some-clause-exits : goal.valued-returns-in-Some-clause-exits
+valued-returns-in-Some-clause-exits t c = on_ok_weaker c.append_passed.result (λ done. refl) c.append_passed.ensures.level
+
+pub valued-returns-in-None-clause-level : goal.valued-returns-in-None-clause-level
+valued-returns-in-None-clause-level t c = c.operand.ensures.level
+
+pub valued-returns-in-None-clause-size : goal.valued-returns-in-None-clause-size
+valued-returns-in-None-clause-size t c = c.operand.ensures.size
+
+pub valued-returns-in-None-clause-exits : goal.valued-returns-in-None-clause-exits
+valued-returns-in-None-clause-exits t c = c.operand.ensures.exits
+
+pub read-append_name-requires-clause-room : goal.read-append_name-requires-clause-room
+read-append_name-requires-clause-room t c =
+    let v = c.args.v.now in
+    let none = none_in c.is_empty.result c.items.result.now.len v.subs c.is_empty.ensures (c.items.result.now.ok.0 ∙ ap length c.items.ensures) c.if-is_empty.true in
+    omega (arith, alone_syllables c.args.names.now v none, c.requires.room)
+
+pub read-returns-then-is_empty-clause-size : goal.read-returns-then-is_empty-clause-size
+read-returns-then-is_empty-clause-size t c =
+    let v = c.args.v.now in
+    let none = none_in c.is_empty.result c.items.result.now.len v.subs c.is_empty.ensures (c.items.result.now.ok.0 ∙ ap length c.items.ensures) c.if-is_empty.true in
+    on_ok_weaker c.append_name.result (λ wide. omega (arith, alone_syllables c.args.names.now v none, wide)) c.append_name.ensures.size
+
+pub read-returns-then-is_empty-clause-level : goal.read-returns-then-is_empty-clause-level
+read-returns-then-is_empty-clause-level t c = c.append_name.ensures.level
+
+pub read-returns-then-is_empty-clause-exits : goal.read-returns-then-is_empty-clause-exits
+read-returns-then-is_empty-clause-exits t c = on_ok_weaker c.append_name.result (λ done. refl) c.append_name.ensures.level
+
+pub read-append_plain-requires-clause-set : goal.read-append_plain-requires-clause-set
+read-append_plain-requires-clause-set t c = set_after c.args.out.now c.subscripts.new.out c.in_ok-subscripts.ensures.level c.requires.set
+
+pub read-append_plain-requires-clause-room : goal.read-append_plain-requires-clause-room
+read-append_plain-requires-clause-room t c = omega (arith, c.in_ok-subscripts.ensures.size, c.requires.room)
+
+pub read-returns-in_ok-subscripts-clause-level : goal.read-returns-in_ok-subscripts-clause-level
+read-returns-in_ok-subscripts-clause-level t c = on_ok_weaker c.append_plain.result (λ same. same ∙ c.in_ok-subscripts.ensures.level) c.append_plain.ensures.level
+
+pub read-returns-in_ok-subscripts-clause-size : goal.read-returns-in_ok-subscripts-clause-size
+read-returns-in_ok-subscripts-clause-size t c = on_ok_weaker c.append_plain.result (λ wide. omega (arith, c.in_ok-subscripts.ensures.size, wide)) c.append_plain.ensures.size
+
+pub read-returns-in_ok-subscripts-clause-exits : goal.read-returns-in_ok-subscripts-clause-exits
+read-returns-in_ok-subscripts-clause-exits t c = on_ok_weaker c.append_plain.result (λ done. c.in_ok-subscripts.ensures.exits) c.append_plain.ensures.level
+
+pub subscripts-append_reference-requires-clause-set : goal.subscripts-append_reference-requires-clause-set
+subscripts-append_reference-requires-clause-set t c = set_after c.args.out.now c.subscript.new.out c.in_ok-subscript.ensures.level c.requires.set
+
+pub subscripts-append_plain-requires-clause-set : goal.subscripts-append_plain-requires-clause-set
+subscripts-append_plain-requires-clause-set t c = set_after c.args.out.now c.append_reference.new.out (c.in_ok-append_reference.ensures.level ∙ c.in_ok-subscript.ensures.level) c.requires.set
+
+pub subscripts-append_plain-requires-then-subs-gt1-clause-set : goal.subscripts-append_plain-requires-then-subs-gt1-clause-set
+subscripts-append_plain-requires-then-subs-gt1-clause-set t c = set_after c.args.out.now c.subscript-then-subs-gt1.new.out (c.in_ok-subscript-2.ensures.level ∙ c.in_ok-append_plain.ensures.level ∙ c.in_ok-append_reference.ensures.level ∙ c.in_ok-subscript.ensures.level) c.requires.set
+
+pub subscripts-returns-else-subs-gt1-clause-level : goal.subscripts-returns-else-subs-gt1-clause-level
+subscripts-returns-else-subs-gt1-clause-level t c = c.in_ok-append_reference.ensures.level ∙ c.in_ok-subscript.ensures.level
+
+pub subscripts-returns-else-subs-gt1-clause-exits : goal.subscripts-returns-else-subs-gt1-clause-exits
+subscripts-returns-else-subs-gt1-clause-exits t c = c.in_ok-subscript.ensures.exits
+
+pub subscripts-returns-in_ok-append_plain-2-clause-level : goal.subscripts-returns-in_ok-append_plain-2-clause-level
+subscripts-returns-in_ok-append_plain-2-clause-level t c = c.in_ok-append_plain-2.ensures.level ∙ c.in_ok-subscript-2.ensures.level ∙ c.in_ok-append_plain.ensures.level ∙ c.in_ok-append_reference.ensures.level ∙ c.in_ok-subscript.ensures.level
+
+pub subscripts-returns-in_ok-append_plain-2-clause-exits : goal.subscripts-returns-in_ok-append_plain-2-clause-exits
+subscripts-returns-in_ok-append_plain-2-clause-exits t c = ◌∙◌ {A = List ℕ} c.in_ok-subscript-2.ensures.exits c.in_ok-subscript.ensures.exits

@@ -1,4 +1,4 @@
-use Rattle.std.proofs.Common.{◌∙◌}
+use Rattle.std.proofs.Common.{◌∙◌, arith}
 use Rattle.std.proofs.lemmas.Result.{on_ok_weaker}
 use Rattle.algol_tree.specs.declared.tree.Kind.TheVariants as types
 use Rattle.algol_tree.specs.Image.{expr}
@@ -7,7 +7,7 @@ use Rattle.b67_segment.specs.Building.{level_set}
 use Rattle.b67_emit_stmt.proofs.Drafts.{level_same}
 use Rattle.b67_emit_stmt.specs.Places.{ReadAt}
 use Rattle.b67_segment.specs.Operators.{size}
-use Rattle.b67_emit_stmt.proofs.Parts.{advance_part, code_at, leveled, variable_at, plain_at, value_at}
+use Rattle.b67_emit_stmt.proofs.Parts.{advance_part, code_at, leveled, set_same, variable_at, plain_at, value_at}
 use Rattle.b67_emit_stmt.proofs.draft.StmtEmitter.advance.Goals as goal
 
 pub value-requires-clause-code : goal.value-requires-clause-code
@@ -36,3 +36,35 @@ returns-clause-code g c =
     (plain_at kinds.Add (level_set a) t c.in_ok-append_plain.ensures.code)
     (plain_at kinds.Stod (level_set a) (level_same e x c.in_ok-append_plain.ensures.level ∙ t) h))
     c.append_plain-2.ensures.code
+
+pub reference-requires : goal.reference-requires
+reference-requires g c = record {
+  set = c.requires.set;
+  near = c.requires.near;
+  fits = (c.requires.fits.0, types.Number, c.requires.fits.1.1);
+  room = omega (arith, c.requires.room);
+}
+
+pub read-requires : goal.read-requires
+read-requires g c =
+    let a = c.args.out.now in
+    let b = c.reference.new.out in
+    let sc = c.requires.fits.0 in
+    record {
+      set = set_same a b c.in_ok-reference.ensures.level c.requires.set;
+      near = c.requires.near;
+      fits = (sc, types.Number, (variable_at c.args.self.now.known.now (level_set b) (level_set a) sc c.args.v.now (level_same a b c.in_ok-reference.ensures.level) c.requires.fits.1).0);
+      room = omega (arith, c.in_ok-reference.ensures.size, c.requires.room);
+    }
+
+pub returns-clause-level : goal.returns-clause-level
+returns-clause-level g c =
+    on_ok_weaker c.append_plain-2.result
+    (λ h. h ∙ c.in_ok-append_plain.ensures.level ∙ c.in_ok-value.ensures.level ∙ c.in_ok-read.ensures.level ∙ c.in_ok-reference.ensures.level)
+    c.append_plain-2.ensures.level
+
+pub returns-clause-size : goal.returns-clause-size
+returns-clause-size g c =
+    on_ok_weaker c.append_plain-2.result
+    (λ h. omega (arith, h, c.in_ok-append_plain.ensures.size, c.in_ok-value.ensures.size, c.in_ok-read.ensures.size, c.in_ok-reference.ensures.size))
+    c.append_plain-2.ensures.size

@@ -1,4 +1,4 @@
-use Rattle.std.proofs.Common.{◌∙◌}
+use Rattle.std.proofs.Common.{◌∙◌, arith}
 use Rattle.std.proofs.lemmas.Result.{on_ok_weaker}
 use Rattle.algol_tree.specs.Image.{expr}
 use Rattle.b67_ops.specs.declared.PlainKind.TheVariants as kinds
@@ -25,3 +25,11 @@ returns-clause-code g c =
     (value_at c.args.self.now.known.now b d (level_set a) sc later fit.0 (expr c.args.e.now) q c.in_ok-value.ensures.code fit.2)
     (plain_at kinds.Stod (level_set a) (level_same b d c.in_ok-value.ensures.level ∙ q) h))
     c.append_plain.ensures.code
+
+pub reference-requires : goal.reference-requires
+reference-requires g c = record {
+  set = c.requires.set;
+  near = c.requires.near;
+  fits = (c.requires.fits.0, c.requires.fits.1.0, c.requires.fits.1.1);
+  room = omega (arith, c.requires.room);
+}

@@ -1,4 +1,4 @@
-use Rattle.std.proofs.Common.{◌∙◌}
+use Rattle.std.proofs.Common.{◌∙◌, arith}
 use Rattle.std.proofs.lemmas.Result.{on_ok_weaker}
 use Rattle.algol_tree.specs.declared.tree.Kind.TheVariants as types
 use Rattle.algol_tree.specs.Image.{expr}
@@ -26,3 +26,11 @@ returns-clause-code g c =
     (value_at c.args.self.now.known.now b d (level_set a) sc later types.Number (expr c.args.l.now) q c.in_ok-value.ensures.code fit)
     (plain_at kinds.Subt (level_set a) (level_same b d c.in_ok-value.ensures.level ∙ q) h))
     c.append_plain.ensures.code
+
+pub read-requires : goal.read-requires
+read-requires g c = record {
+  set = c.requires.set;
+  near = c.requires.near;
+  fits = (c.requires.fits.0, types.Number, c.requires.fits.1);
+  room = omega (arith, c.requires.room);
+}

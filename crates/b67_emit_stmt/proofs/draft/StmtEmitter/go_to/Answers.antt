@@ -39,3 +39,9 @@ returns-clause-code g c =
     (subst (N e f) third (leveled (λ l qs. NumberAt qs l c.fitting-3.result (size e.operators) (size f.operators)) level t c.in_ok-append_number-3.ensures.code))
     (plain_at kinds.Entr level u h))
     c.append_plain.ensures.code
+
+pub returns-clause-size : goal.returns-clause-size
+returns-clause-size g c =
+    on_ok_weaker c.append_plain.result
+    (λ h. omega (arith, h, c.in_ok-append_number-3.ensures.size, c.in_ok-append_number-2.ensures.size, c.in_ok-append_number.ensures.size, c.in_ok-append_intrinsic.ensures.size))
+    c.append_plain.ensures.size

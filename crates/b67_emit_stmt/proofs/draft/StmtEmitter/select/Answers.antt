@@ -1,5 +1,6 @@
 use Rattle.std.proofs.Common.{◌≡◌, ◌+◌, ◌∙◌, ℤ, pos, length, refl, subst, arith}
 use Rattle.std.proofs.lemmas.Int.{ints}
+use Rattle.std.proofs.lemmas.Result.{on_ok_weaker}
 use Rattle.algol_tree.specs.declared.tree.Kind.TheVariants as types
 use Rattle.algol_tree.specs.Image.{expr}
 use Rattle.b67_ops.specs.declared.Operator.TheVariants as ops
@@ -53,3 +54,9 @@ returns-clause-code g c =
     (leveled (λ l qs. Has qs l (size x.operators) (ops.Lt16 place) (size y.operators)) level t c.in_ok-append_operator.ensures.code)
     (plain_at kinds.Entr level u h))
     c.append_plain.ensures.code c.append_plain.ensures.size
+
+pub returns-clause-size : goal.returns-clause-size
+returns-clause-size g c =
+    on_ok_weaker c.append_plain.result
+    (λ h. omega (arith, h, c.in_ok-append_operator.ensures.size, c.in_ok-append_number.ensures.size, c.in_ok-value.ensures.size, c.in_ok-append_intrinsic.ensures.size))
+    c.append_plain.ensures.size

@@ -15,7 +15,7 @@ use Rattle.b67_emit_stmt.specs.Lengths.{write_syllables}
 use Rattle.b67_emit_stmt.proofs.Added.{format_is}
 use Rattle.b67_emit_stmt.proofs.Drafts.{level_same}
 use Rattle.b67_emit_stmt.proofs.Notes.{unknown}
-use Rattle.b67_emit_stmt.proofs.Parts.{leveled, plain_at}
+use Rattle.b67_emit_stmt.proofs.Parts.{leveled, plain_at, set_same}
 use Rattle.b67_emit_stmt.proofs.Writing.{write_part}
 use Rattle.b67_emit_stmt.proofs.draft.StmtEmitter.write.Goals as goal
 
@@ -51,4 +51,20 @@ returns-clause-lines g c =
     record {
       formats = c.in_ok-push.ensures.items ∙ ap (λ f. a.formats.items ++ f ∷ []) (format_is c.args.phrases.now c.in_ok-format.format c.in_ok-format.ensures);
       labels = sym (append-nil (spots_of a.labels.items));
+    }
+
+pub items-requires : goal.items-requires
+items-requires g c =
+    let a = c.args.to.now.out in
+    let b = c.append_intrinsic.new.out in
+    let d = c.append_number.new.out in
+    let sc = c.requires.fits.0 in
+    let first = c.in_ok-append_intrinsic.ensures.code.level in
+    let second = c.in_ok-append_number.ensures.level in
+    let F : ℕ → Type 0 = λ l. LineFits sc c.args.self.now.known.now l (exprs c.args.items.now) in
+    record {
+      set = set_same a d (second ∙ first) c.requires.ready.set;
+      near = c.requires.ready.near;
+      fits = (sc, subst F (sym (level_same b d second ∙ level_same a b first)) c.requires.fits.1.2);
+      room = omega (arith, c.in_ok-append_number.ensures.size, c.in_ok-append_intrinsic.ensures.size, c.requires.ready.room);
     }
