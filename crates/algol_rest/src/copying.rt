@@ -19,6 +19,13 @@ pub fn copied<T: Copy>(alloc: Global, items: &[T]) -> Result<List<T>, AllocError
     Ok(List::of(list))
 }
 
+/// A copy of a list.
+fn copy_list<T: Copy>(alloc: Global, list: &List<T>) -> Result<List<T>, AllocError>
+    ensures { IfOk result (λ copy. copy ≡ list.now) }
+{
+    copied(alloc, list.items())
+}
+
 // ---- cells
 
 /// A copy of an event.
@@ -28,8 +35,8 @@ fn copy_event(alloc: Global, event: &EventCell) -> Result<EventCell, AllocError>
     Ok(EventCell {
         happened: event.happened,
         available: event.available,
-        waiters: copied(alloc, event.waiters.items())?,
-        procurers: copied(alloc, event.procurers.items())?,
+        waiters: copy_list(alloc, &event.waiters)?,
+        procurers: copy_list(alloc, &event.procurers)?,
     })
 }
 
@@ -38,8 +45,8 @@ fn copy_array(alloc: Global, array: &ArrayCell) -> Result<ArrayCell, AllocError>
     ensures { IfOk result (λ copy. copy ≡ array.now) }
 {
     Ok(ArrayCell {
-        bounds: copied(alloc, array.bounds.items())?,
-        elements: copied(alloc, array.elements.items())?,
+        bounds: copy_list(alloc, &array.bounds)?,
+        elements: copy_list(alloc, &array.elements)?,
     })
 }
 
@@ -64,7 +71,7 @@ fn copy_place<'p>(alloc: Global, place: &Place<'p>) -> Result<Place<'p>, AllocEr
     match place {
         Place::Own(n) => Ok(Place::Own(*n)),
         Place::There(r) => Ok(Place::There(*r)),
-        Place::ElementOf(r, ks) => Ok(Place::ElementOf(*r, copied(alloc, ks.items())?)),
+        Place::ElementOf(r, ks) => Ok(Place::ElementOf(*r, copy_list(alloc, ks)?)),
     }
 }
 
@@ -79,11 +86,12 @@ fn copy_given<'p>(alloc: Global, given: &Given<'p>) -> Result<Given<'p>, AllocEr
     }
 }
 
-fn copy_givens<'p>(alloc: Global, givens: &[Given<'p>]) -> Result<List<Given<'p>>, AllocError>
+fn copy_givens<'p>(alloc: Global, givens: &List<Given<'p>>) -> Result<List<Given<'p>>, AllocError>
     ensures { IfOk result (λ copies. copies ≡ givens.now) }
 {
-    let mut copies = Vec::with_capacity(alloc, givens.len())?;
-    for given in givens {
+    let from = givens.items().as_slice();
+    let mut copies = Vec::with_capacity(alloc, from.len())?;
+    for given in from {
         copies.push(copy_given(alloc, given)?)?;
     }
     Ok(List::of(copies))
@@ -96,14 +104,12 @@ fn copy_head<'p>(alloc: Global, head: &Head<'p>) -> Result<Head<'p>, AllocError>
 {
     match head {
         Head::Read(n) => Ok(Head::Read(*n)),
-        Head::Element(n, ks, v) => Ok(Head::Element(*n, copied(alloc, ks.items())?, *v)),
-        Head::Index(n, ks, v, e, es) => {
-            Ok(Head::Index(*n, copied(alloc, ks.items())?, *v, *e, *es))
-        }
+        Head::Element(n, ks, v) => Ok(Head::Element(*n, copy_list(alloc, ks)?, *v)),
+        Head::Index(n, ks, v, e, es) => { Ok(Head::Index(*n, copy_list(alloc, ks)?, *v, *e, *es)) }
         Head::Happens(n) => Ok(Head::Happens(*n)),
         Head::Broken(op, v, w, fault) => Ok(Head::Broken(*op, *v, *w, *fault)),
-        Head::Enter(n, gs) => Ok(Head::Enter(*n, copy_givens(alloc, gs.items())?)),
-        Head::Pass(n, gs, m, es) => { Ok(Head::Pass(*n, copy_givens(alloc, gs.items())?, *m, *es)) }
+        Head::Enter(n, gs) => Ok(Head::Enter(*n, copy_givens(alloc, gs)?)),
+        Head::Pass(n, gs, m, es) => { Ok(Head::Pass(*n, copy_givens(alloc, gs)?, *m, *es)) }
         Head::Inside => Ok(Head::Inside),
     }
 }
@@ -112,10 +118,8 @@ fn copy_frame<'p>(alloc: Global, frame: &Frame<'p>) -> Result<Frame<'p>, AllocEr
     ensures { IfOk result (λ copy. copy ≡ frame.now) }
 {
     match frame {
-        Frame::Subscript(n, ks, es) => { Ok(Frame::Subscript(*n, copied(alloc, ks.items())?, *es)) }
-        Frame::Argument(n, gs, es) => {
-            Ok(Frame::Argument(*n, copy_givens(alloc, gs.items())?, *es))
-        }
+        Frame::Subscript(n, ks, es) => { Ok(Frame::Subscript(*n, copy_list(alloc, ks)?, *es)) }
+        Frame::Argument(n, gs, es) => { Ok(Frame::Argument(*n, copy_givens(alloc, gs)?, *es)) }
         Frame::Left(op, e) => Ok(Frame::Left(*op, *e)),
         Frame::Right(op, v) => Ok(Frame::Right(*op, *v)),
         Frame::Negated => Ok(Frame::Negated),
@@ -150,19 +154,19 @@ fn copy_within<'p>(alloc: Global, within: &Within<'p>) -> Result<Within<'p>, All
         Within::Testing(s) => Ok(Within::Testing(*s)),
         Within::Stepping(v, s) => Ok(Within::Stepping(*v, *s)),
         Within::Supplying(role, n, gs, es) => {
-            Ok(Within::Supplying(*role, *n, copy_givens(alloc, gs.items())?, *es))
+            Ok(Within::Supplying(*role, *n, copy_givens(alloc, gs)?, *es))
         }
         Within::Subscripting(sought, n, ks, es) => {
-            Ok(Within::Subscripting(*sought, *n, copied(alloc, ks.items())?, *es))
+            Ok(Within::Subscripting(*sought, *n, copy_list(alloc, ks)?, *es))
         }
         Within::Writing(phrases, vs, es) => {
-            Ok(Within::Writing(*phrases, copied(alloc, vs.items())?, *es))
+            Ok(Within::Writing(*phrases, copy_list(alloc, vs)?, *es))
         }
         Within::Bounding(kind, ns, pairs, vs, further) => Ok(Within::Bounding(
             *kind,
             *ns,
             *pairs,
-            copied(alloc, vs.items())?,
+            copy_list(alloc, vs)?,
             *further,
         )),
     }
@@ -174,11 +178,11 @@ fn copy_deed<'p>(alloc: Global, deed: &Deed<'p>) -> Result<Deed<'p>, AllocError>
     match deed {
         Deed::Store(to, v) => Ok(Deed::Store(copy_place(alloc, to)?, *v)),
         Deed::Turn => Ok(Deed::Turn),
-        Deed::Start(n, gs, task) => { Ok(Deed::Start(*n, copy_givens(alloc, gs.items())?, *task)) }
+        Deed::Start(n, gs, task) => { Ok(Deed::Start(*n, copy_givens(alloc, gs)?, *task)) }
         Deed::Event(act, n) => Ok(Deed::Event(*act, *n)),
-        Deed::Line(phrases, vs) => Ok(Deed::Line(*phrases, copied(alloc, vs.items())?)),
+        Deed::Line(phrases, vs) => Ok(Deed::Line(*phrases, copy_list(alloc, vs)?)),
         Deed::Arrays(kind, ns, pairs, vs) => {
-            Ok(Deed::Arrays(*kind, *ns, *pairs, copied(alloc, vs.items())?))
+            Ok(Deed::Arrays(*kind, *ns, *pairs, copy_list(alloc, vs)?))
         }
         Deed::MakeEvent(n) => Ok(Deed::MakeEvent(*n)),
         Deed::Within => Ok(Deed::Within),
@@ -202,9 +206,7 @@ fn copy_target<'p>(alloc: Global, target: &Target<'p>) -> Result<Target<'p>, All
 {
     match target {
         Target::Resolve(n) => Ok(Target::Resolve(*n)),
-        Target::Index(n, ks, v, es) => {
-            Ok(Target::Index(*n, copied(alloc, ks.items())?, *v, *es))
-        }
+        Target::Index(n, ks, v, es) => { Ok(Target::Index(*n, copy_list(alloc, ks)?, *v, *es)) }
         Target::Inside => Ok(Target::Inside),
     }
 }
@@ -233,9 +235,9 @@ pub fn copy_point<'p>(alloc: Global, point: &Point<'p>) -> Result<Point<'p>, All
         Point::Deed(deed) => Ok(Point::Deed(copy_deed(alloc, deed)?)),
         Point::Select(v, ss) => Ok(Point::Select(*v, *ss)),
         Point::EnterBlock(b) => Ok(Point::EnterBlock(*b)),
-        Point::Enter(n, gs) => Ok(Point::Enter(*n, copy_givens(alloc, gs.items())?)),
+        Point::Enter(n, gs) => Ok(Point::Enter(*n, copy_givens(alloc, gs)?)),
         Point::Pass(role, n, gs, m, es) => {
-            Ok(Point::Pass(*role, *n, copy_givens(alloc, gs.items())?, *m, *es))
+            Ok(Point::Pass(*role, *n, copy_givens(alloc, gs)?, *m, *es))
         }
         Point::Seek(sought, target) => { Ok(Point::Seek(*sought, copy_target(alloc, target)?)) }
         Point::In(head, within) => copy_in(alloc, head, within),
