@@ -22,7 +22,7 @@ use Rattle.algol_meaning.specs.Choice.{Choice, choice, choice_in, choice_of, nth
 use Rattle.algol_meaning.specs.Run.{End, end_of, goes_on, may_go}
 use Rattle.algol_standing.specs.Worlds.{newest_own, HasHead, IsWhole, IsSound}
 use Rattle.algol_paths.specs.Blocks.{IsSeen, IsInner}
-use Rattle.algol_texts.specs.Texts.{KeepToTexts}
+use Rattle.algol_calls.specs.Texts.{KeepToTexts}
 use Rattle.algol_standing.proofs.Calls.{CallFits, HeadFits}
 use Rattle.algol_standing.proofs.Alike.{instance_self, InstanceAlike}
 use Rattle.algol_standing.proofs.Pairs.{pairs_self}

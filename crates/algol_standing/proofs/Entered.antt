@@ -16,7 +16,7 @@ use Rattle.algol_paths.specs.Laws.{KeepsToText}
 use Rattle.algol_paths.proofs.Statements.{declared_keeps}
 use Rattle.algol_standing.specs.Skeleton.{IsIn, SkeletonOk}
 use Rattle.algol_standing.specs.Worlds.{held_in_rest, newest_own, stack_of, skeleton, IsStanding, IsOnPath, IsOwn, IsAmong, IsAwaited, inside, AreListed, GivesNoOwn, IsWhole, PartOk, ProcessOk, InstanceOk, IsSound}
-use Rattle.algol_texts.specs.Texts.{KeepToTexts}
+use Rattle.algol_calls.specs.Texts.{KeepToTexts}
 use Rattle.algol_standing.proofs.Calls.{IsNoEvent}
 use Rattle.algol_standing.proofs.Lists.{false_true}
 use Rattle.algol_standing.proofs.Standing.{stands_path, stands_small}

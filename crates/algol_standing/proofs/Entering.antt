@@ -16,7 +16,7 @@ use Rattle.algol_laws.proofs.Cells.{numbered_set, numbered_other}
 use Rattle.algol_laws.proofs.Standing.{opens_plain}
 use Rattle.algol_standing.specs.Skeleton.{Evaluation, IsEvaluated, Stack, Skeleton, IsIn, Stands, OnPath, here, SkeletonOk, entered as with_entered, evaluated}
 use Rattle.algol_standing.specs.Worlds.{parent_in, referred_in_cells, home_of, held_in_rest, newest_own, held_by, stack_of, skeleton, IsStanding, IsOnPath, IsAmong, IsWhole, IsSound}
-use Rattle.algol_texts.specs.Texts.{KeepToTexts}
+use Rattle.algol_calls.specs.Texts.{KeepToTexts}
 use Rattle.algol_standing.proofs.Calls.{IsNoEvent}
 use Rattle.algol_standing.proofs.Lists.{get-set, some_same, same_or_other}
 use Rattle.algol_standing.proofs.Standing.{set_cases}

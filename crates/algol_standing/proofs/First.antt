@@ -17,7 +17,7 @@ use Rattle.algol_paths.proofs.Statements.{declared_keeps}
 use Rattle.algol_standing.specs.Skeleton.{Evaluation, IsEvaluated, Stack, Home, IsIn, Owned, here, SkeletonOk}
 use Rattle.algol_standing.specs.Worlds.{home_of, held_in_rest, held_by, stack_of, skeleton, IsStanding, IsOnPath, IsOwn, IsAmong, outermost, IsWhole, PartOk, ProcessOk, InstanceOk, IsSound}
 use Rattle.algol_standing.specs.Lows.{LeadsLow, InstanceLow, PartLow, IsLow, IsMaking}
-use Rattle.algol_texts.specs.Texts.{HasOuterBlock}
+use Rattle.algol_calls.specs.Texts.{HasOuterBlock}
 use Rattle.algol_standing.proofs.Lists.{none_some}
 use Rattle.algol_standing.proofs.Holding.{AreAll, items_hold}
 use Rattle.algol_standing.proofs.Seen.{evaluated_either}

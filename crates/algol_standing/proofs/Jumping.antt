@@ -22,7 +22,7 @@ use Rattle.algol_paths.proofs.Statements.{declared_keeps}
 use Rattle.algol_paths.proofs.Jumps.{jumps_keep_to_their_text}
 use Rattle.algol_standing.specs.Skeleton.{IsIn}
 use Rattle.algol_standing.specs.Worlds.{held_in_rest, newest_own, IsOwn, IsAmong, IsAwaited, GivesNoOwn, GivesPlace, HasHead, IsWhole, PartOk, IsSound}
-use Rattle.algol_texts.specs.Texts.{KeepToTexts}
+use Rattle.algol_calls.specs.Texts.{KeepToTexts}
 use Rattle.algol_standing.proofs.Lists.{false_true}
 use Rattle.algol_standing.proofs.Holding.{RestHolds, items_hold}
 use Rattle.algol_standing.proofs.Seen.{all_names, there, instance_is}

@@ -60,4 +60,3 @@ pub mod LowChoosing
 pub mod LowLaws
 pub mod Worlds
 pub mod Calls
-pub mod Sources

@@ -27,7 +27,7 @@ use Rattle.algol_calls.specs.Fits.{wanted, AskFits}
 use Rattle.algol_standing.specs.Worlds.{held_in_rest, held_in_answer, IsNoBlock, IsWhole, IsSound}
 use Rattle.algol_standing.specs.Fitting.{WorldFits}
 use Rattle.algol_standing.specs.Lows.{LeadsLow, CellsLow}
-use Rattle.algol_texts.specs.Texts.{KeepToTexts}
+use Rattle.algol_calls.specs.Texts.{KeepToTexts}
 use Rattle.algol_standing.proofs.Holding.{AreAll, IsForeign}
 use Rattle.algol_standing.proofs.Seen.{part_ok}
 use Rattle.algol_standing.proofs.Asking.{Sees, AskHolds, rest_sees, rest_asks}

@@ -17,7 +17,7 @@ use Rattle.algol_standing.specs.Worlds.{parent_in, referred_in_cells, home_of, h
 use Rattle.algol_standing.specs.Fitting.{WorldFits}
 use Rattle.algol_standing.specs.Lows.{CellLow, AllLow, CellsLow, WorldLow, IsLow, IsMaking}
 use Rattle.algol_standing.specs.Laws.{OthersKeepLow, MakingIsLow}
-use Rattle.algol_texts.specs.Texts.{KeepToTexts}
+use Rattle.algol_calls.specs.Texts.{KeepToTexts}
 use Rattle.algol_standing.proofs.Lists.{none_some, some_same}
 use Rattle.algol_standing.proofs.Standing.{stands_path}
 use Rattle.algol_standing.proofs.Pairs.{stack_forth, home_forth}

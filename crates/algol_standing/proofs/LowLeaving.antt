@@ -18,7 +18,7 @@ use Rattle.algol_meaning.specs.Asks.{ask, resume}
 use Rattle.algol_meaning.specs.Choice.{fails, left_with, ended_releasing, left_or_ended, left, gone, goes_to}
 use Rattle.algol_paths.proofs.Jumps.{jumps_keep_to_their_text}
 use Rattle.algol_standing.specs.Worlds.{held_in_rest, held_in_answer, IsAmong, AreGiven, IsWhole, IsSound}
-use Rattle.algol_texts.specs.Texts.{KeepToTexts}
+use Rattle.algol_calls.specs.Texts.{KeepToTexts}
 use Rattle.algol_standing.proofs.Lists.{false_true}
 use Rattle.algol_standing.proofs.Holding.{AreAll, IsForeign, items_hold}
 use Rattle.algol_standing.proofs.Fine.{part_stands_in}

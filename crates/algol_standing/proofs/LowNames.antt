@@ -12,7 +12,7 @@ use Rattle.algol_meaning.specs.Asks.{ask}
 use Rattle.algol_meaning.specs.Choice.{home, here}
 use Rattle.algol_paths.specs.Blocks.{IsSeen, IsSeenAround}
 use Rattle.algol_calls.specs.Fits.{parameter_sort, has_parameter, has_simple, IsTold}
-use Rattle.algol_texts.proofs.Parameters.{parameter_simple}
+use Rattle.algol_calls.proofs.Simple.{parameter_simple}
 use Rattle.algol_standing.specs.Worlds.{newest_own, skeleton, IsStanding, IsPlaced, outermost, inside, IsNoBlock, IsWhole, IsSound}
 use Rattle.algol_standing.specs.Lows.{LeadsLow, CellLow}
 use Rattle.algol_standing.proofs.Lists.{none_some, false_true}

@@ -13,7 +13,7 @@ use Rattle.algol_meaning.specs.Instances.{fresh_cells}
 use Rattle.algol_meaning.specs.Choice.{with_new_instance, new_part, with_started, next_process}
 use Rattle.algol_standing.specs.Skeleton.{Evaluation, IsEvaluated, Stack, Skeleton, IsIn, Stands, OnPath, here, FirstOf, SkeletonOk, started as with_base, evaluated}
 use Rattle.algol_standing.specs.Worlds.{parent_in, referred_in_cells, home_of, held_in_rest, newest_own, held_by, stack_of, skeleton, IsStanding, IsOnPath, IsWhole, IsSound}
-use Rattle.algol_texts.specs.Texts.{KeepToTexts}
+use Rattle.algol_calls.specs.Texts.{KeepToTexts}
 use Rattle.algol_standing.proofs.Calls.{IsNoEvent}
 use Rattle.algol_standing.proofs.Lists.{get-seam}
 use Rattle.algol_standing.proofs.Standing.{stands_path}

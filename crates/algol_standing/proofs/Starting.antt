@@ -13,7 +13,7 @@ use Rattle.algol_paths.specs.Blocks.{IsSeen, IsSeenAround, IsInner}
 use Rattle.algol_paths.specs.Texts.{InGivens}
 use Rattle.algol_calls.specs.Fits.{IsCallee}
 use Rattle.algol_standing.specs.Worlds.{IsNoBlock, IsWhole, IsSound}
-use Rattle.algol_texts.specs.Texts.{KeepToTexts}
+use Rattle.algol_calls.specs.Texts.{KeepToTexts}
 use Rattle.algol_standing.proofs.Calls.{PassNoEvents}
 use Rattle.algol_standing.proofs.Asking.{Sees, Suits}
 use Rattle.algol_standing.proofs.Acting.{heads_act}

@@ -2,9 +2,6 @@
 use Rattle.std.specs.Prelude.{◌≡◌, ℕ, ◌≤◌, Bool, true, false, List, [], ◌∷◌, ◌++◌, Option, Some, slice_get}
 use Rattle.b67_list.specs.Numbered.{numbered}
 use Rattle.algol_tree.specs.declared.tree.Named.{Named}
-use Rattle.algol_tree.specs.Accepted.{Accepted}
-use Rattle.algol_tree.specs.Ascending.{IsInOrder}
-use Rattle.algol_tree.specs.First.{Source}
 use Rattle.algol_tree.specs.Plain.{PProgram}
 use Rattle.algol_tree.specs.Scopes.{Scopes, scopes_of}
 use Rattle.algol_meaning.specs.Value.{Reference}
@@ -13,8 +10,8 @@ use Rattle.algol_meaning.specs.World.{Instance, instance_at, Part, Process, live
 use Rattle.algol_meaning.specs.Critical.{some_depends, own_instances, newest_first, first_on_path, referred_by, referred_by_task}
 use Rattle.algol_meaning.specs.Asks.{starts, ask}
 use Rattle.algol_meaning.specs.Choice.{choice, home, given_cells, task_of}
-use Rattle.algol_meaning.specs.Run.{start, may_go, run}
-use Rattle.algol_texts.specs.Texts.{AreTexts, HasOuterBlock}
+use Rattle.algol_meaning.specs.Run.{start, may_go}
+use Rattle.algol_calls.specs.Texts.{AreTexts, HasOuterBlock}
 use Rattle.algol_standing.specs.Worlds.{referred_in_cells, home_of, held_in_rest, newest_own, skeleton, IsStanding, IsOnPath, IsAmong, IsWhole}
 use Rattle.algol_standing.specs.Lows.{IsLow, IsMaking}
 use Rattle.algol_standing.specs.Fitting.{IsOk}
@@ -139,10 +136,3 @@ pub record WorldStands (p : PProgram) (w : World) : Type 0 where
   pub ok : IsOk (scopes_of p) IsWhole w
   pub none_left : NoneIsLeft w
   pub on_paths : AllLieOnPaths w
-
--- so it is with each that a run comes to, whatever its schedule
-abbrev pub WorldsOfAcceptedStand : Type 0
-WorldsOfAcceptedStand = (p : PProgram) (h : List ℕ) (w : World) → Accepted p → IsInOrder p → run p h ≡ Some w → WorldStands p w
-
-abbrev pub WorldsOfSourcesStand : Type 0
-WorldsOfSourcesStand = (bytes : List ℕ) (p : PProgram) (h : List ℕ) (w : World) → Source bytes p → run p h ≡ Some w → WorldStands p w

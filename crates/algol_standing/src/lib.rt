@@ -1,7 +1,7 @@
 //! Facts of worlds only: which instances stand, and that all that is referred to lies on the path of who refers to it.
 #![tactic(auto)]
 
-ghost use Rattle.algol_standing.specs.Laws.{SkeletonsAreKept, PathsStand, WhatIsReferredToStands, ReferencesLieOnPaths, NewestIsUnseen, OthersKeepLow, MakingIsLow, StartsLieOnPaths, FirstWorldStands, ChoicesKeepWorlds, WorldsOfAcceptedStand, WorldsOfSourcesStand};
+ghost use Rattle.algol_standing.specs.Laws.{SkeletonsAreKept, PathsStand, WhatIsReferredToStands, ReferencesLieOnPaths, NewestIsUnseen, OthersKeepLow, MakingIsLow, StartsLieOnPaths, FirstWorldStands, ChoicesKeepWorlds};
 
 /// Law: entering, starting, leaving, evaluations and GO TO keep the skeleton of a world. In each stack the newer instance has the greater
 /// number, what an instance refers to lies on the path from it, and the critical instance of a live process stands.
@@ -60,12 +60,4 @@ pub fn first_world_stands()
 /// procedure, and an event is given only by its name.
 pub fn choices_keep_worlds()
     ensures { ChoicesKeepWorlds }
-{}
-
-/// Law: each world that a run of an accepted source comes to, whatever its schedule, is as worlds are. Nothing that is in use in it names an
-/// instance that was left, and all that is referred to lies on the path from what refers to it.
-pub fn worlds_of_sources_stand()
-    ensures sources { WorldsOfSourcesStand }
-    // The same of each accepted program whose places are in the order of its text.
-    ensures accepted { WorldsOfAcceptedStand }
 {}

@@ -17,7 +17,8 @@ use Rattle.algol_tree.specs.Surroundings.{Surroundings, announced, declare_proce
 use Rattle.algol_meaning.proofs.Naming.{same_name-is}
 use Rattle.algol_told.proofs.Lists.{contains-first, contains-later, all-append, all-weaker, false-not-true}
 use Rattle.algol_calls.specs.Fits.{has_parameter, has_variable, has_simple}
-use Rattle.algol_texts.proofs.Parameters.{HasParameter, more_known, IsGiven, given_value, given_name, given_array, given_event, given, each_named, parameter_known, each_parameter, parameter_simple, variable_simple}
+use Rattle.algol_calls.proofs.Simple.{parameter_simple}
+use Rattle.algol_texts.proofs.Parameters.{HasParameter, more_known, IsGiven, given_value, given_name, given_array, given_event, given, each_named, parameter_known, each_parameter, variable_simple}
 use Rattle.algol_texts.proofs.Callees.{AreSpecified, parameters_at, IsCallee, DeclaresCallee, AreCallees, IsChain}
 
 module _ (blocks : List Block) where

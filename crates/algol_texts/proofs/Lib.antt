@@ -9,3 +9,4 @@ pub mod Items
 pub mod Lefts
 pub mod Statements
 pub mod Programs
+pub mod Sources

@@ -194,9 +194,6 @@ later_variable (tree.arrays kind ns pairs) ds name e = e
 later_variable (tree.forward h) ds name e = e
 later_variable (tree.procedure h t) ds name e = e
 
-pub parameter_simple : (b : Block) (name : List ℕ) → has_parameter b.parameters name ≡ true → has_simple b name ≡ true
-parameter_simple b name e = first_so (has_parameter b.parameters name) (if has_result b.result b.name name then true else has_variable b.decls name) e
-
 pub variable_simple : (b : Block) (name : List ℕ) → has_variable b.decls name ≡ true → has_simple b name ≡ true
 variable_simple b name e =
     either_so (has_parameter b.parameters name) (if has_result b.result b.name name then true else has_variable b.decls name)

@@ -36,7 +36,7 @@ use Rattle.b67_emit_text.specs.Targets as table
 use Rattle.b67_emit_text.specs.Targets.{or_target, target_there, target_at, targets_from, targets_in}
 use Rattle.b67_emit_text.specs.Texts.{Text, texts}
 use Rattle.b67_fitting.specs.Fitted.{AreTargets, declared_at, meant_as, target_numbered, target_of}
-use Rattle.b67_fitting.specs.Names.{HasNames}
+use Rattle.b67_templates.specs.Names.{HasNames}
 use Rattle.b67_fitting.proofs.Apart.{IsIn, same_place, same_self}
 use Rattle.b67_fitting.proofs.Lists.{each_front, each_back, each_both}
 use Rattle.b67_fitting.proofs.Numbering.{block_is, each_at}

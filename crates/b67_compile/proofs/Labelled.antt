@@ -14,7 +14,7 @@ use Rattle.b67_ops.specs.declared.TheConstants.{OUTER_LEVEL}
 use Rattle.b67_templates.specs.Labels.{label_number}
 use Rattle.b67_emit_text.specs.Entries.{Entry, entries_in_stmts}
 use Rattle.b67_emit_text.specs.Texts.{Text, texts, texts_in_body}
-use Rattle.b67_fitting.specs.Names.{HasNames}
+use Rattle.b67_templates.specs.Names.{HasNames}
 use Rattle.b67_fitting.proofs.Numbering.{block_is}
 use Rattle.b67_fitting.proofs.SurroundedSites.{each_number}
 use Rattle.b67_compile.proofs.Entries.{entries_in_text, entries_numbered, entries_among, IsOwn, AreOwn, AreNumbered, Stands, have_block, stands_plain, stands_within, body_has}

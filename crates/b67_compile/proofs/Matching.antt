@@ -22,7 +22,7 @@ use Rattle.algol_tree.specs.Surroundings.{Surroundings, outermost, formals_at, k
 use Rattle.algol_paths.specs.Segments.{is_procedure}
 use Rattle.b67_ops.specs.declared.TheConstants.{OUTER_LEVEL}
 use Rattle.b67_emit_text.specs.Texts.{Text, procedure_text, texts_of, texts_in_stmts, texts_in_decls, texts_in_body}
-use Rattle.b67_fitting.specs.Names.{DeclsNamed, StmtNamed, StmtsNamed, HasNames}
+use Rattle.b67_templates.specs.Names.{DeclsNamed, StmtNamed, StmtsNamed, HasNames}
 
 -- the segments that begin at these places of the text
 abbrev pub segs : List Site → List Segment

@@ -12,7 +12,7 @@ use Rattle.algol_tree.specs.Plain.{PDecls, PStmts, PProgram}
 use Rattle.algol_paths.specs.Segments.{is_procedure, procedures_before, segment_among, segment_of, segment_tokens, tokens_or_none}
 use Rattle.b67_ops.specs.declared.TheConstants.{OUTER_LEVEL}
 use Rattle.b67_emit_text.specs.Texts.{Text, outer_text, texts, texts_in_body}
-use Rattle.b67_fitting.specs.Names.{HasNames}
+use Rattle.b67_templates.specs.Names.{HasNames}
 use Rattle.b67_fitting.proofs.Numbering.{block_is}
 use Rattle.b67_fitting.proofs.SurroundedSites.{each_number}
 use Rattle.b67_compile.proofs.Matching.{IsTextOf, Triples, all_match, segs, text_of}

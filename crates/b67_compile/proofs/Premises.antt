@@ -35,8 +35,8 @@ use Rattle.b67_emit_text.specs.Programs.{AreDue, IsDue}
 use Rattle.b67_emit_text.specs.Targets.{AreTargets}
 use Rattle.b67_emit_text.specs.Texts.{Text, texts, texts_in_body}
 use Rattle.b67_fitting.specs.Fitted.{BlockFits, IsToldOf}
-use Rattle.b67_fitting.specs.Names.{HasNames}
-use Rattle.b67_fitting.specs.Nested.{AreParameters, AreTold, IsText, LiesNested}
+use Rattle.b67_templates.specs.Names.{HasNames}
+use Rattle.b67_templates.specs.Nested.{AreParameters, AreTold, IsText, LiesNested}
 use Rattle.b67_fitting.specs.Texts.{HasPlainTexts}
 use Rattle.b67_fitting.specs.Wholes.{HasWholeNumbers}
 use Rattle.b67_fitting.proofs.Fits.{accepted_fit}

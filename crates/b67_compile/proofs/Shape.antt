@@ -18,8 +18,8 @@ use Rattle.algol_scope.proofs.Bodies.{body_is}
 use Rattle.b67_ops.specs.declared.TheConstants.{MOST_LEVEL, OUTER_LEVEL}
 use Rattle.b67_emit_text.specs.Targets.{AreSmall}
 use Rattle.b67_emit_text.specs.Texts.{Text, texts, HaveLevelsBody}
-use Rattle.b67_fitting.specs.Names.{HasNames}
-use Rattle.b67_fitting.specs.Nested.{LiesNested}
+use Rattle.b67_templates.specs.Names.{HasNames}
+use Rattle.b67_templates.specs.Nested.{LiesNested}
 use Rattle.b67_fitting.proofs.Nesting.{programs_lie_nested}
 use Rattle.b67_fitting.proofs.Numbering.{block_is, each_at}
 use Rattle.b67_compile.proofs.Labelled.{each_own}

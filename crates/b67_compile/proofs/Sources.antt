@@ -12,7 +12,7 @@ use Rattle.algol_tree.specs.Accepted.{Accepted}
 use Rattle.algol_tree.specs.Plain as tree
 use Rattle.algol_tree.specs.Plain.{PExpr, PExprs, PPair, PStmt, PStmts, PDecl, PDecls, PBody, PProgram}
 use Rattle.algol_front.proofs.Ordered.{IsSource}
-use Rattle.b67_fitting.specs.Names.{StmtNamed, StmtsNamed, DeclNamed, DeclsNamed, HasNames}
+use Rattle.b67_templates.specs.Names.{StmtNamed, StmtsNamed, DeclNamed, DeclsNamed, HasNames}
 use Rattle.b67_fitting.specs.Texts.{PhrasePlain, StmtPlain, StmtsPlain, DeclPlain, DeclsPlain, HasPlainTexts}
 use Rattle.b67_fitting.specs.Wholes.{NumbersWhole, AllWhole, BoundsWhole, SpecWhole, StmtWhole, StmtsWhole, DeclWhole, DeclsWhole, HasWholeNumbers}
 use Rattle.b67_fitting.proofs.NamesRead.{sources_named}

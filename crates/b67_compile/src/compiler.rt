@@ -7,7 +7,7 @@ ghost use Rattle.algol_tree.specs.Image as plain;
 ghost use Rattle.algol_scope.specs.Resolved.{AreOf};
 ghost use Rattle.b67_listing.specs.Listings.{IsListable};
 ghost use Rattle.b67_templates.specs.Programs.{ProgramAt};
-ghost use Rattle.b67_fitting.specs.Names.{HasNames};
+ghost use Rattle.b67_templates.specs.Names.{HasNames};
 ghost use Rattle.b67_fitting.specs.Texts.{HasPlainTexts};
 ghost use Rattle.b67_fitting.specs.Wholes.{HasWholeNumbers};
 ghost use Rattle.b67_faithful.specs.Faithful.{Faithful, HasFormats, IsShort};

@@ -23,8 +23,8 @@ use Rattle.algol_meaning.specs.Settle.{block_of}
 use Rattle.b67_templates.specs.Cells.{Simple, Wanted, value, by_name, array, event, other, parameter_cells, parameter_wants, parameters_around, Actual, own_actual, wants_of, actuals_in, actuals_among, actuals_given, actuals_in_pairs, actuals_in_stmt, actuals_in_stmts}
 use Rattle.b67_templates.specs.Fitting.{is_by_name}
 use Rattle.b67_fitting.proofs.Headings.{DeclsSpecified, StmtSpecified, StmtsSpecified}
-use Rattle.b67_fitting.specs.Nested as told
-use Rattle.b67_fitting.specs.Nested.{IsTold, AreTold, AreParameters}
+use Rattle.b67_templates.specs.Nested as told
+use Rattle.b67_templates.specs.Nested.{IsTold, AreTold, AreParameters}
 use Rattle.b67_fitting.proofs.ActualCells.{actual_cell}
 use Rattle.b67_fitting.proofs.Callees.{IsCallee}
 use Rattle.b67_fitting.proofs.CellsFew.{cells_both, FewBounds}

@@ -23,7 +23,7 @@ use Rattle.algol_tree.specs.Surroundings.{Surroundings, knowing, knowing_all, in
 use Rattle.algol_paths.specs.Arrays.{DeclaredArray, Made, an_array, arrays_in, made_in, an_event}
 use Rattle.b67_templates.specs.Cells.{Simple, value, parameter_cells, simple_cells, of_kind, result_of, variables, procedures, made_of, events_in, actuals_in_pairs, actuals_in_decls, actuals_in_stmts}
 use Rattle.b67_fitting.proofs.Headings.{DeclsSpecified, StmtSpecified}
-use Rattle.b67_fitting.specs.Nested.{AreParameters}
+use Rattle.b67_templates.specs.Nested.{AreParameters}
 use Rattle.b67_fitting.proofs.ParametersTold.{told_many}
 
 pub cells_both : (blocks : List Block) (xs ys : List Site) (k : ℕ) →

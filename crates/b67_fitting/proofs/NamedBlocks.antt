@@ -5,7 +5,7 @@ use Rattle.algol_tree.specs.declared.token.Spot.{Spot}
 use Rattle.algol_tree.specs.Blocks.{Block, Begin, of_statement, of_procedure, decls_of, blocks_of, blocks_in_decl, blocks_in_stmts, blocks_in_decls}
 use Rattle.algol_tree.specs.Plain as tree
 use Rattle.algol_tree.specs.Plain.{PStmt, PStmts, PDecl, PDecls}
-use Rattle.b67_fitting.specs.Names.{StmtNamed, StmtsNamed, DeclNamed, DeclsNamed}
+use Rattle.b67_templates.specs.Names.{StmtNamed, StmtsNamed, DeclNamed, DeclsNamed}
 use Rattle.b67_fitting.proofs.Lists.{each_both}
 
 abbrev pub HasNamed : Block → Type 0

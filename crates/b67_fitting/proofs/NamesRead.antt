@@ -12,7 +12,7 @@ use Rattle.algol_tree.specs.Programs.{IsProgram}
 use Rattle.algol_tree.specs.Sorts.{same_name}
 use Rattle.algol_tree.specs.Statements as statements
 use Rattle.algol_tree.specs.Statements.{decls_and, IsSegments, IsStmt, IsStmts, IsDecl, IsDecls, IsBody}
-use Rattle.b67_fitting.specs.Names.{StmtNamed, StmtsNamed, DeclsNamed, BodyNamed, HasNames, SourcesHaveNames}
+use Rattle.b67_templates.specs.Names.{StmtNamed, StmtsNamed, DeclsNamed, BodyNamed, HasNames, SourcesHaveNames}
 use Rattle.b67_fitting.proofs.Behind.{behind_event, behind_names, behind_files, behind_typed, behind_heading, behind_task, behind_to, behind_phrases}
 use Rattle.b67_fitting.proofs.HeadingsWhole.{Read}
 use Rattle.b67_fitting.proofs.Lexed.{KindRight, TokenRight, AreRight, text_right}

@@ -21,8 +21,8 @@ use Rattle.algol_paths.specs.Segments.{is_procedure, procedures_before, tokens_o
 use Rattle.b67_templates.specs.Cells.{parameters_around, actuals_in_stmts}
 use Rattle.b67_fitting.proofs.Headings.{DeclsSpecified, StmtsSpecified}
 use Rattle.b67_fitting.proofs.HeadingsTyped.{IsTyped, in_decls as specified_decls, in_stmts as specified_stmts}
-use Rattle.b67_fitting.specs.Names.{DeclsNamed, StmtsNamed}
-use Rattle.b67_fitting.specs.Nested.{AreParameters, IsText, AreNested, ProgramsLieNested}
+use Rattle.b67_templates.specs.Names.{DeclsNamed, StmtsNamed}
+use Rattle.b67_templates.specs.Nested.{AreParameters, IsText, AreNested, ProgramsLieNested}
 use Rattle.b67_fitting.proofs.Lists.{each_front, each_back, each_both, nil_front, nil_back, nil_map, nil_each, not_so}
 use Rattle.b67_fitting.proofs.Numbering.{times_both, places, places_both, once, Apart, once_apart, use_place, IsThere, all_there, block_place, IsNumbered, all_numbered, block_is, each_at, number_is, number_first}
 use Rattle.b67_fitting.proofs.Apart.{Apart as IsApartList, IsIn, each_in, ascending_apart, apart_front, apart_back}

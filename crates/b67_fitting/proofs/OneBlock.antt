@@ -18,8 +18,8 @@ use Rattle.algol_paths.specs.Blocks.{IsSeen, IsSeenAround, IsInner}
 use Rattle.algol_paths.specs.Laws.{ItemsKeepToText}
 use Rattle.algol_paths.specs.Texts.{InStmts}
 use Rattle.b67_templates.specs.Cells.{simple_cells, result_of, variables, procedures, actuals_in_decls, actuals_in_stmts, actuals_of, made_of}
-use Rattle.b67_fitting.specs.Names.{DeclsNamed}
-use Rattle.b67_fitting.specs.Nested.{IsDeclared, AreParameters, IsText}
+use Rattle.b67_templates.specs.Names.{DeclsNamed}
+use Rattle.b67_templates.specs.Nested.{IsDeclared, AreParameters, IsText}
 use Rattle.b67_fitting.proofs.BlockItems.{in_items}
 use Rattle.b67_fitting.proofs.Bounds.{InBounds}
 use Rattle.b67_fitting.proofs.Lists.{each_front, each_back, each_of}

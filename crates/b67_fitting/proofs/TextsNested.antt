@@ -18,7 +18,7 @@ use Rattle.algol_paths.specs.Blocks.{IsSeen, IsInner}
 use Rattle.algol_paths.specs.Texts.{InName, InStmt, InStmts}
 use Rattle.b67_templates.specs.Cells.{actuals_in_stmt, actuals_in_stmts}
 use Rattle.b67_fitting.proofs.Headings.{DeclsSpecified, StmtSpecified, StmtsSpecified}
-use Rattle.b67_fitting.specs.Nested.{AreParameters}
+use Rattle.b67_templates.specs.Nested.{AreParameters}
 use Rattle.b67_fitting.proofs.ActualsFew.{few_bounds, few_stmt, few_stmts}
 use Rattle.b67_fitting.proofs.Lists.{each_front, each_back, each_both}
 use Rattle.b67_fitting.proofs.Callees.{AreCallees, are_callees}

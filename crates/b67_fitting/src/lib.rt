@@ -5,10 +5,10 @@
 
 ghost use Rattle.b67_fitting.specs.Fitted.{AcceptedProgramsFit};
 ghost use Rattle.b67_fitting.specs.Labelled.{LabelsStand};
-ghost use Rattle.b67_fitting.specs.Nested.{ProgramsLieNested};
+ghost use Rattle.b67_templates.specs.Nested.{ProgramsLieNested};
 ghost use Rattle.b67_fitting.specs.Numbers.{SourcesHaveWholeNumbers};
 ghost use Rattle.b67_fitting.specs.Texts.{SourcesHavePlainTexts};
-ghost use Rattle.b67_fitting.specs.Names.{SourcesHaveNames};
+ghost use Rattle.b67_templates.specs.Names.{SourcesHaveNames};
 
 /// Law: the texts of an accepted program fit, so they have code. Each expression has the kind that its place wants, each
 /// name is a simple variable, a parameter, an array, an event or a procedure whose couple a right table has, or a label, each element has a subscript for each of its

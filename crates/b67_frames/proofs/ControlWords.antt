@@ -16,7 +16,7 @@ use Rattle.b67_templates.specs.Contexts.{Context}
 use Rattle.b67_templates.specs.Code.{RoutineAt, RoutinesAt, routine_controls}
 use Rattle.b67_cores.specs.Stretches.{control_words}
 use Rattle.b67_faithful.proofs.Contradictions.{some_same, none_some}
-use Rattle.b67_fitting.specs.Nested.{AreNested}
+use Rattle.b67_templates.specs.Nested.{AreNested}
 use Rattle.b67_rows.proofs.Segmented.{get_mapped, length_mapped}
 use Rattle.b67_rows.proofs.StackWords.{get-front, get-behind}
 use Rattle.b67_frames.specs.Frames.{AllFit, block_controls, controls_count}

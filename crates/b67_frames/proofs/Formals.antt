@@ -20,7 +20,7 @@ use Rattle.b67_templates.specs.Cells as wants
 use Rattle.b67_templates.specs.Cells.{Simple, Wanted, Agrees, IsVariable, IsDeclaredArray, IsDeclaredEvent}
 use Rattle.b67_standing.specs.Stepping.{cell_named, actual as actual_held, passed as passed_held}
 use Rattle.b67_cores.specs.Slots.{Known}
-use Rattle.b67_fitting.specs.Nested.{AreTold}
+use Rattle.b67_templates.specs.Nested.{AreTold}
 use Rattle.b67_faithful.proofs.Contradictions.{some_same, none_some}
 use Rattle.b67_rows.proofs.AskedEntries.{InReferred}
 use Rattle.b67_rows.proofs.GivenWords.{AreFit, none_wanted, a_value, a_name, a_cell, an_event_name, an_event_cell, a_variable, an_actual, a_name_cell, ActualsAre}

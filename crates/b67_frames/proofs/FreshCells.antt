@@ -11,7 +11,7 @@ use Rattle.algol_meaning.specs.Instances.{fresh_cells}
 use Rattle.b67_word.specs.Word.{Word}
 use Rattle.b67_templates.specs.Cells as cells
 use Rattle.b67_templates.specs.Cells.{Simple, zero_cells, simple_cells}
-use Rattle.b67_fitting.specs.Nested.{AreTold, AreParameters}
+use Rattle.b67_templates.specs.Nested.{AreTold, AreParameters}
 use Rattle.b67_frames.specs.Arrays.{Layout}
 use Rattle.b67_frames.specs.Frames.{CellsAre}
 use Rattle.b67_frames.proofs.Formals.{LeadAll, lead_both, kinds_lead}

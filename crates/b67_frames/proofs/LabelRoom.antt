@@ -12,8 +12,8 @@ use Rattle.b67_templates.specs.Arguments.{arguments_in_stmt, arguments_in_stmts}
 use Rattle.b67_templates.specs.Depths.{stmt_depth, stmts_depth}
 use Rattle.b67_templates.specs.Labels.{label_before, label_in}
 use Rattle.b67_templates.proofs.Few.{actuals_are_few}
-use Rattle.b67_fitting.specs.Names.{HasNames}
-use Rattle.b67_fitting.specs.Nested.{AreNested}
+use Rattle.b67_templates.specs.Names.{HasNames}
+use Rattle.b67_templates.specs.Nested.{AreNested}
 use Rattle.b67_rows.proofs.Weighing.{decls_small, stmt_small, stmts_small}
 use Rattle.b67_frames.specs.Frames.{most_around}
 use Rattle.b67_frames.proofs.Segmenting.{own_fits}

@@ -24,8 +24,8 @@ use Rattle.b67_templates.specs.Arguments.{arguments_in_decls, arguments_in_stmts
 use Rattle.b67_templates.specs.Cells.{procedures, Actual, actuals_of}
 use Rattle.b67_templates.specs.Depths.{decls_depth, stmts_depth, depth}
 use Rattle.b67_faithful.specs.Weight.{tokens_around}
-use Rattle.b67_fitting.specs.Names.{DeclsNamed, StmtNamed, StmtsNamed, HasNames}
-use Rattle.b67_fitting.specs.Nested.{AreNested}
+use Rattle.b67_templates.specs.Names.{DeclsNamed, StmtNamed, StmtsNamed, HasNames}
+use Rattle.b67_templates.specs.Nested.{AreNested}
 use Rattle.b67_templates.proofs.Few.{actuals_are_few}
 use Rattle.b67_rows.proofs.ActualsWeighing.{actual_small}
 use Rattle.b67_rows.proofs.InnerBlocks.{own_tokens, block_there, Inside, blocks_inside}

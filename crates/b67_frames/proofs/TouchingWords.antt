@@ -49,7 +49,7 @@ use Rattle.b67_cores.specs.Slots.{ValueIs, Known, IsKnown, SlotsAre}
 use Rattle.b67_cores.specs.Stretches.{control_words}
 use Rattle.b67_cores.proofs.Moving.{slots_length}
 use Rattle.b67_faithful.proofs.Contradictions.{some_same}
-use Rattle.b67_fitting.specs.Nested.{AreNested}
+use Rattle.b67_templates.specs.Nested.{AreNested}
 use Rattle.b67_rows.proofs.Numbers.{get_below}
 use Rattle.b67_rows.proofs.StackWords.{reverse-cons}
 use Rattle.b67_rows.proofs.Words.{value_tag, event_kind, mark_read}

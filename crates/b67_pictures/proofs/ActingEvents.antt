@@ -51,7 +51,7 @@ use Rattle.b67_letters.specs.Releases.{change_releases, registers_releases, rele
 use Rattle.b67_faithful.specs.Correspondence.{as_action}
 use Rattle.b67_faithful.proofs.Choices.{length_set_numbered}
 use Rattle.b67_faithful.proofs.Contradictions.{true_false}
-use Rattle.b67_fitting.specs.Nested.{AreNested}
+use Rattle.b67_templates.specs.Nested.{AreNested}
 use Rattle.b67_rows.proofs.AskedElements.{array_asked}
 use Rattle.b67_rows.proofs.Cored.{registers_now}
 use Rattle.b67_rows.proofs.IntrinsicRows.{without_call, enter_class}

@@ -37,7 +37,7 @@ use Rattle.b67_standing.specs.Stepping.{Slot, intrinsic, mark}
 use Rattle.b67_standing.specs.Standing.{ActionAt, Acted, ComesTo, operands}
 use Rattle.b67_cores.specs.Cores.{Core}
 use Rattle.b67_cores.specs.Stretches.{FragmentsArePerformed, CellsAreMade}
-use Rattle.b67_fitting.specs.Nested.{AreNested}
+use Rattle.b67_templates.specs.Nested.{AreNested}
 use Rattle.b67_rows.proofs.IntrinsicRows.{enter_class}
 use Rattle.b67_rows.proofs.Rows.{action_not_plain, action_is, fault_not_plain}
 use Rattle.b67_frames.specs.Arrays.{Layout, Allotted, AreMade, ArraysAre}

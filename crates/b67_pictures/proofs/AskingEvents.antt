@@ -37,7 +37,7 @@ use Rattle.b67_cores.specs.Cores.{Core, with_core}
 use Rattle.b67_cores.specs.Stretches.{CoreAt, FragmentsArePerformed}
 use Rattle.b67_cores.proofs.Bits.{truth_is_truth}
 use Rattle.b67_faithful.specs.Correspondence.{as_action}
-use Rattle.b67_fitting.specs.Nested.{AreNested}
+use Rattle.b67_templates.specs.Nested.{AreNested}
 use Rattle.b67_rows.proofs.AskedElements.{array_asked}
 use Rattle.b67_rows.proofs.IntrinsicRows.{without_call, enter_class}
 use Rattle.b67_rows.proofs.Rows.{action_not_plain, action_is}

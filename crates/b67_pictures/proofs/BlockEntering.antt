@@ -52,7 +52,7 @@ use Rattle.b67_cores.specs.Slots.{SlotIs}
 use Rattle.b67_cores.specs.Stretches.{BlocksBegin, FragmentsArePerformed}
 use Rattle.b67_faithful.specs.Faithful.{IsShort}
 use Rattle.b67_faithful.specs.Weight.{tokens_around}
-use Rattle.b67_fitting.specs.Nested.{LiesNested}
+use Rattle.b67_templates.specs.Nested.{LiesNested}
 use Rattle.b67_rows.proofs.AskedEntries.{blocks_seen, block_unmade}
 use Rattle.b67_frames.specs.Arrays.{Layout}
 use Rattle.b67_frames.specs.Frames.{IsInReach, block_controls, controls_count, most_around, IsComplete, Owned, run_level}

@@ -10,8 +10,8 @@ use Rattle.b67_standing.proofs.Starting.{blocks_start}
 use Rattle.b67_cores.proofs.Beginnings.{blocks_begin}
 use Rattle.b67_cores.proofs.Making.{cells_are_made}
 use Rattle.b67_cores.proofs.Placing.{fragments_are_performed}
-use Rattle.b67_fitting.specs.Names.{HasNames}
-use Rattle.b67_fitting.specs.Nested.{AreNested, LiesNested}
+use Rattle.b67_templates.specs.Names.{HasNames}
+use Rattle.b67_templates.specs.Nested.{AreNested, LiesNested}
 use Rattle.b67_frames.proofs.ClosedArrays.{frames_close}
 use Rattle.b67_frames.proofs.Segmenting.{block_small}
 use Rattle.b67_pictures.specs.Programs.{NestedProgramsAreFaithful}

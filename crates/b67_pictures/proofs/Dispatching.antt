@@ -29,7 +29,7 @@ use Rattle.b67_standing.specs.Standing.{ActionAt, Acted, Entered, Gives, pushed,
 use Rattle.b67_standing.specs.Laws.{RestsGoOn}
 use Rattle.b67_cores.specs.Cores.{Core}
 use Rattle.b67_cores.specs.Stretches.{FragmentsArePerformed}
-use Rattle.b67_fitting.specs.Nested.{AreNested, LiesNested}
+use Rattle.b67_templates.specs.Nested.{AreNested, LiesNested}
 use Rattle.b67_frames.specs.Arrays.{Layout}
 use Rattle.b67_scenes.proofs.Scene.{Scene}
 use Rattle.b67_scenes.proofs.Staying.{text_in, level_in, context_in, most_in, names_in}

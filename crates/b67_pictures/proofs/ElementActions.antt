@@ -10,7 +10,7 @@ use Rattle.algol_paths.specs.Laws.{RestsKeepToTheirText, AllIsMadeInOrder}
 use Rattle.b67_segment.specs.declared.code.Code.{Code}
 use Rattle.b67_templates.specs.Programs.{Texts}
 use Rattle.b67_cores.specs.Stretches.{FragmentsArePerformed}
-use Rattle.b67_fitting.specs.Nested.{AreNested}
+use Rattle.b67_templates.specs.Nested.{AreNested}
 use Rattle.b67_pictures.proofs.Dispatching.{IsDone}
 use Rattle.b67_pictures.proofs.ElementReading.{element_reading}
 use Rattle.b67_pictures.proofs.ElementStoring.{element_storing}

@@ -49,7 +49,7 @@ use Rattle.b67_cores.specs.Slots.{newest}
 use Rattle.b67_cores.specs.Stretches.{FragmentsArePerformed}
 use Rattle.b67_faithful.specs.Correspondence.{as_action}
 use Rattle.b67_faithful.specs.Faithful.{IsShort}
-use Rattle.b67_fitting.specs.Nested.{LiesNested}
+use Rattle.b67_templates.specs.Nested.{LiesNested}
 use Rattle.b67_rows.proofs.AccidentalRow.{value_entered_raw, value_entered_letter, place_entered_raw, place_entered_letter}
 use Rattle.b67_rows.proofs.ActualsSeen.{actual_seen, value_keeps, place_keeps}
 use Rattle.b67_rows.proofs.PlaceRow.{place_reached_class}

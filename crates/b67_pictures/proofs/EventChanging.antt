@@ -27,7 +27,7 @@ use Rattle.b67_standing.specs.Stepping.{Slot}
 use Rattle.b67_standing.specs.Standing.{ComesTo}
 use Rattle.b67_cores.specs.Cores.{Core, size, HasCore, with_core}
 use Rattle.b67_cores.specs.Stretches.{CoreAt, FragmentsArePerformed}
-use Rattle.b67_fitting.specs.Nested.{AreNested}
+use Rattle.b67_templates.specs.Nested.{AreNested}
 use Rattle.b67_rows.proofs.IntrinsicRows.{without_call}
 use Rattle.b67_rows.proofs.Numbers.{same_or_not}
 use Rattle.b67_frames.specs.Arrays.{Layout, ArraysAre}

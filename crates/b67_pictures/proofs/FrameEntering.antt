@@ -51,7 +51,7 @@ use Rattle.b67_cores.specs.Stretches.{CoreAt, Begins, BlocksBegin, FragmentsAreP
 use Rattle.b67_faithful.specs.Faithful.{IsShort}
 use Rattle.b67_faithful.specs.Weight.{tokens_around, part_weight, weight, parts_weight}
 use Rattle.b67_faithful.proofs.Contradictions.{none_some}
-use Rattle.b67_fitting.specs.Nested.{LiesNested, IsText}
+use Rattle.b67_templates.specs.Nested.{LiesNested, IsText}
 use Rattle.b67_rows.proofs.Cored.{has_now, others_have, system_stays}
 use Rattle.b67_rows.proofs.EntryRow.{lower_of}
 use Rattle.b67_rows.proofs.GivenWords.{ActualsAre}

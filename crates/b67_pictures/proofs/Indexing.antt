@@ -43,7 +43,7 @@ use Rattle.b67_standing.specs.Standing.{ActionAt, Acted, ComesTo, ElementIndexAt
 use Rattle.b67_cores.specs.Cores.{Core, with_core}
 use Rattle.b67_cores.specs.Slots.{Known, SlotIs, SlotsAre}
 use Rattle.b67_cores.specs.Stretches.{FragmentsArePerformed}
-use Rattle.b67_fitting.specs.Nested.{AreNested}
+use Rattle.b67_templates.specs.Nested.{AreNested}
 use Rattle.b67_rows.proofs.AskedElements.{array_asked}
 use Rattle.b67_rows.proofs.IndexRows.{with_one, index_gives, index_faults, index_raw, index_class, mother_gives, mother_faults, mother_raw, mother_class}
 use Rattle.b67_rows.proofs.Described.{whole_array}

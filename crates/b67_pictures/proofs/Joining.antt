@@ -13,7 +13,7 @@ use Rattle.algol_meaning.specs.Rest.{Place, element_of, Given, done, value, plac
 use Rattle.algol_meaning.specs.World.{World, instance_at}
 use Rattle.algol_meaning.specs.Asks.{reads_element, indexes, asks_happened, leaves, enters, passes, stores, goes_to, enters_block, starts, acts, makes_arrays, makes_event}
 use Rattle.algol_paths.specs.Laws.{RestsKeepToTheirText, AllIsMadeInOrder, JumpsKeepToTheirText}
-use Rattle.algol_texts.specs.Laws.{HasTexts}
+use Rattle.algol_calls.specs.Texts.{HasTexts}
 use Rattle.algol_standing.specs.Worlds.{IsWhole}
 use Rattle.algol_standing.specs.Fitting.{IsOk}
 use Rattle.algol_standing.proofs.Worlds.{first_world_stands}
@@ -31,8 +31,8 @@ use Rattle.b67_cores.proofs.Performing.{steps_are_performed, steps_come_to_limit
 use Rattle.b67_cores.proofs.Placing.{fragments_are_performed}
 use Rattle.b67_listing.specs.Listings.{HasOperators, IsListable}
 use Rattle.b67_faithful.specs.Faithful.{HasFormats, IsShort, Faithful}
-use Rattle.b67_fitting.specs.Names.{HasNames}
-use Rattle.b67_fitting.specs.Nested.{AreNested, LiesNested}
+use Rattle.b67_templates.specs.Names.{HasNames}
+use Rattle.b67_templates.specs.Nested.{AreNested, LiesNested}
 use Rattle.b67_rows.proofs.Yielding.{no_value, no_element}
 use Rattle.b67_rows.proofs.Spelled.{have_texts}
 use Rattle.b67_frames.specs.Frames.{Shape, of_own, of_lent}

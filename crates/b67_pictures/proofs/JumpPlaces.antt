@@ -27,8 +27,8 @@ use Rattle.b67_templates.specs.Programs.{Texts, text_of, context_of}
 use Rattle.b67_standing.specs.Laws.{JumpsStand}
 use Rattle.b67_standing.specs.Standing.{ActionAt, ComesTo, GoesToAt}
 use Rattle.b67_cores.specs.Cores.{Core, stack_of}
-use Rattle.b67_fitting.specs.Names.{HasNames}
-use Rattle.b67_fitting.specs.Nested.{LiesNested}
+use Rattle.b67_templates.specs.Names.{HasNames}
+use Rattle.b67_templates.specs.Nested.{LiesNested}
 use Rattle.b67_rows.proofs.Segmented.{segment_low}
 use Rattle.b67_rows.proofs.Spelled.{HasText, HaveTexts}
 use Rattle.b67_frames.specs.Arrays.{Layout}

@@ -28,8 +28,8 @@ use Rattle.b67_standing.specs.Laws.{JumpsStand}
 use Rattle.b67_standing.specs.Standing.{ActionAt, AreNumbers}
 use Rattle.b67_cores.specs.Cores.{Core}
 use Rattle.b67_cores.specs.Stretches.{FragmentsArePerformed}
-use Rattle.b67_fitting.specs.Names.{HasNames}
-use Rattle.b67_fitting.specs.Nested.{LiesNested}
+use Rattle.b67_templates.specs.Names.{HasNames}
+use Rattle.b67_templates.specs.Nested.{LiesNested}
 use Rattle.b67_rows.proofs.Displays.{IsEntered, shown, rebuilt_seen}
 use Rattle.b67_rows.proofs.Numbers.{same_or_not}
 use Rattle.b67_rows.proofs.Spelled.{HaveTexts}

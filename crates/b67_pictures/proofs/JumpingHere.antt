@@ -47,8 +47,8 @@ use Rattle.b67_cores.specs.Cores.{Core, size, IsCore, HasCore, with_core, stack_
 use Rattle.b67_cores.specs.Stretches.{CoreAt, FragmentsArePerformed}
 use Rattle.b67_faithful.specs.Correspondence.{as_action}
 use Rattle.b67_faithful.specs.Weight.{weight}
-use Rattle.b67_fitting.specs.Names.{HasNames}
-use Rattle.b67_fitting.specs.Nested.{LiesNested}
+use Rattle.b67_templates.specs.Names.{HasNames}
+use Rattle.b67_templates.specs.Nested.{LiesNested}
 use Rattle.b67_rows.proofs.Cored.{has_now, others_have, system_stays}
 use Rattle.b67_rows.proofs.Displays.{same_is, IsEntered, shown, shown_top, rebuilt_seen}
 use Rattle.b67_rows.proofs.IntrinsicRows.{enter_class}

@@ -47,7 +47,7 @@ use Rattle.b67_cores.specs.Stretches.{CoreAt, FragmentsArePerformed, IsAt, Becom
 use Rattle.b67_faithful.specs.Correspondence.{as_action}
 use Rattle.b67_faithful.specs.Weight.{weight}
 use Rattle.b67_faithful.proofs.Choices.{length_set_numbered}
-use Rattle.b67_fitting.specs.Nested.{AreNested}
+use Rattle.b67_templates.specs.Nested.{AreNested}
 use Rattle.b67_rows.proofs.Cored.{has_now, others_have, system_stays}
 use Rattle.b67_rows.proofs.IntrinsicRows.{enter_class}
 use Rattle.b67_rows.proofs.Numbers.{same_or_not, most_or_more}

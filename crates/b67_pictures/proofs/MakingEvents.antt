@@ -34,7 +34,7 @@ use Rattle.b67_standing.specs.Standing.{ActionAt, Acted, ComesTo}
 use Rattle.b67_cores.specs.Cores.{Core}
 use Rattle.b67_cores.specs.Slots.{SlotsAre}
 use Rattle.b67_cores.specs.Stretches.{FragmentsArePerformed, CellsAreMade}
-use Rattle.b67_fitting.specs.Nested.{AreNested}
+use Rattle.b67_templates.specs.Nested.{AreNested}
 use Rattle.b67_rows.proofs.MakingAsked.{makes_event_first}
 use Rattle.b67_rows.proofs.Numbers.{get_below}
 use Rattle.b67_frames.specs.Arrays.{Allotted, Layout, AreMade, ArraysAre}

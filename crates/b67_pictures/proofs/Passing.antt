@@ -39,7 +39,7 @@ use Rattle.b67_standing.specs.Standing.{IsPassed, Passable, array_passed, name_p
 use Rattle.b67_cores.specs.Cores.{Core, with_core}
 use Rattle.b67_cores.specs.Slots.{Known, newest}
 use Rattle.b67_cores.specs.Stretches.{CoreAt, FragmentsArePerformed}
-use Rattle.b67_fitting.specs.Nested.{AreNested}
+use Rattle.b67_templates.specs.Nested.{AreNested}
 use Rattle.b67_rows.proofs.AskedElements.{array_asked, array_seen}
 use Rattle.b67_rows.proofs.PassRow.{pass_raw, pass_class}
 use Rattle.b67_rows.proofs.TopRow.{with_other}

@@ -47,7 +47,7 @@ use Rattle.b67_cores.specs.Slots.{SlotIs}
 use Rattle.b67_cores.specs.Stretches.{BlocksBegin, FragmentsArePerformed, control_words}
 use Rattle.b67_faithful.specs.Faithful.{IsShort}
 use Rattle.b67_faithful.specs.Weight.{tokens_around}
-use Rattle.b67_fitting.specs.Nested.{LiesNested, IsDeclared, AreParameters}
+use Rattle.b67_templates.specs.Nested.{LiesNested, IsDeclared, AreParameters}
 use Rattle.b67_rows.proofs.AskedEntries.{InReferred, InEntry, enters_seen, entered_in_bound}
 use Rattle.b67_rows.proofs.EnterProcedureRow.{procedure_leads, procedure_calls}
 use Rattle.b67_rows.proofs.GivenWords.{AreFit, are_fit, fit_many, ActualsAre}

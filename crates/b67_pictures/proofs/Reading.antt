@@ -43,7 +43,7 @@ use Rattle.b67_scenes.proofs.Staying.{text_in, level_in, context_in, most_in, na
 use Rattle.b67_pictures.specs.Acting.{Does}
 use Rattle.b67_pictures.proofs.InFrame.{does_in_frame}
 use Rattle.b67_cores.specs.Slots.{ValueIs}
-use Rattle.b67_fitting.specs.Nested.{AreNested}
+use Rattle.b67_templates.specs.Nested.{AreNested}
 use Rattle.b67_rows.proofs.Reaching.{Reaches, reached_there, reached_through}
 use Rattle.b67_rows.proofs.ReachingRows.{with_top, value_reached_class, value_read_raw, value_read_letter}
 use Rattle.b67_rows.proofs.Words.{value_tag, no_sirw, no_pcw}

@@ -46,7 +46,7 @@ use Rattle.b67_cores.specs.Cores.{Core, with_core}
 use Rattle.b67_cores.specs.Slots.{Known, newest}
 use Rattle.b67_cores.specs.Stretches.{CoreAt, FragmentsArePerformed}
 use Rattle.b67_faithful.specs.Correspondence.{as_action}
-use Rattle.b67_fitting.specs.Nested.{AreNested}
+use Rattle.b67_templates.specs.Nested.{AreNested}
 use Rattle.b67_rows.proofs.AskedElements.{array_asked, array_seen}
 use Rattle.b67_rows.proofs.PlaceRow.{place_reached_class, place_left_raw, place_left_letter, no_place_raw}
 use Rattle.b67_rows.proofs.Reaching.{Reaches, reached_through}

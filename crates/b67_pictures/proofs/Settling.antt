@@ -21,7 +21,7 @@ use Rattle.b67_standing.specs.Laws.{RestsGoOn}
 use Rattle.b67_cores.specs.Cores.{Core}
 use Rattle.b67_cores.specs.Stretches.{FragmentsArePerformed}
 use Rattle.b67_faithful.proofs.Choices.{ReleasesNone, NoEvent, NoTask, frees}
-use Rattle.b67_fitting.specs.Nested.{LiesNested}
+use Rattle.b67_templates.specs.Nested.{LiesNested}
 use Rattle.b67_frames.specs.Arrays.{Layout}
 use Rattle.b67_scenes.specs.Depending.{TaskIs}
 use Rattle.b67_scenes.specs.States.{StateIs}

@@ -7,7 +7,7 @@ use Rattle.algol_tree.specs.Scopes.{scopes_of}
 use Rattle.algol_meaning.specs.World.{Process, World, is_able, process_at}
 use Rattle.algol_meaning.specs.Choice.{choice}
 use Rattle.algol_meaning.specs.Run.{start, may_go}
-use Rattle.algol_texts.specs.Texts.{AreTexts, HasOuterBlock}
+use Rattle.algol_calls.specs.Texts.{AreTexts, HasOuterBlock}
 use Rattle.algol_standing.specs.Worlds.{IsWhole}
 use Rattle.algol_standing.specs.Fitting.{IsOk}
 use Rattle.algol_standing.proofs.LowLaws.{others_keep_low, making_is_low}

@@ -41,7 +41,7 @@ use Rattle.b67_cores.specs.Stretches.{BlocksBegin, FragmentsArePerformed}
 use Rattle.b67_faithful.specs.Weight.{tokens_around}
 use Rattle.b67_faithful.proofs.Contradictions.{none_some}
 use Rattle.b67_faithful.proofs.Choices.{length_set_numbered}
-use Rattle.b67_fitting.specs.Nested.{LiesNested}
+use Rattle.b67_templates.specs.Nested.{LiesNested}
 use Rattle.b67_rows.proofs.Begun.{core_of, begun_has}
 use Rattle.b67_rows.proofs.CriticalRow.{FirstDown}
 use Rattle.b67_rows.proofs.Growing.{numbered_last, numbered_before, numbered_low}

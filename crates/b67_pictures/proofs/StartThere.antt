@@ -38,7 +38,7 @@ use Rattle.b67_standing.specs.Standing.{IsTask, StartsAt}
 use Rattle.b67_cores.specs.Cores.{Core}
 use Rattle.b67_cores.specs.Slots.{SlotIs}
 use Rattle.b67_cores.specs.Stretches.{control_words}
-use Rattle.b67_fitting.specs.Nested.{LiesNested, IsDeclared, AreTold, AreParameters}
+use Rattle.b67_templates.specs.Nested.{LiesNested, IsDeclared, AreTold, AreParameters}
 use Rattle.b67_rows.proofs.GivenWords.{AreFit, are_fit, fit_many}
 use Rattle.b67_rows.proofs.Numbers.{get_within, get_below}
 use Rattle.b67_rows.proofs.Segmented.{before_whole, segment_low, procedure_segment, get_mapped, length_mapped}

@@ -30,7 +30,7 @@ use Rattle.b67_standing.specs.Stepping.{Slot, operand, descriptor, variable}
 use Rattle.b67_standing.specs.Standing.{ActionAt, Acted, ComesTo}
 use Rattle.b67_cores.specs.Cores.{Core}
 use Rattle.b67_cores.specs.Stretches.{FragmentsArePerformed}
-use Rattle.b67_fitting.specs.Nested.{AreNested}
+use Rattle.b67_templates.specs.Nested.{AreNested}
 use Rattle.b67_rows.proofs.Slotted.{Top, top_slot}
 use Rattle.b67_rows.proofs.Words.{cell_describes_nothing}
 use Rattle.b67_frames.specs.Arrays.{Layout, LeadsToVariable}

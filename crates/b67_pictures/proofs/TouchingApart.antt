@@ -51,7 +51,7 @@ use Rattle.b67_cores.specs.Cores.{Core, HasCore, CoreStep, CoreSteps, here, onwa
 use Rattle.b67_cores.specs.Slots.{newest, SlotIs, SlotsAre}
 use Rattle.b67_cores.proofs.Moving.{slots_length}
 use Rattle.b67_faithful.proofs.Contradictions.{some_same, none_some}
-use Rattle.b67_fitting.specs.Nested.{AreNested}
+use Rattle.b67_templates.specs.Nested.{AreNested}
 use Rattle.b67_footprints.specs.Laws.{LeadsBelow}
 use Rattle.b67_footprints.proofs.Apart.{others_stay_private}
 use Rattle.b67_rows.proofs.GivenWords.{AreFit, none_wanted, are_fit, Taken, taken_words}

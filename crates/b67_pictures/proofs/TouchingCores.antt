@@ -20,7 +20,7 @@ use Rattle.b67_table.specs.Table.{raw, operator_at}
 use Rattle.b67_templates.specs.Programs.{Texts}
 use Rattle.b67_standing.specs.Laws.{RestsGoOn}
 use Rattle.b67_cores.specs.Cores.{Core, over, HasCore}
-use Rattle.b67_fitting.specs.Nested.{AreNested}
+use Rattle.b67_templates.specs.Nested.{AreNested}
 use Rattle.b67_footprints.specs.Keeping.{Stores, NamesOperand}
 use Rattle.b67_footprints.proofs.CoresKept.{cores_stay, cores_hold_stores}
 use Rattle.b67_frames.specs.Arrays.{Layout}

@@ -27,7 +27,7 @@ use Rattle.b67_templates.specs.Programs.{Texts}
 use Rattle.b67_standing.specs.Stepping.{Slot, element, operand, descriptor}
 use Rattle.b67_standing.specs.Standing.{ActionAt, of_row, of_element, ElementReadAt}
 use Rattle.b67_cores.specs.Cores.{Core}
-use Rattle.b67_fitting.specs.Nested.{AreNested}
+use Rattle.b67_templates.specs.Nested.{AreNested}
 use Rattle.b67_footprints.specs.Reaching.{TakesBy}
 use Rattle.b67_footprints.proofs.Operators.{indexed_is}
 use Rattle.b67_rows.proofs.AskedElements.{array_asked}

@@ -50,7 +50,7 @@ use Rattle.b67_cores.specs.Cores.{Core}
 use Rattle.b67_cores.specs.Slots.{newest, SlotIs}
 use Rattle.b67_cores.proofs.Moving.{slots_length}
 use Rattle.b67_faithful.proofs.Contradictions.{some_same, none_some}
-use Rattle.b67_fitting.specs.Nested.{AreNested}
+use Rattle.b67_templates.specs.Nested.{AreNested}
 use Rattle.b67_footprints.proofs.Lists.{Each, each_turned, each_both}
 use Rattle.b67_rows.proofs.GivenWords.{AreFit, none_wanted, a_value, a_name, a_cell, an_event_name, an_event_cell, a_variable, an_actual, a_name_cell, are_fit, Taken, ActualsAre}
 use Rattle.b67_rows.proofs.Rows.{words_are}

@@ -1,10 +1,10 @@
 -- The code of a program whose blocks lie in one another is faithful to it.
 use Rattle.algol_tree.specs.Plain.{PProgram}
-use Rattle.algol_texts.specs.Laws.{HasTexts}
+use Rattle.algol_calls.specs.Texts.{HasTexts}
 use Rattle.b67_segment.specs.declared.code.Code.{Code}
 use Rattle.b67_templates.specs.Programs.{ProgramAt}
-use Rattle.b67_fitting.specs.Names.{HasNames}
-use Rattle.b67_fitting.specs.Nested.{LiesNested}
+use Rattle.b67_templates.specs.Names.{HasNames}
+use Rattle.b67_templates.specs.Nested.{LiesNested}
 use Rattle.b67_listing.specs.Listings.{IsListable}
 use Rattle.b67_faithful.specs.Faithful.{HasFormats, IsShort, Faithful}
 

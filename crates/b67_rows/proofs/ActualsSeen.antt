@@ -19,7 +19,7 @@ use Rattle.algol_paths.proofs.Expressions.{InHalf, InHalfPlace, settle_in, settl
 use Rattle.b67_ops.specs.declared.Couple.{Couple}
 use Rattle.b67_templates.specs.Cells.{Wanted, value, by_name, array, event, other, Actual, own_actual, wants_of, actuals_in, actuals_among, actuals_given, actuals_in_pairs, actuals_in_decls, actuals_in_stmt, actuals_in_stmts, actuals_of, has_place, IsOwnActual}
 use Rattle.b67_faithful.proofs.Contradictions.{true_false, some_same, none_some}
-use Rattle.b67_fitting.specs.Nested.{IsText}
+use Rattle.b67_templates.specs.Nested.{IsText}
 
 -- ---- names of which more holds
 

@@ -1,6 +1,7 @@
 -- A block that is no procedure's stands in the text of one before it: that block is next around it, and has as many tokens at least.
 use Rattle.std.proofs.Common.{◌≡◌, refl, sym, ap, ◌∙◌, subst, ℕ, zero, suc, ◌+◌, ◌<◌, ◌≤◌, Bool, true, false, List, [], ◌∷◌, ◌++◌, length, map, Some, None, arith, add-one, append_assoc}
-use Rattle.std.specs.Prelude.{if◌then◌else◌, not, slice_get}
+use Rattle.std.proofs.lemmas.Bool.{and_parts, eqb-true}
+use Rattle.std.specs.Prelude.{◌==◌, if◌then◌else◌, not, slice_get}
 use Rattle.algol_tree.specs.declared.token.Spot.{Spot}
 use Rattle.algol_tree.specs.declared.tree.Heading.{Heading}
 use Rattle.algol_tree.specs.declared.tree.Named.{Named}
@@ -16,9 +17,8 @@ use Rattle.algol_paths.specs.Blocks.{IsSeen, IsSeenAround, IsInner}
 use Rattle.algol_paths.specs.Laws.{ItemsKeepToText}
 use Rattle.algol_paths.specs.Segments.{is_procedure}
 use Rattle.algol_paths.specs.Texts.{InStmt, InStmts, InItems, InDeclared}
-use Rattle.b67_fitting.specs.Names.{DeclsNamed, StmtNamed, StmtsNamed, BodyNamed}
-use Rattle.b67_fitting.specs.Nested.{AreNested}
-use Rattle.b67_fitting.proofs.Apart.{same_place}
+use Rattle.b67_templates.specs.Names.{DeclsNamed, StmtNamed, StmtsNamed, BodyNamed}
+use Rattle.b67_templates.specs.Nested.{AreNested}
 use Rattle.b67_faithful.proofs.Contradictions.{true_false, some_same, none_some}
 use Rattle.b67_rows.proofs.Numbers.{get_below}
 
@@ -68,6 +68,11 @@ pub block_there : (bs : List Block) (n : ℕ) → n < length bs → slice_get bs
 block_there [] n h = absurd (omega (arith, h))
 block_there (c ∷ cs) zero h = refl
 block_there (c ∷ cs) (suc n) h = block_there cs n (omega (arith, h))
+
+same_place : (s t : Spot) → same_spot s t ≡ true → s ≡ t
+same_place s t h =
+    let parts = and_parts (s.column == t.column) (s.line == t.line) h in
+    ap (λ n. record { line = s.line; column = n }) (eqb-true s.column t.column parts.0) ∙ ap (λ n. record { line = n; column = t.column }) (eqb-true s.line t.line parts.1)
 
 -- the number of a place is that of a block which stands there
 spot_there : (cs : List Block) (s : Spot) → number_at cs s < length cs → (block_numbered cs (number_at cs s)).spot ≡ s

@@ -11,7 +11,7 @@ use Rattle.algol_meaning.specs.Rest.{Item}
 use Rattle.algol_meaning.specs.Statements.{event_items, decls_items, items, items_of, ending, settle_items}
 use Rattle.algol_paths.specs.Arrays.{Made, made_in, to_come, all_to_make, an_event}
 use Rattle.algol_paths.specs.Laws.{KeepsToText, RestsKeepToTheirText, AllIsMadeInOrder}
-use Rattle.b67_fitting.specs.Nested.{IsText}
+use Rattle.b67_templates.specs.Nested.{IsText}
 
 -- ---- what items make
 

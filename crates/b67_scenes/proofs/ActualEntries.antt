@@ -37,7 +37,7 @@ use Rattle.b67_cores.specs.Stretches.{CoreAt}
 use Rattle.b67_cores.proofs.Moving.{slots_length}
 use Rattle.b67_faithful.specs.Faithful.{IsShort}
 use Rattle.b67_faithful.proofs.Contradictions.{some_same}
-use Rattle.b67_fitting.specs.Nested.{LiesNested}
+use Rattle.b67_templates.specs.Nested.{LiesNested}
 use Rattle.b67_rows.proofs.AccidentalRow.{with_evaluation, Evaluates, evaluation_is}
 use Rattle.b67_rows.proofs.Displays.{Links, shown, shown_top, linked_seen}
 use Rattle.b67_rows.proofs.EntryRow.{lower_of}

@@ -26,7 +26,7 @@ use Rattle.b67_templates.specs.Programs.{Texts, text_of, context_of}
 use Rattle.b67_cores.specs.Cores.{Core}
 use Rattle.b67_cores.specs.Stretches.{control_words}
 use Rattle.b67_faithful.proofs.Contradictions.{some_same}
-use Rattle.b67_fitting.specs.Nested.{AreNested}
+use Rattle.b67_templates.specs.Nested.{AreNested}
 use Rattle.b67_rows.proofs.Numbers.{get_below}
 use Rattle.b67_rows.proofs.StackWords.{get-front, get-behind}
 use Rattle.b67_frames.specs.Arrays.{Layout, IsActual}

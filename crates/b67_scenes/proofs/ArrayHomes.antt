@@ -29,7 +29,7 @@ use Rattle.b67_table.specs.References.{cell_place, sirw_cell}
 use Rattle.b67_templates.specs.Cells.{simple_cells, made_base, found_from, IsDeclaredArray, IsFormalArray, IsArray, declared, formal, made_of, made_from}
 use Rattle.b67_templates.specs.Programs.{Texts}
 use Rattle.b67_cores.specs.Cores.{Core}
-use Rattle.b67_fitting.specs.Nested.{AreNested}
+use Rattle.b67_templates.specs.Nested.{AreNested}
 use Rattle.b67_faithful.proofs.Contradictions.{some_same}
 use Rattle.b67_rows.proofs.AskedElements.{array_asked, ArraySeen, array_seen}
 use Rattle.b67_rows.proofs.Touching.{NearCell}

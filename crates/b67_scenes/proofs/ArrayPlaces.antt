@@ -22,7 +22,7 @@ use Rattle.b67_table.specs.declared.Cell.{Cell}
 use Rattle.b67_templates.specs.Cells.{found_from, simple_cells, made_base, made_of}
 use Rattle.b67_templates.specs.Programs.{Texts}
 use Rattle.b67_cores.specs.Cores.{Core}
-use Rattle.b67_fitting.specs.Nested.{AreNested}
+use Rattle.b67_templates.specs.Nested.{AreNested}
 use Rattle.b67_rows.proofs.Numbers.{get_below}
 use Rattle.b67_rows.proofs.Touching.{NearCell}
 use Rattle.b67_frames.specs.Arrays.{Allotted, Layout, DescriptorIs, AreSized, HasArray, IsArrayOf}

@@ -43,7 +43,7 @@ use Rattle.b67_standing.specs.Standing.{ComesTo}
 use Rattle.b67_cores.specs.Cores.{Core, IsCore, HasCore}
 use Rattle.b67_cores.specs.Stretches.{CoreAt, FragmentsArePerformed, control_words, Begins, BlocksBegin}
 use Rattle.b67_faithful.specs.Weight.{tokens_around, part_weight, weight}
-use Rattle.b67_fitting.specs.Nested.{LiesNested, IsText}
+use Rattle.b67_templates.specs.Nested.{LiesNested, IsText}
 use Rattle.b67_rows.proofs.Begun.{core_of}
 use Rattle.b67_rows.proofs.Displays.{shown, shown_top}
 use Rattle.b67_rows.proofs.Segmented.{length_mapped}

@@ -23,7 +23,7 @@ use Rattle.b67_table.specs.Private.{display_at}
 use Rattle.b67_templates.specs.Cells.{Simple, Found, Wanted, simple_cells, found_from}
 use Rattle.b67_templates.specs.Programs.{Texts}
 use Rattle.b67_cores.specs.Cores.{Core}
-use Rattle.b67_fitting.specs.Nested.{AreNested}
+use Rattle.b67_templates.specs.Nested.{AreNested}
 use Rattle.b67_faithful.proofs.Contradictions.{some_same}
 use Rattle.b67_rows.proofs.Numbers.{get_below}
 use Rattle.b67_rows.proofs.StackWords.{get-front}

@@ -13,7 +13,7 @@ use Rattle.b67_table.specs.Image.{Image}
 use Rattle.b67_table.specs.Sound.{Lives}
 use Rattle.b67_templates.specs.Programs.{Texts}
 use Rattle.b67_faithful.proofs.Contradictions.{none_some}
-use Rattle.b67_fitting.specs.Nested.{AreNested}
+use Rattle.b67_templates.specs.Nested.{AreNested}
 use Rattle.b67_rows.proofs.Touching.{NearFrame}
 use Rattle.b67_frames.specs.Arrays.{Layout}
 use Rattle.b67_scenes.specs.Depending.{CriticalIs}

@@ -45,7 +45,7 @@ use Rattle.b67_cores.proofs.Moving.{slots_length}
 use Rattle.b67_letters.specs.Letters.{called_by}
 use Rattle.b67_faithful.specs.Correspondence.{operator_action}
 use Rattle.b67_faithful.specs.Faithful.{IsShort}
-use Rattle.b67_fitting.specs.Nested.{AreNested, LiesNested}
+use Rattle.b67_templates.specs.Nested.{AreNested, LiesNested}
 use Rattle.b67_rows.proofs.Displays.{shown, shown_top, linked_seen}
 use Rattle.b67_rows.proofs.EntryRow.{Leads, Enters, lower_of, with_frame, enter_raw, enter_class, enter_action, new_is}
 use Rattle.b67_rows.proofs.GivenWords.{AreFit, Taken, taken_words}

@@ -30,7 +30,7 @@ use Rattle.b67_templates.specs.Cells as wants
 use Rattle.b67_templates.specs.Cells.{simple_cells, made_base, found_from, IsDeclaredEvent, IsFormalEvent, IsEvent, declared_event, formal_event, made_of, made_from}
 use Rattle.b67_templates.specs.Programs.{Texts}
 use Rattle.b67_cores.specs.Cores.{Core}
-use Rattle.b67_fitting.specs.Nested.{AreNested}
+use Rattle.b67_templates.specs.Nested.{AreNested}
 use Rattle.b67_faithful.proofs.Contradictions.{some_same}
 use Rattle.b67_rows.proofs.AskedElements.{array_asked, ArraySeen, array_seen}
 use Rattle.b67_rows.proofs.Numbers.{get_below}

@@ -17,7 +17,7 @@ use Rattle.b67_templates.specs.Cells as wants
 use Rattle.b67_templates.specs.Cells.{Agrees, IsFormalArray}
 use Rattle.b67_templates.specs.Programs.{Texts}
 use Rattle.b67_cores.specs.Cores.{Core}
-use Rattle.b67_fitting.specs.Nested.{AreNested}
+use Rattle.b67_templates.specs.Nested.{AreNested}
 use Rattle.b67_faithful.proofs.Contradictions.{some_same}
 use Rattle.b67_frames.specs.Arrays.{Layout, LeadsTo, Denotes, named_from}
 use Rattle.b67_scenes.proofs.ArrayPlaces.{array_index, ArrayPlace, array_place, place_read}

@@ -28,7 +28,7 @@ use Rattle.b67_cores.specs.Cores.{Core}
 use Rattle.b67_cores.specs.Slots.{Known, newest, SlotsAre}
 use Rattle.b67_cores.specs.Stretches.{CoreAt}
 use Rattle.b67_faithful.proofs.Contradictions.{some_same}
-use Rattle.b67_fitting.specs.Nested.{AreNested}
+use Rattle.b67_templates.specs.Nested.{AreNested}
 use Rattle.b67_rows.proofs.Described.{whole_read, IsDescriptor, is_descriptor, whole_array, is_whole_array, IsFound, itself, in_cell, through_cell}
 use Rattle.b67_rows.proofs.IndexRows.{with_one, array_itself, array_reached, array_through}
 use Rattle.b67_rows.proofs.Slotted.{Top, top_slot}

@@ -26,7 +26,7 @@ use Rattle.b67_templates.specs.Cells.{found_from, simple_cells}
 use Rattle.b67_templates.specs.Programs.{Texts}
 use Rattle.b67_cores.specs.Cores.{Core}
 use Rattle.b67_faithful.proofs.Contradictions.{some_same, none_some}
-use Rattle.b67_fitting.specs.Nested.{AreNested}
+use Rattle.b67_templates.specs.Nested.{AreNested}
 use Rattle.b67_rows.proofs.Numbers.{get_below}
 use Rattle.b67_rows.proofs.Parents.{length_around, ancestor_up}
 use Rattle.b67_frames.specs.Arrays.{Layout, named_from}

@@ -26,7 +26,7 @@ use Rattle.b67_cores.specs.Cores.{Core}
 use Rattle.b67_cores.specs.Stretches.{control_words}
 use Rattle.b67_faithful.specs.Weight.{tokens_around, part_weight, weight}
 use Rattle.b67_faithful.proofs.Contradictions.{some_same}
-use Rattle.b67_fitting.specs.Nested.{AreNested, IsText}
+use Rattle.b67_templates.specs.Nested.{AreNested, IsText}
 use Rattle.b67_rows.proofs.Numbers.{numbered_set}
 use Rattle.b67_frames.specs.Arrays.{Allotted, Layout, AreMade, Denotes}
 use Rattle.b67_frames.specs.Frames.{Refers, block_controls, controls_count, IsChained, Framed, Frame, Around, Owned, of_own}

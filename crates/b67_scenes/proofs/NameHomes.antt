@@ -21,7 +21,7 @@ use Rattle.b67_templates.specs.Cells as wants
 use Rattle.b67_templates.specs.Cells.{IsFormalName}
 use Rattle.b67_templates.specs.Programs.{Texts}
 use Rattle.b67_cores.specs.Cores.{Core}
-use Rattle.b67_fitting.specs.Nested.{AreNested}
+use Rattle.b67_templates.specs.Nested.{AreNested}
 use Rattle.b67_rows.proofs.Words.{value_tag, no_sirw, pcw_refers_nothing}
 use Rattle.b67_frames.specs.Arrays.{Layout, LeadsToVariable, IsActual, Denotes, named_from}
 use Rattle.b67_rows.proofs.Touching.{NearCell}

@@ -17,7 +17,7 @@ use Rattle.b67_templates.specs.Cells.{simple_cells}
 use Rattle.b67_templates.specs.Programs.{Texts}
 use Rattle.b67_cores.specs.Cores.{Core}
 use Rattle.b67_faithful.proofs.Contradictions.{some_same}
-use Rattle.b67_fitting.specs.Nested.{AreNested}
+use Rattle.b67_templates.specs.Nested.{AreNested}
 use Rattle.b67_rows.proofs.Numbers.{get_below}
 use Rattle.b67_frames.specs.Arrays.{Layout, LeadsToVariable}
 use Rattle.b67_frames.proofs.FreshCells.{words_long}

@@ -9,7 +9,7 @@ use Rattle.algol_tree.specs.Scopes.{Scopes}
 use Rattle.algol_tree.specs.Sorts.{Parameter, same_name, is_named_in}
 use Rattle.algol_calls.specs.Fits.{has_parameter, has_result, has_variable, has_simple}
 use Rattle.b67_templates.specs.Cells.{Simple, Found, found_from, of_kind, result_of, variables, parameter_cells, simple_cells}
-use Rattle.b67_fitting.specs.Nested.{AreTold, AreParameters}
+use Rattle.b67_templates.specs.Nested.{AreTold, AreParameters}
 
 abbrev has_cell : List Simple → List ℕ → Bool
 has_cell [] name = false

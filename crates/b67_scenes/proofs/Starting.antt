@@ -47,8 +47,8 @@ use Rattle.b67_cores.specs.Cores.{Core, IsCore, HasCore}
 use Rattle.b67_cores.specs.Stretches.{CoreAt, FragmentsArePerformed, control_words, Begins, BlocksBegin}
 use Rattle.b67_faithful.specs.Weight.{tokens_around, weight}
 use Rattle.b67_faithful.proofs.Contradictions.{some_same, none_some}
-use Rattle.b67_fitting.specs.Names.{HasNames}
-use Rattle.b67_fitting.specs.Nested.{AreTold, AreNested}
+use Rattle.b67_templates.specs.Names.{HasNames}
+use Rattle.b67_templates.specs.Nested.{AreTold, AreNested}
 use Rattle.b67_rows.proofs.Texted.{block_keeps, block_makes}
 use Rattle.b67_frames.proofs.ControlWords.{block_few, routines_long, controls_many, controls_fit}
 use Rattle.b67_frames.specs.Arrays.{Allotted, Layout, rows_of_cells, HasArray, ArraysAre}

@@ -28,7 +28,7 @@ use Rattle.b67_templates.specs.Fragments.{code_at}
 use Rattle.b67_templates.specs.Programs.{Texts}
 use Rattle.b67_cores.specs.Cores.{Core}
 use Rattle.b67_cores.specs.Stretches.{control_words}
-use Rattle.b67_fitting.specs.Nested.{IsDeclared, AreNested}
+use Rattle.b67_templates.specs.Nested.{IsDeclared, AreNested}
 use Rattle.b67_rows.proofs.Numbers.{get_below}
 use Rattle.b67_rows.proofs.Rows.{words_are}
 use Rattle.b67_rows.proofs.Segmented.{procedure_segment, get_mapped}

@@ -23,7 +23,7 @@ use Rattle.b67_cores.specs.Stretches.{Above}
 use Rattle.b67_cores.proofs.Performing.{steps_keep}
 use Rattle.b67_cores.proofs.Staying.{steps_stay_above}
 use Rattle.b67_faithful.proofs.Contradictions.{some_same, true_false}
-use Rattle.b67_fitting.specs.Nested.{AreNested}
+use Rattle.b67_templates.specs.Nested.{AreNested}
 use Rattle.b67_footprints.specs.Laws.{HaveOwnStacks}
 use Rattle.b67_rows.proofs.Numbers.{numbered_beyond, get_within}
 use Rattle.b67_rows.proofs.Rows.{words_are}

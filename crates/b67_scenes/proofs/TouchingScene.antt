@@ -24,7 +24,7 @@ use Rattle.b67_templates.specs.Fragments.{Has}
 use Rattle.b67_templates.specs.Programs.{Texts}
 use Rattle.b67_cores.specs.Cores.{Core, stack_of}
 use Rattle.b67_faithful.proofs.Contradictions.{some_same, none_some}
-use Rattle.b67_fitting.specs.Nested.{AreNested}
+use Rattle.b67_templates.specs.Nested.{AreNested}
 use Rattle.b67_rows.proofs.Numbers.{most_or_more}
 use Rattle.b67_rows.proofs.Rows.{words_are}
 use Rattle.b67_rows.proofs.Touching.{Near, own_stack, system, below_floor, NearFrame, FrameAt, system_frame, own_frame, IsNear, NamesNear}

@@ -10,3 +10,5 @@ pub mod Paying
 pub mod Programs
 pub mod Fitting
 pub mod Emitting
+pub mod Names
+pub mod Nested

@@ -17,7 +17,7 @@ use Rattle.algol_paths.specs.Laws.{ItemsKeepToText}
 use Rattle.algol_paths.specs.Segments.{is_procedure, procedures_before, segment_tokens}
 use Rattle.b67_templates.specs.Cells as wants
 use Rattle.b67_templates.specs.Cells.{Simple, parameter_cells, simple_cells, found_from, procedures, actuals_of, made_of}
-use Rattle.b67_fitting.specs.Names.{HasNames}
+use Rattle.b67_templates.specs.Names.{HasNames}
 
 -- the block of a procedure that the block with this number declares stands in it
 pub record IsDeclared (sc : Scopes) (j : ℕ) (declared : Named) : Type 0 where

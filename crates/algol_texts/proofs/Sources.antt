@@ -6,12 +6,13 @@ use Rattle.algol_meaning.specs.World.{World}
 use Rattle.algol_meaning.specs.Choice.{choice}
 use Rattle.algol_meaning.specs.Run.{start, may_go, after_entry, run_from, run}
 use Rattle.algol_laws.proofs.Growing.{none_left}
-use Rattle.algol_texts.specs.Texts.{AreTexts}
-use Rattle.algol_texts.specs.Laws.{HasTexts}
+use Rattle.algol_calls.specs.Texts.{AreTexts}
+use Rattle.algol_calls.specs.Texts.{HasTexts}
 use Rattle.algol_texts.proofs.Programs.{texts_of_accepted_fit, texts_of_sources_fit}
 use Rattle.algol_standing.specs.Worlds.{IsWhole}
 use Rattle.algol_standing.specs.Fitting.{IsOk}
-use Rattle.algol_standing.specs.Laws.{WorldStands, WorldsOfAcceptedStand, WorldsOfSourcesStand}
+use Rattle.algol_standing.specs.Laws.{WorldStands}
+use Rattle.algol_texts.specs.Laws.{WorldsOfAcceptedStand, WorldsOfSourcesStand}
 use Rattle.algol_standing.proofs.Left.{what_is_referred_to_stands, references_lie_on_paths}
 use Rattle.algol_standing.proofs.Worlds.{first_world_stands, choices_keep_worlds}
 

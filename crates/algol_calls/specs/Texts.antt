@@ -1,7 +1,8 @@
 -- When the texts of the blocks are as worlds want them: each name is seen from where it stands, and each call fits.
 use Rattle.std.specs.Prelude.{◌≡◌, ℕ, ◌<◌, [], length}
 use Rattle.algol_tree.specs.Blocks.{block_numbered, around}
-use Rattle.algol_tree.specs.Scopes.{Scopes}
+use Rattle.algol_tree.specs.Plain.{PProgram}
+use Rattle.algol_tree.specs.Scopes.{Scopes, scopes_of}
 use Rattle.algol_meaning.specs.Statements.{items_of}
 use Rattle.algol_paths.specs.Laws.{ItemsKeepToText}
 use Rattle.algol_calls.specs.Fits.{ItemsFit, CallsFitInTexts}
@@ -22,3 +23,8 @@ pub record HasOuterBlock (sc : Scopes) : Type 0 where
   pub parameterless : (block_numbered sc.blocks 0).parameters ≡ []
   pub text : ItemsKeepToText sc 0 (items_of (block_numbered sc.blocks 0))
   pub fit : ItemsFit sc (items_of (block_numbered sc.blocks 0))
+
+-- So they are in a program.
+pub record HasTexts (p : PProgram) : Type 0 where
+  pub texts : AreTexts (scopes_of p)
+  pub outer : HasOuterBlock (scopes_of p)
