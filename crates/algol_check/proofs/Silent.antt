@@ -1,13 +1,14 @@
 -- No label stands or is declared in an expression.
-use Rattle.std.proofs.Common.{◌≡◌, List, [], ◌∷◌, ◌++◌, Bool, true, false, Option, refl, ap, ◌∙◌}
+use Rattle.std.proofs.Common.{◌≡◌, List, [], ◌∷◌, ◌++◌, Bool, true, false, Option, Some, None, refl, ap, ◌∙◌}
 use Rattle.std.proofs.lemmas.Grind.{flat_map-append}
 use Rattle.std.specs.List.{flat_map}
+use Rattle.algol_tree.specs.declared.tree.Named.{Named}
 use Rattle.algol_tree.specs.Plain as tree
-use Rattle.algol_tree.specs.Plain.{PExpr, PExprs, PPair}
+use Rattle.algol_tree.specs.Plain.{PExpr, PExprs, PPair, name_alone}
 use Rattle.algol_tree.specs.Classes.{Formal}
 use Rattle.algol_tree.specs.Surroundings.{Surroundings, formals_at}
 use Rattle.algol_tree.specs.Sites as site
-use Rattle.algol_tree.specs.Sites.{Site, sites, inside_expr, inside_list, inside_actuals, sites_in_pairs, name_part, wants_value, actual_part, first_formal, other_formals}
+use Rattle.algol_tree.specs.Sites.{Site, sites, inside_expr, inside_list, inside_actuals, sites_in_pairs, name_part, wants_value, actual_part, actual_part_by, first_formal, other_formals}
 use Rattle.algol_sites.specs.Labelling.{standings_at, labels_at}
 
 pub record IsSilent (xs : List Site) : Type 0 where
@@ -32,23 +33,13 @@ module _ (a : Surroundings) where
   headed : (e : PExpr) (xs : List Site) → IsSilent xs → IsSilent (here e ∷ xs)
   headed e xs h = record { labels = h.labels; standings = h.standings }
 
-  part_silent : (e : PExpr) (f : Option Formal) (xs : List Site) → IsSilent xs → IsSilent (record { part = actual_part e f; around = a } ∷ xs)
-  part_silent (tree.variable (tree.subscripted n tree.none)) f xs h = named (wants_value f)
-    where
-      named : (b : Bool) → IsSilent (record { part = name_part n b; around = a } ∷ xs)
-      named true = record { labels = h.labels; standings = h.standings }
-      named false = record { labels = h.labels; standings = h.standings }
-  part_silent (tree.variable (tree.subscripted n (tree.more e es))) f xs h = headed (tree.variable (tree.subscripted n (tree.more e es))) xs h
-  part_silent (tree.number z spot) f xs h = headed (tree.number z spot) xs h
-  part_silent (tree.truth z spot) f xs h = headed (tree.truth z spot) xs h
-  part_silent (tree.call c) f xs h = headed (tree.call c) xs h
-  part_silent (tree.tested test e spot) f xs h = headed (tree.tested test e spot) xs h
-  part_silent (tree.paren e spot) f xs h = headed (tree.paren e spot) xs h
-  part_silent (tree.plus e spot) f xs h = headed (tree.plus e spot) xs h
-  part_silent (tree.neg e spot) f xs h = headed (tree.neg e spot) xs h
-  part_silent (tree.not e spot) f xs h = headed (tree.not e spot) xs h
-  part_silent (tree.two op x y) f xs h = headed (tree.two op x y) xs h
-  part_silent (tree.if c x y spot) f xs h = headed (tree.if c x y spot) xs h
+  name_silent : (n : Named) (value : Bool) (xs : List Site) → IsSilent xs → IsSilent (record { part = name_part n value; around = a } ∷ xs)
+  name_silent n true xs h = record { labels = h.labels; standings = h.standings }
+  name_silent n false xs h = record { labels = h.labels; standings = h.standings }
+
+  part_silent : (o : Option Named) (e : PExpr) (f : Option Formal) (xs : List Site) → IsSilent xs → IsSilent (record { part = actual_part_by o e f; around = a } ∷ xs)
+  part_silent (Some n) e f xs h = name_silent n (wants_value f) xs h
+  part_silent None e f xs h = headed e xs h
 
   actual_silent : (e : PExpr) (f : Option Formal) (xs : List Site) → IsSilent xs → IsSilent (record { part = site.actual e f; around = a } ∷ xs)
   actual_silent e f xs h = record { labels = h.labels; standings = h.standings }
@@ -59,7 +50,7 @@ module _ (a : Surroundings) where
     inside_silent (tree.truth z spot) = silent_none
     inside_silent (tree.variable (tree.subscripted n es)) = list_silent es
     inside_silent (tree.call (tree.called n es)) = actuals_silent es (formals_at a n)
-    inside_silent (tree.tested test e spot) = silent_none
+    inside_silent (tree.tested test es spot) = silent_none
     inside_silent (tree.paren e spot) = headed e (inside_expr e a) (inside_silent e)
     inside_silent (tree.plus e spot) = headed e (inside_expr e a) (inside_silent e)
     inside_silent (tree.neg e spot) = headed e (inside_expr e a) (inside_silent e)
@@ -80,7 +71,7 @@ module _ (a : Surroundings) where
     actuals_silent (tree.more e es) fs =
         let within = inside_expr e a ++ inside_actuals es (other_formals fs) a in
         actual_silent e (first_formal fs) (record { part = actual_part e (first_formal fs); around = a } ∷ within)
-        (part_silent e (first_formal fs) within (silent_both (inside_expr e a) (inside_actuals es (other_formals fs) a) (inside_silent e) (actuals_silent es (other_formals fs))))
+        (part_silent (name_alone e) e (first_formal fs) within (silent_both (inside_expr e a) (inside_actuals es (other_formals fs) a) (inside_silent e) (actuals_silent es (other_formals fs))))
 
   pub sites_silent : (e : PExpr) → IsSilent (sites e a)
   sites_silent e = headed e (inside_expr e a) (inside_silent e)

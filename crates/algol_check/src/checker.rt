@@ -1,7 +1,7 @@
 //! What a walk over a tree keeps, and the steps of the walk that lead into no statement.
 
 ghost use Rattle.std.specs.Prelude.{◌≡◌, None, [], ◌∷◌, ◌++◌, Bool, List, OnOk, IfOk};
-ghost use Rattle.algol_tree.specs.declared.tree.EventAct.{EventAct};
+ghost use Rattle.b67_deeds.specs.declared.EventAct.{EventAct};
 ghost use Rattle.algol_tree.specs.Accepted.{noted_all};
 ghost use Rattle.algol_tree.specs.Blocks as blocks;
 ghost use Rattle.algol_tree.specs.Blocks.{Block, number_at};

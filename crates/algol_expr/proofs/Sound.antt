@@ -1,5 +1,6 @@
 -- What is read is of the grammar: where reading what is due goes over tokens, they are those of what is due.
 use Rattle.std.proofs.Common.{◌≡◌, ◌+◌, ℕ, Bool, true, false, List, [], ◌∷◌, ◌++◌, codes, Option, Some, None, refl, sym, subst, ap, ◌∙◌}
+use Rattle.b67_deeds.specs.declared.EventTest.TheVariants as test
 use Rattle.algol_tree.specs.declared.token.Spot.{Spot}
 use Rattle.algol_tree.specs.declared.token.Token.{Token}
 use Rattle.algol_tree.specs.declared.token.TokenKind.{TokenKind}
@@ -137,7 +138,7 @@ back_primary free d t ts vs _ _ (kinds.Word reserved.True) k (cons _ _ _ _ _ _ _
 back_primary free d t ts vs _ _ (kinds.Word reserved.False) k (cons _ _ _ _ _ _ _ _ makes_it (nil _ _)) = it (trees.truth false t.spot) ts (grammar.no_ t d ts k)
 back_primary free d t ts vs _ _ (kinds.Word reserved.Happened) k
     (cons _ _ _ _ _ _ _ _ (opened u mid s o) (cons _ _ _ _ _ _ _ _ (event_is e _ x) (cons _ _ _ _ _ _ _ _ (single v rest c) (cons _ _ _ _ _ _ _ _ makes_it (nil _ _))))) =
-    it (trees.tested trees.happened e t.spot) rest (grammar.asked t u v d e mid rest k s o x c)
+    it (trees.tested test.Happened (e ∷ []) t.spot) rest (grammar.asked t u v d e mid rest k s o x c)
 back_primary free d t ts vs ws rest (kinds.Name name) k (cons _ _ _ _ _ _ _ _ f (nil _ _)) = f t (record { name = k; place = refl })
 back_primary free d t ts vs _ _ (kinds.Symbol symbols.OpenRound) k
     (o, cons _ _ _ _ _ _ _ _ (it e mid x) (cons _ _ _ _ _ _ _ _ (single u rest c) (cons _ _ _ _ _ _ _ _ makes_it (nil _ _)))) =

@@ -2,6 +2,7 @@
 //! for a whole one.
 
 ghost use Rattle.std.specs.Prelude.{◌≡◌, [], ◌∷◌, ◌++◌, IfOk, IfErr, OnOk, IfSome, IfNone, Some, None};
+ghost use Rattle.b67_deeds.specs.declared.EventTest.TheVariants as test;
 ghost use Rattle.algol_tree.specs.declared.refusal.Refusal.TheVariants.{NoMemory};
 ghost use Rattle.algol_tree.specs.Plain as plain_trees;
 ghost use Rattle.algol_tree.specs.Image.{expr as plain, exprs as plain_list};
@@ -155,7 +156,7 @@ pub fn named(alloc: Global, name: &Line, spot: Spot) -> Result<Named, Stop>
 
 /// Whether that event has happened.
 pub(crate) fn happened(event: EventName, spot: Spot) -> Expr
-    ensures { plain result ≡ plain_trees.tested plain_trees.happened event spot }
+    ensures { plain result ≡ plain_trees.tested test.Happened (event ∷ []) spot }
 {
     Expr::Happened(event, spot)
 }

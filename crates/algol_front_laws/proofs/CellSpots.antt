@@ -1,18 +1,19 @@
 -- The cells of a tree, but for the results of procedures, stand at places that are all different.
-use Rattle.std.proofs.Common.{◌≡◌, Bool, true, false, List, [], ◌∷◌, ◌++◌, Option, refl, sym, subst, ap, ◌∙◌, append_assoc}
+use Rattle.std.proofs.Common.{◌≡◌, Bool, true, false, List, [], ◌∷◌, ◌++◌, Option, refl, sym, subst, ap, ◌∙◌, append_assoc, map, Some, None}
 use Rattle.std.proofs.lemmas.Grind.{flat_map-append}
 use Rattle.std.specs.List.{flat_map}
 use Rattle.algol_tree.specs.declared.token.Spot.{Spot}
 use Rattle.algol_tree.specs.declared.tree.Named.{Named}
 use Rattle.algol_tree.specs.declared.tree.Heading.{Heading}
+use Rattle.algol_tree.specs.declared.tree.EventName.{EventName}
 use Rattle.algol_tree.specs.Plain as tree
-use Rattle.algol_tree.specs.Plain.{PExpr, PExprs, PPair, PStmt, PStmts, PDecl, PDecls, PBody, PProgram}
+use Rattle.algol_tree.specs.Plain.{PExpr, PExprs, PPair, PStmt, PStmts, PDecl, PDecls, PBody, PProgram, name_alone}
 use Rattle.algol_tree.specs.Classes.{Formal}
 use Rattle.algol_tree.specs.Sorts.{Declared}
 use Rattle.algol_tree.specs.Blocks.{Block, Begin, of_statement, of_procedure}
 use Rattle.algol_tree.specs.Surroundings.{Surroundings, formals_at, inside, inside_procedure, knowing, knowing_all, outermost}
 use Rattle.algol_tree.specs.Sites as site
-use Rattle.algol_tree.specs.Sites.{Part, Site, actual_part, first_formal, here_stmt, inside_actuals, inside_decl, inside_expr, inside_list, inside_stmt, name_part, other_formals, sites, sites_by, sites_in_body, sites_in_decls, sites_in_pairs, sites_in_stmts, has_decls, wants_value}
+use Rattle.algol_tree.specs.Sites.{Part, Site, actual_part, actual_part_by, first_formal, here_stmt, inside_actuals, inside_decl, inside_expr, inside_list, inside_stmt, name_part, other_formals, sites, sites_by, sites_in_body, sites_in_decls, sites_in_pairs, sites_in_stmts, has_decls, wants_value}
 use Rattle.algol_tree.specs.Cells.{first_spot, has_cell}
 use Rattle.algol_tree.specs.Names.{specified}
 use Rattle.algol_tree.specs.Ascending.{IsInOrder, spots_of_body, spots_of_decl, spots_of_decls, spots_of_expr, spots_of_exprs, spots_of_heading, spots_of_names, spots_of_pairs, spots_of_stmt, spots_of_stmts, spots_of_task}
@@ -54,19 +55,9 @@ module _ (a : Surroundings) where
   name-none n true = refl
   name-none n false = refl
 
-  part-none : (e : PExpr) (f : Option Formal) → cells_in_part (actual_part e f) a ≡ []
-  part-none (tree.variable (tree.subscripted n tree.none)) f = name-none n (wants_value f)
-  part-none (tree.variable (tree.subscripted n (tree.more e es))) f = refl
-  part-none (tree.number z spot) f = refl
-  part-none (tree.truth z spot) f = refl
-  part-none (tree.call c) f = refl
-  part-none (tree.tested test e spot) f = refl
-  part-none (tree.paren e spot) f = refl
-  part-none (tree.plus e spot) f = refl
-  part-none (tree.neg e spot) f = refl
-  part-none (tree.not e spot) f = refl
-  part-none (tree.two op x y) f = refl
-  part-none (tree.if c x y spot) f = refl
+  part-none : (o : Option Named) (e : PExpr) (f : Option Formal) → cells_in_part (actual_part_by o e f) a ≡ []
+  part-none (Some n) e f = name-none n (wants_value f)
+  part-none None e f = refl
 
   -- the first token of the first expression, and the cells in it and in what follows
   and-then : (first : Spot) (xs ys : List Site) (us vs : List Spot) → Fits (first ∷ At xs) us → Fits (At ys) vs → Fits (first ∷ At (xs ++ ys)) (us ++ vs)
@@ -78,7 +69,7 @@ module _ (a : Surroundings) where
       Fits (At (record { part = site.actual e f; around = a } ∷ record { part = actual_part e f; around = a } ∷ (inside_expr e a ++ rest))) (us ++ vs)
   one-actual e f rest us vs h k =
       let P : List Spot → Type 0 = λ zs. Fits (spot_if (has_cell e f a) (first_spot e) ++ (zs ++ At (inside_expr e a ++ rest))) (us ++ vs) in
-      subst P (sym (part-none e f)) (decide (has_cell e f a))
+      subst P (sym (part-none (name_alone e) e f)) (decide (has_cell e f a))
     where
       decide : (b : Bool) → Fits (spot_if b (first_spot e) ++ At (inside_expr e a ++ rest)) (us ++ vs)
       decide true = and-then (first_spot e) (inside_expr e a) rest us vs h k
@@ -93,7 +84,7 @@ module _ (a : Surroundings) where
     in-expr (tree.truth z spot) = all-fit (spot ∷ [])
     in-expr (tree.variable (tree.subscripted n es)) = take-fits n.spot (At (inside_list es a)) (spots_of_exprs es) (in-list es)
     in-expr (tree.call (tree.called n es)) = take-fits n.spot (At (inside_actuals es (formals_at a n) a)) (spots_of_exprs es) (in-actuals es (formals_at a n))
-    in-expr (tree.tested test e spot) = take-fits spot [] (e.name.spot ∷ []) (none-fits (e.name.spot ∷ []))
+    in-expr (tree.tested test es spot) = let spots = map (λ (e : EventName). e.name.spot) es in take-fits spot [] spots (none-fits spots)
     in-expr (tree.paren e spot) = take-fits spot (At (sites e a)) (spots_of_expr e) (at-sites e (in-expr e))
     in-expr (tree.plus e spot) = take-fits spot (At (sites e a)) (spots_of_expr e) (at-sites e (in-expr e))
     in-expr (tree.neg e spot) = take-fits spot (At (sites e a)) (spots_of_expr e) (at-sites e (in-expr e))

@@ -3,6 +3,7 @@ use Rattle.std.proofs.Common.{rules, ◌≡◌, ℕ, Bool, true, false, not, Lis
 use Rattle.std.specs.Bool.{◌==◌}
 use Rattle.std.specs.declared.boxed.Box.{Box}
 use Rattle.std.specs.declared.alloc.Global.{Global}
+use Rattle.b67_deeds.specs.declared.EventTest.TheVariants as test
 use Rattle.algol_tree.specs.declared.token.Spot.{Spot}
 use Rattle.algol_tree.specs.declared.tree.Op.{Op}
 use Rattle.algol_tree.specs.declared.tree.EventName.{EventName}
@@ -48,10 +49,10 @@ of_call c = search (rules, exprs_of.the_lemmas)
 pub expr_variable : (e : Expr) (v : Variable) → e ≡ expression.Variable v → expr e ≡ tree.variable (tree.subscripted v.name (exprs v.subs))
 expr_variable e v h = ap expr h ∙ of_variable v ∙ ap (λ w. tree.variable w) (variable_is v)
 
-pub expr_happened : (e : Expr) (event : EventName) (spot : Spot) → e ≡ expression.Happened event spot → expr e ≡ tree.tested tree.happened event spot
+pub expr_happened : (e : Expr) (event : EventName) (spot : Spot) → e ≡ expression.Happened event spot → expr e ≡ tree.tested test.Happened (event ∷ []) spot
 expr_happened e event spot h = ap expr h ∙ of_happened event spot
   where
-    of_happened : (event : EventName) (spot : Spot) → expr (expression.Happened event spot) ≡ tree.tested tree.happened event spot
+    of_happened : (event : EventName) (spot : Spot) → expr (expression.Happened event spot) ≡ tree.tested test.Happened (event ∷ []) spot
     of_happened event spot = search (rules, exprs_of.the_lemmas)
 
 pub expr_two : (e : Expr) (op : Op) (a b : Box Expr Global) (x y : Expr) → e ≡ expression.Two op a b → x ≡ a.value → y ≡ b.value →

@@ -18,7 +18,7 @@ use Rattle.algol_sorts.specs.Sorts.{sort_by, sort_of}
 use Rattle.algol_told.proofs.Lists.{all-append}
 use Rattle.algol_paths.specs.Arrays.{Lows, lows_in, shape_in}
 use Rattle.algol_lows.proofs.Formals.{FormalsFound}
-use Rattle.algol_rest.specs.SeenScope.{sort_as}
+use Rattle.algol_cells.specs.SeenScope.{sort_as}
 use Rattle.algol_names.specs.Kept.{listed}
 
 -- a parameter

@@ -12,9 +12,9 @@ use Rattle.algol_sorts.specs.declared.sort.Sort.{Sort}
 use Rattle.algol_sorts.specs.declared.sort.Sort.TheVariants as sort
 use Rattle.algol_told.proofs.Known.{spot-is}
 use Rattle.algol_told.proofs.Spots.{spot-itself}
-use Rattle.algol_rest.specs.Shown.{shown}
-use Rattle.algol_rest.specs.SeenScope.{lows_under, or_no_lows, sort_as, used}
-use Rattle.algol_rest.specs.declared.scope.Use.{Use}
+use Rattle.algol_cells.specs.Shown.{shown}
+use Rattle.algol_cells.specs.SeenScope.{lows_under, or_no_lows, sort_as, used}
+use Rattle.algol_cells.specs.declared.scope.Use.{Use}
 use Rattle.algol_names.specs.Kept.{found_if, is_formal_at, is_used_among, lows_from, lows_there, lows_used}
 
 -- ---- one use

@@ -1,11 +1,12 @@
 -- The names that are found in an accepted tree mean by its scopes what its uses say.
-use Rattle.std.proofs.Common.{arith, ◌≡◌, ℕ, ℤ, suc, ◌+◌, ◌-◌, Bool, true, false, List, [], ◌∷◌, ◌++◌, Option, Some, None, refl, sym, ap, ◌∙◌, append-nil}
+use Rattle.std.proofs.Common.{arith, ◌≡◌, ℕ, ℤ, suc, ◌+◌, ◌-◌, Bool, true, false, List, [], ◌∷◌, ◌++◌, Option, Some, None, refl, sym, ap, ◌∙◌, append-nil, map, subst}
 use Rattle.std.proofs.lemmas.Grind.{flat_map-append}
-use Rattle.std.specs.List.{AllByRecursion}
+use Rattle.std.specs.List.{AllByRecursion, flat_map}
 use Rattle.algol_tree.specs.declared.token.Spot.{Spot}
 use Rattle.algol_tree.specs.declared.tree.Named.{Named}
+use Rattle.algol_tree.specs.declared.tree.EventName.{EventName}
 use Rattle.algol_tree.specs.Plain as tree
-use Rattle.algol_tree.specs.Plain.{PExpr, PExprs, PPair, PStmt, PStmts, PDecl, PDecls, PBody}
+use Rattle.algol_tree.specs.Plain.{PExpr, PExprs, PPair, PStmt, PStmts, PDecl, PDecls, PBody, name_alone}
 use Rattle.algol_tree.specs.Ascending.{IsInOrder}
 use Rattle.algol_tree.specs.Blocks.{Block, Begin, of_statement, of_procedure, blocks_of_program, number_at}
 use Rattle.algol_tree.specs.Classes.{Formal}
@@ -13,7 +14,8 @@ use Rattle.algol_tree.specs.Scopes as scoping
 use Rattle.algol_tree.specs.Sorts as plain
 use Rattle.algol_tree.specs.Sorts.{Declared}
 use Rattle.algol_tree.specs.Surroundings.{Surroundings, formals_at, inside_procedure, knowing, knowing_all, outermost}
-use Rattle.algol_tree.specs.Sites.{Site, actual_part, first_formal, here, here_stmt, inside_actuals, inside_decl, inside_expr, inside_list, inside_stmt, name_part, other_formals, sites, sites_in_body, sites_in_decls, sites_in_pairs, sites_in_stmts, has_decls, wants_value}
+use Rattle.algol_tree.specs.Sites.{Site, actual_part_by, first_formal, here, here_stmt, inside_actuals, inside_decl, inside_expr, inside_list, inside_stmt, name_part, other_formals, sites, sites_in_body, sites_in_decls, sites_in_pairs, sites_in_stmts, has_decls, wants_value}
+use Rattle.algol_tree.proofs.Alone.{named_alone}
 use Rattle.algol_sorts.specs.Sorts.{sort_of}
 use Rattle.algol_frames.specs.declared.scopes.Declared as laid
 use Rattle.algol_frames.specs.declared.scopes.Scopes.{Scopes}
@@ -26,7 +28,7 @@ use Rattle.algol_paths.specs.Arrays.{Lows, lows_at}
 use Rattle.algol_lows.proofs.Formals.{FormalsFound, formals_found}
 use Rattle.algol_names.specs.declared.found.Found.{Found}
 use Rattle.algol_names.specs.Found.{at, at_left, in_body, in_decl, in_decls, in_expr, in_exprs, in_pairs, in_stmt, in_stmts, in_task}
-use Rattle.algol_rest.specs.SeenScope.{sort_as}
+use Rattle.algol_cells.specs.SeenScope.{sort_as}
 use Rattle.algol_names.specs.Kept.{listed}
 use Rattle.algol_names.specs.Meant as meant
 use Rattle.algol_names.proofs.Clear.{AllClear, IsClear, all_clear, inside_clear, knowing_clear}
@@ -96,30 +98,29 @@ module _ (s : Scopes) (lows : Spot → Option Lows) (blocks : List Block) where
 
   -- ---- expressions
 
-  name_at : (n : Named) (b : Bool) (a : Surroundings) → TellsAt s (record { part = name_part n b; around = a }) → Tells s a n
-  name_at n true a t = t.0
-  name_at n false a t = t.0
+  name_at : (n : Named) (b : Bool) (a : Surroundings) → TellsAt s (record { part = name_part n b; around = a }) →
+      TellsAt s (here (tree.variable (tree.subscripted n tree.none)) a)
+  name_at n true a t = t
+  name_at n false a t = t
 
   -- an actual uses the names that the expression uses
-  actual_at : (e : PExpr) (f : Option Formal) (a : Surroundings) → TellsAt s (record { part = actual_part e f; around = a }) → TellsAt s (here e a)
-  actual_at (tree.variable (tree.subscripted n tree.none)) f a t = (name_at n (wants_value f) a t, tt)
-  actual_at (tree.variable (tree.subscripted n (tree.more e es))) f a t = t
-  actual_at (tree.number z spot) f a t = t
-  actual_at (tree.truth z spot) f a t = t
-  actual_at (tree.call c) f a t = t
-  actual_at (tree.tested test e spot) f a t = t
-  actual_at (tree.paren e spot) f a t = t
-  actual_at (tree.plus e spot) f a t = t
-  actual_at (tree.neg e spot) f a t = t
-  actual_at (tree.not e spot) f a t = t
-  actual_at (tree.two op x y) f a t = t
-  actual_at (tree.if c x y spot) f a t = t
+  actual_at : (o : Option Named) (e : PExpr) (f : Option Formal) (a : Surroundings) → name_alone e ≡ o → TellsAt s (record { part = actual_part_by o e f; around = a }) → TellsAt s (here e a)
+  actual_at (Some n) e f a is t = subst (λ x. TellsAt s (here x a)) (sym (named_alone e n is)) (name_at n (wants_value f) a t)
+  actual_at None e f a is t = t
 
   left_told : (xs ys : List Site) → TellsAll s (xs ++ ys) → TellsAll s xs
   left_told xs ys t = all-left (TellsAt s) xs ys t
 
   right_told : (xs ys : List Site) → TellsAll s (xs ++ ys) → TellsAll s ys
   right_told xs ys t = all-right (TellsAt s) xs ys t
+
+  abbrev events_uses : List EventName → Surroundings → List scoping.Use
+  events_uses es a = flat_map (scoping.used a) (map (λ (e : EventName). e.name) es)
+
+  events_meant : (es : List EventName) (a : Surroundings) → Clear a → AllByRecursion (Tells s a) (map (λ (e : EventName). e.name) es) →
+      all_told (map (λ (e : EventName). at e.name (suc a.depth)) es) ≡ events_uses es a
+  events_meant [] a c t = refl
+  events_meant (e ∷ es) a c t = first_meant e.name a (map (λ (f : EventName). at f.name (suc a.depth)) es) (events_uses es a) c t.0 (events_meant es a c t.1)
 
   mutual
     expr_meant : (e : PExpr) (a : Surroundings) → Clear a → TellsAll s (sites e a) → all_told (in_expr e (suc a.depth)) ≡ expr_uses e a
@@ -129,7 +130,7 @@ module _ (s : Scopes) (lows : Spot → Option Lows) (blocks : List Block) where
         first_meant n a (in_exprs es (suc a.depth)) (list_uses es a) c t.0.0 (list_meant es a c t.1) ∙ sym (variable_uses n es a)
     expr_meant (tree.call (tree.called n es)) a c t =
         first_meant n a (in_exprs es (suc a.depth)) (list_uses es a) c t.0.0 (actuals_meant es (formals_at a n) a c t.1) ∙ sym (call_uses n es a)
-    expr_meant (tree.tested test e spot) a c t = first_meant e.name a [] [] c t.0.0 refl ∙ sym (append-nil (scoping.used a e.name ++ []))
+    expr_meant (tree.tested test es spot) a c t = events_meant es a c t.0 ∙ sym (append-nil (events_uses es a))
     expr_meant (tree.paren e spot) a c t = expr_meant e a c t.1
     expr_meant (tree.plus e spot) a c t = expr_meant e a c t.1
     expr_meant (tree.neg e spot) a c t = expr_meant e a c t.1
@@ -162,7 +163,7 @@ module _ (s : Scopes) (lows : Spot → Option Lows) (blocks : List Block) where
         let k = suc a.depth in
         let more = inside_actuals es (other_formals fs) a in
         joined (in_expr e k) (in_exprs es k) (expr_uses e a) (list_uses es a)
-        (expr_meant e a c (actual_at e (first_formal fs) a t.1.0, left_told (inside_expr e a) more t.1.1))
+        (expr_meant e a c (actual_at (name_alone e) e (first_formal fs) a refl t.1.0, left_told (inside_expr e a) more t.1.1))
         (actuals_meant es (other_formals fs) a c (right_told (inside_expr e a) more t.1.1))
         ∙ sym (flat_map-append scoping.uses_at (sites e a) (inside_list es a))
 

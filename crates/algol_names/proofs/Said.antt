@@ -9,8 +9,8 @@ use Rattle.algol_tree.specs.Sorts as plain
 use Rattle.algol_tree.specs.Sorts.{class_in, is_named_in, simple_sort, sort_in}
 use Rattle.algol_sorts.specs.Sorts.{parameter_by}
 use Rattle.algol_sorts.specs.Specified as said
-use Rattle.algol_rest.specs.SeenScope.{lows_specified, parameter, sort_as}
-use Rattle.algol_rest.specs.declared.scope.Parameter.{Parameter}
+use Rattle.algol_cells.specs.SeenScope.{lows_specified, parameter, sort_as}
+use Rattle.algol_cells.specs.declared.scope.Parameter.{Parameter}
 
 -- by the specifications, and by value or not
 specified : (ss : List Spec) (value : Bool) (name : List ℕ) →

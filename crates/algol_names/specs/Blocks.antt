@@ -5,8 +5,8 @@ use Rattle.algol_tree.specs.declared.token.Spot.{Spot}
 use Rattle.algol_tree.specs.Plain as tree
 use Rattle.algol_tree.specs.Plain.{PBody}
 use Rattle.algol_tree.specs.Blocks as plain
-use Rattle.algol_rest.specs.SeenScope.{block}
-use Rattle.algol_rest.specs.declared.table.Blocks.{Blocks}
+use Rattle.algol_cells.specs.SeenScope.{block}
+use Rattle.algol_cells.specs.declared.table.Blocks.{Blocks}
 use Rattle.algol_names.specs.declared.blocks.Begin.{Begin}
 use Rattle.algol_names.specs.declared.blocks.Begin.TheVariants as begins
 

@@ -1,6 +1,7 @@
 -- The names that a tree uses, in the order of the text. `k` blocks are around each part.
-use Rattle.std.specs.Prelude.{ℕ, suc, if◌then◌else◌, true, false, List, [], ◌∷◌, ◌++◌, Option, Some, None}
+use Rattle.std.specs.Prelude.{ℕ, suc, if◌then◌else◌, true, false, List, [], ◌∷◌, ◌++◌, map, Option, Some, None}
 use Rattle.algol_tree.specs.declared.tree.Named.{Named}
+use Rattle.algol_tree.specs.declared.tree.EventName.{EventName}
 use Rattle.algol_tree.specs.Plain as tree
 use Rattle.algol_tree.specs.Plain.{PExpr, PExprs, PPair, PVariable, PCall, PStmt, PStmts, PDecl, PDecls, PBody}
 use Rattle.algol_tree.specs.Blocks.{Begin, of_procedure, of_statement}
@@ -21,7 +22,7 @@ abbrev mutual
   in_expr (tree.truth b spot) k = []
   in_expr (tree.variable (tree.subscripted n es)) k = at n k ∷ in_exprs es k
   in_expr (tree.call (tree.called n es)) k = at n k ∷ in_exprs es k
-  in_expr (tree.tested test e spot) k = at e.name k ∷ []
+  in_expr (tree.tested test es spot) k = map (λ (e : EventName). at e.name k) es
   in_expr (tree.paren e spot) k = in_expr e k
   in_expr (tree.plus e spot) k = in_expr e k
   in_expr (tree.neg e spot) k = in_expr e k

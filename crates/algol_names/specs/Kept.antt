@@ -11,8 +11,8 @@ use Rattle.algol_sorts.specs.declared.sort.Sort.TheVariants as sort
 use Rattle.algol_paths.specs.Arrays.{Lows}
 use Rattle.algol_lows.specs.declared.bounds.Lows as bounds
 use Rattle.algol_lows.specs.Lows.{under}
-use Rattle.algol_rest.specs.Shown.{shown}
-use Rattle.algol_rest.specs.declared.scope.Use.{Use}
+use Rattle.algol_cells.specs.Shown.{shown}
+use Rattle.algol_cells.specs.declared.scope.Use.{Use}
 
 abbrev pub listed : Option Lows → List ℤ
 listed None = []

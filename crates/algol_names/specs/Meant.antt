@@ -6,8 +6,8 @@ use Rattle.algol_tree.specs.Blocks.{Block, number_at}
 use Rattle.algol_tree.specs.Scopes as scoping
 use Rattle.algol_tree.specs.Scopes.{left_use}
 use Rattle.algol_frames.specs.declared.scopes.Declared.{Declared}
-use Rattle.algol_rest.specs.SeenScope.{sort_as, used}
-use Rattle.algol_rest.specs.declared.scope.Use.{Use}
+use Rattle.algol_cells.specs.SeenScope.{sort_as, used}
+use Rattle.algol_cells.specs.declared.scope.Use.{Use}
 use Rattle.algol_names.specs.declared.found.Found.{Found}
 
 abbrev pub used_by : (Spot → List ℤ) → (Spot → ℕ) → Option Use → List scoping.Use

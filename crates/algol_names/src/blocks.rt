@@ -4,10 +4,10 @@ ghost use Rattle.std.specs.Prelude.{◌≡◌, [], ◌∷◌, ◌++◌, map, IfO
 ghost use Rattle.algol_tree.specs.Blocks as plain;
 ghost use Rattle.algol_meaning.specs.SeenTree.{stmt, stmts, body, decl, decls, program};
 ghost use Rattle.algol_tree.specs.Sorts.{parameters_of};
-ghost use Rattle.algol_rest.specs.SeenScope.{block, in_block, parameter};
+ghost use Rattle.algol_cells.specs.SeenScope.{block, in_block, parameter};
 ghost use Rattle.algol_names.specs.Blocks as seen;
 
-use algol_rest::{Block, BlockStatements, Owner, Parameter};
+use algol_cells::{Block, BlockStatements, Owner, Parameter};
 use algol_rules::{boxed_stmt, decls_in, is_compound, stmts_in};
 use algol_sorts::Specified;
 use algol_tree::{Body, Decl, Heading, List, Program, Spot, Stmt};

@@ -2,11 +2,11 @@
 
 ghost use Rattle.std.specs.Prelude.{◌≡◌, ℕ, map, OnOk, IfOk};
 ghost use Rattle.algol_tree.specs.declared.token.Spot as token;
-ghost use Rattle.algol_rest.specs.SeenScope.{lows_under, used};
+ghost use Rattle.algol_cells.specs.SeenScope.{lows_under, used};
 ghost use Rattle.algol_names.specs.Kept.{Adds, kept, lows_there, lows_used};
 
+use algol_cells::{LowerBounds, Use};
 use algol_lows::LowsByPlace;
-use algol_rest::{LowerBounds, Use};
 use algol_sorts::Sort;
 use algol_tree::Spot;
 use std::alloc::{AllocError, Global};

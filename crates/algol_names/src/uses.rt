@@ -4,13 +4,13 @@ ghost use Rattle.std.specs.Prelude.{◌≡◌, ◌++◌, ℕ, ℤ, List, map, tr
 ghost use Rattle.algol_tree.specs.declared.token.Spot as token;
 ghost use Rattle.algol_tree.specs.Blocks.{number_at};
 ghost use Rattle.algol_tree.specs.Sorts as plain;
-ghost use Rattle.algol_rest.specs.SeenScope.{sort_as, used};
+ghost use Rattle.algol_cells.specs.SeenScope.{sort_as, used};
 ghost use Rattle.algol_scope.specs.Resolved.{declaration_of};
 ghost use Rattle.algol_names.specs.Blocks.{blocks_in};
 ghost use Rattle.algol_names.specs.Meant.{left_or, use_told, used_by, uses_told};
 
 use crate::found::Found;
-use algol_rest::{Blocks, Use};
+use algol_cells::{Blocks, Use};
 use algol_scope::Scopes;
 use algol_sorts::Sort;
 use algol_tree::Kind;

@@ -8,7 +8,7 @@ use Rattle.algol_tree.specs.declared.token.Symbol.{Symbol}
 use Rattle.algol_tree.specs.declared.token.Symbol.TheVariants as symbols
 use Rattle.algol_tree.specs.declared.tree.Kind.{Kind}
 use Rattle.algol_tree.specs.declared.tree.Named.{Named}
-use Rattle.algol_tree.specs.declared.tree.EventAct.{EventAct}
+use Rattle.b67_deeds.specs.declared.EventAct.{EventAct}
 use Rattle.algol_part.specs.declared.declaration.Listed.{Listed}
 use Rattle.algol_part.specs.declared.declaration.Listed.TheVariants as sorts
 use Rattle.algol_tree.specs.Plain.{PDecl, simple, files, events, tasks, labels, no_stmts}

@@ -4,7 +4,7 @@ use Rattle.algol_tree.specs.declared.token.TokenKind.{TokenKind}
 use Rattle.algol_tree.specs.declared.token.TokenKind.TheVariants as kinds
 use Rattle.algol_tree.specs.declared.token.Reserved.TheVariants as reserved
 use Rattle.algol_tree.specs.declared.token.Symbol.TheVariants as symbols
-use Rattle.algol_tree.specs.declared.tree.EventAct.TheVariants as acts
+use Rattle.b67_deeds.specs.declared.EventAct.TheVariants as acts
 use Rattle.algol_tree.specs.Tokens.{is_symbol}
 use Rattle.algol_part.specs.declared.start.Start.{Start}
 use Rattle.algol_part.specs.declared.start.Start.TheVariants as starts

@@ -17,7 +17,7 @@ use Rattle.algol_tree.specs.declared.tree.Pair.{Pair}
 use Rattle.algol_tree.specs.declared.tree.Decl.TheOpen.{Stmt-F}
 use Rattle.algol_tree.specs.declared.token.Spot.{Spot}
 use Rattle.algol_tree.specs.declared.tree.Call.{Call}
-use Rattle.algol_tree.specs.declared.tree.EventAct.{EventAct}
+use Rattle.b67_deeds.specs.declared.EventAct.{EventAct}
 use Rattle.algol_tree.specs.declared.tree.EventName.{EventName}
 use Rattle.algol_tree.specs.declared.tree.Expr.{Expr}
 use Rattle.algol_tree.specs.declared.tree.PhraseText.{PhraseText}

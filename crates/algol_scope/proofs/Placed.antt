@@ -4,13 +4,13 @@ use Rattle.algol_tree.specs.declared.token.Spot.{Spot}
 use Rattle.algol_tree.specs.declared.tree.Named.{Named}
 use Rattle.algol_tree.specs.declared.tree.Heading.{Heading}
 use Rattle.algol_tree.specs.Plain as tree
-use Rattle.algol_tree.specs.Plain.{PExpr, PExprs, PPair, PStmt, PStmts, PDecl, PDecls, PBody, PProgram}
+use Rattle.algol_tree.specs.Plain.{PExpr, PExprs, PPair, PStmt, PStmts, PDecl, PDecls, PBody, PProgram, name_alone}
 use Rattle.algol_tree.specs.Classes.{Class, Formal}
 use Rattle.algol_tree.specs.Sorts.{Declared, Sort, declare, declared_parameters}
 use Rattle.algol_tree.specs.Blocks.{Block, Begin, of_statement, of_procedure, own_block, own_outer, blocks_of, blocks_in_stmts, blocks_in_decl, blocks_in_decls, blocks_in_body, blocks_of_program, number_at, outer_block, procedure_block}
 use Rattle.algol_tree.specs.Surroundings.{Surroundings, outermost, formals_at, made_known, knowing, knowing_all, inside_begin, inside_procedure}
 use Rattle.algol_tree.specs.Sites as site
-use Rattle.algol_tree.specs.Sites.{Part, Site, here, actual_part, name_part, wants_value, first_formal, other_formals, inside_expr, inside_list, inside_actuals, sites, sites_in_pairs, here_stmt, inside_stmt, inside_decl, sites_in_stmts, sites_in_decls, sites_in_body, has_decls}
+use Rattle.algol_tree.specs.Sites.{Part, Site, here, actual_part_by, name_part, wants_value, first_formal, other_formals, inside_expr, inside_list, inside_actuals, sites, sites_in_pairs, here_stmt, inside_stmt, inside_decl, sites_in_stmts, sites_in_decls, sites_in_body, has_decls}
 use Rattle.algol_tree.specs.Cells.{level_at}
 use Rattle.algol_tree.specs.Couples.{level_if}
 use Rattle.algol_tree.specs.Accepted.{sites_of}
@@ -59,19 +59,9 @@ module _ (blocks : List Block) where
     of-name n true = tt
     of-name n false = tt
 
-    of-actual : (e : PExpr) (f : Option Formal) → HasBlock (actual_part e f) a
-    of-actual (tree.variable (tree.subscripted n tree.none)) f = of-name n (wants_value f)
-    of-actual (tree.variable (tree.subscripted n (tree.more e es))) f = tt
-    of-actual (tree.number z spot) f = tt
-    of-actual (tree.truth z spot) f = tt
-    of-actual (tree.call c) f = tt
-    of-actual (tree.tested test e spot) f = tt
-    of-actual (tree.paren e spot) f = tt
-    of-actual (tree.plus e spot) f = tt
-    of-actual (tree.neg e spot) f = tt
-    of-actual (tree.not e spot) f = tt
-    of-actual (tree.two op x y) f = tt
-    of-actual (tree.if c x y spot) f = tt
+    of-actual : (o : Option Named) (e : PExpr) (f : Option Formal) → HasBlock (actual_part_by o e f) a
+    of-actual (Some n) e f = of-name n (wants_value f)
+    of-actual None e f = tt
 
     at-expr : (e : PExpr) → IsPlaced (here e a)
     at-expr e = record { stands = s; block = tt }
@@ -82,7 +72,7 @@ module _ (blocks : List Block) where
       in-expr (tree.truth z spot) = tt
       in-expr (tree.variable (tree.subscripted n es)) = in-list es
       in-expr (tree.call (tree.called n es)) = in-actuals es (formals_at a n)
-      in-expr (tree.tested test e spot) = tt
+      in-expr (tree.tested test es spot) = tt
       in-expr (tree.paren e spot) = (at-expr e, in-expr e)
       in-expr (tree.plus e spot) = (at-expr e, in-expr e)
       in-expr (tree.neg e spot) = (at-expr e, in-expr e)
@@ -101,7 +91,7 @@ module _ (blocks : List Block) where
       in-actuals (tree.more e es) fs = (
         record { stands = s; block = tt },
         (
-          record { stands = s; block = of-actual e (first_formal fs) },
+          record { stands = s; block = of-actual (name_alone e) e (first_formal fs) },
           each-append (inside_expr e a) (inside_actuals es (other_formals fs) a) (in-expr e) (in-actuals es (other_formals fs)),
         ),
       )

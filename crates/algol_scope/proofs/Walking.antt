@@ -1,5 +1,5 @@
 -- What the walk finds at parts one after another.
-use Rattle.std.proofs.Common.{◌≡◌, ℕ, ◌+◌, ◌<◌, ◌≤◌, Bool, List, [], ◌∷◌, ◌++◌, map, length, drop, get_or, Option, Some, None, refl, ap, sym, ◌∙◌, append_assoc, append-nil, drop-cons, subst, add-one, zero, suc, slice_get, Result, Ok, Err, OnOk, IfOk}
+use Rattle.std.proofs.Common.{◌≡◌, ℕ, ◌+◌, ◌<◌, ◌≤◌, Bool, List, [], ◌∷◌, ◌++◌, map, length, drop, get_or, Option, Some, None, refl, ap, sym, ◌∙◌, append_assoc, append-nil, drop-cons, subst, add-one, zero, suc, slice_get, Result, Ok, Err, OnOk, IfOk, true, false}
 use Rattle.std.proofs.lemmas.Option.{slice_get_past, slice_get-get_or}
 use Rattle.std.proofs.lemmas.Grind.{flat_map-append}
 use Rattle.std.proofs.lemmas.List.{map-append}
@@ -7,12 +7,13 @@ use Rattle.std.specs.List.{flat_map}
 use Rattle.std.specs.Borrow.{Bor}
 use Rattle.std.specs.Option.{option_copied, MatchOption, IfSome}
 use Rattle.algol_tree.specs.declared.refusal.Fault.{Fault}
+use Rattle.b67_deeds.specs.declared.EventTest.TheVariants as test
 use Rattle.algol_tree.specs.declared.token.Spot.{Spot}
 use Rattle.algol_tree.specs.declared.tree.Named.{Named}
 use Rattle.algol_tree.specs.declared.tree.Op.{Op}
 use Rattle.algol_tree.specs.declared.tree.EventName.{EventName}
 use Rattle.algol_tree.specs.Plain as tree
-use Rattle.algol_tree.specs.Plain.{PExpr, PExprs}
+use Rattle.algol_tree.specs.Plain.{PExpr, PExprs, name_alone}
 use Rattle.algol_tree.specs.Classes as classes
 use Rattle.algol_tree.specs.Classes.{Class, Formal}
 use Rattle.algol_tree.specs.Image.{expr, exprs, pairs}
@@ -21,7 +22,7 @@ use Rattle.algol_tree.specs.declared.tree.Pair.{Pair}
 use Rattle.algol_tree.specs.Blocks.{Block}
 use Rattle.algol_tree.specs.Surroundings.{Surroundings, formals_at}
 use Rattle.algol_tree.specs.Sites as site
-use Rattle.algol_tree.specs.Sites.{Site, sites, inside_list, inside_actuals, sites_in_pairs}
+use Rattle.algol_tree.specs.Sites.{Site, sites, inside_list, inside_actuals, sites_in_pairs, here, actual_part_by, name_part, wants_value, first_formal, other_formals, inside_expr}
 use Rattle.algol_tree.specs.Cells as cells
 use Rattle.algol_tree.specs.Cells.{cells_at}
 use Rattle.algol_tree.specs.Couples.{Known, known_at}
@@ -31,6 +32,7 @@ use Rattle.algol_known.specs.declared.known.Seen.{Seen}
 use Rattle.algol_known.specs.declared.known.Seen.TheVariants as seens
 use Rattle.algol_sorts.specs.declared.sort.Sort.{Sort}
 use Rattle.algol_known.specs.declared.around.Around.{Around}
+use Rattle.algol_tree.proofs.Alone.{named_alone}
 use Rattle.algol_scope.specs.declared.findings.Findings.{Findings}
 use Rattle.algol_known.specs.Seeing.{Sees, mode_of, mode_given}
 use Rattle.algol_scope.specs.Noting.{Adds, Finds, Walks, Passes, at_name, faults_at, cell_of, task_parts, use_of}
@@ -156,24 +158,16 @@ follows-bound k seen old now new all ps i p h same l w =
 
 -- ---- actuals, with the parameters that are left
 
-abbrev first : List Formal → Option Formal
-first [] = None
-first (f ∷ fs) = Some f
-
-abbrev others : List Formal → List Formal
-others [] = []
-others (f ∷ fs) = fs
-
-others-drop : (i : ℕ) (fs : List Formal) → others (drop i fs) ≡ drop (suc i) fs
+others-drop : (i : ℕ) (fs : List Formal) → other_formals (drop i fs) ≡ drop (suc i) fs
 others-drop zero [] = refl
 others-drop zero (f ∷ fs) = refl
 others-drop (suc i) [] = refl
 others-drop (suc i) (f ∷ fs) = others-drop i fs
 
-mode-at : (fs : List Formal) (modes : List Sort) (i : ℕ) → modes ≡ map mode_of fs → slice_get modes i ≡ mode_given (first (drop i fs))
+mode-at : (fs : List Formal) (modes : List Sort) (i : ℕ) → modes ≡ map mode_of fs → slice_get modes i ≡ mode_given (first_formal (drop i fs))
 mode-at fs modes i h = ap (λ z. slice_get z i) h ∙ given fs i
   where
-    given : (fs : List Formal) (i : ℕ) → slice_get (map mode_of fs) i ≡ mode_given (first (drop i fs))
+    given : (fs : List Formal) (i : ℕ) → slice_get (map mode_of fs) i ≡ mode_given (first_formal (drop i fs))
     given [] zero = refl
     given [] (suc i) = refl
     given (f ∷ fs) zero = refl
@@ -184,43 +178,27 @@ actual_at e f a = record { part = site.actual e f; around = a }
 
 -- what there is at an actual, and at the expression that it is
 abbrev one_by_one : PExpr → PExprs → List Formal → Surroundings → List Site
-one_by_one e es fs a = (actual_at e (first fs) a ∷ []) ++ (sites e a ++ inside_actuals es (others fs) a)
+one_by_one e es fs a = (actual_at e (first_formal fs) a ∷ []) ++ (sites e a ++ inside_actuals es (other_formals fs) a)
 
--- a name by itself as an actual, for a parameter of each class
-bare-faults : (blocks : List Block) (n : Named) (es : PExprs) (c : Class) (v : Bool) (fs : List Formal) (a : Surroundings) →
-    let f : Formal = record { class = c; by_value = v } in
-    flat_map (faults_at blocks) (inside_actuals (tree.more (tree.variable (tree.subscripted n tree.none)) es) (f ∷ fs) a)
-    ≡ flat_map (faults_at blocks) (one_by_one (tree.variable (tree.subscripted n tree.none)) es (f ∷ fs) a)
-bare-faults blocks n es (classes.simple kind) v fs a = refl
-bare-faults blocks n es _ v fs a = refl
+-- What a walk looks for at an actual is at the expression that it is, where it is the same at a name and at that variable.
+module _ {X : Type 0} (f : Site → List X)
+    (same : (n : Named) (a : Surroundings) → f (record { part = site.name n; around = a }) ≡ f (here (tree.variable (tree.subscripted n tree.none)) a))
+  where
+    name-alike : (n : Named) (value : Bool) (a : Surroundings) →
+        f (record { part = name_part n value; around = a }) ≡ f (here (tree.variable (tree.subscripted n tree.none)) a)
+    name-alike n true a = refl
+    name-alike n false a = same n a
 
-bare-cells : (blocks : List Block) (n : Named) (es : PExprs) (c : Class) (v : Bool) (fs : List Formal) (a : Surroundings) →
-    let f : Formal = record { class = c; by_value = v } in
-    flat_map (cells_at blocks) (inside_actuals (tree.more (tree.variable (tree.subscripted n tree.none)) es) (f ∷ fs) a)
-    ≡ flat_map (cells_at blocks) (one_by_one (tree.variable (tree.subscripted n tree.none)) es (f ∷ fs) a)
-bare-cells blocks n es (classes.simple kind) v fs a = refl
-bare-cells blocks n es _ v fs a = refl
+    part-alike : (o : Option Named) (e : PExpr) (p : Option Formal) (a : Surroundings) → name_alone e ≡ o →
+        f (record { part = actual_part_by o e p; around = a }) ≡ f (here e a)
+    part-alike None e p a is = refl
+    part-alike (Some n) e p a is = name-alike n (wants_value p) a ∙ ap (λ x. f (here x a)) (sym (named_alone e n is))
 
-bare-known : (blocks : List Block) (n : Named) (es : PExprs) (c : Class) (v : Bool) (fs : List Formal) (a : Surroundings) →
-    let f : Formal = record { class = c; by_value = v } in
-    flat_map (known_at blocks) (inside_actuals (tree.more (tree.variable (tree.subscripted n tree.none)) es) (f ∷ fs) a)
-    ≡ flat_map (known_at blocks) (one_by_one (tree.variable (tree.subscripted n tree.none)) es (f ∷ fs) a)
-bare-known blocks n es (classes.simple kind) v fs a = refl
-bare-known blocks n es _ v fs a = refl
-
-actual-faults : (blocks : List Block) (e : PExpr) (es : PExprs) (fs : List Formal) (a : Surroundings) →
-    flat_map (faults_at blocks) (inside_actuals (tree.more e es) fs a) ≡ flat_map (faults_at blocks) (one_by_one e es fs a)
-actual-faults blocks (tree.variable (tree.subscripted n tree.none)) es [] a = refl
-actual-faults blocks (tree.variable (tree.subscripted n tree.none)) es (f ∷ fs) a = bare-faults blocks n es f.class f.by_value fs a
-actual-faults blocks _ es [] a = refl
-actual-faults blocks _ es (f ∷ fs) a = refl
-
-actual-cells : (blocks : List Block) (e : PExpr) (es : PExprs) (fs : List Formal) (a : Surroundings) →
-    flat_map (cells_at blocks) (inside_actuals (tree.more e es) fs a) ≡ flat_map (cells_at blocks) (one_by_one e es fs a)
-actual-cells blocks (tree.variable (tree.subscripted n tree.none)) es [] a = refl
-actual-cells blocks (tree.variable (tree.subscripted n tree.none)) es (f ∷ fs) a = bare-cells blocks n es f.class f.by_value fs a
-actual-cells blocks _ es [] a = refl
-actual-cells blocks _ es (f ∷ fs) a = refl
+    actual-alike : (e : PExpr) (es : PExprs) (fs : List Formal) (a : Surroundings) →
+        flat_map f (inside_actuals (tree.more e es) fs a) ≡ flat_map f (one_by_one e es fs a)
+    actual-alike e es fs a =
+        ap (λ xs. f (actual_at e (first_formal fs) a) ++ (xs ++ flat_map f (inside_expr e a ++ inside_actuals es (other_formals fs) a)))
+        (part-alike (name_alone e) e (first_formal fs) a refl)
 
 pub copied-get : (xs : List Sort) (i : ℕ) (r : Option (Bor Sort)) → MatchOption r (length xs ≤ i) (λ x. i < length xs) →
     IfSome r (λ x. x.now ≡ get_or xs i x.now) → option_copied r ≡ slice_get xs i
@@ -236,20 +214,13 @@ pub record Passing (k : Around) (seen : Seen) (old now : Findings) (modes : List
   pub leads : (blocks : List Block) (a : Surroundings) (fs : List Formal) → Sees k seen a → modes ≡ map mode_of fs →
       Leads blocks old (inside_actuals es fs a) now (inside_actuals rest (drop i fs) a)
 
-actual-known : (blocks : List Block) (e : PExpr) (es : PExprs) (fs : List Formal) (a : Surroundings) →
-    flat_map (known_at blocks) (inside_actuals (tree.more e es) fs a) ≡ flat_map (known_at blocks) (one_by_one e es fs a)
-actual-known blocks (tree.variable (tree.subscripted n tree.none)) es [] a = refl
-actual-known blocks (tree.variable (tree.subscripted n tree.none)) es (f ∷ fs) a = bare-known blocks n es f.class f.by_value fs a
-actual-known blocks _ es [] a = refl
-actual-known blocks _ es (f ∷ fs) a = refl
-
 leads-split : (blocks : List Block) (old now : Findings) (all : List Site) (e : PExpr) (es : PExprs) (fs : List Formal) (a : Surroundings) →
     Leads blocks old all now (inside_actuals (tree.more e es) fs a) → Leads blocks old all now (one_by_one e es fs a)
 leads-split blocks old now all e es fs a l =
     λ new f.
     l new
-    (again blocks now new (one_by_one e es fs a) (inside_actuals (tree.more e es) fs a) (sym (actual-faults blocks e es fs a)) (sym (actual-cells blocks e es fs a))
-    (sym (actual-known blocks e es fs a)) f)
+    (again blocks now new (one_by_one e es fs a) (inside_actuals (tree.more e es) fs a) (sym (actual-alike (faults_at blocks) (λ n b. refl) e es fs a))
+    (sym (actual-alike (cells_at blocks) (λ n b. refl) e es fs a)) (sym (actual-alike (known_at blocks) (λ n b. refl) e es fs a)) f)
 
 pub passing-item : (k : Around) (seen : Seen) (old now mid new : Findings) (modes : List Sort) (all : PExprs) (es : List Expr) (i : ℕ) (e : Expr) (mode : Option Sort) →
     i < length es → e ≡ get_or es i e → mode ≡ slice_get modes i → Passing k seen old now modes all i (exprs (drop i es)) →
@@ -267,13 +238,13 @@ passing-item k seen old now mid new modes all es i e mode h same m l f w =
           λ z. Leads blocks old (inside_actuals all fs a) now (inside_actuals (exprs z) (drop i fs) a) in
           let split : Leads blocks old (inside_actuals all fs a) now (one_by_one (expr e) rest (drop i fs) a) =
           leads-split blocks old now (inside_actuals all fs a) (expr e) rest (drop i fs) a (subst P at (l.leads blocks a fs s given)) in
-          let passed : Leads blocks old (inside_actuals all fs a) mid (sites (expr e) a ++ inside_actuals rest (others (drop i fs)) a) =
-          leads-step blocks old now mid (inside_actuals all fs a) (actual_at (expr e) (first (drop i fs)) a ∷ [])
-          (sites (expr e) a ++ inside_actuals rest (others (drop i fs)) a) split
-          (f blocks a (first (drop i fs)) s (m ∙ mode-at fs modes i given)) in
-          let walked : Leads blocks old (inside_actuals all fs a) new (inside_actuals rest (others (drop i fs)) a) =
+          let passed : Leads blocks old (inside_actuals all fs a) mid (sites (expr e) a ++ inside_actuals rest (other_formals (drop i fs)) a) =
+          leads-step blocks old now mid (inside_actuals all fs a) (actual_at (expr e) (first_formal (drop i fs)) a ∷ [])
+          (sites (expr e) a ++ inside_actuals rest (other_formals (drop i fs)) a) split
+          (f blocks a (first_formal (drop i fs)) s (m ∙ mode-at fs modes i given)) in
+          let walked : Leads blocks old (inside_actuals all fs a) new (inside_actuals rest (other_formals (drop i fs)) a) =
           leads-step blocks old mid new (inside_actuals all fs a) (sites (expr e) a)
-          (inside_actuals rest (others (drop i fs)) a) passed (w.finds blocks a s) in
+          (inside_actuals rest (other_formals (drop i fs)) a) passed (w.finds blocks a s) in
           let Q : List Formal → Type 0 = λ z. Leads blocks old (inside_actuals all fs a) new (inside_actuals rest z a) in
           subst Q (others-drop i fs) walked;
     })
@@ -300,12 +271,12 @@ if_ok (Ok x) f h = f x h
 if_ok (Err e) f h = tt
 
 pub walks-happened : (k : Around) (seen : Seen) (old new : Findings) (e : EventName) (spot : Spot) →
-    Walks k seen old new (λ a. at_name e.name a ∷ []) → Walks k seen old new (sites (tree.tested tree.happened e spot))
+    Walks k seen old new (λ a. at_name e.name a ∷ []) → Walks k seen old new (sites (tree.tested test.Happened (e ∷ []) spot))
 walks-happened k seen old new e spot w =
     record {
       finds =
           λ blocks a s.
-          again blocks old new (at_name e.name a ∷ []) (sites (tree.tested tree.happened e spot) a) refl refl refl (w.finds blocks a s);
+          again blocks old new (at_name e.name a ∷ []) (sites (tree.tested test.Happened (e ∷ []) spot) a) refl refl refl (w.finds blocks a s);
     }
 
 pub walks-two : (k : Around) (seen : Seen) (old mid new : Findings) (op : Op) (x y : PExpr) → Walks k seen old mid (sites x) →

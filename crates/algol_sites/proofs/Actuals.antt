@@ -1,6 +1,6 @@
 -- Expressions in lists, and actuals with their parameters, as the walk notes them.
 use Rattle.std.proofs.Common.{◌≡◌, ℕ, ◌+◌, ◌<◌, ◌≤◌, Bool, true, false, List, [], ◌∷◌, map, length, drop, get_or, Option, Some, None, refl, ap, sym, ◌∙◌, arith, drop-cons, subst, zero, suc}
-use Rattle.std.specs.Prelude.{◌==◌, ◌&&◌, not, if◌then◌else◌, slice_get}
+use Rattle.std.specs.Prelude.{◌==◌, ◌&&◌, not, if◌then◌else◌, slice_get, is_some}
 use Rattle.algol_tree.specs.declared.token.Spot.{Spot}
 use Rattle.algol_tree.specs.declared.refusal.Code.TheVariants as codes
 use Rattle.algol_tree.specs.declared.refusal.Fault.{Fault}
@@ -9,7 +9,7 @@ use Rattle.algol_tree.specs.declared.tree.Kind.TheVariants as kinds
 use Rattle.algol_tree.specs.declared.tree.Named.{Named}
 use Rattle.algol_tree.specs.declared.tree.Expr.{Expr}
 use Rattle.algol_tree.specs.Plain as tree
-use Rattle.algol_tree.specs.Plain.{PExpr, PExprs}
+use Rattle.algol_tree.specs.Plain.{PExpr, PExprs, name_alone}
 use Rattle.algol_tree.specs.Image.{expr, exprs}
 use Rattle.algol_tree.specs.Accepted.{noted, noted_all}
 use Rattle.algol_tree.specs.Cells.{first_spot}
@@ -18,7 +18,8 @@ use Rattle.algol_tree.specs.Classes.{Class, is_event, is_unspecified, same_kind}
 use Rattle.algol_tree.specs.Names.{if_so}
 use Rattle.algol_tree.specs.Surroundings.{Surroundings, class_of}
 use Rattle.algol_tree.specs.Sites as site
-use Rattle.algol_tree.specs.Sites.{Part, sites, inside_expr, inside_list, inside_actuals}
+use Rattle.algol_tree.specs.Sites.{sites, inside_expr, inside_list, inside_actuals, here, actual_part, actual_part_by, name_part, wants_value, first_formal, other_formals}
+use Rattle.algol_tree.proofs.Alone.{named_alone}
 use Rattle.algol_sorts.specs.declared.sort.Sort.{Sort}
 use Rattle.algol_sorts.specs.declared.sort.Sort.TheVariants as sorts
 use Rattle.algol_frames.specs.declared.scopes.Scopes.{Scopes}
@@ -28,7 +29,7 @@ use Rattle.algol_sites.specs.Seen.{classes_of, formal_as, formal_for, value_of}
 use Rattle.algol_sites.specs.Seeing.{TellsEach, TellsIn}
 use Rattle.algol_sites.specs.Noting.{broken, broken_if, mistyped, mistyped_for, mistyped_list, noted_at, noted_in}
 use Rattle.algol_sites.specs.Wanting.{is_met, unfit}
-use Rattle.algol_sites.specs.Expressing.{alone_in, is_alone, misplaced, misplaced_if, noted_actual, reference_of}
+use Rattle.algol_sites.specs.Expressing.{is_alone, misplaced, misplaced_by, misplaced_if, noted_actual, reference_of}
 use Rattle.algol_sites.proofs.Notes.{noted_all-append, noted_along-append}
 
 split : {A : Type 0} (xs : List A) (i : ℕ) (x : A) → i < length xs → x ≡ get_or xs i x → drop i xs ≡ x ∷ drop (i + 1) xs
@@ -46,46 +47,20 @@ list_step es i e a f g h p q =
 
 -- ---- whether a parameter is by value makes no difference
 
-abbrev is_of_value : rules'.Class → Bool
-is_of_value (rules'.simple kind) = true
-is_of_value _ = false
-
-abbrev wants_value : Option rules'.Formal → Bool
-wants_value None = false
-wants_value (Some f) = is_of_value f.class
-
-abbrev name_part : Named → Bool → Part
-name_part n true = site.expression (tree.variable (tree.subscripted n tree.none))
-name_part n false = site.name n
-
-abbrev part_for : PExpr → Option rules'.Formal → Part
-part_for (tree.variable (tree.subscripted n tree.none)) f = name_part n (wants_value f)
-part_for e f = site.expression e
-
 abbrev after : Option Fault → PExpr → Option rules'.Formal → Surroundings → Option Fault
 after h e f a =
-    noted_at [] (noted_at [] h (record { part = site.actual e f; around = a })) (record { part = part_for e f; around = a })
+    noted_at [] (noted_at [] h (record { part = site.actual e f; around = a })) (record { part = actual_part e f; around = a })
 
 abbrev of_class : rules'.Class → Option rules'.Formal
 of_class c = Some (record { class = c; by_value = false })
 
-part_alike : (e : PExpr) (f : rules'.Formal) → part_for e (Some f) ≡ part_for e (of_class f.class)
-part_alike (tree.number z spot) f = refl
-part_alike (tree.truth z spot) f = refl
-part_alike (tree.variable (tree.subscripted n tree.none)) f = refl
-part_alike (tree.variable (tree.subscripted n (tree.more e es))) f = refl
-part_alike (tree.call c) f = refl
-part_alike (tree.tested test e spot) f = refl
-part_alike (tree.paren e spot) f = refl
-part_alike (tree.plus e spot) f = refl
-part_alike (tree.neg e spot) f = refl
-part_alike (tree.not e spot) f = refl
-part_alike (tree.two op x y) f = refl
-part_alike (tree.if c x y spot) f = refl
+part_alike : (o : Option Named) (e : PExpr) (f : rules'.Formal) → actual_part_by o e (Some f) ≡ actual_part_by o e (of_class f.class)
+part_alike (Some n) e f = refl
+part_alike None e f = refl
 
 after_alike : (h : Option Fault) (e : PExpr) (f : rules'.Formal) (a : Surroundings) → after h e (Some f) a ≡ after h e (of_class f.class) a
 after_alike h e f a =
-    ap (λ p. noted_at [] (noted_at [] h (record { part = site.actual e (of_class f.class); around = a })) (record { part = p; around = a })) (part_alike e f)
+    ap (λ p. noted_at [] (noted_at [] h (record { part = site.actual e (of_class f.class); around = a })) (record { part = p; around = a })) (part_alike (name_alone e) e f)
 
 pub alike : (es : PExprs) (fs gs : List rules'.Formal) (a : Surroundings) (h : Option Fault) → classes_of fs ≡ classes_of gs →
     noted_in h (inside_actuals es fs a) ≡ noted_in h (inside_actuals es gs a)
@@ -104,60 +79,51 @@ alike (tree.more e es) (f ∷ fs) (g ∷ gs) a h p =
 
 -- ---- one more actual
 
-abbrev first_of : List rules'.Formal → Option rules'.Formal
-first_of [] = None
-first_of (f ∷ fs) = Some f
-
-abbrev others_of : List rules'.Formal → List rules'.Formal
-others_of [] = []
-others_of (f ∷ fs) = fs
-
-first_at : (gs : List Sort) (i : ℕ) → first_of (drop i (map formal_as gs)) ≡ formal_for (slice_get gs i)
+first_at : (gs : List Sort) (i : ℕ) → first_formal (drop i (map formal_as gs)) ≡ formal_for (slice_get gs i)
 first_at [] zero = refl
 first_at [] (suc i) = refl
 first_at (g ∷ gs) zero = refl
 first_at (g ∷ gs) (suc i) = first_at gs i
 
-others_at : (fs : List rules'.Formal) (i : ℕ) → others_of (drop i fs) ≡ drop (suc i) fs
+others_at : (fs : List rules'.Formal) (i : ℕ) → other_formals (drop i fs) ≡ drop (suc i) fs
 others_at [] zero = refl
 others_at [] (suc i) = refl
 others_at (f ∷ fs) zero = refl
 others_at (f ∷ fs) (suc i) = others_at fs i
 
-part_noted : (e : PExpr) (o : Option Sort) (h : Option Fault) (a : Surroundings) →
-    noted_in (noted_at [] h (record { part = part_for e (formal_for o); around = a })) (inside_expr e a) ≡
-    (if is_alone e o then h else noted_in h (sites e a))
-part_noted (tree.number z spot) o h a = refl
-part_noted (tree.truth z spot) o h a = refl
-part_noted (tree.variable (tree.subscripted n tree.none)) None h a = refl
-part_noted (tree.variable (tree.subscripted n tree.none)) (Some (sorts.Variable k)) h a = refl
-part_noted (tree.variable (tree.subscripted n tree.none)) (Some (sorts.ByName k)) h a = refl
-part_noted (tree.variable (tree.subscripted n tree.none)) (Some (sorts.Array k c)) h a = refl
-part_noted (tree.variable (tree.subscripted n tree.none)) (Some (sorts.FormalArray k c)) h a = refl
-part_noted (tree.variable (tree.subscripted n tree.none)) (Some sorts.Event) h a = refl
-part_noted (tree.variable (tree.subscripted n tree.none)) (Some sorts.Task) h a = refl
-part_noted (tree.variable (tree.subscripted n tree.none)) (Some sorts.FormalEvent) h a = refl
-part_noted (tree.variable (tree.subscripted n tree.none)) (Some sorts.Label) h a = refl
-part_noted (tree.variable (tree.subscripted n tree.none)) (Some sorts.File) h a = refl
-part_noted (tree.variable (tree.subscripted n tree.none)) (Some (sorts.Procedure k)) h a = refl
-part_noted (tree.variable (tree.subscripted n tree.none)) (Some sorts.Unspecified) h a = refl
-part_noted (tree.variable (tree.subscripted n (tree.more e es))) o h a = refl
-part_noted (tree.call c) o h a = refl
-part_noted (tree.tested test e spot) o h a = refl
-part_noted (tree.paren e spot) o h a = refl
-part_noted (tree.plus e spot) o h a = refl
-part_noted (tree.neg e spot) o h a = refl
-part_noted (tree.not e spot) o h a = refl
-part_noted (tree.two op x y) o h a = refl
-part_noted (tree.if c x y spot) o h a = refl
+name_noted : (n : Named) (o : Option Sort) (h : Option Fault) (a : Surroundings) →
+    noted_at [] h (record { part = name_part n (wants_value (formal_for o)); around = a }) ≡
+    (if not (is_some (value_of o)) then h else noted_at [] h (here (tree.variable (tree.subscripted n tree.none)) a))
+name_noted n None h a = refl
+name_noted n (Some (sorts.Variable k)) h a = refl
+name_noted n (Some (sorts.ByName k)) h a = refl
+name_noted n (Some (sorts.Array k c)) h a = refl
+name_noted n (Some (sorts.FormalArray k c)) h a = refl
+name_noted n (Some sorts.Event) h a = refl
+name_noted n (Some sorts.Task) h a = refl
+name_noted n (Some sorts.FormalEvent) h a = refl
+name_noted n (Some sorts.Label) h a = refl
+name_noted n (Some sorts.File) h a = refl
+name_noted n (Some (sorts.Procedure k)) h a = refl
+name_noted n (Some sorts.Unspecified) h a = refl
 
-one_more : (e : PExpr) (es : PExprs) (fs : List rules'.Formal) (o : Option Sort) (h : Option Fault) (a : Surroundings) → first_of fs ≡ formal_for o →
+part_noted : (m : Option Named) (e : PExpr) (o : Option Sort) (h : Option Fault) (a : Surroundings) → name_alone e ≡ m →
+    noted_in (noted_at [] h (record { part = actual_part_by m e (formal_for o); around = a })) (inside_expr e a) ≡
+    (if is_some m && not (is_some (value_of o)) then h else noted_in h (sites e a))
+part_noted (Some n) e o h a is =
+    let P : PExpr → Type 0 =
+    λ x. noted_in (noted_at [] h (record { part = name_part n (wants_value (formal_for o)); around = a })) (inside_expr x a) ≡
+    (if not (is_some (value_of o)) then h else noted_in h (sites x a)) in
+    subst P (sym (named_alone e n is)) (name_noted n o h a)
+part_noted None e o h a is = refl
+
+one_more : (e : PExpr) (es : PExprs) (fs : List rules'.Formal) (o : Option Sort) (h : Option Fault) (a : Surroundings) → first_formal fs ≡ formal_for o →
     noted_in h (inside_actuals (tree.more e es) fs a) ≡
-    noted_in (if is_alone e o then noted_actual h e o a else noted_in (noted_actual h e o a) (sites e a)) (inside_actuals es (others_of fs) a)
+    noted_in (if is_alone e o then noted_actual h e o a else noted_in (noted_actual h e o a) (sites e a)) (inside_actuals es (other_formals fs) a)
 one_more e es fs o h a p =
-    noted_along-append [] (after h e (first_of fs) a) (inside_expr e a) (inside_actuals es (others_of fs) a)
-    ∙ ap (λ f. noted_in (noted_in (after h e f a) (inside_expr e a)) (inside_actuals es (others_of fs) a)) p
-    ∙ ap (λ f. noted_in f (inside_actuals es (others_of fs) a)) (part_noted e o (noted_actual h e o a) a)
+    noted_along-append [] (after h e (first_formal fs) a) (inside_expr e a) (inside_actuals es (other_formals fs) a)
+    ∙ ap (λ f. noted_in (noted_in (after h e f a) (inside_expr e a)) (inside_actuals es (other_formals fs) a)) p
+    ∙ ap (λ f. noted_in f (inside_actuals es (other_formals fs) a)) (part_noted (name_alone e) e o (noted_actual h e o a) a refl)
 
 pub actual_step : (es : List Expr) (i : ℕ) (e : Expr) (gs : List Sort) (o : Option Sort) (a : Surroundings) (f g : Option Fault) →
     i < length es → e ≡ get_or es i e → o ≡ slice_get gs i →
@@ -197,33 +163,23 @@ abbrev is_such_array : Kind → ℕ → Class → Bool
 is_such_array k subscripts (rules'.array m count) = same_kind k m && (count == subscripts)
 is_such_array k subscripts _ = false
 
-abbrev wrong_reference : (Class → Bool) → PExpr → Surroundings → List Spot
-wrong_reference test (tree.variable (tree.subscripted n tree.none)) a = if_so (not (test (class_of a n)) && not (is_unspecified (class_of a n))) n.spot
-wrong_reference test e a = first_spot e ∷ []
+abbrev wrong_reference_by : Option Named → (Class → Bool) → PExpr → Surroundings → List Spot
+wrong_reference_by (Some n) test e a = if_so (not (test (class_of a n)) && not (is_unspecified (class_of a n))) n.spot
+wrong_reference_by None test e a = first_spot e ∷ []
 
-misplaced_same : (w : Wanted) (test : Class → Bool) (e : PExpr) (f : Option Fault) (a : Surroundings) → ((c : Class) → is_met w c ≡ test c) →
-    noted_all f (misplaced w e a) ≡ noted_all f (broken codes.WrongType (wrong_reference test e a))
-misplaced_same w test (tree.variable (tree.subscripted n tree.none)) f a h =
+misplaced_same : (o : Option Named) (w : Wanted) (test : Class → Bool) (e : PExpr) (f : Option Fault) (a : Surroundings) → ((c : Class) → is_met w c ≡ test c) →
+    noted_all f (misplaced_by o w e a) ≡ noted_all f (broken codes.WrongType (wrong_reference_by o test e a))
+misplaced_same (Some n) w test e f a h =
     ap (λ b. noted_all f (broken_if codes.WrongType (not b && not (is_unspecified (class_of a n))) n.spot)) (h (class_of a n))
-misplaced_same w test (tree.variable (tree.subscripted n (tree.more e es))) f a h = refl
-misplaced_same w test (tree.number z spot) f a h = refl
-misplaced_same w test (tree.truth z spot) f a h = refl
-misplaced_same w test (tree.call c) f a h = refl
-misplaced_same w test (tree.tested t e spot) f a h = refl
-misplaced_same w test (tree.paren e spot) f a h = refl
-misplaced_same w test (tree.plus e spot) f a h = refl
-misplaced_same w test (tree.neg e spot) f a h = refl
-misplaced_same w test (tree.not e spot) f a h = refl
-misplaced_same w test (tree.two op x y) f a h = refl
-misplaced_same w test (tree.if c x y spot) f a h = refl
+misplaced_same None w test e f a h = refl
 
 array_wanted : (k : Kind) (n : ℕ) (e : PExpr) (f : Option Fault) (a : Surroundings) → noted_all f (misplaced (wanted.SuchArray k n) e a) ≡
     noted_at [] f (record { part = site.actual e (Some (record { class = rules'.array k n; by_value = false })); around = a })
-array_wanted k n e f a = misplaced_same (wanted.SuchArray k n) (is_such_array k n) e f a (λ c. refl)
+array_wanted k n e f a = misplaced_same (name_alone e) (wanted.SuchArray k n) (is_such_array k n) e f a (λ c. refl)
 
 event_wanted : (e : PExpr) (f : Option Fault) (a : Surroundings) → noted_all f (misplaced wanted.Event e a) ≡
     noted_at [] f (record { part = site.actual e (Some (record { class = rules'.event; by_value = false })); around = a })
-event_wanted e f a = misplaced_same wanted.Event is_event e f a (λ c. refl)
+event_wanted e f a = misplaced_same (name_alone e) wanted.Event is_event e f a (λ c. refl)
 
 wanted_by : (e : PExpr) (o : Option Sort) (f : Option Fault) (a : Surroundings) →
     noted_all (noted_all f (mistyped_for (value_of o) e a)) (misplaced_if (reference_of o) e a) ≡ noted_actual f e o a
@@ -266,39 +222,13 @@ pub numbers_end : (es : List Expr) (i : ℕ) (a : Surroundings) (f g : Option Fa
     noted_all f (mistyped_list (exprs (drop i es)) a) ≡ g → f ≡ g
 numbers_end es i a f g e h = sym (ap (λ xs. noted_all f (mistyped_list (exprs xs) a)) e) ∙ h
 
-none_misplaced : (w : Wanted) (e : PExpr) (a : Surroundings) (f : Option Fault) → alone_in e ≡ None →
-    noted f (record { spot = first_spot e; code = codes.WrongType }) ≡ noted_all f (misplaced w e a)
-none_misplaced w (tree.variable (tree.subscripted m tree.none)) a f e = absurd (let clash : Some m ≡ None = e in cc)
-none_misplaced w (tree.variable (tree.subscripted m (tree.more x xs))) a f e = refl
-none_misplaced w (tree.number z spot) a f e = refl
-none_misplaced w (tree.truth b spot) a f e = refl
-none_misplaced w (tree.call c) a f e = refl
-none_misplaced w (tree.tested test x spot) a f e = refl
-none_misplaced w (tree.paren x spot) a f e = refl
-none_misplaced w (tree.plus x spot) a f e = refl
-none_misplaced w (tree.neg x spot) a f e = refl
-none_misplaced w (tree.not x spot) a f e = refl
-none_misplaced w (tree.two op x y) a f e = refl
-none_misplaced w (tree.if c x y spot) a f e = refl
-
-pub misplaced_none : (w : Wanted) (e : PExpr) (a : Surroundings) (f g : Option Fault) (spot : Spot) → alone_in e ≡ None → spot ≡ first_spot e →
+pub misplaced_none : (w : Wanted) (e : PExpr) (a : Surroundings) (f g : Option Fault) (spot : Spot) → name_alone e ≡ None → spot ≡ first_spot e →
     g ≡ noted f (record { spot = spot; code = codes.WrongType }) → g ≡ noted_all f (misplaced w e a)
 misplaced_none w e a f g spot n p q =
-    q ∙ ap (λ x. noted f (record { spot = x; code = codes.WrongType })) p ∙ none_misplaced w e a f n
+    q ∙ ap (λ x. noted f (record { spot = x; code = codes.WrongType })) p ∙ ap (λ o. noted_all f (misplaced_by o w e a)) (sym n)
 
-pub misplaced_some : (w : Wanted) (e : PExpr) (a : Surroundings) (n : Named) → alone_in e ≡ Some n → misplaced w e a ≡ unfit w codes.WrongType n a
-misplaced_some w (tree.variable (tree.subscripted m tree.none)) a n e = (let same : m ≡ n = cc in ap (λ x. unfit w codes.WrongType x a) same)
-misplaced_some w (tree.variable (tree.subscripted m (tree.more x xs))) a n e = absurd (let clash : None ≡ Some n = e in cc)
-misplaced_some w (tree.number z spot) a n e = absurd (let clash : None ≡ Some n = e in cc)
-misplaced_some w (tree.truth b spot) a n e = absurd (let clash : None ≡ Some n = e in cc)
-misplaced_some w (tree.call c) a n e = absurd (let clash : None ≡ Some n = e in cc)
-misplaced_some w (tree.tested test x spot) a n e = absurd (let clash : None ≡ Some n = e in cc)
-misplaced_some w (tree.paren x spot) a n e = absurd (let clash : None ≡ Some n = e in cc)
-misplaced_some w (tree.plus x spot) a n e = absurd (let clash : None ≡ Some n = e in cc)
-misplaced_some w (tree.neg x spot) a n e = absurd (let clash : None ≡ Some n = e in cc)
-misplaced_some w (tree.not x spot) a n e = absurd (let clash : None ≡ Some n = e in cc)
-misplaced_some w (tree.two op x y) a n e = absurd (let clash : None ≡ Some n = e in cc)
-misplaced_some w (tree.if c x y spot) a n e = absurd (let clash : None ≡ Some n = e in cc)
+pub misplaced_some : (w : Wanted) (e : PExpr) (a : Surroundings) (n : Named) → name_alone e ≡ Some n → misplaced w e a ≡ unfit w codes.WrongType n a
+misplaced_some w e a n is = ap (λ o. misplaced_by o w e a) is
 
 -- ---- the same elements, in other words
 

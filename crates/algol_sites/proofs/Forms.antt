@@ -1,7 +1,8 @@
 -- The types of expressions, where the scopes tell of the names in them, and what is told of an expression by its form.
-use Rattle.std.proofs.Common.{rules, ◌≡◌, Option, ap, sym, ◌∙◌, subst}
+use Rattle.std.proofs.Common.{rules, ◌≡◌, Option, ap, sym, ◌∙◌, subst, [], ◌∷◌}
 use Rattle.std.specs.declared.boxed.Box.{Box}
 use Rattle.std.specs.declared.alloc.Global.{Global}
+use Rattle.b67_deeds.specs.declared.EventTest.TheVariants as test
 use Rattle.algol_tree.specs.declared.token.Spot.{Spot}
 use Rattle.algol_tree.specs.declared.tree.Kind.{Kind}
 use Rattle.algol_tree.specs.declared.tree.Op.{Op}
@@ -33,7 +34,7 @@ variable_image v = plain v ∙ ap tree.variable (variable_is v)
     plain : (v : Variable) → expr (expressions.Variable v) ≡ tree.variable (variable v)
     plain v = search (rules, expressions.the_lemmas)
 
-pub tested_image : (x : EventName) (spot : Spot) → expr (expressions.Happened x spot) ≡ tree.tested tree.happened x spot
+pub tested_image : (x : EventName) (spot : Spot) → expr (expressions.Happened x spot) ≡ tree.tested test.Happened (x ∷ []) spot
 tested_image x spot = search (rules, expressions.the_lemmas)
 
 pub paren_image : (x : Box Expr Global) (spot : Spot) → expr (expressions.Paren x spot) ≡ tree.paren (expr x.value) spot
@@ -61,7 +62,7 @@ module _ (s : Scopes) (a : Surroundings) (e : Expr) (t : TellsIn s a (expr e)) w
   told_call c is = subst P (ap expr is ∙ call_image c) t
 
   pub told_tested : (x : EventName) (spot : Spot) → e ≡ expressions.Happened x spot → Tells s a x.name
-  told_tested x spot is = subst P (ap expr is ∙ tested_image x spot) t
+  told_tested x spot is = (subst P (ap expr is ∙ tested_image x spot) t).0
 
   inner : (x : Box Expr Global) (y : Expr) → y ≡ x.value → TellsIn s a (expr x.value) → TellsIn s a (expr y)
   inner x y same k = let Q : Expr → Type 0 = λ z. TellsIn s a (expr z) in subst Q (sym same) k

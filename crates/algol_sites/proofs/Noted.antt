@@ -1,7 +1,8 @@
 -- What is noted of an expression, by its form.
-use Rattle.std.proofs.Common.{◌≡◌, Option, ap, sym, ◌∙◌}
+use Rattle.std.proofs.Common.{◌≡◌, [], ◌∷◌, Option, ap, sym, ◌∙◌}
 use Rattle.std.specs.declared.boxed.Box.{Box}
 use Rattle.std.specs.declared.alloc.Global.{Global}
+use Rattle.b67_deeds.specs.declared.EventTest.TheVariants as test
 use Rattle.algol_tree.specs.declared.token.Spot.{Spot}
 use Rattle.algol_tree.specs.declared.refusal.Fault.{Fault}
 use Rattle.algol_tree.specs.declared.tree.Kind.TheVariants as kinds
@@ -18,7 +19,7 @@ use Rattle.algol_tree.specs.Sites.{inside_list, sites}
 use Rattle.algol_sites.specs.Noting.{mistyped, noted_in}
 use Rattle.algol_sites.specs.Wanting.{unfit_event}
 use Rattle.algol_sites.specs.Expressing.{noted_here}
-use Rattle.algol_sites.proofs.Parts.{event_told, variable_is}
+use Rattle.algol_sites.proofs.Parts.{only_event_told, variable_is}
 use Rattle.algol_sites.proofs.Forms.{neg_image, not_image, paren_image, plus_image, tested_image, variable_image}
 
 module _ (e : Expr) (a : Surroundings) (f : Option Fault) where
@@ -35,8 +36,8 @@ module _ (e : Expr) (a : Surroundings) (f : Option Fault) where
   pub tested_noted : (x : EventName) (spot : Spot) (g : Option Fault) → e ≡ expressions.Happened x spot → g ≡ noted_all f (unfit_event x a) →
       g ≡ noted_in f (sites (expr e) a)
   tested_noted x spot g is p =
-      plainly (tree.tested tree.happened x spot) g (ap expr is ∙ tested_image x spot)
-      (p ∙ ap (noted_all f) (sym (event_told x.task x.name (class_of a x.name))))
+      plainly (tree.tested test.Happened (x ∷ []) spot) g (ap expr is ∙ tested_image x spot)
+      (p ∙ ap (noted_all f) (sym (only_event_told x.task x.name (class_of a x.name))))
 
   pub paren_noted : (x : Box Expr Global) (spot : Spot) (y : Expr) (g : Option Fault) → e ≡ expressions.Paren x spot → y ≡ x.value →
       g ≡ noted_in f (sites (expr y) a) → g ≡ noted_in f (sites (expr e) a)

@@ -1,5 +1,5 @@
 -- What the rules say of each form of expression, as the walk notes it.
-use Rattle.std.proofs.Common.{rules, ◌≡◌, ℕ, ◌+◌, Bool, true, false, List, [], ◌∷◌, ◌++◌, length, Option, Some, None, refl, ap, sym, ◌∙◌, arith}
+use Rattle.std.proofs.Common.{rules, ◌≡◌, ℕ, ◌+◌, Bool, true, false, List, [], ◌∷◌, ◌++◌, length, Option, Some, None, refl, ap, sym, ◌∙◌, arith, append-nil}
 use Rattle.std.proofs.lemmas.List.{map-append}
 use Rattle.std.specs.Prelude.{◌&&◌, if◌then◌else◌, not}
 use Rattle.algol_tree.specs.declared.token.Spot.{Spot}
@@ -155,6 +155,12 @@ pub event_told : (t : Bool) (n : Named) (c : Class) →
     broken_if codes.WrongType (not (is_met (event_wanted t) c) && not (is_unspecified c)) n.spot
 event_told true n c = refl
 event_told false n c = refl
+
+-- .. and where it is the only one of a list
+pub only_event_told : (t : Bool) (n : Named) (c : Class) →
+    broken codes.WrongType ((if t then if_so (not (is_task c) && not (is_unspecified c)) n.spot else if_so (not (is_event c) && not (is_unspecified c)) n.spot) ++ []) ≡
+    broken_if codes.WrongType (not (is_met (event_wanted t) c) && not (is_unspecified c)) n.spot
+only_event_told t n c = ap (broken codes.WrongType) (append-nil _) ∙ event_told t n c
 
 -- ---- the same for what is equal
 

@@ -1,17 +1,17 @@
 -- Where the scopes tell of the names at the parts of an expression, they tell of each name in it.
-use Rattle.std.proofs.Common.{◌≡◌, Bool, true, false, List, ◌++◌, Option, Some, None, subst}
+use Rattle.std.proofs.Common.{◌≡◌, Bool, true, false, List, ◌++◌, Option, Some, None, subst, refl, sym}
 use Rattle.std.specs.List.{AllByRecursion}
 use Rattle.algol_tree.specs.declared.tree.Named.{Named}
 use Rattle.algol_tree.specs.Plain as tree
-use Rattle.algol_tree.specs.Plain.{PExpr, PExprs, PPair}
+use Rattle.algol_tree.specs.Plain.{PExpr, PExprs, PPair, name_alone}
 use Rattle.algol_tree.specs.Classes.{Formal}
 use Rattle.algol_tree.specs.Scopes.{if_named}
 use Rattle.algol_tree.specs.Surroundings.{Surroundings, formals_at}
-use Rattle.algol_tree.specs.Sites.{Site, actual_part, first_formal, here, inside_actuals, inside_expr, inside_list, name_part, other_formals, sites, wants_value}
+use Rattle.algol_tree.specs.Sites.{Site, actual_part_by, first_formal, here, inside_actuals, inside_expr, inside_list, name_part, other_formals, sites, wants_value}
+use Rattle.algol_tree.proofs.Alone.{named_alone}
 use Rattle.algol_frames.specs.declared.scopes.Scopes.{Scopes}
 use Rattle.algol_told.specs.Telling.{Tells, TellsAll, TellsAt}
 use Rattle.algol_told.proofs.Lists.{all-left, all-right}
-use Rattle.algol_sites.specs.Expressing.{alone_in}
 use Rattle.algol_sites.specs.Seeing.{TellsEach, TellsIn, TellsTask}
 
 module _ (s : Scopes) where
@@ -28,19 +28,9 @@ module _ (s : Scopes) (a : Surroundings) where
   name_here n false t = t
 
   -- an actual is told as an expression
-  actual_here : (e : PExpr) (f : Option Formal) → TellsAt s (record { part = actual_part e f; around = a }) → TellsAt s (here e a)
-  actual_here (tree.variable (tree.subscripted n tree.none)) f t = name_here n (wants_value f) t
-  actual_here (tree.variable (tree.subscripted n (tree.more e es))) f t = t
-  actual_here (tree.number z spot) f t = t
-  actual_here (tree.truth b spot) f t = t
-  actual_here (tree.call c) f t = t
-  actual_here (tree.tested test e spot) f t = t
-  actual_here (tree.paren e spot) f t = t
-  actual_here (tree.plus e spot) f t = t
-  actual_here (tree.neg e spot) f t = t
-  actual_here (tree.not e spot) f t = t
-  actual_here (tree.two op x y) f t = t
-  actual_here (tree.if c x y spot) f t = t
+  actual_here : (o : Option Named) (e : PExpr) (f : Option Formal) → name_alone e ≡ o → TellsAt s (record { part = actual_part_by o e f; around = a }) → TellsAt s (here e a)
+  actual_here (Some n) e f is t = subst (λ x. TellsAt s (here x a)) (sym (named_alone e n is)) (name_here n (wants_value f) t)
+  actual_here None e f is t = t
 
   mutual
     pub in_told : (e : PExpr) → TellsAll s (sites e a) → TellsIn s a e
@@ -48,7 +38,7 @@ module _ (s : Scopes) (a : Surroundings) where
     in_told (tree.truth b spot) t = tt
     in_told (tree.variable (tree.subscripted n es)) t = (t.0.0, list_told es t.1)
     in_told (tree.call (tree.called n es)) t = (t.0.0, actuals_told es (formals_at a n) t.1)
-    in_told (tree.tested test e spot) t = t.0.0
+    in_told (tree.tested test es spot) t = t.0
     in_told (tree.paren e spot) t = in_told e t.1
     in_told (tree.plus e spot) t = in_told e t.1
     in_told (tree.neg e spot) t = in_told e t.1
@@ -68,7 +58,7 @@ module _ (s : Scopes) (a : Surroundings) where
     pub actuals_told : (es : PExprs) (fs : List Formal) → TellsAll s (inside_actuals es fs a) → TellsEach s a es
     actuals_told tree.none fs t = tt
     actuals_told (tree.more e es) fs t = (
-      in_told e (actual_here e (first_formal fs) t.1.0, first_told s (inside_expr e a) (inside_actuals es (other_formals fs) a) t.1.1),
+      in_told e (actual_here (name_alone e) e (first_formal fs) refl t.1.0, first_told s (inside_expr e a) (inside_actuals es (other_formals fs) a) t.1.1),
       actuals_told es (other_formals fs) (last_told s (inside_expr e a) (inside_actuals es (other_formals fs) a) t.1.1),
     )
 
@@ -77,19 +67,5 @@ module _ (s : Scopes) (a : Surroundings) where
   task_told (Some n) t = t.0
 
   -- a name by itself
-  pub alone_told : (e : PExpr) (n : Named) → alone_in e ≡ Some n → TellsIn s a e → Tells s a n
-  alone_told (tree.variable (tree.subscripted m tree.none)) n e t = (let same : m ≡ n = cc in told m n same t.0)
-    where
-      told : (x y : Named) → x ≡ y → Tells s a x → Tells s a y
-      told x y e k = subst (Tells s a) e k
-  alone_told (tree.variable (tree.subscripted m (tree.more x xs))) n e t = absurd (let clash : None ≡ Some n = e in cc)
-  alone_told (tree.number z spot) n e t = absurd (let clash : None ≡ Some n = e in cc)
-  alone_told (tree.truth b spot) n e t = absurd (let clash : None ≡ Some n = e in cc)
-  alone_told (tree.call c) n e t = absurd (let clash : None ≡ Some n = e in cc)
-  alone_told (tree.tested test x spot) n e t = absurd (let clash : None ≡ Some n = e in cc)
-  alone_told (tree.paren x spot) n e t = absurd (let clash : None ≡ Some n = e in cc)
-  alone_told (tree.plus x spot) n e t = absurd (let clash : None ≡ Some n = e in cc)
-  alone_told (tree.neg x spot) n e t = absurd (let clash : None ≡ Some n = e in cc)
-  alone_told (tree.not x spot) n e t = absurd (let clash : None ≡ Some n = e in cc)
-  alone_told (tree.two op x y) n e t = absurd (let clash : None ≡ Some n = e in cc)
-  alone_told (tree.if c x y spot) n e t = absurd (let clash : None ≡ Some n = e in cc)
+  pub alone_told : (e : PExpr) (n : Named) → name_alone e ≡ Some n → TellsIn s a e → Tells s a n
+  alone_told e n is t = (subst (TellsIn s a) (named_alone e n is) t).0

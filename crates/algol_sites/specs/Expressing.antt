@@ -3,8 +3,7 @@ use Rattle.std.specs.Prelude.{◌==◌, ◌&&◌, not, Bool, false, ℕ, List, [
 use Rattle.algol_tree.specs.declared.refusal.Code.TheVariants as codes
 use Rattle.algol_tree.specs.declared.refusal.Fault.{Fault}
 use Rattle.algol_tree.specs.declared.tree.Named.{Named}
-use Rattle.algol_tree.specs.Plain as tree
-use Rattle.algol_tree.specs.Plain.{PExpr, PExprs}
+use Rattle.algol_tree.specs.Plain.{PExpr, PExprs, name_alone}
 use Rattle.algol_tree.specs.Classes as class
 use Rattle.algol_tree.specs.Classes.{Class}
 use Rattle.algol_tree.specs.Cells.{first_spot}
@@ -51,14 +50,12 @@ abbrev pub noted_here : Option Fault → PExpr → Surroundings → Option Fault
 noted_here first e a = noted_at [] first (record { part = site.expression e; around = a })
 
 -- something else than the name by itself of what is wanted
-abbrev pub misplaced : Wanted → PExpr → Surroundings → List Fault
-misplaced w (tree.variable (tree.subscripted n tree.none)) a = unfit w codes.WrongType n a
-misplaced w e a = broken codes.WrongType (first_spot e ∷ [])
+abbrev pub misplaced_by : Option Named → Wanted → PExpr → Surroundings → List Fault
+misplaced_by (Some n) w e a = unfit w codes.WrongType n a
+misplaced_by None w e a = broken codes.WrongType (first_spot e ∷ [])
 
--- the name, where the expression is a name by itself
-abbrev pub alone_in : PExpr → Option Named
-alone_in (tree.variable (tree.subscripted n tree.none)) = Some n
-alone_in _ = None
+abbrev pub misplaced : Wanted → PExpr → Surroundings → List Fault
+misplaced w e a = misplaced_by (name_alone e) w e a
 
 abbrev pub misplaced_if : Option Wanted → PExpr → Surroundings → List Fault
 misplaced_if None e a = []
@@ -80,7 +77,7 @@ noted_actual first e f a = noted_at [] first (record { part = site.actual e (for
 
 -- a name by itself that no value is wanted of
 abbrev pub is_alone : PExpr → Option Sort → Bool
-is_alone e f = is_some (alone_in e) && not (is_some (value_of f))
+is_alone e f = is_some (name_alone e) && not (is_some (value_of f))
 
 -- after what a call breaks itself
 abbrev pub noted_call : Option Fault → Wanted → Named → ℕ → Surroundings → Option Fault

@@ -1,7 +1,9 @@
 -- What is noted at a place, where the scopes tell of the names there.
-use Rattle.std.specs.Prelude.{◌≡◌, Bool, List, ◌∷◌, Option, Some, None}
+use Rattle.std.specs.Prelude.{◌≡◌, Bool, List, ◌∷◌, map, Option, Some, None}
+use Rattle.std.specs.List.{AllByRecursion}
 use Rattle.algol_tree.specs.declared.refusal.Fault.{Fault}
 use Rattle.algol_tree.specs.declared.tree.Named.{Named}
+use Rattle.algol_tree.specs.declared.tree.EventName.{EventName}
 use Rattle.algol_tree.specs.Plain as tree
 use Rattle.algol_tree.specs.Plain.{PExpr, PExprs, PStmt}
 use Rattle.algol_tree.specs.Blocks.{Block, of_statement}
@@ -22,7 +24,7 @@ module _ (s : Scopes) (a : Surroundings) where
     TellsIn (tree.truth b spot) = Unit {0}
     TellsIn (tree.variable (tree.subscripted n es)) = Tells s a n × TellsEach es
     TellsIn (tree.call (tree.called n es)) = Tells s a n × TellsEach es
-    TellsIn (tree.tested test e spot) = Tells s a e.name
+    TellsIn (tree.tested test es spot) = AllByRecursion (Tells s a) (map (λ (e : EventName). e.name) es)
     TellsIn (tree.paren e spot) = TellsIn e
     TellsIn (tree.plus e spot) = TellsIn e
     TellsIn (tree.neg e spot) = TellsIn e

@@ -14,7 +14,7 @@ ghost use Rattle.algol_sites.specs.Seeing.{TellsEach, TellsIn};
 ghost use Rattle.algol_sites.specs.Noting.{noted_in};
 ghost use Rattle.algol_sites.specs.Wanting.{is_met};
 ghost use Rattle.algol_sites.specs.Expressing as rules;
-ghost use Rattle.algol_sites.specs.Expressing.{alone_in, is_alone, miscounted_actuals, miscounted_subscripts, misplaced, misplaced_if, noted_actual, noted_call, noted_element, noted_here, noted_name, reference_of};
+ghost use Rattle.algol_sites.specs.Expressing.{is_alone, miscounted_actuals, miscounted_subscripts, misplaced, misplaced_if, noted_actual, noted_call, noted_element, noted_here, noted_name, reference_of};
 
 use crate::told::{parameters_at, sort_at};
 use crate::types::{taken_by, type_of, want, want_if, want_numbers};
@@ -122,7 +122,7 @@ fn read_variable(scopes: &Scopes, v: &Variable, faults: &mut Faults)
 
 /// The name, where the expression is a name by itself.
 fn name_alone(e: &Expr) -> Option<&Named>
-    ensures { option_copied result ≡ alone_in (expr e.now) }
+    ensures { option_copied result ≡ tree.name_alone (expr e.now) }
 {
     match e {
         Expr::Variable(v) => match exprs_in(&v.subs).split_first() {

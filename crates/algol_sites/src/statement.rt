@@ -1,7 +1,7 @@
 //! Statements, without the statements in them.
 
 ghost use Rattle.std.specs.Prelude.{◌≡◌, ◌++◌, if◌then◌else◌, Bool, List, None, length};
-ghost use Rattle.algol_tree.specs.declared.tree.EventAct.{EventAct};
+ghost use Rattle.b67_deeds.specs.declared.EventAct.{EventAct};
 ghost use Rattle.algol_tree.specs.Plain as tree;
 ghost use Rattle.algol_tree.specs.Plain.{PStmt};
 ghost use Rattle.algol_tree.specs.Image as image;

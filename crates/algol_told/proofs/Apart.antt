@@ -1,20 +1,22 @@
 -- The names of a tree stand at places that are all different.
-use Rattle.std.proofs.Common.{◌≡◌, Bool, true, false, List, [], ◌∷◌, ◌++◌, Option, Some, None, refl, sym, subst, ap, ◌∙◌, append_assoc}
+use Rattle.std.proofs.Common.{◌≡◌, Bool, true, false, List, [], ◌∷◌, ◌++◌, map, Option, Some, None, refl, sym, subst, ap, ◌∙◌, append_assoc}
 use Rattle.std.proofs.lemmas.Grind.{flat_map-append}
 use Rattle.std.specs.List.{flat_map}
 use Rattle.algol_tree.specs.declared.token.Spot.{Spot}
 use Rattle.algol_tree.specs.declared.tree.Named.{Named}
+use Rattle.algol_tree.specs.declared.tree.EventName.{EventName}
 use Rattle.algol_tree.specs.Plain as tree
-use Rattle.algol_tree.specs.Plain.{PExpr, PExprs, PPair, PStmt, PStmts, PDecl, PDecls, PBody, PProgram}
+use Rattle.algol_tree.specs.Plain.{PExpr, PExprs, PPair, PStmt, PStmts, PDecl, PDecls, PBody, PProgram, name_alone}
 use Rattle.algol_tree.specs.Classes.{Formal}
 use Rattle.algol_tree.specs.Sorts.{Declared}
 use Rattle.algol_tree.specs.Blocks.{Block, Begin, of_statement, of_procedure}
 use Rattle.algol_tree.specs.Surroundings.{Surroundings, formals_at, inside, inside_procedure, knowing, knowing_all, outermost}
 use Rattle.algol_tree.specs.Sites as site
-use Rattle.algol_tree.specs.Sites.{Part, Site, actual_part, first_formal, here_stmt, inside_actuals, inside_decl, inside_expr, inside_list, inside_stmt, name_part, other_formals, sites, sites_by, sites_in_body, sites_in_decls, sites_in_pairs, sites_in_stmts, has_decls, wants_value}
+use Rattle.algol_tree.specs.Sites.{Part, Site, actual_part, actual_part_by, first_formal, here_stmt, inside_actuals, inside_decl, inside_expr, inside_list, inside_stmt, name_part, other_formals, sites, sites_by, sites_in_body, sites_in_decls, sites_in_pairs, sites_in_stmts, has_decls, wants_value}
 use Rattle.algol_tree.specs.Scopes.{if_named, names_in, names_in_expr}
 use Rattle.algol_tree.specs.Names.{specified}
 use Rattle.algol_tree.specs.Ascending.{IsInOrder, spots_of_body, spots_of_decl, spots_of_decls, spots_of_expr, spots_of_exprs, spots_of_heading, spots_of_names, spots_of_pairs, spots_of_stmt, spots_of_stmts, spots_of_task}
+use Rattle.algol_tree.proofs.Alone.{named_alone}
 use Rattle.algol_told.proofs.Spots.{AreApart, Fits, all-fit, both-fit, flat-fit, nil-fits, none-fits, ordered, skip-fits, take-fits, turned-fit}
 
 -- the places of the names that a part uses or declares itself
@@ -49,25 +51,22 @@ module _ (a : Surroundings) where
   name-spots n true = refl
   name-spots n false = refl
 
-  actual-spots : (e : PExpr) (f : Option Formal) → spots_in_part (actual_part e f) ≡ spots_of_names (names_in_expr e)
-  actual-spots (tree.variable (tree.subscripted n tree.none)) f = name-spots n (wants_value f)
-  actual-spots (tree.variable (tree.subscripted n (tree.more e es))) f = refl
-  actual-spots (tree.number z spot) f = refl
-  actual-spots (tree.truth z spot) f = refl
-  actual-spots (tree.call c) f = refl
-  actual-spots (tree.tested test e spot) f = refl
-  actual-spots (tree.paren e spot) f = refl
-  actual-spots (tree.plus e spot) f = refl
-  actual-spots (tree.neg e spot) f = refl
-  actual-spots (tree.not e spot) f = refl
-  actual-spots (tree.two op x y) f = refl
-  actual-spots (tree.if c x y spot) f = refl
+  actual-spots : (o : Option Named) (e : PExpr) (f : Option Formal) → name_alone e ≡ o → spots_in_part (actual_part_by o e f) ≡ spots_of_names (names_in_expr e)
+  actual-spots (Some n) e f is = name-spots n (wants_value f) ∙ ap (λ x. spots_of_names (names_in_expr x)) (sym (named_alone e n is))
+  actual-spots None e f is = refl
 
   one-actual : (e : PExpr) (f : Option Formal) (rest : List Site) (us vs : List Spot) → Fits (At (sites e a)) us → Fits (At rest) vs →
       Fits (At (record { part = actual_part e f; around = a } ∷ (inside_expr e a ++ rest))) (us ++ vs)
   one-actual e f rest us vs h k =
       let P : List Spot → Type 0 = λ zs. Fits (zs ++ At (inside_expr e a ++ rest)) (us ++ vs) in
-      subst P (sym (actual-spots e f)) (both (sites e a) rest us vs h k)
+      subst P (sym (actual-spots (name_alone e) e f refl)) (both (sites e a) rest us vs h k)
+
+  abbrev event-spots : List EventName → List Spot
+  event-spots es = spots_of_names (map (λ (e : EventName). e.name) es)
+
+  in-events : (es : List EventName) → Fits (event-spots es ++ []) (map (λ (e : EventName). e.name.spot) es)
+  in-events [] = none-fits []
+  in-events (e ∷ es) = take-fits e.name.spot (event-spots es ++ []) (map (λ (f : EventName). f.name.spot) es) (in-events es)
 
   mutual
     in-expr : (e : PExpr) → Fits (At (sites e a)) (spots_of_expr e)
@@ -75,7 +74,7 @@ module _ (a : Surroundings) where
     in-expr (tree.truth z spot) = none-fits (spot ∷ [])
     in-expr (tree.variable (tree.subscripted n es)) = take-fits n.spot (At (inside_list es a)) (spots_of_exprs es) (in-list es)
     in-expr (tree.call (tree.called n es)) = take-fits n.spot (At (inside_actuals es (formals_at a n) a)) (spots_of_exprs es) (in-actuals es (formals_at a n))
-    in-expr (tree.tested test e spot) = skip-fits spot (e.name.spot ∷ []) (e.name.spot ∷ []) (all-fit (e.name.spot ∷ []))
+    in-expr (tree.tested test es spot) = skip-fits spot (event-spots es ++ []) (map (λ (e : EventName). e.name.spot) es) (in-events es)
     in-expr (tree.paren e spot) = skip-fits spot (At (sites e a)) (spots_of_expr e) (in-expr e)
     in-expr (tree.plus e spot) = skip-fits spot (At (sites e a)) (spots_of_expr e) (in-expr e)
     in-expr (tree.neg e spot) = skip-fits spot (At (sites e a)) (spots_of_expr e) (in-expr e)

@@ -1,17 +1,17 @@
 -- What holds of the surroundings of each part of a tree: what holds where the program begins, and stays so from part to part.
-use Rattle.std.proofs.Common.{◌+◌, Bool, true, false, List, [], ◌∷◌, ◌++◌, Option}
+use Rattle.std.proofs.Common.{◌+◌, Bool, true, false, List, [], ◌∷◌, ◌++◌, Option, Some, None}
 use Rattle.std.specs.List.{AllByRecursion}
 use Rattle.algol_tree.specs.declared.token.Spot.{Spot}
 use Rattle.algol_tree.specs.declared.tree.Named.{Named}
 use Rattle.algol_tree.specs.declared.tree.Heading.{Heading}
 use Rattle.algol_tree.specs.Plain as tree
-use Rattle.algol_tree.specs.Plain.{PExpr, PExprs, PPair, PStmt, PStmts, PDecl, PDecls, PBody, PProgram}
+use Rattle.algol_tree.specs.Plain.{PExpr, PExprs, PPair, PStmt, PStmts, PDecl, PDecls, PBody, PProgram, name_alone}
 use Rattle.algol_tree.specs.Classes.{Formal}
 use Rattle.algol_tree.specs.Sorts.{Declared}
 use Rattle.algol_tree.specs.Blocks.{Block, Begin, of_statement, of_procedure, number_at}
 use Rattle.algol_tree.specs.Surroundings.{Surroundings, formals_at, inside_begin, inside_procedure, knowing, knowing_all, outermost}
 use Rattle.algol_tree.specs.Sites as site
-use Rattle.algol_tree.specs.Sites.{Part, Site, actual_part, first_formal, here, name_part, wants_value, sites, inside_expr, inside_list, inside_actuals, sites_in_pairs, other_formals, here_stmt, inside_stmt, inside_decl, sites_in_stmts, sites_in_decls, sites_in_body, sites_by, has_decls}
+use Rattle.algol_tree.specs.Sites.{Part, Site, actual_part_by, first_formal, here, name_part, wants_value, sites, inside_expr, inside_list, inside_actuals, sites_in_pairs, other_formals, here_stmt, inside_stmt, inside_decl, sites_in_stmts, sites_in_decls, sites_in_body, sites_by, has_decls}
 use Rattle.algol_told.proofs.Lists.{all-append, all-left, all-right}
 
 module _ (blocks : List Block) (Holds : Surroundings → Type 0) where
@@ -49,19 +49,9 @@ module _ (blocks : List Block) (Holds : Surroundings → Type 0) (Passes : Site 
       of-name n true = tt
       of-name n false = tt
 
-      of-actual : (e : PExpr) (f : Option Formal) → Behind blocks Holds (actual_part e f) a
-      of-actual (tree.variable (tree.subscripted n tree.none)) f = of-name n (wants_value f)
-      of-actual (tree.variable (tree.subscripted n (tree.more e es))) f = tt
-      of-actual (tree.number z spot) f = tt
-      of-actual (tree.truth z spot) f = tt
-      of-actual (tree.call c) f = tt
-      of-actual (tree.tested test e spot) f = tt
-      of-actual (tree.paren e spot) f = tt
-      of-actual (tree.plus e spot) f = tt
-      of-actual (tree.neg e spot) f = tt
-      of-actual (tree.not e spot) f = tt
-      of-actual (tree.two op x y) f = tt
-      of-actual (tree.if c x y spot) f = tt
+      of-actual : (o : Option Named) (e : PExpr) (f : Option Formal) → Behind blocks Holds (actual_part_by o e f) a
+      of-actual (Some n) e f = of-name n (wants_value f)
+      of-actual None e f = tt
 
       here-expr : (e : PExpr) → HoldsAt blocks Holds (here e a)
       here-expr e = record { around = t; behind = tt }
@@ -75,7 +65,7 @@ module _ (blocks : List Block) (Holds : Surroundings → Type 0) (Passes : Site 
         in-expr (tree.truth z spot) = tt
         in-expr (tree.variable (tree.subscripted n es)) = in-list es
         in-expr (tree.call (tree.called n es)) = in-actuals es (formals_at a n)
-        in-expr (tree.tested test e spot) = tt
+        in-expr (tree.tested test es spot) = tt
         in-expr (tree.paren e spot) = (here-expr e, in-expr e)
         in-expr (tree.plus e spot) = (here-expr e, in-expr e)
         in-expr (tree.neg e spot) = (here-expr e, in-expr e)
@@ -92,7 +82,7 @@ module _ (blocks : List Block) (Holds : Surroundings → Type 0) (Passes : Site 
         in-actuals tree.none fs = tt
         in-actuals (tree.more e es) fs = (
           record { around = t; behind = tt },
-          (record { around = t; behind = of-actual e (first_formal fs) }, each (inside_expr e a) (inside_actuals es (other_formals fs) a) (in-expr e) (in-actuals es (other_formals fs))),
+          (record { around = t; behind = of-actual (name_alone e) e (first_formal fs) }, each (inside_expr e a) (inside_actuals es (other_formals fs) a) (in-expr e) (in-actuals es (other_formals fs))),
         )
 
       in-sites : (e : PExpr) → Each (sites e a)

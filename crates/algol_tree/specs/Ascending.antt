@@ -1,6 +1,7 @@
 -- The places in a tree ascend, as they do in a tree that was read from a text: each stands before the next.
 use Rattle.std.specs.Prelude.{◌≡◌, true, List, [], ◌∷◌, ◌++◌, map, Option, Some, None}
 use Rattle.std.specs.List.{flat_map}
+use Rattle.algol_tree.specs.declared.tree.EventName.{EventName}
 use Rattle.algol_tree.specs.declared.token.Spot.{Spot}
 use Rattle.algol_tree.specs.declared.tree.Named.{Named}
 use Rattle.algol_tree.specs.declared.tree.Heading.{Heading}
@@ -20,7 +21,7 @@ abbrev mutual
   spots_of_expr (tree.truth b spot) = spot ∷ []
   spots_of_expr (tree.variable (tree.subscripted n es)) = n.spot ∷ spots_of_exprs es
   spots_of_expr (tree.call (tree.called n es)) = n.spot ∷ spots_of_exprs es
-  spots_of_expr (tree.tested test e spot) = spot ∷ e.name.spot ∷ []
+  spots_of_expr (tree.tested test es spot) = spot ∷ map (λ (e : EventName). e.name.spot) es
   spots_of_expr (tree.paren e spot) = spot ∷ spots_of_expr e
   spots_of_expr (tree.plus e spot) = spot ∷ spots_of_expr e
   spots_of_expr (tree.neg e spot) = spot ∷ spots_of_expr e

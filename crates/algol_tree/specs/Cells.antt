@@ -7,7 +7,7 @@ use Rattle.algol_tree.specs.declared.token.Spot.{Spot}
 use Rattle.algol_tree.specs.declared.tree.Named.{Named}
 use Rattle.algol_tree.specs.declared.tree.Heading.{Heading}
 use Rattle.algol_tree.specs.Plain as tree
-use Rattle.algol_tree.specs.Plain.{PExpr, PDecl}
+use Rattle.algol_tree.specs.Plain.{PExpr, PDecl, name_alone}
 use Rattle.algol_tree.specs.Classes.{Formal, is_simple}
 use Rattle.algol_tree.specs.Blocks.{Block, same_spot, block_numbered, number_at}
 use Rattle.algol_tree.specs.Surroundings.{Surroundings, class_of}
@@ -30,7 +30,7 @@ first_spot (tree.number z spot) = spot
 first_spot (tree.truth b spot) = spot
 first_spot (tree.variable (tree.subscripted n es)) = n.spot
 first_spot (tree.call (tree.called n es)) = n.spot
-first_spot (tree.tested test e spot) = spot
+first_spot (tree.tested test es spot) = spot
 first_spot (tree.paren e spot) = spot
 first_spot (tree.plus e spot) = spot
 first_spot (tree.neg e spot) = spot
@@ -68,16 +68,16 @@ cells_for block content ns = map (λ (n : Named). record { block = block; spot =
 
 -- The name of a simple variable or of a simple parameter stands for itself; for any other actual of a name parameter the block in which
 -- it stands has a cell.
-abbrev pub is_plain_variable : PExpr → Surroundings → Bool
-is_plain_variable (tree.variable (tree.subscripted n tree.none)) a = is_simple (class_of a n)
-is_plain_variable _ a = false
+abbrev pub is_simple_name : Option Named → Surroundings → Bool
+is_simple_name None a = false
+is_simple_name (Some n) a = is_simple (class_of a n)
 
 abbrev pub is_by_name : Option Formal → Bool
 is_by_name None = false
 is_by_name (Some f) = is_simple f.class && not f.by_value
 
 abbrev pub has_cell : PExpr → Option Formal → Surroundings → Bool
-has_cell e f a = is_by_name f && not (is_plain_variable e a)
+has_cell e f a = is_by_name f && not (is_simple_name (name_alone e) a)
 
 module _ (blocks : List Block) where
   -- the result of a typed procedure stands at its name

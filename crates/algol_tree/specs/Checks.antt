@@ -9,7 +9,7 @@ use Rattle.algol_tree.specs.declared.tree.Kind.TheVariants as types
 use Rattle.algol_tree.specs.declared.tree.EventName.{EventName}
 use Rattle.algol_tree.specs.declared.tree.Heading.{Heading}
 use Rattle.algol_tree.specs.Plain as tree
-use Rattle.algol_tree.specs.Plain.{PExpr, PExprs, PPair, PStmt, PDecl, PDecls}
+use Rattle.algol_tree.specs.Plain.{PExpr, PExprs, PPair, PStmt, PDecl, PDecls, name_alone}
 use Rattle.algol_tree.specs.Classes as class
 use Rattle.algol_tree.specs.Classes.{Class, Formal, same_kind, is_simple, is_array, is_event, is_task, is_label, is_file, is_procedure, is_unspecified}
 use Rattle.algol_tree.specs.Sorts.{class_in}
@@ -64,7 +64,7 @@ abbrev pub wrong_in_expr : PExpr → Surroundings → List Spot
 wrong_in_expr (tree.variable (tree.subscripted n tree.none)) a = wrong_name is_read n a
 wrong_in_expr (tree.variable (tree.subscripted n (tree.more e es))) a = wrong_name is_array n a ++ wrong_list types.Number (tree.more e es) a
 wrong_in_expr (tree.call (tree.called n es)) a = wrong_name is_function n a
-wrong_in_expr (tree.tested test e spot) a = wrong_event e a
+wrong_in_expr (tree.tested test es spot) a = flat_map (λ (e : EventName). wrong_event e a) es
 wrong_in_expr (tree.plus e spot) a = wrong types.Number e a
 wrong_in_expr (tree.neg e spot) a = wrong types.Number e a
 wrong_in_expr (tree.not e spot) a = wrong types.Truth e a
@@ -81,9 +81,12 @@ abbrev is_such_array : Kind → ℕ → Class → Bool
 is_such_array k subscripts (class.array m count) = same_kind k m && (count == subscripts)
 is_such_array k subscripts _ = false
 
+abbrev wrong_reference_by : Option Named → (Class → Bool) → PExpr → Surroundings → List Spot
+wrong_reference_by (Some n) test e a = wrong_name test n a
+wrong_reference_by None test e a = first_spot e ∷ []
+
 abbrev wrong_reference : (Class → Bool) → PExpr → Surroundings → List Spot
-wrong_reference test (tree.variable (tree.subscripted n tree.none)) a = wrong_name test n a
-wrong_reference test e a = first_spot e ∷ []
+wrong_reference test e a = wrong_reference_by (name_alone e) test e a
 
 abbrev wrong_actual_for : Class → PExpr → Surroundings → List Spot
 wrong_actual_for (class.simple k) e a = wrong k e a

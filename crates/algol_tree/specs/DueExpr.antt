@@ -1,5 +1,6 @@
 -- What a token is to a part of an expression that is due.
 use Rattle.std.specs.Prelude.{◌+◌, ℕ, Bool, true, false, ◌||◌, List, [], ◌∷◌, Option, Some, None, codes}
+use Rattle.b67_deeds.specs.declared.EventTest.TheVariants as test
 use Rattle.algol_tree.specs.declared.level.Level.{Level}
 use Rattle.algol_tree.specs.declared.level.Level.TheVariants as levels
 use Rattle.algol_tree.specs.declared.token.Spot.{Spot}
@@ -73,7 +74,7 @@ applied n (many es ∷ vs) = one (trees.call (called n es)) ∷ vs
 applied n vs = vs
 
 abbrev pub asked : Spot → Make
-asked spot (event_named e ∷ vs) = one (trees.tested trees.happened e spot) ∷ vs
+asked spot (event_named e ∷ vs) = one (trees.tested test.Happened (e ∷ []) spot) ∷ vs
 asked spot vs = vs
 
 -- number | TRUE | FALSE

@@ -1,7 +1,8 @@
 -- The grammar of expressions: tokens and the expression that they read as. `IsPart free p d from e rest`: the tokens `from` begin
 -- with those of the part p, which read as e where d levels are open, and `rest` is what follows. There is one case for each
 -- form of a production. The limits are kept by all tokens but the last `free` ones; with 0 they are kept by all.
-use Rattle.std.specs.Prelude.{◌≡◌, ◌⊎◌, ◌<◌, ◌≤◌, ◌+◌, ℕ, ℤ, true, false, List, ◌∷◌, length, Some, codes}
+use Rattle.std.specs.Prelude.{◌≡◌, ◌⊎◌, ◌<◌, ◌≤◌, ◌+◌, ℕ, ℤ, true, false, List, ◌∷◌, length, Some, codes, []}
+use Rattle.b67_deeds.specs.declared.EventTest.TheVariants as test
 use Rattle.algol_tree.specs.declared.TheConstants.{MOST_NESTING, MOST_EXPRESSION_TOKENS}
 use Rattle.algol_tree.specs.declared.level.Level.{Level}
 use Rattle.algol_tree.specs.declared.level.Level.TheVariants as levels
@@ -12,7 +13,7 @@ use Rattle.algol_tree.specs.declared.token.Symbol.TheVariants as symbols
 use Rattle.algol_tree.specs.declared.tree.Named.{Named}
 use Rattle.algol_tree.specs.declared.tree.EventName.{EventName}
 use Rattle.algol_tree.specs.declared.tree.Op.{Op}
-use Rattle.algol_tree.specs.Plain.{PExpr, number, truth, variable, call, tested, happened, paren, plus, neg, not, two, if, subscripted, called, PExprs, none, more}
+use Rattle.algol_tree.specs.Plain.{PExpr, number, truth, variable, call, tested, paren, plus, neg, not, two, if, subscripted, called, PExprs, none, more}
 use Rattle.algol_tree.specs.Tokens.{IsWord, IsSymbol, IsName, IsSpelled}
 use Rattle.algol_tree.specs.Operators.{Part, expr, level, not_part, rel, primary, operand, operator, relop}
 
@@ -68,7 +69,7 @@ mutual
         IsPart free primary d (t ∷ u ∷ from) (call (called n es)) rest
     asked : (t u v : Token) (d : ℕ) (event : EventName) (from rest : List Token) →
         IsWord reserved.Happened t → IsSymbol symbols.OpenRound u → Opens free d (u ∷ from) → IsEvent from event (v ∷ rest) → IsSymbol symbols.CloseRound v →
-        IsPart free primary d (t ∷ u ∷ from) (tested happened event t.spot) rest
+        IsPart free primary d (t ∷ u ∷ from) (tested test.Happened (event ∷ []) t.spot) rest
     grouped : (t u : Token) (d : ℕ) (e : PExpr) (from rest : List Token) →
         IsSymbol symbols.OpenRound t → Opens free d (t ∷ from) → IsPart free expr (d + 1) from e (u ∷ rest) → IsSymbol symbols.CloseRound u →
         IsPart free primary d (t ∷ from) (paren e t.spot) rest

@@ -3,6 +3,7 @@ use Rattle.std.specs.Prelude.{List, [], ◌∷◌, map, Option, Some, None}
 use Rattle.std.specs.declared.boxed.Box.{Box}
 use Rattle.std.specs.declared.alloc.Global.{Global}
 use Rattle.std.specs.Borrow.{Bor}
+use Rattle.b67_deeds.specs.declared.EventTest.TheVariants as test
 use Rattle.algol_tree.specs.declared.tree.Named.{Named}
 use Rattle.algol_tree.specs.Plain as tree
 use Rattle.algol_tree.specs.Plain.{PExpr, PVariable, PCall, PExprs, PPair, PStmt, PStmts, PDecl, PDecls, PBody, PProgram}
@@ -30,7 +31,7 @@ expr_level (Expr-F.Number z spot) = tree.number z spot
 expr_level (Expr-F.Truth b spot) = tree.truth b spot
 expr_level (Expr-F.Variable v) = tree.variable v
 expr_level (Expr-F.Call c) = tree.call c
-expr_level (Expr-F.Happened e spot) = tree.tested tree.happened e spot
+expr_level (Expr-F.Happened e spot) = tree.tested test.Happened (e ∷ []) spot
 expr_level (Expr-F.Paren e spot) = tree.paren e.value spot
 expr_level (Expr-F.Plus e spot) = tree.plus e.value spot
 expr_level (Expr-F.Neg e spot) = tree.neg e.value spot

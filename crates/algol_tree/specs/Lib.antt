@@ -38,3 +38,4 @@ pub mod Ascending
 pub mod First
 pub mod Couples
 pub mod Ends
+pub mod Printed

@@ -1,7 +1,8 @@
 -- The scopes of a tree: for each use of a name, which block declares it and how many static parents up that is. This is fixed by the
 -- place of the use in the text, before any run; everything that asks what a name means asks here.
-use Rattle.std.specs.Prelude.{ℕ, ◌-◌, if◌then◌else◌, List, [], ◌∷◌, Option, Some, None}
+use Rattle.std.specs.Prelude.{ℕ, ◌-◌, if◌then◌else◌, List, [], ◌∷◌, Option, Some, None, map}
 use Rattle.std.specs.List.{flat_map}
+use Rattle.algol_tree.specs.declared.tree.EventName.{EventName}
 use Rattle.algol_tree.specs.declared.token.Spot.{Spot}
 use Rattle.algol_tree.specs.declared.tree.Named.{Named}
 use Rattle.algol_tree.specs.Plain as tree
@@ -42,7 +43,7 @@ left_uses (u ∷ us) = left_use u u.sort ∷ us
 abbrev pub names_in_expr : PExpr → List Named
 names_in_expr (tree.variable (tree.subscripted n es)) = n ∷ []
 names_in_expr (tree.call (tree.called n es)) = n ∷ []
-names_in_expr (tree.tested test e spot) = e.name ∷ []
+names_in_expr (tree.tested test es spot) = map (λ (e : EventName). e.name) es
 names_in_expr (tree.number z spot) = []
 names_in_expr (tree.truth b spot) = []
 names_in_expr (tree.paren e spot) = []

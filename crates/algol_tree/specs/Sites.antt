@@ -3,7 +3,7 @@
 use Rattle.std.specs.Prelude.{Bool, true, false, List, [], ◌∷◌, ◌++◌, Option, Some, None}
 use Rattle.algol_tree.specs.declared.tree.Named.{Named}
 use Rattle.algol_tree.specs.Plain as tree
-use Rattle.algol_tree.specs.Plain.{PExpr, PExprs, PPair, PStmt, PStmts, PDecl, PDecls, PBody, PProgram}
+use Rattle.algol_tree.specs.Plain.{PExpr, PExprs, PPair, PStmt, PStmts, PDecl, PDecls, PBody, PProgram, name_alone}
 use Rattle.algol_tree.specs.Classes as class
 use Rattle.algol_tree.specs.Classes.{Class, Formal}
 use Rattle.algol_tree.specs.Sorts.{Declared}
@@ -54,9 +54,12 @@ abbrev pub name_part : Named → Bool → Part
 name_part n true = expression (tree.variable (tree.subscripted n tree.none))
 name_part n false = name n
 
+abbrev pub actual_part_by : Option Named → PExpr → Option Formal → Part
+actual_part_by (Some n) e f = name_part n (wants_value f)
+actual_part_by None e f = expression e
+
 abbrev pub actual_part : PExpr → Option Formal → Part
-actual_part (tree.variable (tree.subscripted n tree.none)) f = name_part n (wants_value f)
-actual_part e f = expression e
+actual_part e f = actual_part_by (name_alone e) e f
 
 -- the sites inside an expression, without its own
 abbrev mutual
@@ -71,7 +74,7 @@ abbrev mutual
   inside_expr (tree.if c x y spot) a = (here c a ∷ inside_expr c a) ++ (here x a ∷ inside_expr x a) ++ (here y a ∷ inside_expr y a)
   inside_expr (tree.number z spot) a = []
   inside_expr (tree.truth b spot) a = []
-  inside_expr (tree.tested test e spot) a = []
+  inside_expr (tree.tested test es spot) a = []
 
   pub inside_list : PExprs → Surroundings → List Site
   inside_list tree.none a = []

@@ -10,8 +10,8 @@ use Rattle.algol_tree.specs.declared.token.Reserved.TheVariants as reserved
 use Rattle.algol_tree.specs.declared.token.Symbol.TheVariants as symbols
 use Rattle.algol_tree.specs.declared.tree.Named.{Named}
 use Rattle.algol_tree.specs.declared.tree.Kind.{Kind}
-use Rattle.algol_tree.specs.declared.tree.EventAct.{EventAct}
-use Rattle.algol_tree.specs.declared.tree.EventAct.TheVariants as acts
+use Rattle.b67_deeds.specs.declared.EventAct.{EventAct}
+use Rattle.b67_deeds.specs.declared.EventAct.TheVariants as acts
 use Rattle.algol_tree.specs.declared.tree.EventName.{EventName}
 use Rattle.algol_tree.specs.declared.tree.PhraseText.{PhraseText}
 use Rattle.algol_tree.specs.declared.tree.PhraseText.TheVariants as phrases

@@ -3,7 +3,7 @@ use Rattle.algol_tree.specs.declared.tree.Decl.{Decl}
 use Rattle.algol_tree.specs.declared.tree.Stmt.{Stmt}
 use Rattle.algol_tree.specs.Blocks as plain
 use Rattle.algol_tree.specs.Image.{decl, decls, stmt, stmts}
-use Rattle.algol_rest.specs.SeenScope.{block}
+use Rattle.algol_cells.specs.SeenScope.{block}
 use Rattle.algol_names.proofs.Adding.{list_step}
 use Rattle.algol_names.proofs.blocks.+statements.Goals as goal
 

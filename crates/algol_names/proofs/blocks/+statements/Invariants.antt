@@ -1,7 +1,7 @@
 use Rattle.std.proofs.Common.{◌≡◌, ◌++◌, map, drop}
 use Rattle.algol_tree.specs.Blocks as plain
 use Rattle.algol_tree.specs.Image.{stmts, decls}
-use Rattle.algol_rest.specs.SeenScope.{block}
+use Rattle.algol_cells.specs.SeenScope.{block}
 use Rattle.algol_names.proofs.blocks.+statements.Given as goal
 
 abbrev pub invariant-add_in_stmts-statements : goal.invariant-add_in_stmts-statements

@@ -1,6 +1,6 @@
 use Rattle.std.proofs.Common.{map, ap, ◌∙◌, refl}
 use Rattle.algol_sorts.specs.Specified as said
-use Rattle.algol_rest.specs.SeenScope.{parameter}
+use Rattle.algol_cells.specs.SeenScope.{parameter}
 use Rattle.algol_names.proofs.Said.{parameter_pushed, parameters_step}
 use Rattle.algol_names.proofs.blocks.parameters_of.Goals as goal
 

@@ -1,5 +1,5 @@
 use Rattle.std.proofs.Common.{◌≡◌, ◌++◌, map, drop}
-use Rattle.algol_rest.specs.SeenScope.{parameter}
+use Rattle.algol_cells.specs.SeenScope.{parameter}
 use Rattle.algol_names.proofs.Said.{parameter_in}
 use Rattle.algol_names.proofs.blocks.parameters_of.Given as goal
 

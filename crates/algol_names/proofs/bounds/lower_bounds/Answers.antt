@@ -2,7 +2,7 @@ use Rattle.std.proofs.Common.{◌∙◌, drop}
 use Rattle.std.proofs.lemmas.List.{drop_all}
 use Rattle.std.specs.BTreeMap.{get}
 use Rattle.algol_tree.specs.contracts.token.SpotOrd.TheImpl.{ghosts}
-use Rattle.algol_rest.specs.Shown.{shown}
+use Rattle.algol_cells.specs.Shown.{shown}
 use Rattle.algol_names.specs.Kept.{kept}
 use Rattle.algol_names.proofs.Kept.{all_kept, kept_same, lows_step}
 use Rattle.algol_names.proofs.Using.{found_same}

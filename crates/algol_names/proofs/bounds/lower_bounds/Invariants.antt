@@ -3,7 +3,7 @@ use Rattle.std.specs.Option.{option_or}
 use Rattle.std.specs.BTreeMap.{get}
 use Rattle.algol_tree.specs.declared.token.Spot.{Spot}
 use Rattle.algol_tree.specs.contracts.token.SpotOrd.TheImpl.{ghosts}
-use Rattle.algol_rest.specs.Shown.{shown}
+use Rattle.algol_cells.specs.Shown.{shown}
 use Rattle.algol_names.specs.Kept.{kept, lows_from}
 use Rattle.algol_names.proofs.bounds.lower_bounds.Given as goal
 

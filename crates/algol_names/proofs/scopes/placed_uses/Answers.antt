@@ -1,5 +1,5 @@
 use Rattle.std.proofs.Common.{◌∙◌, ap, map, sym}
-use Rattle.algol_rest.specs.SeenScope.{lows_under, used}
+use Rattle.algol_cells.specs.SeenScope.{lows_under, used}
 use Rattle.algol_names.specs.Kept.{kept}
 use Rattle.algol_names.proofs.scopes.placed_uses.Goals as goal
 

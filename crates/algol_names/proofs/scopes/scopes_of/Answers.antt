@@ -1,7 +1,7 @@
 use Rattle.std.proofs.Common.{◌∙◌, map, refl}
 use Rattle.algol_tree.specs.Blocks.{number_at}
 use Rattle.algol_tree.specs.Image.{body}
-use Rattle.algol_rest.specs.SeenScope.{block, lows_under, used, uses_by}
+use Rattle.algol_cells.specs.SeenScope.{block, lows_under, used, uses_by}
 use Rattle.algol_names.specs.Found.{in_body}
 use Rattle.algol_names.specs.Kept.{kept}
 use Rattle.algol_names.proofs.Together.{told_together}

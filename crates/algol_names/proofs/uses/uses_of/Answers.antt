@@ -1,6 +1,6 @@
 use Rattle.std.proofs.Common.{◌∙◌, ap, ◌++◌, map}
 use Rattle.algol_tree.specs.Blocks.{number_at}
-use Rattle.algol_rest.specs.SeenScope.{used}
+use Rattle.algol_cells.specs.SeenScope.{used}
 use Rattle.algol_scope.specs.Resolved.{declaration_of}
 use Rattle.algol_names.specs.Blocks.{blocks_in}
 use Rattle.algol_names.specs.Meant.{use_told}
