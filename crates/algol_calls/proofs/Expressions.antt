@@ -4,14 +4,14 @@ use Rattle.std.specs.Prelude.{if◌then◌else◌, Option, Result, Ok, Err}
 use Rattle.algol_tree.specs.declared.tree.Op.{Op}
 use Rattle.algol_tree.specs.declared.tree.Named.{Named}
 use Rattle.algol_tree.specs.Plain as tree
-use Rattle.algol_tree.specs.Plain.{PExpr, PExprs}
+use Rattle.algol_tree.specs.Plain.{PExpr, PExprs, name_alone}
 use Rattle.algol_tree.specs.Sorts.{Sort, is_formal, is_by_name, is_variable, procedure_in}
 use Rattle.algol_tree.specs.Scopes.{Scopes}
 use Rattle.b67_num.specs.declared.NumFault.{NumFault}
 use Rattle.algol_meaning.specs.Value.{Value, truth_of, Cell}
 use Rattle.algol_meaning.specs.Operators.{result_of}
-use Rattle.algol_meaning.specs.Rest.{Given, valued, passed, refers, names, Hole, read, element, index, happens, broken, enter, inside, subscript, argument, left, right, negated, inverted, condition, Actuals, pass, in_value, Half, val, busy, HalfGiven, given, wants, Aim, resolve, place_index, inside_place, place_subscript, HalfPlace, at, aims, Answer, done, value, cell, place, entered, subscripts_of}
-use Rattle.algol_meaning.specs.Settle.{after_result, right_of, left_of, negated_of, inverted_of, condition_of, named_of, subscripted_of, called_of, valued_of, alone_of, name_alone, left_alone_of, aimed_of, half_of, half_place_of, sort_at, other_of, actual_of, settle, settle_actuals, put, put_actuals, settle_place, indexed_of, put_place}
+use Rattle.algol_meaning.specs.Rest.{Given, valued, passed, refers, names, Hole, read, element, index, tests, broken, enter, inside, subscript, argument, left, right, negated, inverted, condition, Actuals, pass, in_value, Half, val, busy, HalfGiven, given, wants, Aim, resolve, place_index, inside_place, place_subscript, HalfPlace, at, aims, Answer, done, value, cell, place, entered, subscripts_of}
+use Rattle.algol_meaning.specs.Settle.{after_result, right_of, left_of, negated_of, inverted_of, condition_of, named_of, subscripted_of, called_of, valued_of, alone_of, left_alone_of, aimed_of, half_of, half_place_of, sort_at, other_of, actual_of, settle, settle_actuals, put, put_actuals, settle_place, indexed_of, put_place}
 use Rattle.algol_meaning.specs.Asks as asks
 use Rattle.algol_meaning.specs.Asks.{ask_hole, ask_actuals, ask_aim}
 use Rattle.algol_calls.specs.Fits.{IsLink, IsByValue, NextThen, Leads, IsCallee, wanted, AloneFits, StandsFor, ExprFits, ExprsFit, ActualsFit, GivenFits, GivenThen, GivensFit, PassFits, HoleFits, ActualsLeft, PlaceFits, AimFits, LeftFits, AnswerFits}
@@ -64,11 +64,11 @@ module _ (sc : Scopes) where
 
   named_fits : (o : Option ℕ) (n : Named) → AloneFits sc o n → HalfFits (named_of o n)
   named_fits (Some block) n p = p
-  named_fits None n p = tt
+  named_fits None n p = p
 
   subscripted_fits : (n : Named) (ks : List ℕ) (x : Half) (es : PExprs) → Leads sc n → HalfFits x → ExprsFit sc es → HalfFits (subscripted_of n ks x es)
   subscripted_fits n ks (busy h) es p i j = (p, i, j)
-  subscripted_fits n ks (val v) tree.none p i j = tt
+  subscripted_fits n ks (val v) tree.none p i j = p
   subscripted_fits n ks (val v) (tree.more e es) p i j = (p, j.0, j.1)
 
   called_fits : (n : Named) (x : HalfGiven) → IsCallee sc n → HalfGivenFits x (wanted sc n) → HalfFits (called_of n x)
@@ -153,7 +153,7 @@ module _ (sc : Scopes) where
     settle_fits (tree.variable (tree.subscripted n tree.none)) i = named_fits (procedure_in (sort_at sc n)) n i
     settle_fits (tree.variable (tree.subscripted n (tree.more e es))) i = subscripted_fits n [] (settle sc e) es i.0 (settle_fits e i.1) i.2
     settle_fits (tree.call (tree.called n es)) i = called_fits n (settle_actuals sc es (wanted sc n) []) i.0 (settle_actuals_fit es (wanted sc n) (wanted sc n) [] i.1 refl)
-    settle_fits (tree.tested tree.happened e spot) i = tt
+    settle_fits (tree.tested test es spot) i = i
     settle_fits (tree.paren e spot) i = settle_fits e i
     settle_fits (tree.plus e spot) i = settle_fits e i
     settle_fits (tree.neg e spot) i = negated_fits (settle sc e) (settle_fits e i)
@@ -186,7 +186,7 @@ module _ (sc : Scopes) where
     put_fits (read n) a i f = half_fits a
     put_fits (element n ks v) a i f = half_fits a
     put_fits (index n ks v e es) a i f = subscripted_fits n (subscripts_of a) (settle sc e) es i.0 (settle_fits e i.1) i.2
-    put_fits (happens n) a i f = half_fits a
+    put_fits (tests test ns) a i f = half_fits a
     put_fits (broken op v w fault) a i f = half_fits a
     put_fits (enter n gs) a i f = half_fits a
     put_fits inside a i f = half_fits a

@@ -8,7 +8,7 @@ use Rattle.algol_tree.specs.Blocks.{Block}
 use Rattle.algol_tree.specs.Sorts.{Sort, is_formal}
 use Rattle.algol_tree.specs.Scopes.{Scopes}
 use Rattle.algol_meaning.specs.Value.{whole_of}
-use Rattle.algol_meaning.specs.Rest.{Given, Hole, read, element, index, happens, broken, enter, inside, subscript, argument, left, right, negated, inverted, condition, Actuals, pass, in_value, Half, val, busy, Aim, resolve, place_index, inside_place, place_subscript, HalfPlace, at, aims, Item, Rest, over, reading, giving, giving_place, store, select, turning, going, entering_block, entering, starting, acting, line, arrays, event, within, dropping, evaluating, locating, aiming, storing, choosing, looping, checking, counting, differing, stepping, selecting, calling, preparing, writing, bounding, Answer, entered}
+use Rattle.algol_meaning.specs.Rest.{Given, Hole, read, element, index, tests, broken, enter, inside, subscript, argument, left, right, negated, inverted, condition, Actuals, pass, in_value, Half, val, busy, Aim, resolve, place_index, inside_place, place_subscript, HalfPlace, at, aims, Item, Rest, over, reading, giving, giving_place, store, select, turning, going, entering_block, entering, starting, acting, line, arrays, event, within, dropping, evaluating, locating, aiming, storing, choosing, looping, checking, counting, differing, stepping, selecting, calling, preparing, writing, bounding, Answer, entered}
 use Rattle.algol_meaning.specs.Settle.{sort_at, is_typed, settle, half_of, put, put_actuals, put_place}
 use Rattle.algol_meaning.specs.Statements.{items, decls_items, ending, items_of, is_labelled, stmts_from, items_from, settle_line, settle_bounds, settle_stmt, run_and, turn_and, counted_body, settle_items}
 use Rattle.algol_meaning.specs.Asks.{ask_hole, ask_actuals, ask_aim, ask, evaluated_of, located_of, nth_stmt, inside_or_after, called, resume}
@@ -49,7 +49,7 @@ module _ (sc : Scopes) where
   resumed_fits (select v ss k) a i f =
       stmt_fits sc (nth_stmt ss (nat_abs (whole_of v))) k (settle_items sc k) (nth_fits ss (nat_abs (whole_of v)) i.0) i.1 (settled_fits sc k i.1)
   resumed_fits (turning k) a i f = settled_fits sc k i
-  resumed_fits (going n) a i f = tt
+  resumed_fits (going n) a i f = i
   resumed_fits (entering_block b k) a i f = inside_fits a k i
   resumed_fits (entering n gs k) a i f = entered_fits (is_typed sc n) a k i.2
   resumed_fits (starting n gs task k) a i f = settled_fits sc k i.3
@@ -95,10 +95,10 @@ module _ (sc : Scopes) where
 
   mutual
     hole_asks : (h : Hole) → HoleFits sc h → AskFits sc (ask_hole h)
-    hole_asks (read n) i = tt
-    hole_asks (element n ks v) i = tt
+    hole_asks (read n) i = i
+    hole_asks (element n ks v) i = i
     hole_asks (index n ks v e es) i = i.0
-    hole_asks (happens n) i = tt
+    hole_asks (tests test ns) i = i
     hole_asks (broken op v w fault) i = tt
     hole_asks (enter n gs) i = i
     hole_asks inside i = tt
@@ -128,11 +128,11 @@ module _ (sc : Scopes) where
   rest_asks (store p v k) i = i.0
   rest_asks (select v ss k) i = tt
   rest_asks (turning k) i = tt
-  rest_asks (going n) i = tt
+  rest_asks (going n) i = i
   rest_asks (entering_block b k) i = tt
   rest_asks (entering n gs k) i = (i.0, i.1)
   rest_asks (starting n gs task k) i = (i.0, i.1, i.2)
-  rest_asks (acting act n k) i = i.0
+  rest_asks (acting act n k) i = (i.0, tt)
   rest_asks (line phrases vs k) i = tt
   rest_asks (arrays kind ns pairs vs k) i = tt
   rest_asks (event n k) i = tt

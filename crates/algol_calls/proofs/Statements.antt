@@ -112,7 +112,7 @@ module _ (sc : Scopes) where
         aimed_fits (settle_place sc (tree.subscripted m es)) e (settle sc e) k (settle_place_fits sc m es i.0) i.1 (settle_fits sc e i.1) j
     stmt_fits (tree.call_of (tree.called m es)) k r i j n =
         called_fits m (settle_actuals sc es (wanted sc m) []) k i.0 (settle_actuals_fit sc es (wanted sc m) (wanted sc m) [] i.1 refl) j
-    stmt_fits (tree.go_to m) k r i j n = tt
+    stmt_fits (tree.go_to m) k r i j n = i
     stmt_fits (tree.block (tree.body spot tree.no_decls ss)) k r i j n = stmts_fit ss k r i j n
     stmt_fits (tree.block (tree.body spot (tree.decls d ds) ss)) k r i j n = j
     stmt_fits (tree.if_then c x) k r i j n =

@@ -1,17 +1,19 @@
 -- What a text calls and gives: each call names a procedure and has an actual that fits for each parameter, and what is stored to, acted on
 -- and referred to is no cell that a parameter has of its own to lead elsewhere.
-use Rattle.std.specs.Prelude.{◌≡◌, ℕ, ◌<◌, if◌then◌else◌, Bool, true, false, List, [], ◌∷◌, length, Option, Some, None}
+use Rattle.std.specs.Prelude.{◌≡◌, ℕ, ◌<◌, if◌then◌else◌, Bool, true, false, List, [], ◌∷◌, length, map, Option, Some, None}
 use Rattle.algol_tree.specs.declared.tree.Kind.{Kind}
 use Rattle.algol_tree.specs.declared.tree.Named.{Named}
+use Rattle.algol_tree.specs.declared.tree.EventName.{EventName}
 use Rattle.algol_tree.specs.Plain as tree
-use Rattle.algol_tree.specs.Plain.{PExpr, PExprs, PPair, PStmt, PStmts, PDecls}
+use Rattle.algol_tree.specs.Plain.{PExpr, PExprs, PPair, PStmt, PStmts, PDecls, name_alone}
 use Rattle.algol_tree.specs.Blocks.{Block, block_numbered, around}
-use Rattle.algol_tree.specs.Sorts.{Sort, variable, is_formal, is_by_name, is_variable, procedure_in, Parameter, same_name, is_named_in}
+use Rattle.algol_tree.specs.Sorts.{Sort, variable, label, is_formal, is_by_name, is_variable, procedure_in, Parameter, same_name, is_named_in}
 use Rattle.algol_tree.specs.Scopes.{Scopes, use_of}
 use Rattle.algol_meaning.specs.Value.{Cell, named, reference}
-use Rattle.algol_meaning.specs.Rest.{Place, own, Given, valued, passed, refers, names, Hole, index, enter, subscript, argument, left, right, negated, inverted, condition, Actuals, pass, in_value, Aim, resolve, place_index, inside_place, place_subscript, Loop, Item, run, turn, count, check, test, result, make_arrays, make_event, Rest, over, reading, giving, giving_place, store, select, turning, going, entering_block, entering, starting, acting, line, arrays, event, within, dropping, evaluating, locating, aiming, storing, choosing, looping, checking, counting, differing, stepping, selecting, calling, preparing, writing, bounding, Answer, cell, place}
-use Rattle.algol_meaning.specs.Settle.{name_alone, sorts_of, block_of, callee, sort_at}
+use Rattle.algol_meaning.specs.Rest.{Place, own, Given, valued, passed, refers, names, Hole, read, element, index, tests, enter, subscript, argument, left, right, negated, inverted, condition, Actuals, pass, in_value, Aim, resolve, place_index, inside_place, place_subscript, Loop, Item, run, turn, count, check, test, result, make_arrays, make_event, Rest, over, reading, giving, giving_place, store, select, turning, going, entering_block, entering, starting, acting, line, arrays, event, within, dropping, evaluating, locating, aiming, storing, choosing, looping, checking, counting, differing, stepping, selecting, calling, preparing, writing, bounding, Answer, cell, place}
+use Rattle.algol_meaning.specs.Settle.{sorts_of, block_of, callee, sort_at}
 use Rattle.algol_meaning.specs.Statements.{alone, items_of}
+use Rattle.std.specs.List.{AllByRecursion}
 use Rattle.algol_meaning.specs.Asks as asks
 use Rattle.algol_meaning.specs.Asks.{Ask}
 
@@ -84,6 +86,10 @@ module _ (sc : Scopes) where
     pub told : IsTold n
     pub not_by_name : is_by_name (sort_at sc n) ≡ false
 
+  -- the name is a label
+  abbrev pub IsLabel : Named → Type 0
+  IsLabel n = sort_at sc n ≡ label
+
   -- the name is that of a procedure, whose block stands in the text of the block that declares it
   pub record IsCallee (n : Named) : Type 0 where
     pub known : block_of (sort_at sc n) < length sc.blocks
@@ -116,6 +122,7 @@ module _ (sc : Scopes) where
     ExprFits (tree.variable (tree.subscripted n tree.none)) = AloneFits (procedure_in (sort_at sc n)) n
     ExprFits (tree.variable (tree.subscripted n (tree.more e es))) = Leads n × ExprFits e × ExprsFit es
     ExprFits (tree.call (tree.called n es)) = IsCallee n × ActualsFit es (wanted n)
+    ExprFits (tree.tested x es spot) = AllByRecursion Leads (map (λ (e : EventName). e.name) es)
     ExprFits (tree.paren e spot) = ExprFits e
     ExprFits (tree.plus e spot) = ExprFits e
     ExprFits (tree.neg e spot) = ExprFits e
@@ -178,7 +185,10 @@ module _ (sc : Scopes) where
 
   abbrev mutual
     pub HoleFits : Hole → Type 0
+    HoleFits (read n) = IsTold n
+    HoleFits (element n ks v) = Leads n
     HoleFits (index n ks v e es) = Leads n × ExprFits e × ExprsFit es
+    HoleFits (tests x ns) = AllByRecursion Leads ns
     HoleFits (enter n gs) = IsCallee n × GivensFit gs (wanted n)
     HoleFits (subscript n ks h es) = Leads n × HoleFits h × ExprsFit es
     HoleFits (argument n x) = IsCallee n × ActualsLeft x (wanted n)
@@ -232,6 +242,7 @@ module _ (sc : Scopes) where
     StmtFits (tree.thru e b) = ExprFits e × StmtFits b
     StmtFits (tree.case e ss) = ExprFits e × StmtsFit ss
     StmtFits (tree.process (tree.called n es) task) = IsCallee n × ActualsFit es (wanted n) × TaskFits task
+    StmtFits (tree.go_to n) = IsLabel n
     StmtFits (tree.event act e) = Leads e.name
     StmtFits (tree.write n spot phrases es) = ExprsFit es
     StmtFits _ = Unit {0}
@@ -267,7 +278,7 @@ module _ (sc : Scopes) where
   RestFits (store p v k) = PlaceFits p × ItemsFit k
   RestFits (select v ss k) = StmtsFit ss × ItemsFit k
   RestFits (turning k) = ItemsFit k
-  RestFits (going n) = Unit {0}
+  RestFits (going n) = IsLabel n
   RestFits (entering_block b k) = ItemsFit k
   RestFits (entering n gs k) = IsCallee n × GivensFit gs (wanted n) × ItemsFit k
   RestFits (starting n gs task k) = IsCallee n × GivensFit gs (wanted n) × TaskFits task × ItemsFit k
@@ -302,11 +313,14 @@ module _ (sc : Scopes) where
   abbrev pub AskFits : Ask → Type 0
   AskFits (asks.enters n gs) = IsCallee n × GivensFit gs (wanted n)
   AskFits (asks.starts n gs task) = IsCallee n × GivensFit gs (wanted n) × TaskFits task
+  AskFits (asks.reads n) = IsTold n
+  AskFits (asks.reads_element n ks v) = Leads n
   AskFits (asks.indexes n ks v) = Leads n
   AskFits (asks.passes n) = IsTold n × (is_formal (sort_at sc n) ≡ true)
   AskFits (asks.resolves n) = IsTold n × (is_by_name (sort_at sc n) ≡ true)
   AskFits (asks.stores p v) = PlaceFits p
-  AskFits (asks.acts act n) = Leads n
+  AskFits (asks.goes_to n) = IsLabel n
+  AskFits (asks.event_deed x ns) = AllByRecursion Leads ns
   AskFits (asks.leaves (place p)) = PlaceFits p
   AskFits _ = Unit {0}
 

@@ -18,7 +18,7 @@ module _ (sc : Scopes) where
     hole_again (rests.read n) = refl
     hole_again (rests.element n ks i) = refl
     hole_again (rests.index n ks i e es) = refl
-    hole_again (rests.happens n) = refl
+    hole_again (rests.tests test ns) = refl
     hole_again (rests.broken op v w fault) = refl
     hole_again (rests.enter n gs) = refl
     hole_again rests.inside = refl

@@ -1,12 +1,14 @@
 -- What the changes of a world do to it but for what its cells hold.
-use Rattle.std.proofs.Common.{◌≡◌, refl, sym, ap, ◌∙◌, ℕ, zero, suc, ◌+◌, List, [], ◌∷◌, ◌++◌, Option, Some, None, Bool, true, false, map, length}
+use Rattle.std.proofs.Common.{◌≡◌, refl, sym, ap, ◌∙◌, ℕ, zero, suc, ◌+◌, List, [], ◌∷◌, ◌++◌, Option, Some, None, Bool, true, map, length}
 use Rattle.std.specs.Prelude.{slice_get, slice_set, if◌then◌else◌, ◌&&◌, ◌||◌, ◌==◌, not}
 use Rattle.b67_list.specs.Numbered.{numbered, set_numbered}
-use Rattle.algol_meaning.specs.Value.{Reference, EventCell, Cell, event}
-use Rattle.algol_meaning.specs.World.{NamedCell, Instance, no_instance, or_no_instance, instance_at, able, World, ancestor, cell_in, cell_at, cells_with, event_in, with_instance, set_cell, add_cells, or_no_process, process_at, set_able, set_all_able}
+use Rattle.algol_meaning.specs.Value.{Reference, Cell, event}
+use Rattle.b67_deeds.specs.Events.{EventState}
+use Rattle.algol_meaning.specs.World.{NamedCell, Instance, no_instance, or_no_instance, instance_at, able, World, ancestor, cell_in, cell_at, cells_with, with_instance, set_cell, add_cells, or_no_process, process_at, set_able, set_all_able}
 use Rattle.algol_meaning.specs.Critical.{is_this, is_one_of, NumberedInstance, newest_first, first_on_path}
 use Rattle.algol_meaning.specs.Instances.{leave}
-use Rattle.algol_meaning.specs.Events.{event_at, set_event, released, caused, reset}
+use Rattle.algol_meaning.specs.Events.{event_at, set_event, change_event, released}
+use Rattle.b67_deeds.specs.Deeds.{Deed}
 use Rattle.algol_laws.specs.Reading.{Outline, outline, Bare, bare}
 
 -- ---- outlines
@@ -97,24 +99,15 @@ able_alike : (ps : List ℕ) (u v : World) → bare v ≡ bare u → bare (set_a
 able_alike [] u v e = e
 able_alike (p ∷ ps) u v e = able_alike ps (set_able u p) (set_able v p) (ap (λ b. made_able b p) e)
 
-pub event_alike : (u v : World) (r : Reference) (e f : EventCell) → bare v ≡ bare u → bare (set_event v r f) ≡ bare (set_event u r e)
+pub event_alike : (u v : World) (r : Reference) (e f : EventState) → bare v ≡ bare u → bare (set_event v r f) ≡ bare (set_event u r e)
 event_alike u v r e f h = bare_set v r (event f) ∙ h ∙ sym (bare_set u r (event e))
 
-pub released_alike : (u v : World) (r : Reference) (e f : EventCell) (ps qs : List ℕ) → bare v ≡ bare u → qs ≡ ps →
-    bare (released v r f qs).world ≡ bare (released u r e ps).world
-released_alike u v r e f ps qs h same =
-    ap (λ (rs : List ℕ). bare (set_all_able (set_event v r f) rs)) same ∙ able_alike ps (set_event u r e) (set_event v r f) (event_alike u v r e f h)
+change_alike : (u v : World) (r : Reference) (c : Option (EventState → EventState)) → bare v ≡ bare u → bare (change_event v r c) ≡ bare (change_event u r c)
+change_alike u v r None h = h
+change_alike u v r (Some change) h = event_alike u v r (change (event_at u r)) (change (event_at v r)) h
 
-pub waiters_alike : (u v : World) (r : Reference) → cell_at v r ≡ cell_at u r → (event_at v r).waiters ≡ (event_at u r).waiters
-waiters_alike u v r e = ap (λ (c : Cell). (event_in c).waiters) e
-
-pub caused_alike : (u v : World) (r : Reference) → bare v ≡ bare u → cell_at v r ≡ cell_at u r → bare (caused v r).world ≡ bare (caused u r).world
-caused_alike u v r h e =
-    released_alike u v r (record (event_at u r) { happened = true; waiters = [] }) (record (event_at v r) { happened = true; waiters = [] }) ((event_at u r).waiters)
-    ((event_at v r).waiters) h (waiters_alike u v r e)
-
-pub reset_alike : (u v : World) (r : Reference) → bare v ≡ bare u → bare (reset v r).world ≡ bare (reset u r).world
-reset_alike u v r h = released_alike u v r (record (event_at u r) { happened = false }) (record (event_at v r) { happened = false }) [] [] h refl
+pub released_alike : (u v : World) (r : Reference) (d : Deed) → bare v ≡ bare u → bare (released v r d).world ≡ bare (released u r d).world
+released_alike u v r d h = able_alike d.frees (change_event u r d.change) (change_event v r d.change) (change_alike u v r d.change h)
 
 -- ---- cells
 

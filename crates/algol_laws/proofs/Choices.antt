@@ -1,43 +1,45 @@
 -- Each action keeps what it does not name.
-use Rattle.std.proofs.Common.{◌≡◌, refl, sym, ap, ◌∙◌, ℕ, List, [], ◌∷◌, ◌++◌, length, Option, Some, None, Bool, true, false}
+use Rattle.std.proofs.Common.{◌≡◌, refl, sym, ap, subst, ◌∙◌, ℕ, List, [], ◌∷◌, ◌++◌, length, Option, Some, None, Bool, true, false}
 use Rattle.std.specs.Prelude.{if◌then◌else◌, nat_lt, ◌==◌}
 use Rattle.b67_list.specs.Numbered.{numbered}
 use Rattle.b67_num.specs.declared.FaultKind.{FaultKind}
 use Rattle.b67_num.specs.declared.FaultKind.TheVariants as fault
 use Rattle.algol_tree.specs.declared.tree.Kind.{Kind}
 use Rattle.algol_tree.specs.declared.tree.Named.{Named}
-use Rattle.algol_tree.specs.declared.tree.EventAct.{EventAct}
-use Rattle.algol_tree.specs.declared.tree.EventAct.TheVariants as act
+use Rattle.b67_deeds.specs.declared.EventAct.TheVariants as act
 use Rattle.algol_tree.specs.Blocks.{Block, block_numbered, number_at, spot_of}
 use Rattle.algol_tree.specs.Scopes.{Scopes, use_of}
 use Rattle.algol_meaning.specs.declared.TheConstants.{MOST_STARTED}
-use Rattle.algol_meaning.specs.Value.{Value, whole_of, truth, Reference, EventCell, Bounds, ArrayCell, Cell, simple, event, array, named, reference}
+use Rattle.algol_meaning.specs.Value.{Value, whole_of, Reference, Bounds, ArrayCell, Cell, simple, event, array, named, reference}
+use Rattle.b67_deeds.specs.Events.{EventState, fresh_state}
+use Rattle.b67_deeds.specs.Deeds as deeds
+use Rattle.b67_deeds.specs.Deeds.{EventDeed, Deed, Next, deed}
+use Rattle.b67_deeds.proofs.Lists.{waiting_frees_nobody}
 use Rattle.algol_meaning.specs.Rest.{Place, own, there, element_of, Answer, done, value, cell, place, entered}
 use Rattle.algol_meaning.specs.Settle.{block_of, settle, settle_actual_place}
 use Rattle.algol_meaning.specs.Statements.{settle_items, items_from}
 use Rattle.b67_num.specs.Whole.{fault_of}
-use Rattle.algol_meaning.specs.World.{State, able, started, set_all_able, waits_for, procures, ended, block, procedure, name_read, name_place, add_cells, Part, Process, World, instance_at, cell_at, set_cell, followed, or_no_process, with_process, value_in, array_in}
+use Rattle.algol_meaning.specs.World.{State, able, started, waits_for, procures, ended, block, procedure, name_read, name_place, add_cells, Part, Process, World, instance_at, cell_at, set_cell, followed, or_no_process, with_process, value_in, array_in}
 use Rattle.algol_meaning.specs.Critical.{some_depends, some_depends_on_any, is_evaluation, own_instances, newest_first, first_on_path, referred_by, referred_by_task}
 use Rattle.algol_meaning.specs.Instances.{fresh_cells, leave, Cut, cut_at}
 use Rattle.algol_meaning.specs.Arrays.{has_wrong_size, has_no_room, bounds_of, subscript_place, element_at, with_element, new_arrays}
-use Rattle.algol_meaning.specs.Events.{new_event, event_at, Released, released, caused, reset, liberated, liberated_by, with_waiter, with_procurer, taken, caused_by_end}
-use Rattle.algol_meaning.specs.Actions as actions
-use Rattle.algol_meaning.specs.Actions.{Action}
+use Rattle.algol_meaning.specs.Events.{event_at, set_event, change_event, Released, released, caused_by_end}
+use Rattle.b67_deeds.specs.declared.Letter.TheVariants as actions
+use Rattle.b67_deeds.specs.declared.Letter.{Letter}
 use Rattle.algol_meaning.specs.Lines.{line_of}
 use Rattle.algol_meaning.specs.Asks as asks
 use Rattle.algol_meaning.specs.Asks.{Ask, ask, resume, evaluated_of, located_of}
-use Rattle.algol_meaning.specs.Choice as choices
-use Rattle.algol_meaning.specs.Choice.{Choice, choice, choice_in, choice_of, nth_exists, is_subscripted, answered, goes, goes_releasing, stops, opens, fails, home, here, read_of, resolved_of, indexed_at, element_read_at, stored, given_cells, with_new_instance, new_part, entered_procedure, entered_block, left_with, ended_releasing, left_or_ended, left, gone, gone_to, goes_to, task_of, with_started, next_process, starts, waited, procured, made_arrays}
-use Rattle.algol_laws.specs.Kept.{Kept, ProcessKept, EachActionKeeps, cell_of_place, task_at_end, stored_by, stored_in, stored_cell}
+use Rattle.algol_meaning.specs.Choice.{Choice, choice, choice_in, choice_of, nth_exists, is_subscripted, answered, goes, goes_releasing, stops, opens, fails, home, here, read_of, resolved_of, indexed_at, element_read_at, stored, given_cells, with_new_instance, new_part, entered_procedure, entered_block, left_with, ended_releasing, left_or_ended, left, gone, gone_to, goes_to, task_of, with_started, next_process, starts, told, did, does_with, made_arrays}
+use Rattle.algol_laws.specs.Kept.{Kept, ProcessKept, EachActionKeeps, if_any, changed, cell_of_place, task_at_end, stored_by_deed, stored_by, stored_in, stored_cells}
 use Rattle.algol_laws.proofs.Keeping.{unchanged, kept_then, kept_before, cell_set, cells_added, instances_left, instance_added, process_added, line_added, fault_kept, actor_set, all_able}
 
 module _ (sc : Scopes) (w : World) (p : ℕ) (q : Process) (part : Part) (outer : List Part) (is : numbered w.processes p ≡ Some q) where
   -- the choice keeps all but that cell
-  abbrev pub Keeps : Option Reference → Choice → Type 0
+  abbrev pub Keeps : List Reference → Choice → Type 0
   Keeps s c = Kept p c.released s w c.world
 
   -- after a change that keeps, the actor's own process gets other parts and another state
-  module _ (s : Option Reference) (rs : List ℕ) (after : World) (f : Kept p rs s w after) (todo : List Part) (state : State) where
+  module _ (s : List Reference) (rs : List ℕ) (after : World) (f : Kept p rs s w after) (todo : List Part) (state : State) where
     abbrev acted : Process
     acted = record q { todo = todo; state = state }
 
@@ -52,34 +54,35 @@ module _ (sc : Scopes) (w : World) (p : ℕ) (q : Process) (part : Part) (outer 
             (sym (ap (λ (x : Process). x.critical) z ∙ k.2.grown.critical), sym (ap (λ (x : Process). x.task) z ∙ k.2.grown.task))
 
   -- ---- how a choice goes on
-  either : (s : Option Reference) (b : Bool) (c d : Choice) → Keeps s c → Keeps s d → Keeps s (if b then c else d)
+  either : (s : List Reference) (b : Bool) (c d : Choice) → Keeps s c → Keeps s d → Keeps s (if b then c else d)
   either s true c d f g = f
   either s false c d f g = g
 
-  goes_keeps : (s : Option Reference) (action : Action) (after : World) (a : Answer) → Kept p [] s w after → Keeps s (goes sc w p q part outer action after a)
+  goes_keeps : (s : List Reference) (action : Letter) (after : World) (a : Answer) → Kept p [] s w after → Keeps s (goes sc w p q part outer action after a)
   goes_keeps s action after a f = acts s [] after f (answered sc w p q part outer a ∷ outer) q.state
 
-  releasing_keeps : (s : Option Reference) (action : Action) (x : Released) → Kept p x.processes s w x.world → Keeps s (goes_releasing sc w p q part outer action x)
-  releasing_keeps s action x f = acts s x.processes x.world f (answered sc w p q part outer done ∷ outer) q.state
+  releasing_keeps : (s : List Reference) (action : Letter) (x : Released) (a : Answer) → Kept p x.processes s w x.world →
+      Keeps s (goes_releasing sc w p q part outer action x a)
+  releasing_keeps s action x a f = acts s x.processes x.world f (answered sc w p q part outer a ∷ outer) q.state
 
-  stops_keeps : (s : Option Reference) (action : Action) (after : World) (state : State) → Kept p [] s w after → Keeps s (stops sc w p q part outer action after state)
+  stops_keeps : (s : List Reference) (action : Letter) (after : World) (state : State) → Kept p [] s w after → Keeps s (stops sc w p q part outer action after state)
   stops_keeps s action after state f = acts s [] after f (answered sc w p q part outer done ∷ outer) state
 
-  opens_keeps : (s : Option Reference) (after : World) (inner : Part) → Kept p [] s w after → Keeps s (opens sc w p q part outer after inner)
+  opens_keeps : (s : List Reference) (after : World) (inner : Part) → Kept p [] s w after → Keeps s (opens sc w p q part outer after inner)
   opens_keeps s after inner f = acts s [] after f (inner ∷ answered sc w p q part outer entered ∷ outer) q.state
 
-  pub fails_keeps : (s : Option Reference) (k : FaultKind) → Keeps s (fails sc w p q part outer k)
+  pub fails_keeps : (s : List Reference) (k : FaultKind) → Keeps s (fails sc w p q part outer k)
   fails_keeps s k = fault_kept p s w (Some (record { kind = k; process = p }))
 
   -- ---- names
-  read_keeps : (s : Option Reference) (c : Cell) → Keeps s (read_of sc w p q part outer c)
+  read_keeps : (s : List Reference) (c : Cell) → Keeps s (read_of sc w p q part outer c)
   read_keeps s (named c) = opens_keeps s w (record { instance = c.instance; purpose = name_read; rest = evaluated_of (settle sc c.actual) }) (unchanged p s w)
   read_keeps s (reference r) = goes_keeps s actions.Read w (value (value_in (cell_at w r))) (unchanged p s w)
   read_keeps s (simple v) = goes_keeps s actions.Read w (value (value_in (simple v))) (unchanged p s w)
   read_keeps s (event e) = goes_keeps s actions.Read w (value (value_in (event e))) (unchanged p s w)
   read_keeps s (array a) = goes_keeps s actions.Read w (value (value_in (array a))) (unchanged p s w)
 
-  resolved_keeps : (s : Option Reference) (n : Named) (c : Cell) → Keeps s (resolved_of sc w p q part outer n c)
+  resolved_keeps : (s : List Reference) (n : Named) (c : Cell) → Keeps s (resolved_of sc w p q part outer n c)
   resolved_keeps s n (named c) =
       either s (is_subscripted c.actual)
       (opens sc w p q part outer w (record { instance = c.instance; purpose = name_place; rest = located_of (settle_actual_place sc c.actual) }))
@@ -91,64 +94,68 @@ module _ (sc : Scopes) (w : World) (p : ℕ) (q : Process) (part : Part) (outer 
   resolved_keeps s n (event e) = goes_keeps s actions.Resolve w (place (there (here sc w p q part outer n))) (unchanged p s w)
   resolved_keeps s n (array a) = goes_keeps s actions.Resolve w (place (there (here sc w p q part outer n))) (unchanged p s w)
 
-  indexed_keeps : (s : Option Reference) (r : Reference) (ks : List ℕ) (o : Option ℕ) → Keeps s (indexed_at sc w p q part outer r ks o)
+  indexed_keeps : (s : List Reference) (r : Reference) (ks : List ℕ) (o : Option ℕ) → Keeps s (indexed_at sc w p q part outer r ks o)
   indexed_keeps s r ks None = fails_keeps s fault.InvalidIndex
   indexed_keeps s r ks (Some k) = goes_keeps s actions.Index w (place (element_of r (ks ++ k ∷ []))) (unchanged p s w)
 
-  element_keeps : (s : Option Reference) (a : ArrayCell) (ks : List ℕ) (o : Option ℕ) → Keeps s (element_read_at sc w p q part outer a ks o)
+  element_keeps : (s : List Reference) (a : ArrayCell) (ks : List ℕ) (o : Option ℕ) → Keeps s (element_read_at sc w p q part outer a ks o)
   element_keeps s a ks None = fails_keeps s fault.InvalidIndex
   element_keeps s a ks (Some k) = goes_keeps s actions.ElementRead w (value (element_at a (ks ++ k ∷ []))) (unchanged p s w)
 
-  stored_keeps : (x : Place) (v : Value) → Keeps (Some (cell_of_place sc w p q part outer x)) (stored sc w p q part outer x v)
+  stored_keeps : (x : Place) (v : Value) → Keeps (cell_of_place sc w p q part outer x ∷ []) (stored sc w p q part outer x v)
   stored_keeps (own n) v =
-      goes_keeps (Some (here sc w p q part outer n)) actions.Store (set_cell w (here sc w p q part outer n) (simple v)) done
+      goes_keeps (here sc w p q part outer n ∷ []) actions.Store (set_cell w (here sc w p q part outer n) (simple v)) done
       (cell_set p w (here sc w p q part outer n) (simple v))
-  stored_keeps (there r) v = goes_keeps (Some r) actions.Store (set_cell w r (simple v)) done (cell_set p w r (simple v))
+  stored_keeps (there r) v = goes_keeps (r ∷ []) actions.Store (set_cell w r (simple v)) done (cell_set p w r (simple v))
   stored_keeps (element_of r ks) v =
-      goes_keeps (Some r) actions.ElementStore (set_cell w r (array (with_element (array_in (cell_at w r)) ks v))) done
+      goes_keeps (r ∷ []) actions.ElementStore (set_cell w r (array (with_element (array_in (cell_at w r)) ks v))) done
       (cell_set p w r (array (with_element (array_in (cell_at w r)) ks v)))
 
   -- ---- entering and leaving
-  new_instance_keeps : (s : Option Reference) (j parent process : ℕ) (cells : List Cell) → Kept p [] s w (with_new_instance sc w p q part outer j parent process cells)
+  new_instance_keeps : (s : List Reference) (j parent process : ℕ) (cells : List Cell) → Kept p [] s w (with_new_instance sc w p q part outer j parent process cells)
   new_instance_keeps s j parent process cells =
       instance_added p s w
       (record { block = j; parent = parent; process = process; cells = fresh_cells (block_numbered sc.blocks j) cells; left = false })
 
-  procedure_keeps : (s : Option Reference) (j parent : ℕ) (cells : List Cell) → Keeps s (entered_procedure sc w p q part outer j parent cells)
+  procedure_keeps : (s : List Reference) (j parent : ℕ) (cells : List Cell) → Keeps s (entered_procedure sc w p q part outer j parent cells)
   procedure_keeps s j parent cells =
       opens_keeps s (with_new_instance sc w p q part outer j parent p cells) (new_part sc w p q part outer j procedure) (new_instance_keeps s j parent p cells)
 
-  block_keeps : (s : Option Reference) (j : ℕ) → Keeps s (entered_block sc w p q part outer j)
+  block_keeps : (s : List Reference) (j : ℕ) → Keeps s (entered_block sc w p q part outer j)
   block_keeps s j =
       opens_keeps s (with_new_instance sc w p q part outer j part.instance p []) (new_part sc w p q part outer j block)
       (new_instance_keeps s j part.instance p [])
 
-  pub left_with_keeps : (s : Option Reference) (after : World) (a : Answer) (parts : List Part) → Kept p [] s w after → Keeps s (left_with sc w p q part outer after a parts)
+  pub left_with_keeps : (s : List Reference) (after : World) (a : Answer) (parts : List Part) → Kept p [] s w after → Keeps s (left_with sc w p q part outer after a parts)
   left_with_keeps s after a [] f = f
   left_with_keeps s after a (next ∷ parts) f = acts s [] after f (record next { rest = resume sc next.rest a } ∷ parts) q.state
 
-  released_keeps : (before : World) (r : Reference) (e : EventCell) (rs : List ℕ) → Kept p [] (Some r) w before → Kept p rs (Some r) w (released before r e rs).world
-  released_keeps before r e rs f =
-      kept_before p rs (Some r) w (set_cell before r (event e)) (set_all_able (set_cell before r (event e)) rs)
-      (kept_then p [] (Some r) w before (set_cell before r (event e)) f (cell_set p before r (event e)))
-      (all_able p (Some r) (set_cell before r (event e)) rs)
+  changed_keeps : (before : World) (r : Reference) (change : Option (EventState → EventState)) → Kept p [] (changed change r) w before →
+      Kept p [] (changed change r) w (change_event before r change)
+  changed_keeps before r None f = f
+  changed_keeps before r (Some change) f =
+      kept_then p [] (r ∷ []) w before (set_event before r (change (event_at before r))) f (cell_set p before r (event (change (event_at before r))))
 
-  caused_keeps : (before : World) (r : Reference) → Kept p [] (Some r) w before → Kept p (caused before r).processes (Some r) w (caused before r).world
-  caused_keeps before r f = released_keeps before r (record (event_at before r) { happened = true; waiters = [] }) ((event_at before r).waiters) f
+  released_keeps : (before : World) (r : Reference) (d : Deed) → Kept p [] (changed d.change r) w before →
+      Kept p d.frees (changed d.change r) w (released before r d).world
+  released_keeps before r d f =
+      kept_before p d.frees (changed d.change r) w (change_event before r d.change) (released before r d).world
+      (changed_keeps before r d.change f) (all_able p (changed d.change r) (change_event before r d.change) d.frees)
 
-  by_end_keeps : (before : World) (o : Option Reference) → Kept p [] o w before → Kept p (caused_by_end before o).processes o w (caused_by_end before o).world
+  by_end_keeps : (before : World) (o : Option Reference) → Kept p [] (if_any o) w before →
+      Kept p (caused_by_end before p o).processes (if_any o) w (caused_by_end before p o).world
   by_end_keeps before None f = f
-  by_end_keeps before (Some r) f = caused_keeps before r f
+  by_end_keeps before (Some r) f = released_keeps before r (deed (deeds.acts act.Cause) p (event_at before r)) f
 
-  ended_keeps : (s : Option Reference) (x : Released) → Kept p x.processes s w x.world → Keeps s (ended_releasing sc w p q part outer x)
+  ended_keeps : (s : List Reference) (x : Released) → Kept p x.processes s w x.world → Keeps s (ended_releasing sc w p q part outer x)
   ended_keeps s x f = acts s x.processes x.world f [] ended
 
   pub left_or_ended_keeps : (a : Answer) (parts : List Part) → Keeps (task_at_end sc w p q part outer parts) (left_or_ended sc w p q part outer a parts)
   left_or_ended_keeps a [] =
-      ended_keeps q.task (caused_by_end (leave w (part.instance ∷ [])) q.task)
-      (by_end_keeps (leave w (part.instance ∷ [])) q.task (instances_left p q.task w (part.instance ∷ [])))
+      ended_keeps (if_any q.task) (caused_by_end (leave w (part.instance ∷ [])) p q.task)
+      (by_end_keeps (leave w (part.instance ∷ [])) q.task (instances_left p (if_any q.task) w (part.instance ∷ [])))
   left_or_ended_keeps a (next ∷ parts) =
-      left_with_keeps None (leave w (part.instance ∷ [])) a (next ∷ parts) (instances_left p None w (part.instance ∷ []))
+      left_with_keeps [] (leave w (part.instance ∷ [])) a (next ∷ parts) (instances_left p [] w (part.instance ∷ []))
 
   left_keeps : (a : Answer) → Keeps (task_at_end sc w p q part outer outer) (left sc w p q part outer a)
   left_keeps a =
@@ -159,25 +166,25 @@ module _ (sc : Scopes) (w : World) (p : ℕ) (q : Process) (part : Part) (outer 
       (left_or_ended sc w p q part outer a outer) (fails_keeps (task_at_end sc w p q part outer outer) fault.CriticalBlockExit) (left_or_ended_keeps a outer))
 
   -- ---- GO TO
-  gone_keeps : (s : Option Reference) (newer : List ℕ) (b : Block) (n : Named) (parts : List Part) → Keeps s (gone sc w p q part outer newer b n parts)
+  gone_keeps : (s : List Reference) (newer : List ℕ) (b : Block) (n : Named) (parts : List Part) → Keeps s (gone sc w p q part outer newer b n parts)
   gone_keeps s newer b n [] = unchanged p s w
   gone_keeps s newer b n (target ∷ parts) =
       acts s [] (leave w newer) (instances_left p s w newer) (record target { rest = settle_items sc (items_from b n.name) } ∷ parts) q.state
 
-  gone_to_keeps : (s : Option Reference) (n : Named) (i : ℕ) (cut : Cut) → Keeps s (gone_to sc w p q part outer n i cut)
+  gone_to_keeps : (s : List Reference) (n : Named) (i : ℕ) (cut : Cut) → Keeps s (gone_to sc w p q part outer n i cut)
   gone_to_keeps s n i cut =
       either s (some_depends_on_any w.processes (own_instances cut.newer)) (fails sc w p q part outer fault.CriticalBlockExit)
       (gone sc w p q part outer (own_instances cut.newer) (block_numbered sc.blocks ((instance_at w i).block)) n cut.from)
       (fails_keeps s fault.CriticalBlockExit)
       (gone_keeps s (own_instances cut.newer) (block_numbered sc.blocks ((instance_at w i).block)) n cut.from)
 
-  goes_to_keeps : (s : Option Reference) (n : Named) (i : ℕ) → Keeps s (goes_to sc w p q part outer n i)
+  goes_to_keeps : (s : List Reference) (n : Named) (i : ℕ) → Keeps s (goes_to sc w p q part outer n i)
   goes_to_keeps s n i =
       either s ((instance_at w i).process == p) (gone_to sc w p q part outer n i (cut_at [] (part ∷ outer) i)) (fails sc w p q part outer fault.BadGoTo)
       (gone_to_keeps s n i (cut_at [] (part ∷ outer) i)) (fails_keeps s fault.BadGoTo)
 
   -- ---- processes
-  starts_keeps : (s : Option Reference) (j parent : ℕ) (cells : List Cell) (task : Option Reference) → Keeps s (starts sc w p q part outer j parent cells task)
+  starts_keeps : (s : List Reference) (j parent : ℕ) (cells : List Cell) (task : Option Reference) → Keeps s (starts sc w p q part outer j parent cells task)
   starts_keeps s j parent cells task =
       goes_keeps s actions.Start
       (with_started sc w p q part outer (with_new_instance sc w p q part outer j parent (next_process sc w p q part outer) cells) j cells task parent) done
@@ -193,35 +200,34 @@ module _ (sc : Scopes) (w : World) (p : ℕ) (q : Process) (part : Part) (outer 
       })))
 
   -- ---- events
-  reset_keeps : (r : Reference) → Kept p (reset w r).processes (Some r) w (reset w r).world
-  reset_keeps r = released_keeps w r (record (event_at w r) { happened = false }) [] (unchanged p (Some r) w)
+  did_keeps : (x : EventDeed) (r : Reference) (d : Deed) (n : Next) → ((n ≡ deeds.goes → ⊥) → d.frees ≡ []) →
+      Keeps (changed d.change r) (did sc w p q part outer x r d n)
+  did_keeps x r d n nobody = by n nobody
+    where
+      s : List Reference
+      s = changed d.change r
 
-  liberated_keeps : (r : Reference) (ps : List ℕ) → Kept p (liberated_by w r (event_at w r) ps).processes (Some r) w (liberated_by w r (event_at w r) ps).world
-  liberated_keeps r [] = released_keeps w r (record (event_at w r) { available = true }) [] (unchanged p (Some r) w)
-  liberated_keeps r (i ∷ ps) = released_keeps w r (record (event_at w r) { procurers = ps }) (i ∷ []) (unchanged p (Some r) w)
+      kept : Kept p d.frees s w (released w r d).world
+      kept = released_keeps w r d (unchanged p s w)
 
-  waited_keeps : (r : Reference) (e : EventCell) → Keeps (Some r) (waited sc w p q part outer r e)
-  waited_keeps r e =
-      either (Some r) e.happened (goes sc w p q part outer actions.Wait w done) (stops sc w p q part outer actions.Wait (with_waiter w r p) (waits_for r))
-      (goes_keeps (Some r) actions.Wait w done (unchanged p (Some r) w))
-      (stops_keeps (Some r) actions.Wait (with_waiter w r p) (waits_for r) (cell_set p w r (event (record (event_at w r) { waiters = (event_at w r).waiters ++ p ∷ [] }))))
+      none : d.frees ≡ [] → Kept p [] s w (released w r d).world
+      none e = subst (λ fs. Kept p fs s w (released w r d).world) e kept
 
-  procured_keeps : (r : Reference) (e : EventCell) → Keeps (Some r) (procured sc w p q part outer r e)
-  procured_keeps r e =
-      either (Some r) e.available (goes sc w p q part outer actions.Procure (taken w r) done)
-      (stops sc w p q part outer actions.Procure (with_procurer w r p) (procures r))
-      (goes_keeps (Some r) actions.Procure (taken w r) done (cell_set p w r (event (record (event_at w r) { available = false }))))
-      (stops_keeps (Some r) actions.Procure (with_procurer w r p) (procures r) (cell_set p w r (event (record (event_at w r) { procurers = (event_at w r).procurers ++ p ∷ [] }))))
+      by : (m : Next) → ((m ≡ deeds.goes → ⊥) → d.frees ≡ []) → Keeps s (did sc w p q part outer x r d m)
+      by deeds.goes f = releasing_keeps s (deeds.letter_of x) (released w r d) (told sc w p q part outer d.answer) kept
+      by deeds.waits f = stops_keeps s (deeds.letter_of x) (released w r d).world (waits_for r) (none (f (λ e. cc)))
+      by deeds.procures f = stops_keeps s (deeds.letter_of x) (released w r d).world (procures r) (none (f (λ e. cc)))
 
-  acted_keeps : (x : EventAct) (r : Reference) → Keeps (Some r) (choices.acted sc w p q part outer x r)
-  acted_keeps act.Cause r = releasing_keeps (Some r) actions.Cause (caused w r) (caused_keeps w r (unchanged p (Some r) w))
-  acted_keeps act.Reset r = releasing_keeps (Some r) actions.Reset (reset w r) (reset_keeps r)
-  acted_keeps act.Wait r = waited_keeps r (event_at w r)
-  acted_keeps act.Procure r = procured_keeps r (event_at w r)
-  acted_keeps act.Liberate r = releasing_keeps (Some r) actions.Liberate (liberated w r) (liberated_keeps r ((event_at w r).procurers))
+  does_keeps : (x : EventDeed) (ns : List Named) → Keeps (stored_by_deed sc w p q part outer x ns) (does_with sc w p q part outer x ns)
+  does_keeps x [] = unchanged p [] w
+  does_keeps x (n ∷ ns) =
+      did_keeps x r (deed x p (event_at w r)) ((deed x p (event_at w r)).next) (λ f. waiting_frees_nobody x p (event_at w r) f)
+    where
+      r : Reference
+      r = followed w (here sc w p q part outer n)
 
   -- ---- arrays and events
-  arrays_keep : (s : Option Reference) (kind : Kind) (ns : List Named) (bs : List Bounds) → Keeps s (made_arrays sc w p q part outer kind ns bs)
+  arrays_keep : (s : List Reference) (kind : Kind) (ns : List Named) (bs : List Bounds) → Keeps s (made_arrays sc w p q part outer kind ns bs)
   arrays_keep s kind ns bs =
       either s (has_wrong_size bs) (fails sc w p q part outer fault.ArraySize)
       (if has_no_room w bs ns then fails sc w p q part outer fault.CoreFull
@@ -233,56 +239,54 @@ module _ (sc : Scopes) (w : World) (p : ℕ) (q : Process) (part : Part) (outer 
 
   -- ---- all
   pub choice_keeps : (a : Ask) → Keeps (stored_by sc w p q part outer a) (choice_of sc w p q part outer a)
-  choice_keeps asks.nothing = unchanged p None w
-  choice_keeps (asks.reads n) = read_keeps None (cell_at w (here sc w p q part outer n))
+  choice_keeps asks.nothing = unchanged p [] w
+  choice_keeps (asks.reads n) = read_keeps [] (cell_at w (here sc w p q part outer n))
   choice_keeps (asks.reads_element n ks v) =
-      element_keeps None (array_in (cell_at w (followed w (here sc w p q part outer n)))) ks
+      element_keeps [] (array_in (cell_at w (followed w (here sc w p q part outer n)))) ks
       (subscript_place ((use_of sc n).sort) (array_in (cell_at w (followed w (here sc w p q part outer n)))) ks (whole_of v))
   choice_keeps (asks.indexes n ks v) =
-      indexed_keeps None (followed w (here sc w p q part outer n)) ks
+      indexed_keeps [] (followed w (here sc w p q part outer n)) ks
       (subscript_place ((use_of sc n).sort) (array_in (cell_at w (followed w (here sc w p q part outer n)))) ks (whole_of v))
-  choice_keeps (asks.asks_happened n) =
-      goes_keeps None actions.Happened w (value (truth ((event_at w (followed w (here sc w p q part outer n))).happened))) (unchanged p None w)
-  choice_keeps (asks.fails f) = fails_keeps None (fault_of f)
+  choice_keeps (asks.fails f) = fails_keeps [] (fault_of f)
   choice_keeps (asks.enters n gs) =
-      procedure_keeps None (block_of ((use_of sc n).sort)) (home sc w p q part outer n) (given_cells sc w p q part outer gs)
-  choice_keeps (asks.passes n) = goes_keeps None actions.Pass w (cell (cell_at w (here sc w p q part outer n))) (unchanged p None w)
-  choice_keeps (asks.resolves n) = resolved_keeps None n (cell_at w (here sc w p q part outer n))
+      procedure_keeps [] (block_of ((use_of sc n).sort)) (home sc w p q part outer n) (given_cells sc w p q part outer gs)
+  choice_keeps (asks.passes n) = goes_keeps [] actions.Pass w (cell (cell_at w (here sc w p q part outer n))) (unchanged p [] w)
+  choice_keeps (asks.resolves n) = resolved_keeps [] n (cell_at w (here sc w p q part outer n))
   choice_keeps (asks.reads_result name) =
-      goes_keeps None actions.Read w (value (value_in (cell_at w (record { instance = part.instance; name = name })))) (unchanged p None w)
+      goes_keeps [] actions.Read w (value (value_in (cell_at w (record { instance = part.instance; name = name })))) (unchanged p [] w)
   choice_keeps (asks.leaves a) = left_keeps a
   choice_keeps (asks.stores x v) = stored_keeps x v
   choice_keeps (asks.selects v ss) =
-      either None (nth_exists (whole_of v) ss) (goes sc w p q part outer actions.Select w done) (fails sc w p q part outer fault.CaseIndex)
-      (goes_keeps None actions.Select w done (unchanged p None w)) (fails_keeps None fault.CaseIndex)
-  choice_keeps asks.turns = goes_keeps None actions.Turn w done (unchanged p None w)
-  choice_keeps (asks.goes_to n) = goes_to_keeps None n (home sc w p q part outer n)
-  choice_keeps (asks.enters_block b) = block_keeps None (number_at sc.blocks (spot_of b))
+      either [] (nth_exists (whole_of v) ss) (goes sc w p q part outer actions.Select w done) (fails sc w p q part outer fault.CaseIndex)
+      (goes_keeps [] actions.Select w done (unchanged p [] w)) (fails_keeps [] fault.CaseIndex)
+  choice_keeps asks.turns = goes_keeps [] actions.Turn w done (unchanged p [] w)
+  choice_keeps (asks.goes_to n) = goes_to_keeps [] n (home sc w p q part outer n)
+  choice_keeps (asks.enters_block b) = block_keeps [] (number_at sc.blocks (spot_of b))
   choice_keeps (asks.starts n gs task) =
-      either None (nat_lt MOST_STARTED (length w.processes)) (fails sc w p q part outer fault.ProcessLimit)
+      either [] (nat_lt MOST_STARTED (length w.processes)) (fails sc w p q part outer fault.ProcessLimit)
       (starts sc w p q part outer (block_of ((use_of sc n).sort)) (home sc w p q part outer n) (given_cells sc w p q part outer gs) (task_of sc w p q part outer task))
-      (fails_keeps None fault.ProcessLimit)
-      (starts_keeps None (block_of ((use_of sc n).sort)) (home sc w p q part outer n) (given_cells sc w p q part outer gs) (task_of sc w p q part outer task))
-  choice_keeps (asks.acts x n) = acted_keeps x (followed w (here sc w p q part outer n))
+      (fails_keeps [] fault.ProcessLimit)
+      (starts_keeps [] (block_of ((use_of sc n).sort)) (home sc w p q part outer n) (given_cells sc w p q part outer gs) (task_of sc w p q part outer task))
+  choice_keeps (asks.event_deed x ns) = does_keeps x ns
   choice_keeps (asks.writes phrases vs) =
-      goes_keeps None actions.Line (record w { output = w.output ++ line_of phrases vs ∷ [] }) done (line_added p None w (line_of phrases vs))
-  choice_keeps (asks.makes_arrays kind ns pairs vs) = arrays_keep None kind ns (bounds_of pairs vs)
+      goes_keeps [] actions.Line (record w { output = w.output ++ line_of phrases vs ∷ [] }) done (line_added p [] w (line_of phrases vs))
+  choice_keeps (asks.makes_arrays kind ns pairs vs) = arrays_keep [] kind ns (bounds_of pairs vs)
   choice_keeps (asks.makes_event n) =
-      goes_keeps None actions.MakeEvent (add_cells w part.instance (record { name = n.name; cell = event new_event } ∷ [])) done
-      (cells_added p None w part.instance (record { name = n.name; cell = event new_event } ∷ []))
+      goes_keeps [] actions.MakeEvent (add_cells w part.instance (record { name = n.name; cell = event fresh_state } ∷ [])) done
+      (cells_added p [] w part.instance (record { name = n.name; cell = event fresh_state } ∷ []))
 
 -- ---- the law
 in_keeps : (sc : Scopes) (w : World) (p : ℕ) (q : Process) (parts : List Part) → numbered w.processes p ≡ Some q →
     Kept p (choice_in sc w p q parts).released (stored_in sc w p q parts) w (choice_in sc w p q parts).world
-in_keeps sc w p q [] is = unchanged p None w
+in_keeps sc w p q [] is = unchanged p [] w
 in_keeps sc w p q (part ∷ outer) is = choice_keeps sc w p q part outer is (ask part.rest)
 
 by_process : (sc : Scopes) (w : World) (p : ℕ) (o : Option Process) → numbered w.processes p ≡ o →
     Kept p (choice_in sc w p (or_no_process o) (or_no_process o).todo).released (stored_in sc w p (or_no_process o) (or_no_process o).todo) w
     (choice_in sc w p (or_no_process o) (or_no_process o).todo).world
-by_process sc w p None e = unchanged p None w
+by_process sc w p None e = unchanged p [] w
 by_process sc w p (Some q) e = in_keeps sc w p q q.todo e
 
 pub each_keeps : EachActionKeeps
-unfolding choice stored_cell
+unfolding choice stored_cells
 each_keeps sc w p = by_process sc w p (numbered w.processes p) refl

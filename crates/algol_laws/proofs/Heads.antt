@@ -5,7 +5,7 @@ use Rattle.algol_tree.specs.declared.tree.Kind.{Kind}
 use Rattle.algol_tree.specs.declared.tree.Named.{Named}
 use Rattle.algol_tree.specs.declared.tree.PhraseText.{PhraseText}
 use Rattle.algol_tree.specs.Plain as tree
-use Rattle.algol_tree.specs.Plain.{PExpr, PVariable, PExprs, PPair, PStmt, PStmts, PBody}
+use Rattle.algol_tree.specs.Plain.{PExpr, PVariable, PExprs, PPair, PStmt, PStmts, PBody, name_alone}
 use Rattle.b67_num.specs.declared.NumFault.{NumFault}
 use Rattle.algol_meaning.specs.Value.{Value, whole_of, truth_of, simple, number}
 use Rattle.algol_tree.specs.Sorts.{Sort, is_formal, is_by_name, is_variable, procedure_in}
@@ -13,7 +13,7 @@ use Rattle.algol_tree.specs.Scopes.{Scopes}
 use Rattle.algol_meaning.specs.Rest.{Place, Given, valued, refers, names, Hole, Actuals, Half, val, busy, HalfGiven, given, wants, Aim, HalfPlace, at, aims, Loop, Item, Rest, Answer}
 use Rattle.algol_meaning.specs.Rest as rests
 use Rattle.algol_meaning.specs.Operators.{result_of}
-use Rattle.algol_meaning.specs.Settle.{after_result, right_of, left_of, negated_of, inverted_of, condition_of, named_of, subscripted_of, called_of, valued_of, alone_of, name_alone, sorts_of, half_of, half_place_of, callee, is_typed, sort_at, other_of, actual_of, first_actual_of, settle, settle_actuals, put, put_actuals, left_alone_of, aimed_of, settle_place, indexed_of, put_place}
+use Rattle.algol_meaning.specs.Settle.{after_result, right_of, left_of, negated_of, inverted_of, condition_of, named_of, subscripted_of, called_of, valued_of, alone_of, sorts_of, half_of, half_place_of, callee, is_typed, sort_at, other_of, actual_of, first_actual_of, settle, settle_actuals, put, put_actuals, left_alone_of, aimed_of, settle_place, indexed_of, put_place}
 use Rattle.algol_meaning.specs.Statements.{items, assigned_of, aimed_at, chosen_of, looped_of, checked_of, repeated_of, counted_of, after_count, counted_body, selected_of, statement_called_of, prepared_of, item_of, bound_of, begun_of, settle_line, settle_bounds, settle_stmt, settle_stmts, settle_body, is_past, again, tested_of, differed_of, difference_in, stepped, run_and, turn_and, settle_items}
 use Rattle.algol_meaning.specs.Asks.{ask_hole, ask_actuals, ask_aim, ask, resume, evaluated_of, located_of, nth_stmt, inside_or_after, called}
 use Rattle.algol_laws.specs.Heads.{is_action}
@@ -133,7 +133,7 @@ module _ (sc : Scopes) where
     settle_acts (tree.variable (tree.subscripted n tree.none)) = named_acts (procedure_in (sort_at sc n)) n
     settle_acts (tree.variable (tree.subscripted n (tree.more e es))) = subscripted_acts n [] (settle sc e) es (settle_acts e)
     settle_acts (tree.call (tree.called n es)) = called_acts n (settle_actuals sc es (sorts_of (callee sc n).parameters) []) (actuals_act es (sorts_of (callee sc n).parameters) [])
-    settle_acts (tree.tested tree.happened e spot) = refl
+    settle_acts (tree.tested test es spot) = refl
     settle_acts (tree.paren e spot) = settle_acts e
     settle_acts (tree.plus e spot) = settle_acts e
     settle_acts (tree.neg e spot) = negated_acts (settle sc e) (settle_acts e)
@@ -157,7 +157,7 @@ module _ (sc : Scopes) where
     put_acts (rests.read n) a e = half_acts a e
     put_acts (rests.element n ks i) a e = half_acts a e
     put_acts (rests.index n ks i x es) a e = subscripted_acts n (rests.subscripts_of a) (settle sc x) es (settle_acts x)
-    put_acts (rests.happens n) a e = half_acts a e
+    put_acts (rests.tests test ns) a e = half_acts a e
     put_acts (rests.broken op v w fault) a e = half_acts a e
     put_acts (rests.enter n gs) a e = half_acts a e
     put_acts rests.inside a e = half_acts a e

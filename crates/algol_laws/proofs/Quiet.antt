@@ -5,7 +5,7 @@ use Rattle.algol_tree.specs.declared.token.Spot.{Spot}
 use Rattle.algol_tree.specs.declared.tree.Op.{Op}
 use Rattle.algol_tree.specs.declared.tree.Named.{Named}
 use Rattle.algol_tree.specs.Plain as tree
-use Rattle.algol_tree.specs.Plain.{PExpr, PExprs, PStmt, PStmts}
+use Rattle.algol_tree.specs.Plain.{PExpr, PExprs, PStmt, PStmts, name_alone}
 use Rattle.algol_meaning.specs.Value.{Value, number, truth, whole_of, truth_of}
 use Rattle.algol_tree.specs.Sorts as sort
 use Rattle.algol_tree.specs.Sorts.{is_by_name}
@@ -14,7 +14,7 @@ use Rattle.b67_num.specs.declared.NumFault.{NumFault}
 use Rattle.algol_tree.specs.Scopes.{Scopes}
 use Rattle.algol_meaning.specs.Rest.{own, Given, valued, refers, names, broken, Half, val, busy, at, Loop, Item, run, turn, count, check, test, Rest}
 use Rattle.algol_meaning.specs.Operators.{result_of}
-use Rattle.algol_meaning.specs.Settle.{name_alone, sort_at, settle, settle_actuals, settle_place}
+use Rattle.algol_meaning.specs.Settle.{sort_at, settle, settle_actuals, settle_place}
 use Rattle.algol_meaning.specs.Statements.{items, is_past, difference_in, stepped, tested_of, again, settle_stmt, settle_stmts, settle_items}
 use Rattle.algol_laws.specs.Quiet.{SilentStepsAreTabled}
 

@@ -4,34 +4,37 @@ use Rattle.std.specs.Prelude.{if◌then◌else◌, ◌*◌, ◌==◌, nat_lt}
 use Rattle.b67_list.specs.Numbered.{set_numbered}
 use Rattle.algol_tree.specs.declared.tree.Kind.{Kind}
 use Rattle.algol_tree.specs.declared.tree.Named.{Named}
-use Rattle.algol_tree.specs.declared.tree.EventAct.{EventAct}
-use Rattle.algol_tree.specs.declared.tree.EventAct.TheVariants as act
+use Rattle.b67_deeds.specs.declared.EventAct.TheVariants as act
 use Rattle.algol_tree.specs.Blocks.{Block, spot_of, block_numbered, number_at}
 use Rattle.algol_tree.specs.Scopes.{Scopes, use_of}
 use Rattle.b67_num.specs.declared.FaultKind.{FaultKind}
 use Rattle.b67_num.specs.declared.FaultKind.TheVariants as fault
 use Rattle.b67_num.specs.Whole.{fault_of}
 use Rattle.algol_meaning.specs.declared.TheConstants.{MOST_STARTED, MOST_ELEMENTS}
-use Rattle.algol_meaning.specs.Value.{Value, truth, whole_of, Reference, EventCell, Bounds, ArrayCell, Cell, simple, event, array, named, reference}
+use Rattle.algol_meaning.specs.Value.{Value, whole_of, Reference, Bounds, ArrayCell, Cell, simple, event, array, named, reference}
+use Rattle.b67_deeds.specs.Events.{fresh_state}
+use Rattle.b67_deeds.specs.Deeds as deeds
+use Rattle.b67_deeds.specs.Deeds.{EventDeed, Deed, Next, deed}
 use Rattle.algol_meaning.specs.Rest.{Place, own, there, element_of, Given, valued, passed, refers, names, Answer, done, value, cell, place, entered}
 use Rattle.algol_meaning.specs.Settle.{block_of, settle, settle_actual_place}
 use Rattle.algol_meaning.specs.Statements.{settle_items, items_of, items_from}
 use Rattle.algol_meaning.specs.World.{NamedCell, Instance, Purpose, block, procedure, name_read, name_place, started, Part, State, able, waits_for, procures, ended, Process, World, instance_at, cell_at, set_cell, add_cells, by_cell, followed, value_in, array_in, event_in, process_at}
 use Rattle.algol_meaning.specs.Critical.{some_depends, some_depends_on_any, is_evaluation, own_instances, newest_first, first_on_path, referred_by, referred_by_task}
 use Rattle.algol_meaning.specs.Arrays.{subscript_place, element_at, with_element, elements_of, live_elements, new_arrays, has_wrong_size, has_no_room, bounds_of}
-use Rattle.algol_meaning.specs.Events.{new_event, event_at, Released, caused, reset, liberated_by, with_waiter, with_procurer, taken, caused_by_end}
+use Rattle.algol_meaning.specs.Events.{event_at, Released, released, caused_by_end}
 use Rattle.algol_meaning.specs.Lines.{line_of}
 use Rattle.algol_meaning.specs.Instances.{fresh_cells, leave, Cut, cut_at}
-use Rattle.algol_meaning.specs.Actions as actions
-use Rattle.algol_meaning.specs.Actions.{Action}
+use Rattle.b67_deeds.specs.declared.Letter.TheVariants as actions
+use Rattle.b67_deeds.specs.declared.Letter.{Letter}
 use Rattle.algol_meaning.specs.Asks as asks
 use Rattle.algol_meaning.specs.Asks.{Ask, ask, resume, evaluated_of, located_of}
 use Rattle.algol_meaning.specs.Choice as choices
-use Rattle.algol_meaning.specs.Choice.{Choice, choice, choice_in, choice_of, chosen, answered, goes, goes_releasing, stops, opens, fails, home, here, read_of, is_subscripted, resolved_of, indexed_at, element_read_at, stored, given_cell, given_cells, with_new_instance, new_part, left_with, ended_releasing, left_or_ended, left, gone, gone_to, goes_to, task_of, with_started, next_process, starts, waited, procured, made_arrays, nth_exists}
-use Rattle.algol_laws.specs.Reading.{Outline, outline, Bare, bare, Told, told, with_cells_of, if_task, read_by_leaving, read_by, read_in, read_cells, SameCells, EachActionReads}
-use Rattle.algol_laws.proofs.Bared.{outlines_added, same_count, outline_alike, ancestor_alike, bare_set, bare_added, leave_alike, event_alike, released_alike, caused_alike, reset_alike, waiters_alike, cell_left, path_alike}
+use Rattle.algol_meaning.specs.Choice.{Choice, choice, choice_in, choice_of, chosen, answered, goes, goes_releasing, stops, opens, fails, home, here, read_of, is_subscripted, resolved_of, indexed_at, element_read_at, stored, given_cell, given_cells, with_new_instance, new_part, left_with, ended_releasing, left_or_ended, left, gone, gone_to, goes_to, task_of, with_started, next_process, starts, did, does, does_with, made_arrays, nth_exists}
+use Rattle.algol_laws.specs.Kept.{if_any}
+use Rattle.algol_laws.specs.Reading.{Outline, outline, Bare, bare, Told, told, with_cells_of, read_by_leaving, read_by_deed, read_by, read_in, read_cells, SameCells, EachActionReads}
+use Rattle.algol_laws.proofs.Bared.{outlines_added, same_count, outline_alike, ancestor_alike, bare_set, bare_added, leave_alike, released_alike, cell_left, path_alike}
 
-abbrev telling : Action → List ℕ → Option ℕ → Bare → Told
+abbrev telling : Letter → List ℕ → Option ℕ → Bare → Told
 telling action processes process after = record { action = action; released = processes; started = process; after = after }
 
 abbrev named_in : List ℕ → ℕ → Reference
@@ -61,18 +64,18 @@ module _ (sc : Scopes) (w : World) (xs : List Instance) (p : ℕ) (q : Process) 
 
   -- ---- how a choice ends
 
-  goes_alike : (action : Action) (a b : World) (x y : Answer) → bare b ≡ bare a → y ≡ x → told (goes sc v p q part outer action b y) ≡ told (goes sc w p q part outer action a x)
+  goes_alike : (action : Letter) (a b : World) (x y : Answer) → bare b ≡ bare a → y ≡ x → told (goes sc v p q part outer action b y) ≡ told (goes sc w p q part outer action a x)
   goes_alike action a b x y e f =
       ap (λ (z : Answer). told (goes sc v p q part outer action b z)) f
       ∙ ap (λ (c : Bare). telling action [] None (processes_put p (record q { todo = answered sc w p q part outer x ∷ outer }) c)) e
 
-  releasing_alike : (action : Action) (x y : Released) → bare y.world ≡ bare x.world → y.processes ≡ x.processes →
-      told (goes_releasing sc v p q part outer action y) ≡ told (goes_releasing sc w p q part outer action x)
-  releasing_alike action x y e f =
-      ap (λ (rs : List ℕ). telling action rs None (processes_put p (record q { todo = answered sc w p q part outer done ∷ outer }) (bare y.world))) f
-      ∙ ap (λ (c : Bare). telling action x.processes None (processes_put p (record q { todo = answered sc w p q part outer done ∷ outer }) c)) e
+  releasing_alike : (action : Letter) (x y : Released) (a : Answer) → bare y.world ≡ bare x.world → y.processes ≡ x.processes →
+      told (goes_releasing sc v p q part outer action y a) ≡ told (goes_releasing sc w p q part outer action x a)
+  releasing_alike action x y a e f =
+      ap (λ (rs : List ℕ). telling action rs None (processes_put p (record q { todo = answered sc w p q part outer a ∷ outer }) (bare y.world))) f
+      ∙ ap (λ (c : Bare). telling action x.processes None (processes_put p (record q { todo = answered sc w p q part outer a ∷ outer }) c)) e
 
-  stops_alike : (action : Action) (a b : World) (s : State) → bare b ≡ bare a → told (stops sc v p q part outer action b s) ≡ told (stops sc w p q part outer action a s)
+  stops_alike : (action : Letter) (a b : World) (s : State) → bare b ≡ bare a → told (stops sc v p q part outer action b s) ≡ told (stops sc w p q part outer action a s)
   stops_alike action a b s e =
       ap (λ (c : Bare). telling action [] None (processes_put p (record q { todo = answered sc w p q part outer done ∷ outer; state = s }) c)) e
 
@@ -192,14 +195,17 @@ module _ (sc : Scopes) (w : World) (xs : List Instance) (p : ℕ) (q : Process) 
       ap (λ (rs : List ℕ). telling actions.End rs None (processes_put p (record q { todo = []; state = ended }) (bare y.world))) f
       ∙ ap (λ (c : Bare). telling actions.End x.processes None (processes_put p (record q { todo = []; state = ended }) c)) e
 
-  by_end_alike : (a b : World) (task : Option Reference) → bare b ≡ bare a → SameCells a b (if_task sc w p q part outer task) →
-      told (ended_releasing sc v p q part outer (caused_by_end b task)) ≡ told (ended_releasing sc w p q part outer (caused_by_end a task))
-  by_end_alike a b None e cells = ended_alike (caused_by_end a None) (caused_by_end b None) e refl
+  by_end_alike : (a b : World) (task : Option Reference) → bare b ≡ bare a → SameCells a b (if_any task) →
+      told (ended_releasing sc v p q part outer (caused_by_end b p task)) ≡ told (ended_releasing sc w p q part outer (caused_by_end a p task))
+  by_end_alike a b None e cells = ended_alike (caused_by_end a p None) (caused_by_end b p None) e refl
   by_end_alike a b (Some r) e cells =
-      ended_alike (caused a r) (caused b r) (caused_alike a b r e cells.0) (waiters_alike a b r cells.0)
+      ended_alike (caused_by_end a p (Some r)) (caused_by_end b p (Some r))
+      (ap (λ (c : Cell). bare (released b r (deed (deeds.acts act.Cause) p (event_in c))).world) cells.0
+      ∙ released_alike a b r (deed (deeds.acts act.Cause) p (event_at a r)) e)
+      (ap (λ (c : Cell). (event_in c).waiters) cells.0)
 
-  task_kept : (is : List ℕ) (task : Option Reference) → SameCells w v (if_task sc w p q part outer task) →
-      SameCells (leave w is) (leave v is) (if_task sc w p q part outer task)
+  task_kept : (is : List ℕ) (task : Option Reference) → SameCells w v (if_any task) →
+      SameCells (leave w is) (leave v is) (if_any task)
   task_kept is None cells = cells
   task_kept is (Some r) cells = (cell_left is v r ∙ cells.0 ∙ sym (cell_left is w r), cells.1)
 
@@ -278,40 +284,24 @@ module _ (sc : Scopes) (w : World) (xs : List Instance) (p : ℕ) (q : Process) 
 
   -- ---- events
 
-  waited_alike : (r : Reference) (e : EventCell) → told (waited sc v p q part outer r e) ≡ told (waited sc w p q part outer r e)
-  waited_alike r e =
-      either e.happened (goes sc w p q part outer actions.Wait w done) (goes sc v p q part outer actions.Wait v done)
-      (stops sc w p q part outer actions.Wait (with_waiter w r p) (waits_for r)) (stops sc v p q part outer actions.Wait (with_waiter v r p) (waits_for r))
-      (goes_alike actions.Wait w v done done alike refl)
-      (stops_alike actions.Wait (with_waiter w r p) (with_waiter v r p) (waits_for r)
-      (event_alike w v r (record (event_at w r) { waiters = (event_at w r).waiters ++ p ∷ [] }) (record (event_at v r) { waiters = (event_at v r).waiters ++ p ∷ [] }) alike))
+  did_alike : (x : EventDeed) (r : Reference) (d : Deed) (n : Next) → told (did sc v p q part outer x r d n) ≡ told (did sc w p q part outer x r d n)
+  did_alike x r d deeds.goes =
+      releasing_alike (deeds.letter_of x) (released w r d) (released v r d) (choices.told sc w p q part outer d.answer) (released_alike w v r d alike) refl
+  did_alike x r d deeds.waits =
+      stops_alike (deeds.letter_of x) (released w r d).world (released v r d).world (waits_for r) (released_alike w v r d alike)
+  did_alike x r d deeds.procures =
+      stops_alike (deeds.letter_of x) (released w r d).world (released v r d).world (procures r) (released_alike w v r d alike)
 
-  procured_alike : (r : Reference) (e : EventCell) → told (procured sc v p q part outer r e) ≡ told (procured sc w p q part outer r e)
-  procured_alike r e =
-      either e.available (goes sc w p q part outer actions.Procure (taken w r) done) (goes sc v p q part outer actions.Procure (taken v r) done)
-      (stops sc w p q part outer actions.Procure (with_procurer w r p) (procures r)) (stops sc v p q part outer actions.Procure (with_procurer v r p) (procures r))
-      (goes_alike actions.Procure (taken w r) (taken v r) done done
-      (event_alike w v r (record (event_at w r) { available = false }) (record (event_at v r) { available = false }) alike) refl)
-      (stops_alike actions.Procure (with_procurer w r p) (with_procurer v r p) (procures r)
-      (event_alike w v r (record (event_at w r) { procurers = (event_at w r).procurers ++ p ∷ [] }) (record (event_at v r) { procurers = (event_at v r).procurers ++ p ∷ [] }) alike))
-
-  liberated_alike : (r : Reference) (e : EventCell) (ps : List ℕ) → told (goes_releasing sc v p q part outer actions.Liberate (liberated_by v r e ps))
-      ≡ told (goes_releasing sc w p q part outer actions.Liberate (liberated_by w r e ps))
-  liberated_alike r e [] = releasing_alike actions.Liberate (liberated_by w r e []) (liberated_by v r e [])
-      (released_alike w v r (record e { available = true }) (record e { available = true }) [] [] alike refl) refl
-  liberated_alike r e (i ∷ ps) =
-      releasing_alike actions.Liberate (liberated_by w r e (i ∷ ps)) (liberated_by v r e (i ∷ ps))
-      (released_alike w v r (record e { procurers = ps }) (record e { procurers = ps }) (i ∷ []) (i ∷ []) alike refl) refl
-
-  acted_alike : (x : EventAct) (r : Reference) → cell_at v r ≡ cell_at w r → told (choices.acted sc v p q part outer x r) ≡ told (choices.acted sc w p q part outer x r)
-  acted_alike act.Cause r e =
-      releasing_alike actions.Cause (caused w r) (caused v r) (caused_alike w v r alike e) (waiters_alike w v r e)
-  acted_alike act.Reset r e = releasing_alike actions.Reset (reset w r) (reset v r) (reset_alike w v r alike) refl
-  acted_alike act.Wait r e = ap (λ (c : Cell). told (waited sc v p q part outer r (event_in c))) e ∙ waited_alike r (event_at w r)
-  acted_alike act.Procure r e = ap (λ (c : Cell). told (procured sc v p q part outer r (event_in c))) e ∙ procured_alike r (event_at w r)
-  acted_alike act.Liberate r e =
-      ap (λ (c : Cell). told (goes_releasing sc v p q part outer actions.Liberate (liberated_by v r (event_in c) ((event_in c).procurers)))) e
-      ∙ liberated_alike r (event_at w r) ((event_at w r).procurers)
+  does_alike : (x : EventDeed) (ns : List Named) → SameCells w v (read_by_deed sc w p q part outer ns) →
+      told (does_with sc v p q part outer x ns) ≡ told (does_with sc w p q part outer x ns)
+  does_alike x [] cells = ap (λ (b : Bare). telling actions.Fault [] None b) alike
+  does_alike x (n ∷ ns) cells =
+      ap (λ (s : Reference). told (does sc v p q part outer x s (deed x p (event_at v s)))) (led_alike n cells.0)
+      ∙ ap (λ (c : Cell). told (does sc v p q part outer x r (deed x p (event_in c)))) cells.1.0
+      ∙ did_alike x r (deed x p (event_at w r)) ((deed x p (event_at w r)).next)
+    where
+      r : Reference
+      r = followed w (here sc w p q part outer n)
 
   -- ---- arrays
 
@@ -361,10 +351,6 @@ module _ (sc : Scopes) (w : World) (xs : List Instance) (p : ℕ) (q : Process) 
       ap (λ (s : Reference). told (choices.indexed sc v p q part outer n ks (whole_of x) s)) (led_alike n cells.0)
       ∙ ap (λ (c : Cell). told (indexed_at sc v p q part outer r ks (subscript_place ((use_of sc n).sort) (array_in c) ks (whole_of x)))) cells.1.0
       ∙ indexed_alike r ks (subscript_place ((use_of sc n).sort) (array_in (cell_at w r)) ks (whole_of x))
-  choice_alike (asks.asks_happened n) count cells =
-      goes_alike actions.Happened w v (value (truth ((event_at w (followed w (here sc w p q part outer n))).happened)))
-      (value (truth ((event_at v (followed v (here sc v p q part outer n))).happened))) alike
-      (ap (λ (c : Cell). value (truth ((event_in c).happened))) (ap (λ (r : Reference). cell_at v r) (led_alike n cells.0) ∙ cells.1.0))
   choice_alike (asks.fails f) count cells = fails_alike (fault_of f)
   choice_alike (asks.enters n gs) count cells = enters_alike (block_of ((use_of sc n).sort)) n gs
   choice_alike (asks.passes n) count cells = goes_alike actions.Pass w v (cell (cell_at w (here sc w p q part outer n))) (cell (cell_at v (here sc v p q part outer n))) alike (ap (λ (c : Cell). cell c) (cell_alike n cells.0))
@@ -391,14 +377,13 @@ module _ (sc : Scopes) (w : World) (xs : List Instance) (p : ℕ) (q : Process) 
       (task_alike task)
       ∙ starts_alike (block_of ((use_of sc n).sort)) (home sc w p q part outer n) (home sc v p q part outer n) (given_cells sc w p q part outer gs)
       (given_cells sc v p q part outer gs) (task_of sc w p q part outer task) (home_alike n) (all_given_alike gs))
-  choice_alike (asks.acts x n) count cells =
-      ap (λ (r : Reference). told (choices.acted sc v p q part outer x r)) (led_alike n cells.0) ∙ acted_alike x (followed w (here sc w p q part outer n)) cells.1.0
+  choice_alike (asks.event_deed x ns) count cells = does_alike x ns cells
   choice_alike (asks.writes phrases vs) count cells =
       goes_alike actions.Line (record w { output = w.output ++ line_of phrases vs ∷ [] }) (record v { output = w.output ++ line_of phrases vs ∷ [] }) done done
       (ap (λ (b : Bare). record b { output = w.output ++ line_of phrases vs ∷ [] }) alike) refl
   choice_alike (asks.makes_arrays kind ns pairs vs) count cells = arrays_alike kind ns (bounds_of pairs vs) count
   choice_alike (asks.makes_event n) count cells =
-      let made : List NamedCell = record { name = n.name; cell = event new_event } ∷ [] in
+      let made : List NamedCell = record { name = n.name; cell = event fresh_state } ∷ [] in
       goes_alike actions.MakeEvent (add_cells w part.instance made) (add_cells v part.instance made) done done
       (bare_added v part.instance made ∙ alike ∙ sym (bare_added w part.instance made)) refl
 

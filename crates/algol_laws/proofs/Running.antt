@@ -5,14 +5,16 @@ use Rattle.b67_list.specs.Numbered.{numbered}
 use Rattle.b67_num.specs.declared.FaultKind.TheVariants as fault
 use Rattle.algol_tree.specs.declared.tree.Kind.{Kind}
 use Rattle.algol_tree.specs.declared.tree.Named.{Named}
-use Rattle.algol_tree.specs.declared.tree.EventAct.{EventAct}
-use Rattle.algol_tree.specs.declared.tree.EventAct.TheVariants as act
+use Rattle.b67_deeds.specs.declared.EventAct.TheVariants as act
 use Rattle.algol_tree.specs.Plain as tree
 use Rattle.algol_tree.specs.Plain.{PExpr, PProgram}
 use Rattle.algol_tree.specs.Blocks.{Block, block_numbered, number_at, spot_of}
 use Rattle.algol_tree.specs.Scopes.{Scopes, scopes_of, use_of}
 use Rattle.algol_meaning.specs.declared.TheConstants.{MOST_STARTED}
-use Rattle.algol_meaning.specs.Value.{Value, whole_of, truth, Reference, EventCell, Bounds, ArrayCell, Cell, simple, event, array, named, reference}
+use Rattle.algol_meaning.specs.Value.{Value, whole_of, Reference, Bounds, ArrayCell, Cell, simple, event, array, named, reference}
+use Rattle.b67_deeds.specs.Events.{EventState, fresh_state}
+use Rattle.b67_deeds.specs.Deeds as deeds
+use Rattle.b67_deeds.specs.Deeds.{EventDeed, Deed, Next, deed}
 use Rattle.algol_meaning.specs.Rest as rests
 use Rattle.algol_meaning.specs.Rest.{HalfPlace, Place, own, there, element_of, Rest, Answer, done, value, cell, place, entered}
 use Rattle.algol_meaning.specs.Settle.{block_of, settle, settle_actual_place}
@@ -21,14 +23,13 @@ use Rattle.algol_meaning.specs.World.{State, Purpose, able, started, waits_for, 
 use Rattle.algol_meaning.specs.Critical.{some_depends, some_depends_on_any, is_evaluation, own_instances, newest_first, first_on_path, referred_by, referred_by_task}
 use Rattle.algol_meaning.specs.Instances.{leave, Cut, cut_at}
 use Rattle.algol_meaning.specs.Arrays.{has_wrong_size, has_no_room, bounds_of, subscript_place, element_at, with_element, new_arrays}
-use Rattle.algol_meaning.specs.Events.{new_event, event_at, set_event, Released, released, caused, reset, liberated, liberated_by, with_waiter, with_procurer, taken, caused_by_end}
+use Rattle.algol_meaning.specs.Events.{event_at, change_event, released, caused_by_end}
 use Rattle.algol_meaning.specs.Lines.{line_of}
-use Rattle.algol_meaning.specs.Actions as actions
-use Rattle.algol_meaning.specs.Actions.{Action}
+use Rattle.b67_deeds.specs.declared.Letter.TheVariants as actions
+use Rattle.b67_deeds.specs.declared.Letter.{Letter}
 use Rattle.algol_meaning.specs.Asks as asks
 use Rattle.algol_meaning.specs.Asks.{Ask, ask, resume, evaluated_of, located_of}
-use Rattle.algol_meaning.specs.Choice as choices
-use Rattle.algol_meaning.specs.Choice.{Choice, choice, choice_in, choice_of, nth_exists, is_subscripted, answered, goes, goes_releasing, stops, opens, fails, home, here, read_of, resolved_of, indexed_at, element_read_at, stored, given_cells, with_new_instance, new_part, entered_procedure, entered_block, left_with, ended_releasing, left_or_ended, left, gone, gone_to, goes_to, task_of, with_started, next_process, starts, waited, procured, made_arrays}
+use Rattle.algol_meaning.specs.Choice.{Choice, choice, choice_in, choice_of, nth_exists, is_subscripted, answered, goes, stops, opens, fails, home, here, read_of, resolved_of, indexed_at, element_read_at, stored, given_cells, with_new_instance, new_part, left_with, left_or_ended, left, gone, gone_to, goes_to, task_of, with_started, next_process, starts, told, did, does_with, made_arrays}
 use Rattle.algol_meaning.specs.Run.{start, may_go, after_entry, run_from, run}
 use Rattle.algol_laws.proofs.Growing.{none_left}
 use Rattle.algol_laws.specs.Heads.{EachPartActs}
@@ -57,11 +58,11 @@ module _ (sc : Scopes) (w : World) (p : ℕ) (q : Process) (part : Part) (outer 
   on : (a : Answer) → is_answer a ≡ true → (awaits_place_in part.rest ≡ true → is_place a ≡ true) → Stands sc (answered sc w p q part outer a ∷ outer)
   on a e f = (resume_acts sc part.rest a e f, (λ g. gives_still sc part.rest a (shaped g)), around)
 
-  goes_good : (action : Action) (after : World) (a : Answer) → AllStand sc after.processes → is_answer a ≡ true → (awaits_place_in part.rest ≡ true → is_place a ≡ true) →
+  goes_good : (action : Letter) (after : World) (a : Answer) → AllStand sc after.processes → is_answer a ≡ true → (awaits_place_in part.rest ≡ true → is_place a ≡ true) →
       Good (goes sc w p q part outer action after a)
   goes_good action after a f e g = sets after (record q { todo = answered sc w p q part outer a ∷ outer }) f (on a e g)
 
-  stops_good : (action : Action) (after : World) (state : State) → AllStand sc after.processes → (awaits_place_in part.rest ≡ true → is_place done ≡ true) →
+  stops_good : (action : Letter) (after : World) (state : State) → AllStand sc after.processes → (awaits_place_in part.rest ≡ true → is_place done ≡ true) →
       Good (stops sc w p q part outer action after state)
   stops_good action after state f g = sets after (record q { todo = answered sc w p q part outer done ∷ outer; state = state }) f (on done refl g)
 
@@ -78,7 +79,7 @@ module _ (sc : Scopes) (w : World) (p : ℕ) (q : Process) (part : Part) (outer 
   plain : (a : Ask) → ask part.rest ≡ a → asks_place a ≡ false → Plain
   plain a e f g = let same : asks_place a ≡ true = sym (ap asks_place e) ∙ awaiting_asks part.rest g in cc
 
-  goes_plain : (action : Action) (after : World) (a : Answer) → AllStand sc after.processes → is_answer a ≡ true → Plain → Good (goes sc w p q part outer action after a)
+  goes_plain : (action : Letter) (after : World) (a : Answer) → AllStand sc after.processes → is_answer a ≡ true → Plain → Good (goes sc w p q part outer action after a)
   goes_plain action after a f e n = goes_good action after a f e (λ g. absurd (n g))
 
   opens_here : (a : Ask) → ask part.rest ≡ a → opens_plain a ≡ true → (after : World) (x : Part) → AllStand sc after.processes → acts_rest x.rest ≡ true → Shaped sc x →
@@ -148,17 +149,22 @@ module _ (sc : Scopes) (w : World) (p : ℕ) (q : Process) (part : Part) (outer 
   left_all : (is : List ℕ) → AllStand sc ((leave w is).processes)
   left_all is = subst (λ qs. AllStand sc qs) (sym (leave_processes w is)) all
 
-  released_good : (before : World) (r : Reference) (e : EventCell) (rs : List ℕ) → AllStand sc before.processes → AllStand sc ((released before r e rs).world.processes)
-  released_good before r e rs f = all_able sc (set_event before r e) rs f
+  changed_good : (before : World) (r : Reference) (change : Option (EventState → EventState)) → AllStand sc before.processes →
+      AllStand sc (change_event before r change).processes
+  changed_good before r None f = f
+  changed_good before r (Some change) f = f
 
-  by_end_good : (before : World) (o : Option Reference) → AllStand sc before.processes → AllStand sc ((caused_by_end before o).world.processes)
+  released_good : (before : World) (r : Reference) (d : Deed) → AllStand sc before.processes → AllStand sc ((released before r d).world.processes)
+  released_good before r d f = all_able sc (change_event before r d.change) d.frees (changed_good before r d.change f)
+
+  by_end_good : (before : World) (o : Option Reference) → AllStand sc before.processes → AllStand sc ((caused_by_end before p o).world.processes)
   by_end_good before None f = f
-  by_end_good before (Some r) f = released_good before r (record (event_at before r) { happened = true; waiters = [] }) ((event_at before r).waiters) f
+  by_end_good before (Some r) f = released_good before r (deed (deeds.acts act.Cause) p (event_at before r)) f
 
   left_or_ended_good : (a : Answer) (parts : List Part) → Around sc part.purpose parts → is_answer a ≡ true →
       (is_place_purpose part.purpose ≡ true → is_place a ≡ true) → Good (left_or_ended sc w p q part outer a parts)
   left_or_ended_good a [] g e h =
-      sets ((caused_by_end (leave w (part.instance ∷ [])) q.task).world) (record q { todo = []; state = ended })
+      sets ((caused_by_end (leave w (part.instance ∷ [])) p q.task).world) (record q { todo = []; state = ended })
       (by_end_good (leave w (part.instance ∷ [])) q.task (left_all (part.instance ∷ []))) (record {})
   left_or_ended_good a (next ∷ parts) g e h = left_with_good (leave w (part.instance ∷ [])) a (next ∷ parts) (left_all (part.instance ∷ [])) g e h
 
@@ -211,24 +217,19 @@ module _ (sc : Scopes) (w : World) (p : ℕ) (q : Process) (part : Part) (outer 
       }) all (new_part_ready j started, (λ f. cc), record {})) refl n
 
   -- ---- events
-  releasing_good : (action : Action) (x : Released) → AllStand sc x.world.processes → Plain → Good (goes_releasing sc w p q part outer action x)
-  releasing_good action x f n = goes_plain action x.world done f refl n
+  told_answers : (o : Option Bool) → is_answer (told sc w p q part outer o) ≡ true
+  told_answers None = refl
+  told_answers (Some b) = refl
 
-  liberated_good : (r : Reference) (ps : List ℕ) → AllStand sc ((liberated_by w r (event_at w r) ps).world.processes)
-  liberated_good r [] = all
-  liberated_good r (i ∷ ps) = released_good w r (record (event_at w r) { procurers = ps }) (i ∷ []) all
+  did_good : (x : EventDeed) (r : Reference) (d : Deed) (n : Next) → Plain → Good (did sc w p q part outer x r d n)
+  did_good x r d deeds.goes n = goes_plain (deeds.letter_of x) (released w r d).world (told sc w p q part outer d.answer) (released_good w r d all) (told_answers d.answer) n
+  did_good x r d deeds.waits n = stops_good (deeds.letter_of x) (released w r d).world (waits_for r) (released_good w r d all) (λ f. absurd (n f))
+  did_good x r d deeds.procures n = stops_good (deeds.letter_of x) (released w r d).world (procures r) (released_good w r d all) (λ f. absurd (n f))
 
-  acted_good : (x : EventAct) (r : Reference) → Plain → Good (choices.acted sc w p q part outer x r)
-  acted_good act.Cause r n = releasing_good actions.Cause (caused w r) (released_good w r (record (event_at w r) { happened = true; waiters = [] }) ((event_at w r).waiters) all) n
-  acted_good act.Reset r n = releasing_good actions.Reset (reset w r) all n
-  acted_good act.Wait r n =
-      either (event_at w r).happened (goes sc w p q part outer actions.Wait w done) (stops sc w p q part outer actions.Wait (with_waiter w r p) (waits_for r))
-      (goes_plain actions.Wait w done all refl n) (stops_good actions.Wait (with_waiter w r p) (waits_for r) all (λ f. absurd (n f)))
-  acted_good act.Procure r n =
-      either (event_at w r).available (goes sc w p q part outer actions.Procure (taken w r) done)
-      (stops sc w p q part outer actions.Procure (with_procurer w r p) (procures r)) (goes_plain actions.Procure (taken w r) done all refl n)
-      (stops_good actions.Procure (with_procurer w r p) (procures r) all (λ f. absurd (n f)))
-  acted_good act.Liberate r n = releasing_good actions.Liberate (liberated w r) (liberated_good r ((event_at w r).procurers)) n
+  does_good : (x : EventDeed) (ns : List Named) → Plain → Good (does_with sc w p q part outer x ns)
+  does_good x [] n = all
+  does_good x (m ∷ ns) n =
+      let r = followed w (here sc w p q part outer m) in did_good x r (deed x p (event_at w r)) ((deed x p (event_at w r)).next) n
 
   -- ---- arrays and events
   arrays_good : (kind : Kind) (ns : List Named) (bs : List Bounds) → Plain → Good (made_arrays sc w p q part outer kind ns bs)
@@ -251,8 +252,6 @@ module _ (sc : Scopes) (w : World) (p : ℕ) (q : Process) (part : Part) (outer 
   choice_good (asks.indexes n ks v) e =
       indexed_good (followed w (here sc w p q part outer n)) ks
       (subscript_place ((use_of sc n).sort) (array_in (cell_at w (followed w (here sc w p q part outer n)))) ks (whole_of v))
-  choice_good (asks.asks_happened n) e =
-      goes_plain actions.Happened w (value (truth ((event_at w (followed w (here sc w p q part outer n))).happened))) all refl (plain (asks.asks_happened n) e refl)
   choice_good (asks.fails f) e = all
   choice_good (asks.enters n gs) e =
       opens_here (asks.enters n gs) e refl
@@ -278,12 +277,12 @@ module _ (sc : Scopes) (w : World) (p : ℕ) (q : Process) (part : Part) (outer 
       (starts sc w p q part outer (block_of ((use_of sc n).sort)) (home sc w p q part outer n) (given_cells sc w p q part outer gs) (task_of sc w p q part outer task))
       all
       (starts_good (block_of ((use_of sc n).sort)) (home sc w p q part outer n) (given_cells sc w p q part outer gs) (task_of sc w p q part outer task) (plain (asks.starts n gs task) e refl))
-  choice_good (asks.acts x n) e = acted_good x (followed w (here sc w p q part outer n)) (plain (asks.acts x n) e refl)
+  choice_good (asks.event_deed x ns) e = does_good x ns (plain (asks.event_deed x ns) e refl)
   choice_good (asks.writes phrases vs) e =
       goes_plain actions.Line (record w { output = w.output ++ line_of phrases vs ∷ [] }) done all refl (plain (asks.writes phrases vs) e refl)
   choice_good (asks.makes_arrays kind ns pairs vs) e = arrays_good kind ns (bounds_of pairs vs) (plain (asks.makes_arrays kind ns pairs vs) e refl)
   choice_good (asks.makes_event n) e =
-      goes_plain actions.MakeEvent (add_cells w part.instance (record { name = n.name; cell = event new_event } ∷ [])) done all refl (plain (asks.makes_event n) e refl)
+      goes_plain actions.MakeEvent (add_cells w part.instance (record { name = n.name; cell = event fresh_state } ∷ [])) done all refl (plain (asks.makes_event n) e refl)
 
 -- ---- runs
 in_good : (sc : Scopes) (w : World) (p : ℕ) (q : Process) (parts : List Part) → AllStand sc w.processes → Stands sc parts → AllStand sc ((choice_in sc w p q parts).world.processes)

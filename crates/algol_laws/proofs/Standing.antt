@@ -33,7 +33,7 @@ mutual
   hole_stays (rests.read n) = refl
   hole_stays (rests.element n ks i) = refl
   hole_stays (rests.index n ks i e es) = refl
-  hole_stays (rests.happens n) = refl
+  hole_stays (rests.tests test ns) = refl
   hole_stays (rests.broken op v w f) = refl
   hole_stays (rests.enter n gs) = refl
   hole_stays rests.inside = refl
@@ -206,7 +206,7 @@ module _ (sc : Scopes) where
     put_busy (rests.read n) e = refl
     put_busy (rests.element n ks i) e = cc
     put_busy (rests.index n ks i x es) e = cc
-    put_busy (rests.happens n) e = cc
+    put_busy (rests.tests test ns) e = cc
     put_busy (rests.broken op v w f) e = cc
     put_busy (rests.enter n gs) e = refl
     put_busy rests.inside e = cc

@@ -1,22 +1,23 @@
 -- An action whose letter names no store leaves every cell that is there as it is.
-use Rattle.std.proofs.Common.{◌≡◌, refl, ℕ, List, [], ◌∷◌, Option, Some, None, Bool, true, false}
+use Rattle.std.proofs.Common.{◌≡◌, refl, sym, ap, subst, ◌∙◌, ℕ, List, [], ◌∷◌, Option, Some, None, Bool, true, false}
 use Rattle.std.specs.Prelude.{if◌then◌else◌}
 use Rattle.b67_list.specs.Numbered.{numbered}
-use Rattle.algol_tree.specs.declared.tree.EventAct.{EventAct}
-use Rattle.algol_tree.specs.declared.tree.EventAct.TheVariants as act
+use Rattle.algol_tree.specs.declared.tree.Named.{Named}
+use Rattle.b67_deeds.specs.declared.EventAct.{EventAct}
+use Rattle.b67_deeds.specs.declared.EventAct.TheVariants as act
 use Rattle.algol_tree.specs.Scopes.{Scopes}
 use Rattle.b67_num.specs.declared.FaultKind.TheVariants as fault
-use Rattle.algol_meaning.specs.Value.{Value, Reference, EventCell}
-use Rattle.algol_meaning.specs.Rest.{Place, own, there, element_of, Answer, done}
-use Rattle.algol_meaning.specs.World.{followed, waits_for, procures, Part, Process, World, or_no_process}
+use Rattle.algol_meaning.specs.Value.{Value, Reference}
+use Rattle.b67_deeds.specs.Deeds as deeds
+use Rattle.b67_deeds.specs.Deeds.{EventDeed, Deed, Next, deed, letter_of}
+use Rattle.algol_meaning.specs.Rest.{Place, own, there, element_of, Answer}
+use Rattle.algol_meaning.specs.World.{followed, Part, Process, World, or_no_process}
 use Rattle.algol_meaning.specs.Critical.{some_depends, is_evaluation}
-use Rattle.algol_meaning.specs.Events.{event_at, with_waiter, with_procurer, taken}
-use Rattle.algol_meaning.specs.Actions as actions
+use Rattle.algol_meaning.specs.Events.{event_at}
 use Rattle.algol_meaning.specs.Asks as asks
 use Rattle.algol_meaning.specs.Asks.{Ask, ask}
-use Rattle.algol_meaning.specs.Choice as choices
-use Rattle.algol_meaning.specs.Choice.{Choice, choice, choice_in, choice_of, stored, fails, goes, stops, left, left_with, left_or_ended, waited, procured}
-use Rattle.algol_laws.specs.Kept.{Kept, stores, OnlyStoresStore}
+use Rattle.algol_meaning.specs.Choice.{Choice, choice, choice_in, choice_of, here, stored, fails, left, left_with, left_or_ended, did, does_with}
+use Rattle.algol_laws.specs.Kept.{Kept, changed, stores, OnlyStoresStore}
 use Rattle.algol_laws.proofs.Keeping.{unchanged}
 use Rattle.algol_laws.proofs.Choices as kept
 use Rattle.algol_laws.proofs.Choices.{Keeps}
@@ -24,7 +25,7 @@ use Rattle.algol_laws.proofs.Choices.{Keeps}
 module _ (sc : Scopes) (w : World) (p : ℕ) (q : Process) (part : Part) (outer : List Part) (is : numbered w.processes p ≡ Some q) where
   -- unless its letter names a store, the choice keeps all cells
   abbrev Quiet : Choice → Type 0
-  Quiet c = stores c.action ≡ false → Keeps sc w p q part outer is None c
+  Quiet c = stores c.action ≡ false → Keeps sc w p q part outer is [] c
 
   either : (b : Bool) (c d : Choice) → Quiet c → Quiet d → Quiet (if b then c else d)
   either true c d f g = f
@@ -43,37 +44,46 @@ module _ (sc : Scopes) (w : World) (p : ℕ) (q : Process) (part : Part) (outer 
   left_quiet a =
       either (is_evaluation part.purpose) (left_with sc w p q part outer w a outer)
       (if some_depends w.processes part.instance then fails sc w p q part outer fault.CriticalBlockExit else left_or_ended sc w p q part outer a outer)
-      (λ e. kept.left_with_keeps sc w p q part outer is None w a outer (unchanged p None w))
+      (λ e. kept.left_with_keeps sc w p q part outer is [] w a outer (unchanged p [] w))
       (either (some_depends w.processes part.instance) (fails sc w p q part outer fault.CriticalBlockExit)
-      (left_or_ended sc w p q part outer a outer) (λ e. kept.fails_keeps sc w p q part outer is None fault.CriticalBlockExit) (left_or_ended_quiet a outer))
+      (left_or_ended sc w p q part outer a outer) (λ e. kept.fails_keeps sc w p q part outer is [] fault.CriticalBlockExit) (left_or_ended_quiet a outer))
 
-  waited_quiet : (r : Reference) (e : EventCell) → Quiet (waited sc w p q part outer r e)
-  waited_quiet r e =
-      either e.happened (goes sc w p q part outer actions.Wait w done) (stops sc w p q part outer actions.Wait (with_waiter w r p) (waits_for r))
-      (λ f. cc) (λ f. cc)
+  did_action : (x : EventDeed) (r : Reference) (d : Deed) (n : Next) → (did sc w p q part outer x r d n).action ≡ letter_of x
+  did_action x r d deeds.goes = refl
+  did_action x r d deeds.waits = refl
+  did_action x r d deeds.procures = refl
 
-  procured_quiet : (r : Reference) (e : EventCell) → Quiet (procured sc w p q part outer r e)
-  procured_quiet r e =
-      either e.available (goes sc w p q part outer actions.Procure (taken w r) done)
-      (stops sc w p q part outer actions.Procure (with_procurer w r p) (procures r)) (λ f. cc) (λ f. cc)
+  act_stores : (a : EventAct) → stores (letter_of (deeds.acts a)) ≡ true
+  act_stores act.Cause = refl
+  act_stores act.Reset = refl
+  act_stores act.Wait = refl
+  act_stores act.Procure = refl
+  act_stores act.Liberate = refl
 
-  acted_quiet : (x : EventAct) (r : Reference) → Quiet (choices.acted sc w p q part outer x r)
-  acted_quiet act.Cause r e = cc
-  acted_quiet act.Reset r e = cc
-  acted_quiet act.Wait r e = waited_quiet r (event_at w r) e
-  acted_quiet act.Procure r e = procured_quiet r (event_at w r) e
-  acted_quiet act.Liberate r e = cc
+  -- a deed whose letter names no store changes no event
+  changes_nothing : (x : EventDeed) (r : Reference) → stores (letter_of x) ≡ false → changed (deed x p (event_at w r)).change r ≡ []
+  changes_nothing (deeds.acts a) r e = let f : stores (letter_of (deeds.acts a)) ≡ true = act_stores a in cc
+  changes_nothing (deeds.tests t) r e = refl
+
+  does_quiet : (x : EventDeed) (ns : List Named) → Quiet (does_with sc w p q part outer x ns)
+  does_quiet x [] e = unchanged p [] w
+  does_quiet x (n ∷ ns) e =
+      subst (λ s. Keeps sc w p q part outer is s (does_with sc w p q part outer x (n ∷ ns)))
+      (changes_nothing x r (sym (ap stores (did_action x r (deed x p (event_at w r)) ((deed x p (event_at w r)).next))) ∙ e))
+      (kept.choice_keeps sc w p q part outer is (asks.event_deed x (n ∷ ns)))
+    where
+      r : Reference
+      r = followed w (here sc w p q part outer n)
 
   -- the heads that store nothing keep all cells already
   choice_quiet : (a : Ask) → Quiet (choice_of sc w p q part outer a)
   choice_quiet (asks.leaves a) e = left_quiet a e
   choice_quiet (asks.stores x v) e = stored_quiet x v e
-  choice_quiet (asks.acts x n) e = acted_quiet x (followed w (choices.here sc w p q part outer n)) e
+  choice_quiet (asks.event_deed x ns) e = does_quiet x ns e
   choice_quiet asks.nothing e = kept.choice_keeps sc w p q part outer is asks.nothing
   choice_quiet (asks.reads n) e = kept.choice_keeps sc w p q part outer is (asks.reads n)
   choice_quiet (asks.reads_element n ks v) e = kept.choice_keeps sc w p q part outer is (asks.reads_element n ks v)
   choice_quiet (asks.indexes n ks v) e = kept.choice_keeps sc w p q part outer is (asks.indexes n ks v)
-  choice_quiet (asks.asks_happened n) e = kept.choice_keeps sc w p q part outer is (asks.asks_happened n)
   choice_quiet (asks.fails f) e = kept.choice_keeps sc w p q part outer is (asks.fails f)
   choice_quiet (asks.enters n gs) e = kept.choice_keeps sc w p q part outer is (asks.enters n gs)
   choice_quiet (asks.passes n) e = kept.choice_keeps sc w p q part outer is (asks.passes n)
@@ -89,13 +99,13 @@ module _ (sc : Scopes) (w : World) (p : ℕ) (q : Process) (part : Part) (outer 
   choice_quiet (asks.makes_event n) e = kept.choice_keeps sc w p q part outer is (asks.makes_event n)
 
 in_quiet : (sc : Scopes) (w : World) (p : ℕ) (q : Process) (parts : List Part) → numbered w.processes p ≡ Some q → stores (choice_in sc w p q parts).action ≡ false →
-    Kept p (choice_in sc w p q parts).released None w (choice_in sc w p q parts).world
-in_quiet sc w p q [] is e = unchanged p None w
+    Kept p (choice_in sc w p q parts).released [] w (choice_in sc w p q parts).world
+in_quiet sc w p q [] is e = unchanged p [] w
 in_quiet sc w p q (part ∷ outer) is e = choice_quiet sc w p q part outer is (ask part.rest) e
 
 by_process : (sc : Scopes) (w : World) (p : ℕ) (o : Option Process) → numbered w.processes p ≡ o → stores (choice_in sc w p (or_no_process o) (or_no_process o).todo).action ≡ false →
-    Kept p (choice_in sc w p (or_no_process o) (or_no_process o).todo).released None w (choice_in sc w p (or_no_process o) (or_no_process o).todo).world
-by_process sc w p None e f = unchanged p None w
+    Kept p (choice_in sc w p (or_no_process o) (or_no_process o).todo).released [] w (choice_in sc w p (or_no_process o) (or_no_process o).todo).world
+by_process sc w p None e f = unchanged p [] w
 by_process sc w p (Some q) e f = in_quiet sc w p q q.todo e f
 
 pub only_stores : OnlyStoresStore

@@ -22,7 +22,7 @@ module _ (sc : Scopes) where
     again_hole (rests.read n) = busy (rests.read n)
     again_hole (rests.element n ks i) = busy (rests.element n ks i)
     again_hole (rests.index n ks i e es) = busy (rests.index n ks i e es)
-    again_hole (rests.happens n) = busy (rests.happens n)
+    again_hole (rests.tests test ns) = busy (rests.tests test ns)
     again_hole (rests.broken op v w fault) = busy (rests.broken op v w fault)
     again_hole (rests.enter n gs) = busy (rests.enter n gs)
     again_hole rests.inside = busy rests.inside

@@ -7,10 +7,14 @@ use Rattle.algol_meaning.specs.Value.{Reference}
 use Rattle.algol_meaning.specs.World.{NamedCell, cell_in, Instance, able, Part, Process, World, followed, process_at}
 use Rattle.algol_meaning.specs.Critical.{is_one_of}
 use Rattle.algol_meaning.specs.Rest.{Place, own, there, element_of}
+use Rattle.algol_meaning.specs.Events.{event_at}
+use Rattle.b67_deeds.specs.Events.{EventState}
+use Rattle.b67_deeds.specs.Deeds.{EventDeed, deed}
+use Rattle.algol_tree.specs.declared.tree.Named.{Named}
 use Rattle.algol_meaning.specs.Asks as asks
 use Rattle.algol_meaning.specs.Asks.{Ask, ask}
-use Rattle.algol_meaning.specs.Actions as actions
-use Rattle.algol_meaning.specs.Actions.{Action}
+use Rattle.b67_deeds.specs.declared.Letter.TheVariants as actions
+use Rattle.b67_deeds.specs.declared.Letter.{Letter}
 use Rattle.algol_meaning.specs.Choice.{here, choice}
 use Rattle.algol_meaning.specs.Run.{run_from}
 
@@ -28,10 +32,15 @@ pub record InstanceGrown (x y : Instance) : Type 0 where
   pub left : x.left ≡ true → y.left ≡ true
   pub cells : (name : List ℕ) → has_cell x.cells name ≡ true → has_cell y.cells name ≡ true
 
--- Instance i has grown, and but for one cell, `stored`, each cell that was there holds what it held.
-pub record InstanceKept (stored : Option Reference) (i : ℕ) (x y : Instance) : Type 0 where
+-- the cell is none of those that are stored
+abbrev pub IsNoneOf : List Reference → Reference → Type 0
+IsNoneOf [] r = Unit {0}
+IsNoneOf (s ∷ stored) r = (s ≢ r) × IsNoneOf stored r
+
+-- Instance i has grown, and but for the cells that are stored each cell that was there holds what it held.
+pub record InstanceKept (stored : List Reference) (i : ℕ) (x y : Instance) : Type 0 where
   pub grown : InstanceGrown x y
-  pub values : (name : List ℕ) → has_cell x.cells name ≡ true → stored ≢ Some (record { instance = i; name = name }) →
+  pub values : (name : List ℕ) → has_cell x.cells name ≡ true → IsNoneOf stored (record { instance = i; name = name }) →
       cell_in y.cells name ≡ cell_in x.cells name
 
 -- A process, which was q, is now r: its critical instance and its task stay.
@@ -39,10 +48,11 @@ pub record ProcessGrown (q r : Process) : Type 0 where
   pub critical : r.critical ≡ q.critical
   pub task : r.task ≡ q.task
 
--- After an action of process p, process j, where it is another one, is as it was but that a released process is able.
+-- After an action of process p, process j, where it is another one, is as it was; if it is released, it keeps what it has to do, and is able.
 pub record ProcessKept (p : ℕ) (released : List ℕ) (j : ℕ) (q r : Process) : Type 0 where
   pub grown : ProcessGrown q r
-  pub other : j ≢ p → r ≡ (if is_one_of released j then record q { state = able } else q)
+  pub freed : j ≢ p → is_one_of released j ≡ true → (r.todo ≡ q.todo) × (r.state ≡ able)
+  pub other : j ≢ p → is_one_of released j ≡ false → r ≡ q
 
 -- nothing that was there is lost
 pub record Grown (w after : World) : Type 0 where
@@ -53,14 +63,24 @@ pub record Grown (w after : World) : Type 0 where
   pub output : (lines : List (List ℕ)) × (after.output ≡ w.output ++ lines)
 
 -- a world before an action of process p and after it
-pub record Kept (p : ℕ) (released : List ℕ) (stored : Option Reference) (w after : World) : Type 0 where
+pub record Kept (p : ℕ) (released : List ℕ) (stored : List Reference) (w after : World) : Type 0 where
   pub instances : (i : ℕ) (x : Instance) → numbered w.instances i ≡ Some x →
       (y : Instance) × (numbered after.instances i ≡ Some y) × InstanceKept stored i x y
   pub processes : (j : ℕ) (q : Process) → numbered w.processes j ≡ Some q →
       (r : Process) × (numbered after.processes j ≡ Some r) × ProcessKept p released j q r
   pub output : (lines : List (List ℕ)) × (after.output ≡ w.output ++ lines)
 
--- ---- the cell that an action stores
+-- ---- the cells that an action stores
+
+-- the cell, if there is one
+abbrev pub if_any : Option Reference → List Reference
+if_any None = []
+if_any (Some r) = r ∷ []
+
+-- the cell of an event that changes
+abbrev pub changed : Option (EventState → EventState) → Reference → List Reference
+changed None r = []
+changed (Some change) r = r ∷ []
 
 module _ (sc : Scopes) (w : World) (p : ℕ) (q : Process) (part : Part) (outer : List Part) where
   abbrev pub cell_of_place : Place → Reference
@@ -69,27 +89,33 @@ module _ (sc : Scopes) (w : World) (p : ℕ) (q : Process) (part : Part) (outer 
   cell_of_place (element_of r ks) = r
 
   -- the task, where this is the process's last part
-  abbrev pub task_at_end : List Part → Option Reference
-  task_at_end [] = q.task
-  task_at_end (next ∷ parts) = None
+  abbrev pub task_at_end : List Part → List Reference
+  task_at_end [] = if_any q.task
+  task_at_end (next ∷ parts) = []
 
-  -- a store names its variable or array, an event action its event, the end of a process its task
-  abbrev pub stored_by : Ask → Option Reference
-  stored_by (asks.stores x v) = Some (cell_of_place x)
-  stored_by (asks.acts x n) = Some (followed w (here sc w p q part outer n))
+  -- the event with which a deed is done, if it changes
+  abbrev pub stored_by_deed : EventDeed → List Named → List Reference
+  stored_by_deed x [] = []
+  stored_by_deed x (n ∷ ns) =
+      changed (deed x p (event_at w (followed w (here sc w p q part outer n)))).change (followed w (here sc w p q part outer n))
+
+  -- a store names its variable or array, a deed its event, the end of a process its task
+  abbrev pub stored_by : Ask → List Reference
+  stored_by (asks.stores x v) = cell_of_place x ∷ []
+  stored_by (asks.event_deed x ns) = stored_by_deed x ns
   stored_by (asks.leaves a) = task_at_end outer
-  stored_by _ = None
+  stored_by _ = []
 
-abbrev pub stored_in : Scopes → World → ℕ → Process → List Part → Option Reference
-stored_in sc w p q [] = None
+abbrev pub stored_in : Scopes → World → ℕ → Process → List Part → List Reference
+stored_in sc w p q [] = []
 stored_in sc w p q (part ∷ outer) = stored_by sc w p q part outer (ask part.rest)
 
--- the one cell, of those that are there, that the action of process p may change
-unfoldable pub stored_cell : Scopes → World → ℕ → Option Reference
-stored_cell sc w p = stored_in sc w p (process_at w p) (process_at w p).todo
+-- the cells, of those that are there, that the action of process p may change
+unfoldable pub stored_cells : Scopes → World → ℕ → List Reference
+stored_cells sc w p = stored_in sc w p (process_at w p) (process_at w p).todo
 
 -- the actions that may change a cell that is there
-abbrev pub stores : Action → Bool
+abbrev pub stores : Letter → Bool
 stores actions.Store = true
 stores actions.ElementStore = true
 stores actions.Wait = true
@@ -102,16 +128,16 @@ stores _ = false
 
 -- ---- the laws
 
--- An action of process p leaves all as it is but for its own parts, the processes that it releases, the cell that it stores, and what it
+-- An action of process p leaves all as it is but for its own parts, the processes that it releases, the cells that it stores, and what it
 -- adds: instances, processes, cells and lines.
 abbrev pub EachActionKeeps : Type 0
 EachActionKeeps =
-    (sc : Scopes) (w : World) (p : ℕ) → Kept p (choice sc w p).released (stored_cell sc w p) w (choice sc w p).world
+    (sc : Scopes) (w : World) (p : ℕ) → Kept p (choice sc w p).released (stored_cells sc w p) w (choice sc w p).world
 
 -- The letter says whether a cell is stored: an action with another letter leaves every cell that is there as it is.
 abbrev pub OnlyStoresStore : Type 0
 OnlyStoresStore =
-    (sc : Scopes) (w : World) (p : ℕ) → stores (choice sc w p).action ≡ false → Kept p (choice sc w p).released None w (choice sc w p).world
+    (sc : Scopes) (w : World) (p : ℕ) → stores (choice sc w p).action ≡ false → Kept p (choice sc w p).released [] w (choice sc w p).world
 
 -- Along a run nothing that was there is lost.
 abbrev pub EachRunGrows : Type 0

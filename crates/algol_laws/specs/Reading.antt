@@ -1,13 +1,15 @@
 -- What one action reads.
-use Rattle.std.specs.Prelude.{◌≡◌, ℕ, Bool, List, [], ◌∷◌, Option, Some, None, map}
+use Rattle.std.specs.Prelude.{◌≡◌, ℕ, Bool, List, [], ◌∷◌, Option, map}
+use Rattle.algol_tree.specs.declared.tree.Named.{Named}
 use Rattle.algol_tree.specs.Scopes.{Scopes}
 use Rattle.algol_meaning.specs.Value.{Reference}
 use Rattle.algol_meaning.specs.World.{Instance, Part, Process, WorldFault, World, cell_at, followed, process_at}
 use Rattle.algol_meaning.specs.Arrays.{live_elements}
 use Rattle.algol_meaning.specs.Asks as asks
 use Rattle.algol_meaning.specs.Asks.{Ask, ask}
-use Rattle.algol_meaning.specs.Actions.{Action}
+use Rattle.b67_deeds.specs.declared.Letter.{Letter}
 use Rattle.algol_meaning.specs.Choice.{Choice, here, choice}
+use Rattle.algol_laws.specs.Kept.{if_any}
 
 -- ---- worlds but for what their cells hold
 
@@ -33,7 +35,7 @@ bare w = record { instances = map outline w.instances; processes = w.processes; 
 
 -- what an action comes to, without what cells hold
 pub record Told : Type 0 where
-  pub action : Action
+  pub action : Letter
   pub released : List ℕ
   pub started : Option ℕ
   pub after : Bare
@@ -52,25 +54,25 @@ module _ (sc : Scopes) (w : World) (p : ℕ) (q : Process) (part : Part) (outer 
   abbrev pub led_to : Reference → List Reference
   led_to r = r ∷ followed w r ∷ []
 
-  abbrev pub if_task : Option Reference → List Reference
-  if_task None = []
-  if_task (Some r) = r ∷ []
-
   -- the end of a process reads the event of its task
   abbrev pub read_by_leaving : List Part → List Reference
-  read_by_leaving [] = if_task q.task
+  read_by_leaving [] = if_any q.task
   read_by_leaving (next ∷ parts) = []
+
+  -- a deed reads the event with which it is done
+  abbrev pub read_by_deed : List Named → List Reference
+  read_by_deed [] = []
+  read_by_deed (n ∷ ns) = led_to (here sc w p q part outer n)
 
   abbrev pub read_by : Ask → List Reference
   read_by (asks.reads n) = led_to (here sc w p q part outer n)
   read_by (asks.reads_element n ks v) = led_to (here sc w p q part outer n)
   read_by (asks.indexes n ks v) = led_to (here sc w p q part outer n)
-  read_by (asks.asks_happened n) = led_to (here sc w p q part outer n)
   read_by (asks.passes n) = here sc w p q part outer n ∷ []
   read_by (asks.resolves n) = here sc w p q part outer n ∷ []
   read_by (asks.reads_result name) = record { instance = part.instance; name = name } ∷ []
   read_by (asks.leaves a) = read_by_leaving outer
-  read_by (asks.acts x n) = led_to (here sc w p q part outer n)
+  read_by (asks.event_deed x ns) = read_by_deed ns
   read_by _ = []
 
 abbrev pub read_in : Scopes → World → ℕ → Process → List Part → List Reference

@@ -9,7 +9,7 @@ ghost use Rattle.algol_laws.specs.Reading.{EachActionReads};
 
 /// Law: an action leaves the world as it is but for what it names. Instances, processes, cells and lines only
 /// come to be; other processes keep their parts, their critical instances and their tasks, and those that are
-/// released are able; of the cells that are there at most one changes, which is the one that is stored.
+/// released are able; of the cells that are there only those change that are stored.
 pub fn each_action_keeps()
     ensures { EachActionKeeps }
 {}

@@ -1,15 +1,16 @@
 -- What the head of a part asks for, and what the part has still to do once that is answered.
-use Rattle.std.specs.Prelude.{ℕ, zero, suc, nat_abs, List, Option, if◌then◌else◌, Bool}
+use Rattle.std.specs.Prelude.{ℕ, zero, suc, nat_abs, List, [], ◌∷◌, Option, if◌then◌else◌, Bool}
 use Rattle.algol_tree.specs.declared.tree.Kind.{Kind}
 use Rattle.algol_tree.specs.declared.tree.Named.{Named}
-use Rattle.algol_tree.specs.declared.tree.EventAct.{EventAct}
+use Rattle.b67_deeds.specs.Deeds as deeds
+use Rattle.b67_deeds.specs.Deeds.{EventDeed}
 use Rattle.algol_tree.specs.declared.tree.PhraseText.{PhraseText}
 use Rattle.algol_tree.specs.Plain as tree
 use Rattle.algol_tree.specs.Plain.{PPair, PStmt, PStmts, PBody}
 use Rattle.b67_num.specs.declared.NumFault.{NumFault}
 use Rattle.algol_meaning.specs.Value.{Value, whole_of}
 use Rattle.algol_tree.specs.Scopes.{Scopes}
-use Rattle.algol_meaning.specs.Rest.{Place, Given, Hole, read, element, index, happens, broken, enter, inside, subscript, argument, left, right, negated, inverted, condition, Actuals, pass, in_value, Half, val, busy, Aim, resolve, place_index, inside_place, place_subscript, HalfPlace, at, aims, Item, Rest, over, reading, giving, giving_place, store, select, turning, going, entering_block, entering, starting, acting, line, arrays, event, within, dropping, evaluating, locating, aiming, storing, choosing, looping, checking, counting, differing, stepping, selecting, calling, preparing, writing, bounding, Answer, done, value, place, entered}
+use Rattle.algol_meaning.specs.Rest.{Place, Given, Hole, read, element, index, tests, broken, enter, inside, subscript, argument, left, right, negated, inverted, condition, Actuals, pass, in_value, Half, val, busy, Aim, resolve, place_index, inside_place, place_subscript, HalfPlace, at, aims, Item, Rest, over, reading, giving, giving_place, store, select, turning, going, entering_block, entering, starting, acting, line, arrays, event, within, dropping, evaluating, locating, aiming, storing, choosing, looping, checking, counting, differing, stepping, selecting, calling, preparing, writing, bounding, Answer, done, value, place, entered}
 use Rattle.algol_meaning.specs.Settle.{is_typed, settle, half_of, put, put_actuals, put_place}
 use Rattle.algol_meaning.specs.Statements.{assigned_of, aimed_at, chosen_of, looped_of, checked_of, counted_of, selected_of, statement_called_of, prepared_of, item_of, bound_of, settle_line, settle_bounds, settle_stmt, tested_of, differed_of, run_and, turn_and, counted_body, settle_items}
 
@@ -18,7 +19,6 @@ pub data Ask : Type 0 where
   reads : Named → Ask
   reads_element : Named → List ℕ → Value → Ask
   indexes : Named → List ℕ → Value → Ask
-  asks_happened : Named → Ask
   fails : NumFault → Ask
   enters : Named → List Given → Ask
   passes : Named → Ask
@@ -31,7 +31,7 @@ pub data Ask : Type 0 where
   goes_to : Named → Ask
   enters_block : PBody → Ask
   starts : Named → List Given → Option Named → Ask
-  acts : EventAct → Named → Ask
+  event_deed : EventDeed → List Named → Ask  -- of the events that are named
   writes : List PhraseText → List Value → Ask
   makes_arrays : Kind → List Named → List PPair → List Value → Ask
   makes_event : Named → Ask
@@ -41,7 +41,7 @@ abbrev mutual
   ask_hole (read n) = reads n
   ask_hole (element n ks i) = reads_element n ks i
   ask_hole (index n ks i e es) = indexes n ks i
-  ask_hole (happens n) = asks_happened n
+  ask_hole (tests test ns) = event_deed (deeds.tests test) ns
   ask_hole (broken op v w fault) = fails fault
   ask_hole (enter n gs) = enters n gs
   ask_hole inside = nothing
@@ -75,7 +75,7 @@ ask (going n) = goes_to n
 ask (entering_block b k) = enters_block b
 ask (entering n gs k) = enters n gs
 ask (starting n gs task k) = starts n gs task
-ask (acting act n k) = acts act n
+ask (acting act n k) = event_deed (deeds.acts act) (n ∷ [])
 ask (line phrases vs k) = writes phrases vs
 ask (arrays kind ns pairs vs k) = makes_arrays kind ns pairs vs
 ask (event n k) = makes_event n

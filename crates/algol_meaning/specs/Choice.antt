@@ -3,15 +3,16 @@
 use Rattle.std.specs.Prelude.{ℕ, ◌+◌, ◌==◌, nat_lt, ◌&&◌, if◌then◌else◌, ℤ, pos, int_le, int_lt, Bool, true, false, List, [], ◌∷◌, ◌++◌, length, Option, Some, None}
 use Rattle.algol_tree.specs.declared.tree.Kind.{Kind}
 use Rattle.algol_tree.specs.declared.tree.Named.{Named}
-use Rattle.algol_tree.specs.declared.tree.EventAct.{EventAct}
-use Rattle.algol_tree.specs.declared.tree.EventAct.TheVariants as act
 use Rattle.algol_tree.specs.Plain as tree
 use Rattle.algol_tree.specs.Plain.{PExpr, PStmts, PDecl, PDecls, PBody}
 use Rattle.b67_num.specs.declared.FaultKind.{FaultKind}
 use Rattle.b67_num.specs.declared.FaultKind.TheVariants as fault
 use Rattle.b67_num.specs.Whole.{fault_of}
 use Rattle.algol_meaning.specs.declared.TheConstants.{MOST_STARTED}
-use Rattle.algol_meaning.specs.Value.{Value, truth, whole_of, Reference, EventCell, Bounds, ArrayCell, Cell, simple, event, array, named, reference}
+use Rattle.algol_meaning.specs.Value.{Value, truth, whole_of, Reference, Bounds, ArrayCell, Cell, simple, event, array, named, reference}
+use Rattle.b67_deeds.specs.Events.{fresh_state}
+use Rattle.b67_deeds.specs.Deeds as deeds
+use Rattle.b67_deeds.specs.Deeds.{EventDeed, Deed, Next, deed}
 use Rattle.algol_tree.specs.Blocks.{Block, spot_of, block_numbered, number_at}
 use Rattle.algol_tree.specs.Scopes.{Scopes, use_of}
 use Rattle.algol_meaning.specs.Rest.{Place, own, there, element_of, Given, valued, passed, refers, names, Answer, done, value, cell, place, entered}
@@ -20,16 +21,17 @@ use Rattle.algol_meaning.specs.Statements.{settle_items, items_of, items_from}
 use Rattle.algol_meaning.specs.World.{Purpose, block, procedure, name_read, name_place, started, Part, State, able, waits_for, procures, ended, Process, World, instance_at, ancestor, cell_at, set_cell, add_cells, followed, value_in, array_in, process_at, with_process}
 use Rattle.algol_meaning.specs.Critical.{some_depends, some_depends_on_any, is_evaluation, own_instances, newest_first, first_on_path, referred_by, referred_by_task}
 use Rattle.algol_meaning.specs.Arrays.{subscript_place, element_at, with_element, new_arrays, has_wrong_size, has_no_room, bounds_of}
-use Rattle.algol_meaning.specs.Events.{new_event, event_at, Released, caused, reset, liberated, with_waiter, with_procurer, taken, caused_by_end}
+use Rattle.algol_meaning.specs.Events.{event_at, Released, released, caused_by_end}
 use Rattle.algol_meaning.specs.Lines.{line_of}
 use Rattle.algol_meaning.specs.Instances.{fresh_cells, leave, Cut, cut_at}
-use Rattle.algol_meaning.specs.Actions.{Action, Read, Index, ElementRead, Resolve, Store, ElementStore, Pass, Enter, Leave, MakeArrays, MakeEvent, Select, Turn, GoTo, Line, Start, End, Fault, Wait, Cause, Reset, Happened, Procure, Liberate}
+use Rattle.b67_deeds.specs.declared.Letter.{Letter}
+use Rattle.b67_deeds.specs.declared.Letter.TheVariants.{Read, Index, ElementRead, Resolve, Store, ElementStore, Pass, Enter, Leave, MakeArrays, MakeEvent, Select, Turn, GoTo, Line, Start, End, Fault}
 use Rattle.algol_meaning.specs.Asks as asks
 use Rattle.algol_meaning.specs.Asks.{Ask, ask, resume, evaluated_of, located_of}
 
 -- What a choice is: its action, the world after it, the processes that it released in their order, and the one that it started.
 pub record Choice : Type 0 where
-  pub action : Action
+  pub action : Letter
   pub world : World
   pub released : List ℕ
   pub started : Option ℕ
@@ -50,21 +52,18 @@ nth_exists i ss = int_le (pos 0) i && int_lt i (pos (count_of ss))
 -- ---- choices of process p, whose innermost part is `part`
 
 module _ (sc : Scopes) (w : World) (p : ℕ) (q : Process) (part : Part) (outer : List Part) where
-  abbrev pub chosen : Action → World → Choice
+  abbrev pub chosen : Letter → World → Choice
   chosen action after = record { action = action; world = after; released = []; started = None }
 
   abbrev pub answered : Answer → Part
   answered a = record part { rest = resume sc part.rest a }
 
   -- the part goes on with this answer
-  abbrev pub goes : Action → World → Answer → Choice
+  abbrev pub goes : Letter → World → Answer → Choice
   goes action after a = chosen action (with_process after p (record q { todo = answered a ∷ outer }))
 
-  abbrev pub goes_releasing : Action → Released → Choice
-  goes_releasing action x = record (goes action x.world done) { released = x.processes }
-
   -- the process waits
-  abbrev pub stops : Action → World → State → Choice
+  abbrev pub stops : Letter → World → State → Choice
   stops action after s = chosen action (with_process after p (record q { todo = answered done ∷ outer; state = s }))
 
   -- a part inside comes to be
@@ -157,7 +156,7 @@ module _ (sc : Scopes) (w : World) (p : ℕ) (q : Process) (part : Part) (outer 
   ended_releasing x = record (chosen End (with_process x.world p (record q { todo = []; state = ended }))) { released = x.processes }
 
   abbrev pub left_or_ended : Answer → List Part → Choice
-  left_or_ended a [] = ended_releasing (caused_by_end (leave w (part.instance ∷ [])) q.task)
+  left_or_ended a [] = ended_releasing (caused_by_end (leave w (part.instance ∷ [])) p q.task)
   left_or_ended a (next ∷ parts) = left_with (leave w (part.instance ∷ [])) a (next ∷ parts)
 
   abbrev pub left : Answer → Choice
@@ -210,20 +209,26 @@ module _ (sc : Scopes) (w : World) (p : ℕ) (q : Process) (part : Part) (outer 
 
   -- ---- events
 
-  abbrev pub waited : Reference → EventCell → Choice
-  waited r e =
-      if e.happened then (goes Wait w done) else (stops Wait (with_waiter w r p) (waits_for r))
+  abbrev pub told : Option Bool → Answer
+  told None = done
+  told (Some b) = value (truth b)
 
-  abbrev pub procured : Reference → EventCell → Choice
-  procured r e =
-      if e.available then (goes Procure (taken w r) done) else (stops Procure (with_procurer w r p) (procures r))
+  abbrev pub goes_releasing : Letter → Released → Answer → Choice
+  goes_releasing action x a = record (goes action x.world a) { released = x.processes }
 
-  abbrev pub acted : EventAct → Reference → Choice
-  acted act.Cause r = goes_releasing Cause (caused w r)
-  acted act.Reset r = goes_releasing Reset (reset w r)
-  acted act.Wait r = waited r (event_at w r)
-  acted act.Procure r = procured r (event_at w r)
-  acted act.Liberate r = goes_releasing Liberate (liberated w r)
+  -- what becomes of the process when it has done this with the event there
+  abbrev pub did : EventDeed → Reference → Deed → Next → Choice
+  did x r d deeds.goes = goes_releasing (deeds.letter_of x) (released w r d) (told d.answer)
+  did x r d deeds.waits = stops (deeds.letter_of x) (released w r d).world (waits_for r)
+  did x r d deeds.procures = stops (deeds.letter_of x) (released w r d).world (procures r)
+
+  abbrev pub does : EventDeed → Reference → Deed → Choice
+  does x r d = did x r d d.next
+
+  -- a deed is done with the first event that is named
+  abbrev pub does_with : EventDeed → List Named → Choice
+  does_with x [] = chosen Fault w
+  does_with x (n ∷ ns) = does x (followed w (here n)) (deed x p (event_at w (followed w (here n))))
 
   -- ---- arrays and events
 
@@ -232,7 +237,7 @@ module _ (sc : Scopes) (w : World) (p : ℕ) (q : Process) (part : Part) (outer 
       if has_wrong_size bs then fails fault.ArraySize else if has_no_room w bs ns then fails fault.CoreFull else (goes MakeArrays (add_cells w part.instance (new_arrays kind bs ns)) done)
 
   abbrev pub made_event : Named → Choice
-  made_event n = goes MakeEvent (add_cells w part.instance (record { name = n.name; cell = event new_event } ∷ [])) done
+  made_event n = goes MakeEvent (add_cells w part.instance (record { name = n.name; cell = event fresh_state } ∷ [])) done
 
   -- ---- by what the head asks for
 
@@ -241,7 +246,6 @@ module _ (sc : Scopes) (w : World) (p : ℕ) (q : Process) (part : Part) (outer 
   choice_of (asks.reads n) = read_of (cell_at w (here n))
   choice_of (asks.reads_element n ks v) = element_read n ks (whole_of v) (array_in (cell_at w (followed w (here n))))
   choice_of (asks.indexes n ks v) = indexed n ks (whole_of v) (followed w (here n))
-  choice_of (asks.asks_happened n) = goes Happened w (value (truth ((event_at w (followed w (here n))).happened)))
   choice_of (asks.fails f) = fails (fault_of f)
   choice_of (asks.enters n gs) = entered_procedure (block_of ((use_of sc n).sort)) (home n) (given_cells gs)
   choice_of (asks.passes n) = goes Pass w (cell (cell_at w (here n)))
@@ -255,7 +259,7 @@ module _ (sc : Scopes) (w : World) (p : ℕ) (q : Process) (part : Part) (outer 
   choice_of (asks.enters_block b) = entered_block (number_at sc.blocks (spot_of b))
   choice_of (asks.starts n gs task) =
       if nat_lt MOST_STARTED (length w.processes) then fails fault.ProcessLimit else (starts (block_of ((use_of sc n).sort)) (home n) (given_cells gs) (task_of task))
-  choice_of (asks.acts x n) = acted x (followed w (here n))
+  choice_of (asks.event_deed x ns) = does_with x ns
   choice_of (asks.writes phrases vs) = goes Line (record w { output = w.output ++ line_of phrases vs ∷ [] }) done
   choice_of (asks.makes_arrays kind ns pairs vs) = made_arrays kind ns (bounds_of pairs vs)
   choice_of (asks.makes_event n) = made_event n

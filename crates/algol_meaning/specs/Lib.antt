@@ -10,7 +10,6 @@ pub mod Asks
 pub mod Arrays
 pub mod Lines
 pub mod Events
-pub mod Actions
 pub mod Choice
 pub mod Run
 pub mod Seen

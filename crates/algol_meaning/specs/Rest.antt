@@ -4,7 +4,8 @@ use Rattle.std.specs.Prelude.{ℕ, ℤ, List, [], Option}
 use Rattle.algol_tree.specs.declared.tree.Op.{Op}
 use Rattle.algol_tree.specs.declared.tree.Kind.{Kind}
 use Rattle.algol_tree.specs.declared.tree.Named.{Named}
-use Rattle.algol_tree.specs.declared.tree.EventAct.{EventAct}
+use Rattle.b67_deeds.specs.declared.EventAct.{EventAct}
+use Rattle.b67_deeds.specs.declared.EventTest.{EventTest}
 use Rattle.algol_tree.specs.declared.tree.PhraseText.{PhraseText}
 use Rattle.algol_tree.specs.Plain.{PExpr, PExprs, PPair, PStmt, PStmts, PBody}
 use Rattle.b67_num.specs.declared.NumFault.{NumFault}
@@ -30,7 +31,7 @@ mutual
     read : Named → Hole  -- the head is this variable or parameter
     element : Named → List ℕ → Value → Hole  -- the head is the ElementRead with the last subscript
     index : Named → List ℕ → Value → PExpr → PExprs → Hole  -- the head is the Index of a subscript that others follow
-    happens : Named → Hole
+    tests : EventTest → List Named → Hole  -- the head asks these events
     broken : Op → Value → Value → NumFault → Hole  -- the head is this operator, which has no result but this fault
     enter : Named → List Given → Hole  -- the head is the Enter of this procedure
     inside : Hole  -- a call, or the evaluation of a name, is in progress

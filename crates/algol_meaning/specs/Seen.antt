@@ -3,7 +3,7 @@ use Rattle.std.specs.Prelude.{ℕ, if◌then◌else◌, List, [], ◌∷◌, rev
 use Rattle.algol_tree.specs.Plain.{PProgram}
 use Rattle.algol_tree.specs.Scopes.{Scopes, scopes_of}
 use Rattle.algol_meaning.specs.World.{World}
-use Rattle.algol_meaning.specs.Actions.{letter_of}
+use Rattle.b67_deeds.specs.Letters.{byte_of}
 use Rattle.algol_meaning.specs.Choice.{choice}
 use Rattle.algol_meaning.specs.Run.{End, start, end_of, may_go}
 
@@ -21,7 +21,7 @@ abbrev pub seen_from : Scopes → List ℕ → List ℕ → World → Option See
 seen_from sc [] letters w = Some (seen_in letters w)
 seen_from sc (p ∷ h) letters w =
     let c = choice sc w p in
-    let on = seen_from sc h (letter_of c.action ∷ letters) c.world in if may_go w p then on else None
+    let on = seen_from sc h (byte_of c.action ∷ letters) c.world in if may_go w p then on else None
 
 unfoldable pub seen : PProgram → List ℕ → Option Seen
 seen tree h = seen_from (scopes_of tree) h [] (start (scopes_of tree))

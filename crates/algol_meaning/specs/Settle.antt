@@ -3,8 +3,9 @@ use Rattle.std.specs.Prelude.{ℕ, if◌then◌else◌, pos, not, Bool, true, fa
 use Rattle.algol_tree.specs.declared.tree.Op.{Op}
 use Rattle.algol_tree.specs.declared.tree.Kind.{Kind}
 use Rattle.algol_tree.specs.declared.tree.Named.{Named}
+use Rattle.algol_tree.specs.declared.tree.EventName.{EventName}
 use Rattle.algol_tree.specs.Plain as tree
-use Rattle.algol_tree.specs.Plain.{PExpr, PVariable, PExprs}
+use Rattle.algol_tree.specs.Plain.{PExpr, PVariable, PExprs, name_alone}
 use Rattle.b67_num.specs.declared.NumFault.{NumFault}
 use Rattle.b67_num.specs.Whole.{negation_of}
 use Rattle.algol_meaning.specs.Value.{Value, number, truth, whole_of, truth_of, simple}
@@ -12,7 +13,7 @@ use Rattle.algol_tree.specs.Sorts.{Sort, is_formal, is_by_name, is_variable, pro
 use Rattle.algol_tree.specs.Blocks.{Block, block_numbered}
 use Rattle.algol_tree.specs.Scopes.{Scopes, use_of}
 use Rattle.algol_meaning.specs.Operators.{result_of}
-use Rattle.algol_meaning.specs.Rest.{own, Given, valued, passed, refers, names, Hole, read, element, index, happens, broken, enter, inside, subscript, argument, left, right, negated, inverted, condition, Actuals, pass, in_value, Half, val, busy, HalfGiven, given, wants, Aim, resolve, place_index, inside_place, place_subscript, HalfPlace, at, aims, Answer, value, place, entered, cell_of, subscripts_of}
+use Rattle.algol_meaning.specs.Rest.{own, Given, valued, passed, refers, names, Hole, read, element, index, tests, broken, enter, inside, subscript, argument, left, right, negated, inverted, condition, Actuals, pass, in_value, Half, val, busy, HalfGiven, given, wants, Aim, resolve, place_index, inside_place, place_subscript, HalfPlace, at, aims, Answer, value, place, entered, cell_of, subscripts_of}
 
 abbrev pub after_result : Op → Value → Value → Result Value NumFault → Half
 after_result op v w (Ok x) = val x
@@ -66,10 +67,6 @@ abbrev pub alone_of : Option ℕ → Bool → List Given → Named → List Sort
 alone_of (Some block) formal gs n sorts es go_on = go_on (gs ++ names (tree.variable (tree.subscripted n tree.none)) ∷ [])
 alone_of None true gs n sorts es go_on = wants (pass gs n sorts es)
 alone_of None false gs n sorts es go_on = go_on (gs ++ refers n ∷ [])
-
-abbrev pub name_alone : PExpr → Option Named
-name_alone (tree.variable (tree.subscripted n tree.none)) = Some n
-name_alone _ = None
 
 abbrev pub sorts_of : List Parameter → List Sort
 sorts_of ps = map (λ (p : Parameter). p.sort) ps
@@ -138,7 +135,7 @@ module _ (sc : Scopes) where
     settle (tree.variable (tree.subscripted n tree.none)) = named_of (procedure_in (sort_at n)) n
     settle (tree.variable (tree.subscripted n (tree.more e es))) = subscripted_of n [] (settle e) es
     settle (tree.call (tree.called n es)) = called_of n (settle_actuals es (sorts_of (callee n).parameters) [])
-    settle (tree.tested tree.happened e spot) = busy (happens e.name)
+    settle (tree.tested test es spot) = busy (tests test (map (λ (e : EventName). e.name) es))
     settle (tree.paren e spot) = settle e
     settle (tree.plus e spot) = settle e
     settle (tree.neg e spot) = negated_of (settle e)
@@ -156,7 +153,7 @@ module _ (sc : Scopes) where
     put (read n) a = half_of a
     put (element n ks i) a = half_of a
     put (index n ks i e es) a = subscripted_of n (subscripts_of a) (settle e) es
-    put (happens n) a = half_of a
+    put (tests test ns) a = half_of a
     put (broken op v w fault) a = half_of a
     put (enter n gs) a = half_of a
     put inside a = half_of a

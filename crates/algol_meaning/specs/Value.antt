@@ -3,6 +3,7 @@ use Rattle.std.specs.Prelude.{ℕ, ℤ, pos, Bool, false, List}
 use Rattle.algol_tree.specs.declared.tree.Kind.{Kind}
 use Rattle.algol_tree.specs.declared.tree.Kind.TheVariants as kind
 use Rattle.algol_tree.specs.Plain.{PExpr}
+use Rattle.b67_deeds.specs.Events.{EventState}
 
 pub data Value : Type 0 where
   number : ℤ → Value
@@ -27,13 +28,6 @@ pub record Reference : Type 0 where
   pub instance : ℕ
   pub name : List ℕ
 
--- An event has two states; who waits for it and who waits to procure it stand in the order of their coming.
-pub record EventCell : Type 0 where
-  pub happened : Bool
-  pub available : Bool
-  pub waiters : List ℕ
-  pub procurers : List ℕ
-
 pub record Bounds : Type 0 where
   pub low : ℤ
   pub high : ℤ
@@ -50,7 +44,7 @@ pub record NameCell : Type 0 where
 
 pub data Cell : Type 0 where
   simple : Value → Cell
-  event : EventCell → Cell
+  event : EventState → Cell
   array : ArrayCell → Cell
   named : NameCell → Cell
   reference : Reference → Cell

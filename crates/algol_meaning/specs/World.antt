@@ -2,7 +2,8 @@
 use Rattle.std.specs.Prelude.{ℕ, zero, suc, if◌then◌else◌, pos, Bool, true, false, List, [], ◌∷◌, ◌++◌, Option, Some, None}
 use Rattle.b67_num.specs.declared.FaultKind.{FaultKind}
 use Rattle.b67_list.specs.Numbered.{numbered, set_numbered}
-use Rattle.algol_meaning.specs.Value.{Value, number, Reference, EventCell, ArrayCell, Cell, simple, event, array, reference}
+use Rattle.algol_meaning.specs.Value.{Value, number, Reference, ArrayCell, Cell, simple, event, array, reference}
+use Rattle.b67_deeds.specs.Events.{EventState}
 use Rattle.algol_tree.specs.Sorts.{same_name}
 use Rattle.algol_meaning.specs.Rest.{Rest}
 
@@ -105,7 +106,7 @@ abbrev pub value_in : Cell → Value
 value_in (simple v) = v
 value_in _ = number (pos 0)
 
-abbrev pub event_in : Cell → EventCell
+abbrev pub event_in : Cell → EventState
 event_in (event e) = e
 event_in _ = record { happened = false; available = false; waiters = []; procurers = [] }
 

@@ -1,17 +1,18 @@
 -- The silent steps of expressions, actuals and left sides keep to the text: what is left up to the head has the names of what it came from.
-use Rattle.std.proofs.Common.{ℕ, Bool, true, false, List, [], ◌∷◌, ◌++◌, Some, None}
+use Rattle.std.proofs.Common.{◌≡◌, ℕ, Bool, true, false, List, [], ◌∷◌, ◌++◌, Some, None, refl, subst}
 use Rattle.std.specs.Prelude.{if◌then◌else◌, pos, Option, Result, Ok, Err}
 use Rattle.algol_tree.specs.declared.tree.Op.{Op}
 use Rattle.algol_tree.specs.declared.tree.Named.{Named}
 use Rattle.algol_tree.specs.Plain as tree
-use Rattle.algol_tree.specs.Plain.{PExpr, PExprs}
+use Rattle.algol_tree.specs.Plain.{PExpr, PExprs, name_alone}
 use Rattle.algol_tree.specs.Sorts.{Sort, is_formal, is_by_name, is_variable, procedure_in}
 use Rattle.algol_tree.specs.Scopes.{Scopes}
+use Rattle.algol_tree.proofs.Alone.{named_alone}
 use Rattle.b67_num.specs.declared.NumFault.{NumFault}
 use Rattle.algol_meaning.specs.Value.{Value, number, truth_of, simple}
 use Rattle.algol_meaning.specs.Operators.{result_of}
-use Rattle.algol_meaning.specs.Rest.{Given, valued, passed, refers, names, Hole, read, element, index, happens, broken, enter, inside, subscript, argument, left, right, negated, inverted, condition, Actuals, pass, in_value, Half, val, busy, HalfGiven, given, wants, Aim, resolve, place_index, inside_place, place_subscript, HalfPlace, at, aims, Answer, value, place, entered, cell_of, subscripts_of}
-use Rattle.algol_meaning.specs.Settle.{after_result, right_of, left_of, negated_of, inverted_of, condition_of, named_of, subscripted_of, called_of, valued_of, alone_of, name_alone, sorts_of, left_alone_of, aimed_of, half_of, half_place_of, callee, sort_at, other_of, actual_of, first_actual_of, settle, settle_actuals, put, put_actuals, settle_place, indexed_of, put_place}
+use Rattle.algol_meaning.specs.Rest.{Given, valued, passed, refers, names, Hole, read, element, index, tests, broken, enter, inside, subscript, argument, left, right, negated, inverted, condition, Actuals, pass, in_value, Half, val, busy, HalfGiven, given, wants, Aim, resolve, place_index, inside_place, place_subscript, HalfPlace, at, aims, Answer, value, place, entered, cell_of, subscripts_of}
+use Rattle.algol_meaning.specs.Settle.{after_result, right_of, left_of, negated_of, inverted_of, condition_of, named_of, subscripted_of, called_of, valued_of, alone_of, sorts_of, left_alone_of, aimed_of, half_of, half_place_of, callee, sort_at, other_of, actual_of, first_actual_of, settle, settle_actuals, put, put_actuals, settle_place, indexed_of, put_place}
 use Rattle.algol_paths.specs.Texts.{InExpr, InExprs, InPlace, InGivens, InHole, InActuals, InAim, InAnswer}
 
 module _ (P : Named → Type 0) where
@@ -119,16 +120,16 @@ module _ (P : Named → Type 0) where
   half_place_in _ i = tt
 
   module _ (sc : Scopes) where
-    other_in : (e : PExpr) (gs : List Given) (sorts : List Sort) (es : PExprs) (go_on : List Given → HalfGiven) → InExpr P e → InGivens P gs → InExprs P es → GoesOn go_on →
-        InHalfGiven (other_of sc (name_alone e) e gs sorts es go_on)
-    other_in (tree.variable (tree.subscripted n tree.none)) gs sorts es go_on i j l g =
-        alone_in (procedure_in (sort_at sc n)) (is_formal (sort_at sc n)) gs n sorts es go_on i.0 j l g
-    other_in e gs sorts es go_on i j l g = g (gs ++ names e ∷ []) (and_given gs (names e) j (i, tt))
+    other_in : (o : Option Named) (e : PExpr) (gs : List Given) (sorts : List Sort) (es : PExprs) (go_on : List Given → HalfGiven) → name_alone e ≡ o → InExpr P e → InGivens P gs → InExprs P es → GoesOn go_on →
+        InHalfGiven (other_of sc o e gs sorts es go_on)
+    other_in (Some n) e gs sorts es go_on is i j l g =
+        alone_in (procedure_in (sort_at sc n)) (is_formal (sort_at sc n)) gs n sorts es go_on (subst (InExpr P) (named_alone e n is) i).0 j l g
+    other_in None e gs sorts es go_on is i j l g = g (gs ++ names e ∷ []) (and_given gs (names e) j (i, tt))
 
     actual_in : (by_value : Bool) (e : PExpr) (x : Half) (gs : List Given) (sorts : List Sort) (es : PExprs) (go_on : List Given → HalfGiven) → InExpr P e → InHalf x → InGivens P gs →
         InExprs P es → GoesOn go_on → InHalfGiven (actual_of sc by_value e x gs sorts es go_on)
     actual_in true e x gs sorts es go_on i h j l g = valued_in gs x sorts es go_on j h l g
-    actual_in false e x gs sorts es go_on i h j l g = other_in e gs sorts es go_on i j l g
+    actual_in false e x gs sorts es go_on i h j l g = other_in (name_alone e) e gs sorts es go_on refl i j l g
 
     first_actual_in : (sorts : List Sort) (e : PExpr) (x : Half) (gs : List Given) (es : PExprs) (go_on : List Sort → List Given → HalfGiven) → InExpr P e → InHalf x → InGivens P gs →
         InExprs P es → ((after : List Sort) → GoesOn (go_on after)) → InHalfGiven (first_actual_of sc sorts e x gs es go_on)
@@ -143,7 +144,7 @@ module _ (P : Named → Type 0) where
       settle_in (tree.variable (tree.subscripted n (tree.more e es))) i = subscripted_in n [] (settle sc e) es i.0 (settle_in e (i.1).0) (i.1).1
       settle_in (tree.call (tree.called n es)) i =
           called_in n (settle_actuals sc es (sorts_of (callee sc n).parameters) []) i.0 (settle_actuals_in es (sorts_of (callee sc n).parameters) [] i.1 tt)
-      settle_in (tree.tested tree.happened e spot) i = i
+      settle_in (tree.tested test es spot) i = i
       settle_in (tree.paren e spot) i = settle_in e i
       settle_in (tree.plus e spot) i = settle_in e i
       settle_in (tree.neg e spot) i = negated_in (settle sc e) (settle_in e i)
@@ -163,7 +164,7 @@ module _ (P : Named → Type 0) where
       put_in (read n) a i = half_in a
       put_in (element n ks v) a i = half_in a
       put_in (index n ks v e es) a i = subscripted_in n (subscripts_of a) (settle sc e) es i.0 (settle_in e i.1) i.2
-      put_in (happens n) a i = half_in a
+      put_in (tests test ns) a i = half_in a
       put_in (broken op v w fault) a i = half_in a
       put_in (enter n gs) a i = half_in a
       put_in inside a i = half_in a

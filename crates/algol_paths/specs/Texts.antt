@@ -1,17 +1,19 @@
 -- What holds of each name that a text uses itself, of each block that stands in it, and of each name in the bounds of its arrays. What
 -- stands in such a block is text of its own.
-use Rattle.std.specs.Prelude.{List, [], ◌∷◌, Option, Some, None}
+use Rattle.std.specs.Prelude.{List, [], ◌∷◌, Option, Some, None, map}
+use Rattle.std.specs.List.{AllByRecursion}
 use Rattle.algol_tree.specs.declared.tree.Named.{Named}
+use Rattle.algol_tree.specs.declared.tree.EventName.{EventName}
 use Rattle.algol_tree.specs.Plain as tree
 use Rattle.algol_tree.specs.Plain.{PExpr, PExprs, PPair, PStmt, PStmts, PBody}
-use Rattle.algol_meaning.specs.Rest.{Place, own, Given, refers, names, Hole, read, element, index, happens, broken, enter, inside, subscript, argument, left, right, negated, inverted, condition, Actuals, pass, in_value, Aim, resolve, place_index, inside_place, place_subscript, Loop, Item, run, turn, count, check, test, result, make_arrays, make_event, Rest, over, reading, giving, giving_place, store, select, turning, going, entering_block, entering, starting, acting, line, arrays, event, within, dropping, evaluating, locating, aiming, storing, choosing, looping, checking, counting, differing, stepping, selecting, calling, preparing, writing, bounding, Answer, place}
+use Rattle.algol_meaning.specs.Rest.{Place, own, Given, refers, names, Hole, read, element, index, tests, broken, enter, inside, subscript, argument, left, right, negated, inverted, condition, Actuals, pass, in_value, Aim, resolve, place_index, inside_place, place_subscript, Loop, Item, run, turn, count, check, test, result, make_arrays, make_event, Rest, over, reading, giving, giving_place, store, select, turning, going, entering_block, entering, starting, acting, line, arrays, event, within, dropping, evaluating, locating, aiming, storing, choosing, looping, checking, counting, differing, stepping, selecting, calling, preparing, writing, bounding, Answer, place}
 
 module _ (P : Named → Type 0) where
   abbrev mutual
     pub InExpr : PExpr → Type 0
     InExpr (tree.variable (tree.subscripted n es)) = P n × InExprs es
     InExpr (tree.call (tree.called n es)) = P n × InExprs es
-    InExpr (tree.tested which e spot) = P e.name
+    InExpr (tree.tested which es spot) = AllByRecursion P (map (λ (e : EventName). e.name) es)
     InExpr (tree.paren e spot) = InExpr e
     InExpr (tree.plus e spot) = InExpr e
     InExpr (tree.neg e spot) = InExpr e
@@ -49,7 +51,7 @@ module _ (P : Named → Type 0) where
     InHole (read n) = P n
     InHole (element n ks v) = P n
     InHole (index n ks v e es) = P n × InExpr e × InExprs es
-    InHole (happens n) = P n
+    InHole (tests which ns) = AllByRecursion P ns
     InHole (broken op v w fault) = Unit {0}
     InHole (enter n gs) = P n × InGivens gs
     InHole inside = Unit {0}

@@ -3,7 +3,8 @@
 use Rattle.std.proofs.Common.{◌≡◌, ◌⊎◌, ℕ, List, [], Some, false, refl, sym, ◌∙◌, subst}
 use Rattle.b67_list.specs.Numbered.{numbered}
 use Rattle.algol_tree.specs.Scopes.{Scopes}
-use Rattle.algol_meaning.specs.Value.{EventCell, Reference, event}
+use Rattle.algol_meaning.specs.Value.{Reference, event}
+use Rattle.b67_deeds.specs.Events.{EventState}
 use Rattle.algol_meaning.specs.World.{cell_at, Part, Process, World}
 use Rattle.algol_meaning.specs.Critical.{is_evaluation, own_instances}
 use Rattle.algol_paths.specs.Arrays.{all_to_make}
@@ -100,6 +101,6 @@ module _ (sc : Scopes) (w : World) (ok : IsSound sc IsWhole w) (p : ℕ) (q : Pr
         by : (x : Process) × (numbered w.processes k ≡ Some x) × Moved x y → IsIn (own_instances y.todo) e.over × IsOnPath w e.over e.within
         by m = which m.0 m.1 m.2
 
-    pub acted_ok : ((r : Reference) (e : EventCell) → IsStanding w r.instance → cell_at v r ≡ event e → AreListed v r e) → IsSound sc IsWhole v
+    pub acted_ok : ((r : Reference) (e : EventState) → IsStanding w r.instance → cell_at v r ≡ event e → AreListed v r e) → IsSound sc IsWhole v
     acted_ok listed =
         alike_ok w v instances (pairs_map Moved ProcessAlike moved_alike w.processes v.processes processes) sc IsWhole kept ok each holds listed

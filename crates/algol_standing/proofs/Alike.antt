@@ -4,7 +4,8 @@ use Rattle.std.specs.Prelude.{slice_get}
 use Rattle.b67_list.specs.Numbered.{numbered}
 use Rattle.algol_tree.specs.Blocks.{around}
 use Rattle.algol_tree.specs.Scopes.{Scopes}
-use Rattle.algol_meaning.specs.Value.{Reference, NameCell, EventCell, event}
+use Rattle.algol_meaning.specs.Value.{Reference, NameCell, event}
+use Rattle.b67_deeds.specs.Events.{EventState}
 use Rattle.algol_meaning.specs.World.{Instance, or_no_instance, Part, Process, lives, World, instance_at, cell_at}
 use Rattle.algol_meaning.specs.Critical.{own_instances}
 use Rattle.algol_paths.specs.Blocks.{IsSeen, IsSeenAround}
@@ -218,7 +219,7 @@ module _ (w v : World) (instances : AllPairs InstanceAlike w.instances v.instanc
         }
 
     pub alike_ok : IsSound sc Whole w → ((k : ℕ) (q : Process) → numbered v.processes k ≡ Some q → ProcessOk sc Whole w q) → HoldsOnPath →
-        ((r : Reference) (e : EventCell) → IsStanding w r.instance → cell_at v r ≡ event e → AreListed v r e) → IsSound sc Whole v
+        ((r : Reference) (e : EventState) → IsStanding w r.instance → cell_at v r ≡ event e → AreListed v r e) → IsSound sc Whole v
     alike_ok ok each held listed =
         record {
           skeleton_ok = skeleton_alike ok.skeleton_ok held;

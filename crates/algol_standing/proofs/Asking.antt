@@ -1,5 +1,7 @@
 -- What a head asks for names only what its text sees.
-use Rattle.std.proofs.Common.{◌≡◌, ◌⊎◌, List, [], ◌∷◌, Option, Some, None, refl}
+use Rattle.std.proofs.Common.{◌≡◌, ◌⊎◌, List, [], ◌∷◌, map, Option, Some, None, refl}
+use Rattle.std.specs.List.{AllByRecursion}
+use Rattle.algol_tree.specs.declared.tree.EventName.{EventName}
 use Rattle.algol_tree.specs.declared.tree.Named.{Named}
 use Rattle.algol_tree.specs.Plain as tree
 use Rattle.algol_tree.specs.Plain.{PExpr, PExprs, PBody}
@@ -17,7 +19,6 @@ abbrev pub Sees : (Named → Type 0) → (PBody → Type 0) → Ask → Type 0
 Sees P Q (asks.reads n) = P n
 Sees P Q (asks.reads_element n ks v) = P n
 Sees P Q (asks.indexes n ks v) = P n
-Sees P Q (asks.asks_happened n) = P n
 Sees P Q (asks.enters n gs) = P n × InGivens P gs
 Sees P Q (asks.passes n) = P n
 Sees P Q (asks.resolves n) = P n
@@ -25,7 +26,7 @@ Sees P Q (asks.stores p v) = InPlace P p
 Sees P Q (asks.goes_to n) = P n
 Sees P Q (asks.enters_block b) = Q b
 Sees P Q (asks.starts n gs task) = P n × InGivens P gs × InName P task
-Sees P Q (asks.acts x n) = P n
+Sees P Q (asks.event_deed x ns) = AllByRecursion P ns
 Sees P Q _ = Unit {0}
 
 -- the answer is one to what was asked for, and leaves no part inside
@@ -41,13 +42,17 @@ Suits _ _ = Unit {0}
 -- ---- a predicate that more names have
 
 module _ (P R : Named → Type 0) (f : (n : Named) → R n → P n) where
+  names_more : (ns : List Named) → AllByRecursion R ns → AllByRecursion P ns
+  names_more [] i = tt
+  names_more (n ∷ ns) i = (f n i.0, names_more ns i.1)
+
   mutual
     expr_more : (e : PExpr) → InExpr R e → InExpr P e
     expr_more (tree.number z spot) i = tt
     expr_more (tree.truth b spot) i = tt
     expr_more (tree.variable (tree.subscripted n es)) i = (f n i.0, exprs_more es i.1)
     expr_more (tree.call (tree.called n es)) i = (f n i.0, exprs_more es i.1)
-    expr_more (tree.tested which e spot) i = f e.name i
+    expr_more (tree.tested which es spot) i = names_more (map (λ (e : EventName). e.name) es) i
     expr_more (tree.paren e spot) i = expr_more e i
     expr_more (tree.plus e spot) i = expr_more e i
     expr_more (tree.neg e spot) i = expr_more e i
@@ -80,7 +85,6 @@ module _ (P R : Named → Type 0) (f : (n : Named) → R n → P n) where
     sees_more (asks.reads n) i = f n i
     sees_more (asks.reads_element n ks v) i = f n i
     sees_more (asks.indexes n ks v) i = f n i
-    sees_more (asks.asks_happened n) i = f n i
     sees_more (asks.enters n gs) i = (f n i.0, givens_more gs i.1)
     sees_more (asks.passes n) i = f n i
     sees_more (asks.resolves n) i = f n i
@@ -88,7 +92,7 @@ module _ (P R : Named → Type 0) (f : (n : Named) → R n → P n) where
     sees_more (asks.goes_to n) i = f n i
     sees_more (asks.enters_block b) i = i
     sees_more (asks.starts n gs task) i = (f n i.0, givens_more gs i.1, name_more task i.2)
-    sees_more (asks.acts x n) i = f n i
+    sees_more (asks.event_deed x ns) i = names_more ns i
     sees_more _ i = tt
 
 module _ (P : Named → Type 0) (Q : PBody → Type 0) where
@@ -97,7 +101,7 @@ module _ (P : Named → Type 0) (Q : PBody → Type 0) where
     hole_sees (rests.read n) i = i
     hole_sees (rests.element n ks v) i = i
     hole_sees (rests.index n ks v e es) i = i.0
-    hole_sees (rests.happens n) i = i
+    hole_sees (rests.tests x ns) i = i
     hole_sees (rests.broken op v w f) i = tt
     hole_sees (rests.enter n gs) i = i
     hole_sees rests.inside i = tt
@@ -132,7 +136,7 @@ module _ (P : Named → Type 0) (Q : PBody → Type 0) (R : Named → Type 0) (f
   rest_sees (rests.entering_block (tree.body spot ds ss) k) i = i.0
   rest_sees (rests.entering n gs k) i = (i.0, i.1)
   rest_sees (rests.starting n gs task k) i = (i.0, i.1, i.2)
-  rest_sees (rests.acting act n k) i = i.0
+  rest_sees (rests.acting act n k) i = (i.0, tt)
   rest_sees (rests.line phrases vs k) i = tt
   rest_sees (rests.arrays kind ns pairs vs k) i = tt
   rest_sees (rests.event n k) i = tt
@@ -176,7 +180,7 @@ module _ (C : Cell → Type 0) where
     hole_asks (rests.read n) i = tt
     hole_asks (rests.element n ks v) i = tt
     hole_asks (rests.index n ks v e es) i = tt
-    hole_asks (rests.happens n) i = tt
+    hole_asks (rests.tests x ns) i = tt
     hole_asks (rests.broken op v w f) i = tt
     hole_asks (rests.enter n gs) i = i
     hole_asks rests.inside i = tt

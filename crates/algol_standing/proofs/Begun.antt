@@ -3,18 +3,20 @@ use Rattle.std.proofs.Common.{◌≡◌, ◌⊎◌, ℕ, zero, suc, ◌<◌, ◌
 use Rattle.b67_list.specs.Numbered.{numbered}
 use Rattle.algol_tree.specs.Blocks.{block_numbered, around}
 use Rattle.algol_tree.specs.Scopes.{Scopes}
-use Rattle.algol_meaning.specs.Value.{Reference, Cell, EventCell, event}
+use Rattle.algol_meaning.specs.Value.{Reference, Cell, event}
+use Rattle.b67_deeds.specs.Events.{EventState}
 use Rattle.algol_meaning.specs.Rest.{Item}
-use Rattle.algol_meaning.specs.World.{Instance, or_no_instance, instance_at, cell_in, cell_at, Part, Process, State, able, waits_for, procures, ended, or_no_process, process_at, lives, World}
+use Rattle.algol_meaning.specs.World.{Instance, or_no_instance, instance_at, cell_in, cell_at, Part, Process, State, able, procures, ended, or_no_process, process_at, lives, World}
 use Rattle.algol_meaning.specs.Critical.{referred_by, referred_by_task}
 use Rattle.algol_meaning.specs.Choice.{next_process}
 use Rattle.algol_paths.specs.Blocks.{IsSeen, IsSeenAround, IsInner}
 use Rattle.algol_paths.specs.Laws.{KeepsToText}
 use Rattle.algol_paths.proofs.Statements.{declared_keeps}
 use Rattle.algol_standing.specs.Skeleton.{IsIn, SkeletonOk}
-use Rattle.algol_standing.specs.Worlds.{held_in_rest, newest_own, stack_of, skeleton, IsStanding, IsOnPath, IsOwn, IsAmong, inside, AreListed, IsWhole, PartOk, ProcessOk, InstanceOk, IsSound}
+use Rattle.algol_standing.specs.Worlds.{held_in_rest, newest_own, stack_of, skeleton, IsStanding, IsOnPath, IsOwn, IsAmong, inside, Awaits, AreListed, IsWhole, PartOk, ProcessOk, InstanceOk, IsSound}
 use Rattle.algol_calls.specs.Texts.{KeepToTexts}
 use Rattle.algol_standing.proofs.Calls.{IsNoEvent}
+use Rattle.algol_standing.proofs.Awaiting.{awaits_ended}
 use Rattle.algol_standing.proofs.Lists.{false_true}
 use Rattle.algol_standing.proofs.Standing.{stands_path, stands_small}
 use Rattle.algol_standing.proofs.Holding.{AreAll, items_hold}
@@ -28,9 +30,6 @@ use Rattle.algol_standing.proofs.Pairs.{stack_back}
 use Rattle.algol_standing.proofs.PathFirst.{home_process}
 use Rattle.algol_standing.proofs.Carried.{name_held, actual_kept, unmoved_kept, tasks_kept, instance_kept}
 use Rattle.algol_standing.proofs.Started as stacked
-
-ended_waits : {A : Type 0} (r : Reference) → ended ≡ waits_for r → A
-ended_waits r e = cc
 
 ended_procures : {A : Type 0} (r : Reference) → ended ≡ procures r → A
 ended_procures r e = cc
@@ -281,15 +280,16 @@ module _ (sc : Scopes) (texts : KeepToTexts sc) (w : World) (ok : IsSound sc IsW
       by None f = absurd (other (ap (λ o. (or_no_process o).state) (sym f) ∙ e))
       by (Some y) f = ap (λ o. (or_no_process o).state) (process_before k y f ∙ sym f) ∙ e
 
-  listed_before : (r : Reference) (e : EventCell) → AreListed w r e → AreListed v r e
+  listed_before : (r : Reference) (e : EventState) → AreListed w r e → AreListed v r e
   listed_before r e l =
       record {
-        waiters = λ k n. state_before k (waits_for r) (l.waiters k n) (λ f. ended_waits r f);
+        waiters = λ k n.
+            subst (λ t. Awaits t r) (sym (state_before k ((process_at w k).state) refl (λ f. awaits_ended ((process_at w k).state) r (l.waiters k n) (sym f)))) (l.waiters k n);
         procurers = λ k n. state_before k (procures r) (l.procurers k n) (λ f. ended_procures r f);
         once = l.once;
       }
 
-  listed_then : (r : Reference) (e : EventCell) → IsStanding v r.instance → cell_at v r ≡ event e → AreListed v r e
+  listed_then : (r : Reference) (e : EventState) → IsStanding v r.instance → cell_at v r ≡ event e → AreListed v r e
   listed_then r e st f = by (stood r.instance st)
     where
       by : IsStanding w r.instance ⊎ (r.instance ≡ number) → AreListed v r e

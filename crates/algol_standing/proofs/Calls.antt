@@ -1,7 +1,8 @@
 -- What is called: a procedure's name leads to its block, and what is passed on is no event.
 use Rattle.std.specs.Prelude.{◌≡◌, List, [], ◌∷◌}
 use Rattle.algol_tree.specs.Scopes.{Scopes}
-use Rattle.algol_meaning.specs.Value.{EventCell, Cell, event}
+use Rattle.algol_meaning.specs.Value.{Cell, event}
+use Rattle.b67_deeds.specs.Events.{EventState}
 use Rattle.algol_meaning.specs.Rest.{Given, passed}
 use Rattle.algol_meaning.specs.World.{Part}
 use Rattle.algol_meaning.specs.Asks as asks
@@ -10,7 +11,7 @@ use Rattle.algol_calls.specs.Fits.{IsCallee}
 
 -- the cell is no event
 abbrev pub IsNoEvent : Cell → Type 0
-IsNoEvent c = (e : EventCell) → c ≡ event e → ⊥
+IsNoEvent c = (e : EventState) → c ≡ event e → ⊥
 
 -- no parameter's own cell that is passed on is an event: a parameter that stands for an event has a Reference to that
 abbrev pub PassNoEvents : List Given → Type 0

@@ -3,11 +3,13 @@ use Rattle.std.proofs.Common.{◌≡◌, ◌⊎◌, ℕ, List, [], ◌∷◌, �
 use Rattle.std.specs.Prelude.{if◌then◌else◌}
 use Rattle.b67_list.specs.Numbered.{numbered, set_numbered}
 use Rattle.algol_tree.specs.Sorts.{same_name}
-use Rattle.algol_meaning.specs.Value.{Reference, NameCell, EventCell, Cell, event}
-use Rattle.algol_meaning.specs.World.{NamedCell, Instance, or_no_instance, instance_at, cell_in, cell_at, cells_with, with_instance, set_cell, add_cells, Process, State, able, waits_for, procures, or_no_process, process_at, World}
+use Rattle.algol_meaning.specs.Value.{Reference, NameCell, Cell, event}
+use Rattle.b67_deeds.specs.Events.{EventState}
+use Rattle.algol_meaning.specs.World.{NamedCell, Instance, or_no_instance, instance_at, cell_in, cell_at, cells_with, with_instance, set_cell, add_cells, Process, State, able, procures, or_no_process, process_at, World}
 use Rattle.algol_meaning.specs.Critical.{referred_in}
 use Rattle.algol_standing.specs.Skeleton.{IsIn}
-use Rattle.algol_standing.specs.Worlds.{parent_in, referred_in_cells, IsNameIn, IsNameAmong, AreListed}
+use Rattle.algol_standing.specs.Worlds.{parent_in, referred_in_cells, IsNameIn, IsNameAmong, Awaits, AreListed}
+use Rattle.algol_standing.proofs.Awaiting.{awaits_able}
 use Rattle.algol_standing.proofs.Calls.{IsNoEvent}
 use Rattle.algol_standing.proofs.Seen.{in_front, in_back, in_either}
 use Rattle.algol_standing.proofs.Pairs.{AllPairs, pairs_set, set_or}
@@ -114,7 +116,7 @@ abbrev pub AreNoEvents : List NamedCell → Type 0
 AreNoEvents [] = Unit {0}
 AreNoEvents (c ∷ cells) = IsNoEvent c.cell × AreNoEvents cells
 
-event_with : (cells : List NamedCell) (m n : List ℕ) (c : Cell) (e : EventCell) → IsNoEvent c → cell_in (cells_with cells m c) n ≡ event e → cell_in cells n ≡ event e
+event_with : (cells : List NamedCell) (m n : List ℕ) (c : Cell) (e : EventState) → IsNoEvent c → cell_in (cells_with cells m c) n ≡ event e → cell_in cells n ≡ event e
 event_with [] m n c e without f = f
 event_with (d ∷ cells) m n c e without f = by (same_name d.name m) (λ g. event_with cells m n c e without g) f
   where
@@ -132,7 +134,7 @@ event_with (d ∷ cells) m n c e without f = by (same_name d.name m) (λ g. even
     by true h g = here (same_name d.name n) g
     by false h g = further (same_name d.name n) h g
 
-pub event_more : (cells more : List NamedCell) (n : List ℕ) (e : EventCell) → AreNoEvents more → cell_in (cells ++ more) n ≡ event e → cell_in cells n ≡ event e
+pub event_more : (cells more : List NamedCell) (n : List ℕ) (e : EventState) → AreNoEvents more → cell_in (cells ++ more) n ≡ event e → cell_in cells n ≡ event e
 event_more [] [] n e without f = f
 event_more [] (d ∷ more) n e without f = by (same_name d.name n) (λ g. event_more [] more n e without.1 g) f
   where
@@ -147,7 +149,7 @@ event_more (d ∷ cells) more n e without f = by (same_name d.name n) (λ g. eve
     by false h g = h g
 
 -- .. or it is the one that was added
-pub event_added : (cells : List NamedCell) (name n : List ℕ) (d e : EventCell) → cell_in (cells ++ record { name = name; cell = event d } ∷ []) n ≡ event e →
+pub event_added : (cells : List NamedCell) (name n : List ℕ) (d e : EventState) → cell_in (cells ++ record { name = name; cell = event d } ∷ []) n ≡ event e →
     (cell_in cells n ≡ event e) ⊎ (e ≡ d)
 event_added [] name n d e f = by (same_name name n) f
   where
@@ -162,8 +164,8 @@ event_added (c ∷ cells) name n d e f = by (same_name c.name n) (λ g. event_ad
     by false h g = h g
 
 -- an instance with other cells has no event that it had not
-in_instance : (w : World) (i : ℕ) (y : Instance) → ((n : List ℕ) (e : EventCell) → cell_in y.cells n ≡ event e → cell_in ((instance_at w i).cells) n ≡ event e) →
-    (r : Reference) (e : EventCell) → cell_at (with_instance w i y) r ≡ event e → cell_at w r ≡ event e
+in_instance : (w : World) (i : ℕ) (y : Instance) → ((n : List ℕ) (e : EventState) → cell_in y.cells n ≡ event e → cell_in ((instance_at w i).cells) n ≡ event e) →
+    (r : Reference) (e : EventState) → cell_at (with_instance w i y) r ≡ event e → cell_at w r ≡ event e
 in_instance w i y f r e g = by (set_or w.instances i r.instance y)
   where
     by : (numbered (set_numbered w.instances i y) r.instance ≡ numbered w.instances r.instance) ⊎ ((i ≡ r.instance) × (numbered (set_numbered w.instances i y) r.instance ≡ Some y)) →
@@ -173,16 +175,16 @@ in_instance w i y f r e g = by (set_or w.instances i r.instance y)
         subst (λ j. cell_in ((instance_at w j).cells) r.name ≡ event e) h.0
         (f r.name e (ap (λ o. cell_in ((or_no_instance o).cells) r.name) (sym h.1) ∙ g))
 
-pub set_event_before : (w : World) (s : Reference) (c : Cell) → IsNoEvent c → (r : Reference) (e : EventCell) → cell_at (set_cell w s c) r ≡ event e → cell_at w r ≡ event e
+pub set_event_before : (w : World) (s : Reference) (c : Cell) → IsNoEvent c → (r : Reference) (e : EventState) → cell_at (set_cell w s c) r ≡ event e → cell_at w r ≡ event e
 set_event_before w s c without r e f =
     in_instance w s.instance (record (instance_at w s.instance) { cells = cells_with (instance_at w s.instance).cells s.name c })
     (λ n d g. event_with ((instance_at w s.instance).cells) s.name n c d without g) r e f
 
-pub add_event_before : (w : World) (i : ℕ) (more : List NamedCell) → AreNoEvents more → (r : Reference) (e : EventCell) → cell_at (add_cells w i more) r ≡ event e → cell_at w r ≡ event e
+pub add_event_before : (w : World) (i : ℕ) (more : List NamedCell) → AreNoEvents more → (r : Reference) (e : EventState) → cell_at (add_cells w i more) r ≡ event e → cell_at w r ≡ event e
 add_event_before w i more without r e f =
     in_instance w i (record (instance_at w i) { cells = (instance_at w i).cells ++ more }) (λ n d g. event_more ((instance_at w i).cells) more n d without g) r e f
 
-pub event_before : (w : World) (i : ℕ) (name : List ℕ) (d : EventCell) (r : Reference) (e : EventCell) → cell_at (add_cells w i (record { name = name; cell = event d } ∷ [])) r ≡ event e →
+pub event_before : (w : World) (i : ℕ) (name : List ℕ) (d : EventState) (r : Reference) (e : EventState) → cell_at (add_cells w i (record { name = name; cell = event d } ∷ [])) r ≡ event e →
     (cell_at w r ≡ event e) ⊎ (e ≡ d)
 event_before w i name d r e g = by (set_or w.instances i r.instance y)
   where
@@ -202,13 +204,10 @@ event_before w i name d r e g = by (set_or w.instances i r.instance y)
 
 -- where only an able process changes and events do not, who is listed still waits
 pub listed_still : (w v : World) (p : ℕ) (q after : Process) → numbered w.processes p ≡ Some q → q.state ≡ able → v.processes ≡ set_numbered w.processes p after →
-    (r : Reference) (e : EventCell) → AreListed w r e → AreListed v r e
+    (r : Reference) (e : EventState) → AreListed w r e → AreListed v r e
 listed_still w v p q after is able_is same r e l =
-    record { waiters = λ k n. still k (waits_for r) (l.waiters k n) (waits r); procurers = λ k n. still k (procures r) (l.procurers k n) (procures_waits r); once = l.once }
+    record { waiters = λ k n. waiting k (l.waiters k n); procurers = λ k n. still k (procures r) (l.procurers k n) (procures_waits r); once = l.once }
   where
-    waits : (r : Reference) → waits_for r ≡ able → ⊥
-    waits r f = cc
-
     procures_waits : (r : Reference) → procures r ≡ able → ⊥
     procures_waits r f = cc
 
@@ -220,3 +219,6 @@ listed_still w v p q after is able_is same r e l =
         by (◌⊎◌.inr h) =
             let acts : (process_at w k).state ≡ able = ap (λ j. (process_at w j).state) (sym h.0) ∙ ap (λ o. (or_no_process o).state) is ∙ able_is in
             absurd (other (sym f ∙ acts))
+
+    waiting : (k : ℕ) → Awaits ((process_at w k).state) r → Awaits ((process_at v k).state) r
+    waiting k n = subst (λ t. Awaits t r) (sym (still k ((process_at w k).state) refl (awaits_able ((process_at w k).state) r n))) n

@@ -8,17 +8,18 @@ use Rattle.b67_num.specs.Whole.{fault_of}
 use Rattle.algol_tree.specs.declared.tree.Named.{Named}
 use Rattle.algol_tree.specs.Scopes.{Scopes, use_of}
 use Rattle.algol_meaning.specs.declared.TheConstants.{MOST_STARTED}
-use Rattle.algol_meaning.specs.Value.{truth, whole_of}
+use Rattle.algol_meaning.specs.Value.{whole_of}
 use Rattle.algol_meaning.specs.Rest.{Answer, done, cell}
 use Rattle.algol_meaning.specs.Settle.{block_of}
 use Rattle.algol_meaning.specs.World.{instance_at, cell_at, followed, value_in, array_in, Part, Process, State, able, waits_for, procures, ended, is_able, lives, or_no_process, process_at, World}
 use Rattle.algol_meaning.specs.Arrays.{subscript_place, bounds_of}
 use Rattle.algol_meaning.specs.Events.{event_at}
 use Rattle.algol_meaning.specs.Lines.{line_of}
-use Rattle.algol_meaning.specs.Actions as actions
+use Rattle.b67_deeds.specs.declared.Letter.TheVariants as actions
 use Rattle.algol_meaning.specs.Asks as asks
 use Rattle.algol_meaning.specs.Asks.{Ask, nothing, ask, resume}
-use Rattle.algol_meaning.specs.Choice.{Choice, choice, choice_in, choice_of, nth_exists, goes, fails, home, here, given_cells, task_of, starts}
+use Rattle.algol_meaning.specs.Choice.{Choice, choice, choice_in, choice_of, nth_exists, goes, fails, home, here, given_cells, task_of, starts, told, does_with}
+use Rattle.b67_deeds.specs.Deeds.{EventDeed, deed}
 use Rattle.algol_meaning.specs.Run.{End, end_of, goes_on, may_go}
 use Rattle.algol_standing.specs.Worlds.{newest_own, HasHead, IsWhole, IsSound}
 use Rattle.algol_paths.specs.Blocks.{IsSeen, IsInner}
@@ -29,7 +30,7 @@ use Rattle.algol_standing.proofs.Pairs.{pairs_self}
 use Rattle.algol_standing.proofs.Seen.{CellOk, cell_here}
 use Rattle.algol_standing.proofs.Asking.{Sees, Suits}
 use Rattle.algol_standing.proofs.Acting.{heads_act}
-use Rattle.algol_standing.proofs.Events.{event_acted}
+use Rattle.algol_standing.proofs.Events.{deed_done}
 use Rattle.algol_standing.proofs.Leaves.{left_keeps}
 use Rattle.algol_standing.proofs.Jumping.{jump_keeps}
 use Rattle.algol_standing.proofs.Calling.{procedure_enters, block_enters}
@@ -58,6 +59,19 @@ module _ (sc : Scopes) (texts : KeepToTexts sc) (w : World) (ok : IsSound sc IsW
   cell_by : (n : Named) → IsSeen sc ((instance_at w part.instance).block) n → CellOk sc IsWhole w ok (newest_own (part ∷ outer)) (cell_at w (here sc w p q part outer n))
   cell_by = cell_here sc IsWhole w ok p q part outer is todo
 
+  told_suits : (x : EventDeed) (ns : List Named) (o : Option Bool) → Suits (asks.event_deed x ns) (told sc w p q part outer o)
+  told_suits x ns None = tt
+  told_suits x ns (Some b) = tt
+
+  deed_keeps : (x : EventDeed) (ns : List Named) → ask part.rest ≡ asks.event_deed x ns → KeepsHere (does_with sc w p q part outer x ns)
+  deed_keeps x [] e = ok
+  deed_keeps x (n ∷ ns) e =
+      let r = followed w (here sc w p q part outer n) in
+      let a = told sc w p q part outer (deed x p (event_at w r)).answer in
+      deed_done sc (heads_act sc) w ok p q part outer is todo able_is r
+      (at_followed sc (heads_act sc) w ok p q part outer is todo able_is n (seen_by (asks.event_deed x (n ∷ ns)) e).0) x
+      (suits_by (asks.event_deed x (n ∷ ns)) e a (told_suits x (n ∷ ns) (deed x p (event_at w r)).answer)) (suits_by (asks.event_deed x (n ∷ ns)) e done tt)
+
   choice_keeps : (x : Ask) → ask part.rest ≡ x → CallFits sc x → KeepsHere (choice_of sc w p q part outer x)
   choice_keeps asks.nothing e fits = ok
   choice_keeps (asks.reads n) e fits =
@@ -69,8 +83,6 @@ module _ (sc : Scopes) (texts : KeepToTexts sc) (w : World) (ok : IsSound sc IsW
       indexed_keeps sc (heads_act sc) w ok p q part outer is todo able_is n ks v e (followed w (here sc w p q part outer n))
       (at_followed sc (heads_act sc) w ok p q part outer is todo able_is n (seen_by (asks.indexes n ks v) e))
       (subscript_place ((use_of sc n).sort) (array_in (cell_at w (followed w (here sc w p q part outer n)))) ks (whole_of v))
-  choice_keeps (asks.asks_happened n) e fits =
-      value_goes sc (heads_act sc) w ok p q part outer is todo able_is (asks.asks_happened n) e actions.Happened (truth ((event_at w (followed w (here sc w p q part outer n))).happened)) tt
   choice_keeps (asks.fails f) e fits = fails_or (fault_of f)
   choice_keeps (asks.enters n gs) e fits = procedure_enters sc texts w ok p q part outer is todo able_is n gs e fits.0 fits.1
   choice_keeps (asks.passes n) e fits =
@@ -93,9 +105,7 @@ module _ (sc : Scopes) (texts : KeepToTexts sc) (w : World) (ok : IsSound sc IsW
       one_of (nat_lt MOST_STARTED (length w.processes)) (fails sc w p q part outer fault.ProcessLimit)
       (starts sc w p q part outer (block_of ((use_of sc n).sort)) (home sc w p q part outer n) (given_cells sc w p q part outer gs) (task_of sc w p q part outer task))
       (fails_or fault.ProcessLimit) (process_starts sc texts w ok p q part outer is todo able_is n gs task e fits.0 fits.1)
-  choice_keeps (asks.acts x n) e fits =
-      event_acted sc (heads_act sc) w ok p q part outer is todo able_is (suits_by (asks.acts x n) e done tt) (followed w (here sc w p q part outer n))
-      (at_followed sc (heads_act sc) w ok p q part outer is todo able_is n (seen_by (asks.acts x n) e)) x
+  choice_keeps (asks.event_deed x ns) e fits = deed_keeps x ns e
   choice_keeps (asks.writes phrases vs) e fits =
       goes_ok sc (heads_act sc) w ok p q part outer is todo able_is done tt tt (suits_by (asks.writes phrases vs) e done tt)
       (record w { output = w.output ++ line_of phrases vs ∷ [] }) (pairs_self InstanceAlike instance_self w.instances) refl (λ r d g. g)

@@ -4,7 +4,8 @@ use Rattle.std.specs.Prelude.{slice_get}
 use Rattle.b67_list.specs.Numbered.{numbered}
 use Rattle.algol_tree.specs.Blocks.{block_numbered, around}
 use Rattle.algol_tree.specs.Scopes.{Scopes}
-use Rattle.algol_meaning.specs.Value.{Reference, EventCell, Cell, event}
+use Rattle.algol_meaning.specs.Value.{Reference, Cell, event}
+use Rattle.b67_deeds.specs.Events.{EventState}
 use Rattle.algol_meaning.specs.Rest.{Item}
 use Rattle.algol_meaning.specs.World.{Instance, or_no_instance, instance_at, cell_in, cell_at, Purpose, Part, Process, able, lives, World}
 use Rattle.algol_meaning.specs.Critical.{is_evaluation, own_instances, referred_by}
@@ -247,7 +248,7 @@ module _ (sc : Scopes) (texts : KeepToTexts sc) (w : World) (ok : IsSound sc IsW
       by (◌⊎◌.inl f) = old f
       by (◌⊎◌.inr f) = subst (λ k. InstanceOk sc IsWhole v k y) (number_next ∙ sym f.0) (subst (λ z. InstanceOk sc IsWhole v number z) (sym f.1) new_ok)
 
-  listed_then : (r : Reference) (e : EventCell) → IsStanding v r.instance → cell_at v r ≡ event e → AreListed v r e
+  listed_then : (r : Reference) (e : EventState) → IsStanding v r.instance → cell_at v r ≡ event e → AreListed v r e
   listed_then r e st f = by (stood r.instance st)
     where
       by : IsStanding w r.instance ⊎ (r.instance ≡ number) → AreListed v r e

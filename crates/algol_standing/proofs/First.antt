@@ -4,7 +4,8 @@ use Rattle.std.specs.Prelude.{slice_get}
 use Rattle.b67_list.specs.Numbered.{numbered}
 use Rattle.algol_tree.specs.Blocks.{block_numbered}
 use Rattle.algol_tree.specs.Scopes.{Scopes}
-use Rattle.algol_meaning.specs.Value.{EventCell, event}
+use Rattle.algol_meaning.specs.Value.{event}
+use Rattle.b67_deeds.specs.Events.{EventState}
 use Rattle.algol_meaning.specs.Rest.{Rest}
 use Rattle.algol_meaning.specs.Statements.{items_of, settle_items}
 use Rattle.algol_meaning.specs.World.{Instance, instance_at, cell_in, block, Part, Process, able, lives, World}
@@ -128,7 +129,7 @@ module _ (sc : Scopes) (o : HasOuterBlock sc) (acts : ask (settle_items sc (item
         actuals = λ m st n. absurd (fresh_names (block_numbered sc.blocks 0) [] m n);
       }
 
-  no_event : (i : ℕ) (name : List ℕ) (e : EventCell) → cell_in ((instance_at first i).cells) name ≡ event e → ⊥
+  no_event : (i : ℕ) (name : List ℕ) (e : EventState) → cell_in ((instance_at first i).cells) name ≡ event e → ⊥
   no_event zero name e f = cc
   no_event (suc zero) name e f = fresh_no_event (block_numbered sc.blocks 0) [] tt name e f
   no_event (suc (suc k)) name e f = cc

@@ -5,25 +5,25 @@ use Rattle.b67_list.specs.Numbered.{numbered}
 use Rattle.b67_num.specs.declared.FaultKind.TheVariants as fault
 use Rattle.b67_num.specs.Whole.{fault_of}
 use Rattle.algol_tree.specs.declared.tree.Kind.{Kind}
-use Rattle.algol_tree.specs.declared.tree.EventAct.{EventAct}
-use Rattle.algol_tree.specs.declared.tree.EventAct.TheVariants as act
 use Rattle.algol_tree.specs.declared.tree.Named.{Named}
 use Rattle.algol_tree.specs.Plain.{PPair}
 use Rattle.algol_tree.specs.Sorts.{is_by_name}
 use Rattle.algol_tree.specs.Scopes.{Scopes, use_of}
 use Rattle.algol_meaning.specs.declared.TheConstants.{MOST_STARTED}
-use Rattle.algol_meaning.specs.Value.{Value, truth, whole_of, Reference, EventCell, Bounds, ArrayCell, Cell, simple, event, array, named, reference}
+use Rattle.algol_meaning.specs.Value.{Value, whole_of, Reference, Bounds, ArrayCell, Cell, simple, event, array, named, reference}
+use Rattle.b67_deeds.specs.Events.{fresh_state}
+use Rattle.b67_deeds.specs.Deeds as deeds
+use Rattle.b67_deeds.specs.Deeds.{EventDeed, Deed, Next, deed}
 use Rattle.algol_meaning.specs.Rest.{Place, own, there, element_of, Answer, done, value, cell, place}
 use Rattle.algol_meaning.specs.Settle.{block_of, sort_at, settle_actual_place}
-use Rattle.algol_meaning.specs.World.{instance_at, cell_in, cell_at, set_cell, add_cells, followed, value_in, array_in, name_place, Part, Process, State, able, waits_for, procures, set_all_able, with_process, World}
+use Rattle.algol_meaning.specs.World.{instance_at, cell_in, cell_at, set_cell, add_cells, followed, value_in, array_in, name_place, Part, Process, State, able, waits_for, procures, with_process, World}
 use Rattle.algol_meaning.specs.Arrays.{subscript_place, element_at, with_element, new_array, new_arrays, has_wrong_size, has_no_room, bounds_of}
-use Rattle.algol_meaning.specs.Events.{event_at, new_event, set_event, liberated_by}
+use Rattle.algol_meaning.specs.Events.{event_at, released}
 use Rattle.algol_meaning.specs.Lines.{line_of}
-use Rattle.algol_meaning.specs.Actions as actions
-use Rattle.algol_meaning.specs.Actions.{Action}
+use Rattle.b67_deeds.specs.declared.Letter.TheVariants as actions
 use Rattle.algol_meaning.specs.Asks as asks
 use Rattle.algol_meaning.specs.Asks.{Ask, ask, resume, located_of}
-use Rattle.algol_meaning.specs.Choice.{Choice, choice_of, is_subscripted, nth_exists, goes, goes_releasing, stops, opens, fails, home, here, read_of, resolved_of, indexed_at, element_read_at, stored, made_arrays, acted, given_cells, task_of, starts}
+use Rattle.algol_meaning.specs.Choice.{Choice, choice_of, is_subscripted, nth_exists, goes, opens, fails, home, here, read_of, resolved_of, indexed_at, element_read_at, stored, made_arrays, given_cells, task_of, starts, told, did, does_with}
 use Rattle.algol_paths.specs.Blocks.{IsSeenAround, IsInner}
 use Rattle.algol_calls.specs.Fits.{CallsFitInTexts, IsLink, AskFits, AnswerFits}
 use Rattle.algol_calls.proofs.Sorts.{by_name_formal}
@@ -37,7 +37,7 @@ use Rattle.algol_standing.proofs.FitWorlds.{Extends, extends_self, right_all, se
 use Rattle.algol_standing.proofs.FitNames.{Seen, plain_here, link_here, right_here, followed_here}
 use Rattle.algol_standing.proofs.FitActing.{simple_right, same_fits, here_fits, asked, goes_fits, stays_fits, KeepsFit, either_fit, fails_fit}
 use Rattle.algol_standing.proofs.FitEntering.{procedure_fits, start_fits, block_fits, read_fits, place_fits}
-use Rattle.algol_standing.proofs.FitLeaving.{event_fits, leaves_fit, jump_fits}
+use Rattle.algol_standing.proofs.FitLeaving.{deed_fits, leaves_fit, jump_fits}
 
 module _ (sc : Scopes) (texts : CallsFitInTexts sc) (w : World) (ok : IsSound sc IsWhole w) (fits : WorldFits sc w) (p : ℕ) (q : Process) (part : Part) (outer : List Part)
     (is : numbered w.processes p ≡ Some q) (todo : q.todo ≡ part ∷ outer) (able_is : q.state ≡ able) where
@@ -74,7 +74,12 @@ module _ (sc : Scopes) (texts : CallsFitInTexts sc) (w : World) (ok : IsSound sc
         WorldFits sc (with_process w p (record q { todo = record part { rest = resume sc part.rest a } ∷ outer }))
     stays a f b g = stays_fits sc w ok fits p q part outer is todo x e a f b g
 
-    -- nothing is answered, and the world is another
+    -- .. and the world is another
+    goes_to_answer : (a : Answer) → AnswerFits sc x a → AllLeadRight sc w (held_in_answer a) → IsForeign a → (v : World) → Extends w v → WorldFits sc v → (s : State) →
+        WorldFits sc (with_process v p (record q { todo = record part { rest = resume sc part.rest a } ∷ outer; state = s }))
+    goes_to_answer a f b g v more h s = goes_fits sc w ok fits p q part outer is todo x e a f b g v more h s
+
+    -- .. and nothing is answered
     goes_in : AnswerFits sc x done → (v : World) → Extends w v → WorldFits sc v → (s : State) →
         WorldFits sc (with_process v p (record q { todo = record part { rest = resume sc part.rest done } ∷ outer; state = s }))
     goes_in f v more h s = goes_fits sc w ok fits p q part outer is todo x e done f tt tt v more h s
@@ -128,36 +133,39 @@ module _ (sc : Scopes) (texts : CallsFitInTexts sc) (w : World) (ok : IsSound sc
 
   -- ---- events
 
-  module _ (x : EventAct) (n : Named) (e : ask part.rest ≡ asks.acts x n) (r : Reference) (plain : IsPlainAt sc w r) where
-    changed : (d : EventCell) (ps : List ℕ) (s : State) →
-        WorldFits sc (with_process (set_all_able (set_event w r d) ps) p (record q { todo = record part { rest = resume sc part.rest done } ∷ outer; state = s }))
-    changed d ps s =
-        let h = event_fits sc w r d ps fits plain in
-        goes_in (asks.acts x n) e tt (set_all_able (set_event w r d) ps) h.1 h.0 s
+  told_fits : (x : EventDeed) (ns : List Named) (o : Option Bool) → AnswerFits sc (asks.event_deed x ns) (told sc w p q part outer o)
+  told_fits x ns None = tt
+  told_fits x ns (Some b) = tt
 
-    unchanged : WorldFits sc (with_process w p (record q { todo = record part { rest = resume sc part.rest done } ∷ outer }))
-    unchanged = stays (asks.acts x n) e done tt tt tt
+  told_right : (o : Option Bool) → AllLeadRight sc w (held_in_answer (told sc w p q part outer o))
+  told_right None = tt
+  told_right (Some b) = tt
 
-  acted_kept : (x : EventAct) (n : Named) → ask part.rest ≡ asks.acts x n → (r : Reference) → IsPlainAt sc w r → Keeps (acted sc w p q part outer x r)
-  acted_kept act.Cause n e r h = changed act.Cause n e r h (record (event_at w r) { happened = true; waiters = [] }) ((event_at w r).waiters) q.state
-  acted_kept act.Reset n e r h = changed act.Reset n e r h (record (event_at w r) { happened = false }) [] q.state
-  acted_kept act.Wait n e r h =
-      one_of ((event_at w r).happened) (goes sc w p q part outer actions.Wait w done)
-      (stops sc w p q part outer actions.Wait (set_event w r (record (event_at w r) { waiters = (event_at w r).waiters ++ p ∷ [] })) (waits_for r)) (unchanged act.Wait n e r h)
-      (changed act.Wait n e r h (record (event_at w r) { waiters = (event_at w r).waiters ++ p ∷ [] }) [] (waits_for r))
-  acted_kept act.Procure n e r h = by ((event_at w r).available)
+  told_foreign : (o : Option Bool) → IsForeign (told sc w p q part outer o)
+  told_foreign None = tt
+  told_foreign (Some b) = tt
+
+  did_kept : (x : EventDeed) (ns : List Named) → ask part.rest ≡ asks.event_deed x ns → (r : Reference) → IsPlainAt sc w r → (d : Deed) (n : Next) →
+      Keeps (did sc w p q part outer x r d n)
+  did_kept x ns e r plain d n = by n
     where
-      by : (b : Bool) →
-          Keeps
-          (if b then goes sc w p q part outer actions.Procure (set_event w r (record (event_at w r) { available = false })) done
-          else stops sc w p q part outer actions.Procure (set_event w r (record (event_at w r) { procurers = (event_at w r).procurers ++ p ∷ [] })) (procures r))
-      by true = changed act.Procure n e r h (record (event_at w r) { available = false }) [] q.state
-      by false = changed act.Procure n e r h (record (event_at w r) { procurers = (event_at w r).procurers ++ p ∷ [] }) [] (procures r)
-  acted_kept act.Liberate n e r h = by ((event_at w r).procurers)
-    where
-      by : (ps : List ℕ) → Keeps (goes_releasing sc w p q part outer actions.Liberate (liberated_by w r (event_at w r) ps))
-      by [] = changed act.Liberate n e r h (record (event_at w r) { available = true }) [] q.state
-      by (k ∷ ps) = changed act.Liberate n e r h (record (event_at w r) { procurers = ps }) (k ∷ []) q.state
+      h : WorldFits sc (released w r d).world × Extends w (released w r d).world
+      h = deed_fits sc w r d fits plain
+
+      by : (m : Next) → Keeps (did sc w p q part outer x r d m)
+      by deeds.goes =
+          goes_to_answer (asks.event_deed x ns) e (told sc w p q part outer d.answer) (told_fits x ns d.answer) (told_right d.answer) (told_foreign d.answer) (released w r d).world h.1 h.0
+          q.state
+      by deeds.waits = goes_in (asks.event_deed x ns) e tt (released w r d).world h.1 h.0 (waits_for r)
+      by deeds.procures = goes_in (asks.event_deed x ns) e tt (released w r d).world h.1 h.0 (procures r)
+
+  does_kept : (x : EventDeed) (ns : List Named) → ask part.rest ≡ asks.event_deed x ns → Keeps (does_with sc w p q part outer x ns)
+  does_kept x [] e = fits
+  does_kept x (n ∷ ns) e =
+      let r = followed w (at_name n) in
+      did_kept x (n ∷ ns) e r
+      (followed_here sc w ok fits p q part outer is todo n (seen_of (asks.event_deed x (n ∷ ns)) e).0 (wanted_of (asks.event_deed x (n ∷ ns)) e).0)
+      (deed x p (event_at w r)) ((deed x p (event_at w r)).next)
 
   -- ---- arrays and events that are made
 
@@ -192,7 +200,6 @@ module _ (sc : Scopes) (texts : CallsFitInTexts sc) (w : World) (ok : IsSound sc
   choice_kept (asks.indexes n ks v) e =
       indexed_kept n ks v e (followed w (at_name n)) (followed_here sc w ok fits p q part outer is todo n (seen_of (asks.indexes n ks v) e) (wanted_of (asks.indexes n ks v) e))
       (subscript_place ((use_of sc n).sort) (array_in (cell_at w (followed w (at_name n)))) ks (whole_of v))
-  choice_kept (asks.asks_happened n) e = stays (asks.asks_happened n) e (value (truth ((event_at w (followed w (at_name n))).happened))) tt tt tt
   choice_kept (asks.fails f) e = fails_fit sc w ok fits p q part outer is todo (fault_of f)
   choice_kept (asks.enters n gs) e =
       let x = wanted_of (asks.enters n gs) e in
@@ -225,14 +232,13 @@ module _ (sc : Scopes) (texts : CallsFitInTexts sc) (w : World) (ok : IsSound sc
       (starts sc w p q part outer (block_of ((use_of sc n).sort)) (home sc w p q part outer n) (given_cells sc w p q part outer gs) (task_of sc w p q part outer task))
       (fails_fit sc w ok fits p q part outer is todo fault.ProcessLimit)
       (start_fits sc texts w ok fits p q part outer is todo n gs x.0 x.1 s.1 (held_of (asks.starts n gs task) e) task x.2 s.2 e)
-  choice_kept (asks.acts x n) e =
-      acted_kept x n e (followed w (at_name n)) (followed_here sc w ok fits p q part outer is todo n (seen_of (asks.acts x n) e) (wanted_of (asks.acts x n) e))
+  choice_kept (asks.event_deed x ns) e = does_kept x ns e
   choice_kept (asks.writes phrases vs) e =
       goes_in (asks.writes phrases vs) e tt (record w { output = w.output ++ line_of phrases vs ∷ [] }) (extends_self w (record w { output = w.output ++ line_of phrases vs ∷ [] }) refl)
       (same_fits sc w (record w { output = w.output ++ line_of phrases vs ∷ [] }) fits refl refl) q.state
   choice_kept (asks.makes_arrays kind ns pairs vs) e = arrays_kept kind ns pairs vs e (bounds_of pairs vs)
   choice_kept (asks.makes_event n) e =
-      let right = finds_first (LeadsRight sc w) (simple_right sc w) (record { name = n.name; cell = event new_event }) [] tt (finds_none (LeadsRight sc w) (simple_right sc w)) in
-      goes_in (asks.makes_event n) e tt (add_cells w part.instance (record { name = n.name; cell = event new_event } ∷ []))
-      (add_cells_extends sc w fits part.instance (record { name = n.name; cell = event new_event } ∷ []) right)
-      (add_cells_fits sc w fits part.instance (record { name = n.name; cell = event new_event } ∷ []) right) q.state
+      let right = finds_first (LeadsRight sc w) (simple_right sc w) (record { name = n.name; cell = event fresh_state }) [] tt (finds_none (LeadsRight sc w) (simple_right sc w)) in
+      goes_in (asks.makes_event n) e tt (add_cells w part.instance (record { name = n.name; cell = event fresh_state } ∷ []))
+      (add_cells_extends sc w fits part.instance (record { name = n.name; cell = event fresh_state } ∷ []) right)
+      (add_cells_fits sc w fits part.instance (record { name = n.name; cell = event fresh_state } ∷ []) right) q.state

@@ -6,13 +6,16 @@ use Rattle.b67_num.specs.declared.FaultKind.TheVariants as fault
 use Rattle.algol_tree.specs.declared.tree.Named.{Named}
 use Rattle.algol_tree.specs.Blocks.{Block, block_numbered}
 use Rattle.algol_tree.specs.Scopes.{Scopes}
-use Rattle.algol_meaning.specs.Value.{Reference, EventCell, event}
+use Rattle.algol_meaning.specs.Value.{Reference, event}
+use Rattle.b67_deeds.specs.declared.EventAct.TheVariants as act
+use Rattle.b67_deeds.specs.Events.{EventState}
+use Rattle.b67_deeds.specs.Deeds.{Deed, acts, deed}
 use Rattle.algol_meaning.specs.Rest.{Answer, done, value, cell, place, entered}
 use Rattle.algol_meaning.specs.Statements.{items_from, settle_items}
 use Rattle.algol_meaning.specs.World.{Instance, instance_at, Part, Process, able, ended, lives, set_all_able, with_process, World}
 use Rattle.algol_meaning.specs.Critical.{some_depends, some_depends_on_any, is_evaluation, own_instances}
 use Rattle.algol_meaning.specs.Instances.{leave, Cut, cut_at}
-use Rattle.algol_meaning.specs.Events.{event_at, set_event, caused_by_end}
+use Rattle.algol_meaning.specs.Events.{event_at, change_event, released, caused_by_end}
 use Rattle.algol_meaning.specs.Asks as asks
 use Rattle.algol_meaning.specs.Asks.{nothing, ask, resume}
 use Rattle.algol_meaning.specs.Choice.{fails, left_with, ended_releasing, left_or_ended, left, gone, goes_to}
@@ -39,14 +42,20 @@ waiting sc (value v) f = tt
 waiting sc (cell c) f = tt
 waiting sc entered f = tt
 
--- an event that changes, and processes that are made able
-pub event_fits : (sc : Scopes) (w : World) (r : Reference) (e : EventCell) (ps : List ℕ) → WorldFits sc w → IsPlainAt sc w r →
-    WorldFits sc (set_all_able (set_event w r e) ps) × Extends w (set_all_able (set_event w r e) ps)
-event_fits sc w r e ps fits plain = (
-  able_fits sc ps (set_event w r e) (set_cell_fits sc w fits r (event e) plain tt),
-  extends_then w (set_event w r e) (set_all_able (set_event w r e) ps) (set_cell_extends sc w fits r (event e) plain tt)
-      (extends_self (set_event w r e) (set_all_able (set_event w r e) ps) (able_instances (set_event w r e) ps)),
-)
+changed_fits : (sc : Scopes) (w : World) (r : Reference) (c : Option (EventState → EventState)) → WorldFits sc w → IsPlainAt sc w r →
+    WorldFits sc (change_event w r c) × Extends w (change_event w r c)
+changed_fits sc w r None fits plain = (fits, extends_self w w refl)
+changed_fits sc w r (Some change) fits plain =
+    let e = event (change (event_at w r)) in (set_cell_fits sc w fits r e plain tt, set_cell_extends sc w fits r e plain tt)
+
+-- a deed
+pub deed_fits : (sc : Scopes) (w : World) (r : Reference) (d : Deed) → WorldFits sc w → IsPlainAt sc w r → WorldFits sc (released w r d).world × Extends w (released w r d).world
+deed_fits sc w r d fits plain =
+    let v = change_event w r d.change in
+    let f = changed_fits sc w r d.change fits plain in (
+      able_fits sc d.frees v f.0,
+      extends_then w v (set_all_able v d.frees) f.1 (extends_self v (set_all_able v d.frees) (able_instances v d.frees)),
+    )
 
 module _ (sc : Scopes) (texts : CallsFitInTexts sc) (w : World) (ok : IsSound sc IsWhole w) (fits : WorldFits sc w) (p : ℕ) (q : Process) (part : Part) (outer : List Part)
     (is : numbered w.processes p ≡ Some q) (todo : q.todo ≡ part ∷ outer) (able_is : q.state ≡ able) where
@@ -97,14 +106,13 @@ module _ (sc : Scopes) (texts : CallsFitInTexts sc) (w : World) (ok : IsSound sc
     ends_fits v more h =
         process_fits sc v p (record q { todo = []; state = ended }) h (parts_fit sc w ok fits p q part outer is todo v more [] (λ x n. absurd n) ended)
 
-    ended_by : (o : Option Reference) → q.task ≡ o → WorldFits sc (ended_releasing sc w p q part outer (caused_by_end without o)).world
+    ended_by : (o : Option Reference) → q.task ≡ o → WorldFits sc (ended_releasing sc w p q part outer (caused_by_end without p o)).world
     ended_by None e = ends_fits without gone_fits.1 gone_fits.0
     ended_by (Some r) e =
         let plain : IsPlainAt sc without r = plain_too sc w without gone_fits.1 r ((fits.processes p q is).task r e) in
-        let d = record (event_at without r) { happened = true; waiters = [] } in
-        let x = event_fits sc without r d ((event_at without r).waiters) gone_fits.0 plain in
-        let v = set_all_able (set_event without r d) ((event_at without r).waiters) in
-        ends_fits v (extends_then w without v gone_fits.1 x.1) x.0
+        let d = deed (acts act.Cause) p (event_at without r) in
+        let x = deed_fits sc without r d gone_fits.0 plain in
+        ends_fits (released without r d).world (extends_then w without (released without r d).world gone_fits.1 x.1) x.0
 
     left_or_ended_fits : (parts : List Part) → outer ≡ parts → WorldFits sc (left_or_ended sc w p q part outer a parts).world
     left_or_ended_fits [] below = ended_by q.task refl

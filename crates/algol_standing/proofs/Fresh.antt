@@ -6,7 +6,8 @@ use Rattle.algol_tree.specs.Plain as tree
 use Rattle.algol_tree.specs.Plain.{PDecls}
 use Rattle.algol_tree.specs.Sorts.{Parameter}
 use Rattle.algol_tree.specs.Blocks.{Block}
-use Rattle.algol_meaning.specs.Value.{initial_value, Value, NameCell, EventCell, Cell, simple, event}
+use Rattle.algol_meaning.specs.Value.{initial_value, Value, NameCell, Cell, simple, event}
+use Rattle.b67_deeds.specs.Events.{EventState}
 use Rattle.algol_meaning.specs.World.{NamedCell, cell_in}
 use Rattle.algol_meaning.specs.Critical.{referred_in, referred_by}
 use Rattle.algol_meaning.specs.Instances.{parameter_cells, initial_cells, result_cells, variable_cells, fresh_cells}
@@ -96,7 +97,7 @@ module _ (b : Block) (cells : List Cell) where
       parameter_names b.parameters cells m
       (names_more parameters results m (result_simple b.result b.name).0 (names_more (parameters ++ results) (variable_cells b.decls) m (variables_simple b.decls).0 n))
 
-  pub fresh_no_event : AreAll IsNoEvent cells → (name : List ℕ) (e : EventCell) → cell_in (fresh_cells b cells) name ≡ event e → ⊥
+  pub fresh_no_event : AreAll IsNoEvent cells → (name : List ℕ) (e : EventState) → cell_in (fresh_cells b cells) name ≡ event e → ⊥
   fresh_no_event f name e g = none (event_more [] (fresh_cells b cells) name e all g)
     where
       all : AreNoEvents (fresh_cells b cells)

@@ -6,7 +6,7 @@ use Rattle.algol_tree.specs.declared.tree.Kind.{Kind}
 use Rattle.algol_tree.specs.declared.tree.Named.{Named}
 use Rattle.algol_tree.specs.declared.tree.PhraseText.{PhraseText}
 use Rattle.algol_tree.specs.Plain as tree
-use Rattle.algol_tree.specs.Plain.{PExpr, PVariable, PExprs, PPair, PStmt, PStmts, PBody}
+use Rattle.algol_tree.specs.Plain.{PExpr, PVariable, PExprs, PPair, PStmt, PStmts, PBody, name_alone}
 use Rattle.algol_tree.specs.Sorts.{Sort, is_formal, is_by_name, is_variable, procedure_in}
 use Rattle.algol_tree.specs.Scopes.{Scopes}
 use Rattle.b67_num.specs.declared.NumFault.{NumFault}
@@ -14,7 +14,7 @@ use Rattle.algol_meaning.specs.Value.{Value, number, whole_of, truth_of, Cell, s
 use Rattle.algol_meaning.specs.Operators.{result_of}
 use Rattle.algol_meaning.specs.Rest as rests
 use Rattle.algol_meaning.specs.Rest.{Place, Given, valued, passed, refers, names, Hole, Actuals, Half, val, busy, HalfGiven, given, wants, Aim, HalfPlace, at, aims, Loop, Item, Rest, Answer, done, value, cell, place, entered, cell_of, subscripts_of}
-use Rattle.algol_meaning.specs.Settle.{after_result, right_of, left_of, negated_of, inverted_of, condition_of, named_of, subscripted_of, called_of, valued_of, alone_of, name_alone, sorts_of, left_alone_of, aimed_of, half_of, half_place_of, callee, is_typed, sort_at, other_of, actual_of, first_actual_of, settle, settle_actuals, put, put_actuals, settle_place, indexed_of, put_place}
+use Rattle.algol_meaning.specs.Settle.{after_result, right_of, left_of, negated_of, inverted_of, condition_of, named_of, subscripted_of, called_of, valued_of, alone_of, sorts_of, left_alone_of, aimed_of, half_of, half_place_of, callee, is_typed, sort_at, other_of, actual_of, first_actual_of, settle, settle_actuals, put, put_actuals, settle_place, indexed_of, put_place}
 use Rattle.algol_meaning.specs.Statements.{items, run_and, turn_and, assigned_of, aimed_at, chosen_of, looped_of, checked_of, repeated_of, counted_of, after_count, selected_of, statement_called_of, prepared_of, item_of, bound_of, begun_of, is_past, difference_in, stepped, settle_line, settle_bounds, settle_stmt, settle_stmts, settle_body, counted_body, again, tested_of, differed_of, settle_items}
 use Rattle.algol_meaning.specs.Asks.{evaluated_of, located_of, nth_stmt, inside_or_after, called, resume}
 use Rattle.algol_standing.specs.Worlds.{held_in_place, held_in_givens, held_in_hole, held_in_actuals, held_in_aim, held_in_rest, held_in_answer, IsGivable, GivesNoOwn}
@@ -175,7 +175,7 @@ module _ (C : Cell → Type 0) (plain : (v : Value) → C (simple v)) where
       settle_holds (tree.variable (tree.subscripted n (tree.more e es))) = subscripted_holds n [] (settle sc e) es (settle_holds e)
       settle_holds (tree.call (tree.called n es)) =
           called_holds n (settle_actuals sc es (sorts_of (callee sc n).parameters) []) (actuals_hold es (sorts_of (callee sc n).parameters) [] tt)
-      settle_holds (tree.tested tree.happened e spot) = tt
+      settle_holds (tree.tested x es spot) = tt
       settle_holds (tree.paren e spot) = settle_holds e
       settle_holds (tree.plus e spot) = settle_holds e
       settle_holds (tree.neg e spot) = negated_holds (settle sc e) (settle_holds e)
@@ -192,7 +192,7 @@ module _ (C : Cell → Type 0) (plain : (v : Value) → C (simple v)) where
       put_holds (rests.read n) a i j = half_holds a
       put_holds (rests.element n ks v) a i j = half_holds a
       put_holds (rests.index n ks v e es) a i j = subscripted_holds n (subscripts_of a) (settle sc e) es (settle_holds e)
-      put_holds (rests.happens n) a i j = half_holds a
+      put_holds (rests.tests x ns) a i j = half_holds a
       put_holds (rests.broken op v w fault) a i j = half_holds a
       put_holds (rests.enter n gs) a i j = half_holds a
       put_holds rests.inside a i j = half_holds a

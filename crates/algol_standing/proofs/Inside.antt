@@ -79,7 +79,7 @@ module _ (sc : Scopes) where
     put_waits (rests.read n) e = refl
     put_waits (rests.element n ks i) e = absurd e
     put_waits (rests.index n ks i x es) e = absurd e
-    put_waits (rests.happens n) e = absurd e
+    put_waits (rests.tests x ns) e = absurd e
     put_waits (rests.broken op v w f) e = absurd e
     put_waits (rests.enter n gs) e = refl
     put_waits rests.inside e = absurd e

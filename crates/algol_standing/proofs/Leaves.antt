@@ -4,12 +4,17 @@ use Rattle.std.specs.Prelude.{if◌then◌else◌, ◌||◌}
 use Rattle.b67_list.specs.Numbered.{numbered}
 use Rattle.b67_num.specs.declared.FaultKind.TheVariants as fault
 use Rattle.algol_tree.specs.Scopes.{Scopes}
-use Rattle.algol_meaning.specs.Value.{Reference, EventCell, event}
+use Rattle.algol_meaning.specs.Value.{Reference, event}
+use Rattle.b67_deeds.specs.declared.EventAct.TheVariants as act
+use Rattle.b67_deeds.specs.Events.{EventState}
+use Rattle.b67_deeds.specs.Deeds as deeds
+use Rattle.b67_deeds.specs.Deeds.{Deed, deed, after_change}
+use Rattle.b67_deeds.specs.Listed.{IsListed}
 use Rattle.algol_meaning.specs.Rest.{Answer}
-use Rattle.algol_meaning.specs.World.{Instance, cell_in, cell_at, Part, Process, able, procures, ended, lives, with_process, set_all_able, World}
+use Rattle.algol_meaning.specs.World.{Instance, cell_in, cell_at, Part, Process, able, ended, lives, with_process, process_at, set_all_able, World}
 use Rattle.algol_meaning.specs.Critical.{some_depends, some_depends_on_any, is_evaluation, own_instances}
 use Rattle.algol_meaning.specs.Instances.{leave}
-use Rattle.algol_meaning.specs.Events.{event_at, set_event, caused_by_end}
+use Rattle.algol_meaning.specs.Events.{event_at, change_event, caused_by_end}
 use Rattle.algol_meaning.specs.Asks as asks
 use Rattle.algol_meaning.specs.Asks.{Ask, ask_hole, ask_actuals, ask_aim, ask, resume}
 use Rattle.algol_meaning.specs.Choice.{fails, left_with, ended_releasing, left_or_ended, left}
@@ -17,19 +22,19 @@ use Rattle.algol_laws.proofs.Cells.{numbered_set}
 use Rattle.algol_laws.proofs.Heads.{resume_acts}
 use Rattle.algol_paths.specs.Arrays.{all_to_make}
 use Rattle.algol_standing.specs.Skeleton.{IsIn}
-use Rattle.algol_standing.specs.Worlds.{held_in_answer, newest_own, stack_of, IsStanding, IsOwn, IsAmong, IsListed, AreListed, IsAwaited, GivesNoOwn, HasHead, IsWhole, IsSound}
+use Rattle.algol_standing.specs.Worlds.{held_in_answer, newest_own, stack_of, IsStanding, IsOwn, IsAmong, AreListed, IsAwaited, GivesNoOwn, HasHead, IsWhole, IsSound}
 use Rattle.algol_standing.proofs.Lists.{false_true}
 use Rattle.algol_standing.proofs.Holding.{AreAll, IsForeign}
-use Rattle.algol_standing.proofs.Pairs.{AllPairs, pairs_self, pairs_map, pairs_set_both, stack_forth}
+use Rattle.algol_standing.proofs.Pairs.{AllPairs, pairs_map, pairs_set_both, stack_forth}
 use Rattle.algol_standing.proofs.Alike.{InstanceAlike, process_self}
 use Rattle.algol_standing.proofs.Seen.{CellOk, there}
 use Rattle.algol_standing.proofs.Fine.{Fine, fine_of, fine_tail}
 use Rattle.algol_standing.proofs.Unmoved.{Unmoved, unmoved_self}
 use Rattle.algol_standing.proofs.Acted.{IsStillMade, still_self, acted_ok}
 use Rattle.algol_standing.proofs.Resumed.{others_wait, no_own, fine_holds, answered, answered_fine, answered_still}
-use Rattle.algol_standing.proofs.Changed.{set_alike}
-use Rattle.algol_standing.proofs.Listed.{able_instances, able_unmoved, waits_procures, procures_able, now_listed, WaitsAt, waits_live, happened, still_waits, listed_then}
-use Rattle.algol_standing.proofs.Events.{event_plain}
+use Rattle.algol_standing.proofs.Awaiting.{awaits_procures}
+use Rattle.algol_standing.proofs.Listed.{able_instances, now_listed, WaitsAt, happened, still_procures, listed_then}
+use Rattle.algol_standing.proofs.Events.{changed_alike, changed_unmoved}
 use Rattle.algol_standing.proofs.Quiet.{same_ok}
 use Rattle.algol_standing.proofs.Acting.{acting}
 use Rattle.algol_standing.proofs.Left.{task}
@@ -183,7 +188,7 @@ module _ (sc : Scopes) (w : World) (ok : IsSound sc IsWhole w) (p : ℕ) (q : Pr
       cells_same : (r : Reference) → cell_at before r ≡ cell_at w r
       cells_same r = leave_same (λ (x : Instance). cell_in x.cells r.name) (λ x. refl) w (part.instance ∷ []) r.instance
 
-      listed_before : (r : Reference) (e : EventCell) → IsStanding w r.instance → cell_at before r ≡ event e → AreListed before r e
+      listed_before : (r : Reference) (e : EventState) → IsStanding w r.instance → cell_at before r ≡ event e → AreListed before r e
       listed_before r e st f =
           let l = ok.listed r e st (sym (cells_same r) ∙ f) in
           record { waiters = l.waiters; procurers = l.procurers; once = l.once }
@@ -196,33 +201,29 @@ module _ (sc : Scopes) (w : World) (ok : IsSound sc IsWhole w) (p : ℕ) (q : Pr
         listed_now : AreListed before r (event_at before r)
         listed_now = now_listed before r (λ e f. listed_before r e stands f)
 
-        abbrev happens : EventCell
-        happens = record (event_at before r) { happened = true; waiters = [] }
+        abbrev d : Deed
+        d = deed (deeds.acts act.Cause) p (event_at before r)
 
-        free_now : (k : ℕ) → IsListed (event_at before r).waiters k → WaitsAt before r k
+        free_now : (k : ℕ) → IsListed d.frees k → WaitsAt before r k
         free_now k n = ◌⊎◌.inl (listed_now.waiters k n)
 
         abbrev v : World
-        v = happened before p q over is able_is r happens (event_at before r).waiters free_now
+        v = happened before p q over is able_is r d.change d.frees free_now
 
         instances : AllPairs InstanceAlike closed.instances v.instances
-        instances =
-            subst (λ xs. AllPairs InstanceAlike before.instances xs) (sym (able_instances (set_event before r happens) (event_at before r).waiters))
-            (set_alike before r (event happens) (event_plain happens))
+        instances = subst (λ xs. AllPairs InstanceAlike before.instances xs) (sym (able_instances (change_event before r d.change) d.frees)) (changed_alike before r d.change)
 
         processes : AllPairs Unmoved closed.processes v.processes
         processes =
-            pairs_set_both Unmoved before.processes (set_all_able (set_event before r happens) (event_at before r).waiters).processes p over (unmoved_self over)
-            (able_unmoved before (set_event before r happens) (event_at before r).waiters (pairs_self Unmoved unmoved_self before.processes)
-            (λ k n. waits_live before r k (free_now k n)))
+            pairs_set_both Unmoved before.processes (set_all_able (change_event before r d.change) d.frees).processes p over (unmoved_self over) (changed_unmoved before r d free_now)
 
-        here : AreListed v r happens
+        here : AreListed v r (after_change d.change (event_at before r))
         here =
             record {
               waiters = λ k n. absurd n;
               procurers = λ k n.
-                  still_waits before p q over is able_is r happens (event_at before r).waiters free_now k (procures r) (listed_now.procurers k n) (procures_able r)
-                  (λ m. waits_procures r r (sym (listed_now.waiters k m) ∙ listed_now.procurers k n));
+                  still_procures before p q over is able_is r d.change d.frees free_now k r (listed_now.procurers k n)
+                  (λ m. awaits_procures ((process_at before k).state) r r (listed_now.waiters k m) (listed_now.procurers k n));
               once = listed_now.once;
             }
 
@@ -236,9 +237,9 @@ module _ (sc : Scopes) (w : World) (ok : IsSound sc IsWhole w) (p : ℕ) (q : Pr
             acted_ok sc closed closed_ok p over at_p over (process_self over) (closed_ok.processes p over at_p)
             (λ e n. closed_ok.skeleton_ok.evaluates p (stack_of over) e (stack_forth closed p over at_p) n) (still_self []) v instances
             (pairs_map Unmoved (λ x z. ((x ≡ over) × (z ≡ over)) ⊎ Unmoved x z) (λ x z f. ◌⊎◌.inr f) closed.processes v.processes processes)
-            (λ s d st f. listed_then before p q over is able_is r happens (event_at before r).waiters free_now y.0 y.1 here s d (listed_before s d (closed_stood s.instance st)) f)
+            (λ s e st f. listed_then before p q over is able_is r d.change d.frees free_now y.0 y.1 here s e (listed_before s e (closed_stood s.instance st)) f)
 
-      ends : (o : Option Reference) → q.task ≡ o → IsSound sc IsWhole (ended_releasing sc w p q part outer (caused_by_end before o)).world
+      ends : (o : Option Reference) → q.task ≡ o → IsSound sc IsWhole (ended_releasing sc w p q part outer (caused_by_end before p o)).world
       ends None e = closed_ok
       ends (Some r) e = task_caused r e
 

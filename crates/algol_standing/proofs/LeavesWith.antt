@@ -15,7 +15,7 @@ mutual
   hole_stays (rests.read n) a e = cc
   hole_stays (rests.element n ks i) a e = cc
   hole_stays (rests.index n ks i x es) a e = cc
-  hole_stays (rests.happens n) a e = cc
+  hole_stays (rests.tests x ns) a e = cc
   hole_stays (rests.broken op v w f) a e = cc
   hole_stays (rests.enter n gs) a e = cc
   hole_stays rests.inside a e = cc

@@ -22,6 +22,7 @@ pub mod Inside
 pub mod Acting
 pub mod Carried
 pub mod Quiet
+pub mod Awaiting
 pub mod Listed
 pub mod Events
 pub mod Left

@@ -6,22 +6,23 @@ use Rattle.b67_num.specs.declared.FaultKind.{FaultKind}
 use Rattle.b67_num.specs.declared.FaultKind.TheVariants as fault
 use Rattle.b67_num.specs.Whole.{fault_of}
 use Rattle.algol_tree.specs.declared.tree.Kind.{Kind}
-use Rattle.algol_tree.specs.declared.tree.EventAct.{EventAct}
-use Rattle.algol_tree.specs.declared.tree.EventAct.TheVariants as act
 use Rattle.algol_tree.specs.declared.tree.Named.{Named}
 use Rattle.algol_tree.specs.Scopes.{Scopes, use_of}
 use Rattle.algol_meaning.specs.declared.TheConstants.{MOST_STARTED}
-use Rattle.algol_meaning.specs.Value.{Value, truth, whole_of, Reference, EventCell, Bounds, ArrayCell, Cell, simple, event, array, named, reference}
+use Rattle.algol_meaning.specs.Value.{Value, whole_of, Reference, Bounds, ArrayCell, Cell, simple, event, array, named, reference}
+use Rattle.b67_deeds.specs.Events.{fresh_state}
+use Rattle.b67_deeds.specs.Deeds as deeds
+use Rattle.b67_deeds.specs.Deeds.{EventDeed, Deed, Next, deed}
 use Rattle.algol_meaning.specs.Rest.{Place, own, there, element_of, Answer, done, value, cell, place}
 use Rattle.algol_meaning.specs.Settle.{block_of, settle_actual_place}
-use Rattle.algol_meaning.specs.World.{instance_at, cell_at, set_cell, add_cells, followed, value_in, array_in, name_place, Part, Process, State, waits_for, procures, set_all_able, with_process, World}
+use Rattle.algol_meaning.specs.World.{instance_at, cell_at, set_cell, add_cells, followed, value_in, array_in, name_place, Part, Process, State, waits_for, procures, with_process, World}
 use Rattle.algol_meaning.specs.Arrays.{subscript_place, element_at, with_element, new_arrays, has_wrong_size, has_no_room, bounds_of}
-use Rattle.algol_meaning.specs.Events.{event_at, new_event, set_event, liberated_by}
+use Rattle.algol_meaning.specs.Events.{event_at, released}
 use Rattle.algol_meaning.specs.Lines.{line_of}
-use Rattle.algol_meaning.specs.Actions as actions
+use Rattle.b67_deeds.specs.declared.Letter.TheVariants as actions
 use Rattle.algol_meaning.specs.Asks as asks
 use Rattle.algol_meaning.specs.Asks.{Ask, ask, resume, located_of}
-use Rattle.algol_meaning.specs.Choice.{Choice, choice_of, is_subscripted, nth_exists, goes, goes_releasing, stops, opens, fails, home, here, read_of, resolved_of, indexed_at, element_read_at, stored, made_arrays, acted, given_cells, task_of, starts}
+use Rattle.algol_meaning.specs.Choice.{Choice, choice_of, is_subscripted, nth_exists, goes, opens, fails, home, here, read_of, resolved_of, indexed_at, element_read_at, stored, made_arrays, given_cells, task_of, starts, told, did, does_with}
 use Rattle.algol_paths.specs.Blocks.{IsSeen, IsSeenAround, IsInner}
 use Rattle.algol_calls.specs.Fits.{wanted, AskFits}
 use Rattle.algol_standing.specs.Worlds.{held_in_rest, held_in_answer, IsNoBlock, IsWhole, IsSound}
@@ -36,7 +37,7 @@ use Rattle.algol_standing.proofs.LowWorlds.{Low, all_low, LowIf, same_low, set_c
 use Rattle.algol_standing.proofs.LowNames.{Near, leads_here, cell_here_low, followed_low}
 use Rattle.algol_standing.proofs.LowActing.{old_part, goes_low, stays_low, KeepsLow, either_low, fails_low}
 use Rattle.algol_standing.proofs.LowEntering.{told_of, procedure_low, start_low, block_low, read_low, place_low}
-use Rattle.algol_standing.proofs.LowLeaving.{event_low, leaves_low, jump_low}
+use Rattle.algol_standing.proofs.LowLeaving.{deed_low, leaves_low, jump_low}
 
 module _ (sc : Scopes) (texts : KeepToTexts sc) (w : World) (ok : IsSound sc IsWhole w) (fits : WorldFits sc w) (p : ℕ) (q : Process) (part : Part) (outer : List Part)
     (is : numbered w.processes p ≡ Some q) (todo : q.todo ≡ part ∷ outer) (b i : ℕ) (X : Type 0) (h : Near sc b i X w part) where
@@ -124,30 +125,29 @@ module _ (sc : Scopes) (texts : KeepToTexts sc) (w : World) (ok : IsSound sc IsW
   stored_kept (there r) v = set_kept r (simple v) (λ t. tt)
   stored_kept (element_of r ks) v = set_kept r (array (with_element (array_in (cell_at w r)) ks v)) (λ t. tt)
 
-  changed : (r : Reference) (d : EventCell) (ps : List ℕ) (s : State) →
-      LowIf sc b i X (with_process (set_all_able (set_event w r d) ps) p (record q { todo = record part { rest = resume sc part.rest done } ∷ outer; state = s }))
-  changed r d ps s = goes_in (set_all_able (set_event w r d) ps) (event_low sc texts w ok p q part outer is todo b i X h w r d ps h.low) s
+  told_low : (o : Option Bool) → AreAll LowHere (held_in_answer (told sc w p q part outer o))
+  told_low None = tt
+  told_low (Some b) = tt
 
-  acted_kept : (x : EventAct) (r : Reference) → Keeps (acted sc w p q part outer x r)
-  acted_kept act.Cause r = changed r (record (event_at w r) { happened = true; waiters = [] }) ((event_at w r).waiters) q.state
-  acted_kept act.Reset r = changed r (record (event_at w r) { happened = false }) [] q.state
-  acted_kept act.Wait r =
-      one_of ((event_at w r).happened) (goes sc w p q part outer actions.Wait w done)
-      (stops sc w p q part outer actions.Wait (set_event w r (record (event_at w r) { waiters = (event_at w r).waiters ++ p ∷ [] })) (waits_for r)) (stays done tt tt)
-      (changed r (record (event_at w r) { waiters = (event_at w r).waiters ++ p ∷ [] }) [] (waits_for r))
-  acted_kept act.Procure r = by ((event_at w r).available)
+  told_foreign : (o : Option Bool) → IsForeign (told sc w p q part outer o)
+  told_foreign None = tt
+  told_foreign (Some b) = tt
+
+  did_kept : (x : EventDeed) (r : Reference) (d : Deed) (n : Next) → Keeps (did sc w p q part outer x r d n)
+  did_kept x r d n = by n
     where
-      by : (t : Bool) →
-          Keeps
-          (if t then goes sc w p q part outer actions.Procure (set_event w r (record (event_at w r) { available = false })) done
-          else stops sc w p q part outer actions.Procure (set_event w r (record (event_at w r) { procurers = (event_at w r).procurers ++ p ∷ [] })) (procures r))
-      by true = changed r (record (event_at w r) { available = false }) [] q.state
-      by false = changed r (record (event_at w r) { procurers = (event_at w r).procurers ++ p ∷ [] }) [] (procures r)
-  acted_kept act.Liberate r = by ((event_at w r).procurers)
-    where
-      by : (ps : List ℕ) → Keeps (goes_releasing sc w p q part outer actions.Liberate (liberated_by w r (event_at w r) ps))
-      by [] = changed r (record (event_at w r) { available = true }) [] q.state
-      by (k ∷ ps) = changed r (record (event_at w r) { procurers = ps }) (k ∷ []) q.state
+      low : LowIf sc b i X (released w r d).world
+      low = deed_low sc texts w ok p q part outer is todo b i X h w r d h.low
+
+      by : (m : Next) → Keeps (did sc w p q part outer x r d m)
+      by deeds.goes =
+          goes_low sc w ok p q part outer is todo b i X h (told sc w p q part outer d.answer) (told_low d.answer) (told_foreign d.answer) (released w r d).world low q.state
+      by deeds.waits = goes_in (released w r d).world low (waits_for r)
+      by deeds.procures = goes_in (released w r d).world low (procures r)
+
+  does_kept : (x : EventDeed) (ns : List Named) → Keeps (does_with sc w p q part outer x ns)
+  does_kept x [] = h.low
+  does_kept x (n ∷ ns) = let r = followed w (at_name n) in did_kept x r (deed x p (event_at w r)) ((deed x p (event_at w r)).next)
 
   -- ---- arrays and events that are made
 
@@ -179,7 +179,6 @@ module _ (sc : Scopes) (texts : KeepToTexts sc) (w : World) (ok : IsSound sc IsW
       indexed_kept (followed w (at_name n)) ks
       (followed_low sc w ok p q part outer is todo b i X h n (seen_of (asks.indexes n ks v) e) (near_of (asks.indexes n ks v) e) (wanted_of (asks.indexes n ks v) e).told)
       (subscript_place ((use_of sc n).sort) (array_in (cell_at w (followed w (at_name n)))) ks (whole_of v))
-  choice_low (asks.asks_happened n) e = stays (value (truth ((event_at w (followed w (at_name n))).happened))) tt tt
   choice_low (asks.fails f) e = fails_or (fault_of f)
   choice_low (asks.enters n gs) e =
       let f = wanted_of (asks.enters n gs) e in
@@ -206,10 +205,10 @@ module _ (sc : Scopes) (texts : KeepToTexts sc) (w : World) (ok : IsSound sc IsW
       (fails_or fault.ProcessLimit)
       (start_low sc w ok p q part outer is todo b i X h n gs f.0 (s.0, s.1) (λ t g. let m = near_of (asks.starts n gs task) e t g in (m.0, m.1))
       (told_of sc (λ after. after ≡ []) gs (wanted sc n) f.1) (held_of (asks.starts n gs task) e) task f.2 s.2 (λ t g. (near_of (asks.starts n gs task) e t g).2))
-  choice_low (asks.acts x n) e = acted_kept x (followed w (at_name n))
+  choice_low (asks.event_deed x ns) e = does_kept x ns
   choice_low (asks.writes phrases vs) e =
       goes_in (record w { output = w.output ++ line_of phrases vs ∷ [] }) (same_low sc b i X w (record w { output = w.output ++ line_of phrases vs ∷ [] }) refl refl h.low) q.state
   choice_low (asks.makes_arrays kind ns pairs vs) e = arrays_kept kind ns (bounds_of pairs vs)
   choice_low (asks.makes_event n) e =
-      goes_in (add_cells w part.instance (record { name = n.name; cell = event new_event } ∷ []))
-      (add_cells_low sc b i X w part.instance (record { name = n.name; cell = event new_event } ∷ []) (tt, tt) h.low) q.state
+      goes_in (add_cells w part.instance (record { name = n.name; cell = event fresh_state } ∷ []))
+      (add_cells_low sc b i X w part.instance (record { name = n.name; cell = event fresh_state } ∷ []) (tt, tt) h.low) q.state

@@ -6,13 +6,16 @@ use Rattle.b67_num.specs.declared.FaultKind.TheVariants as fault
 use Rattle.algol_tree.specs.declared.tree.Named.{Named}
 use Rattle.algol_tree.specs.Blocks.{Block, block_numbered}
 use Rattle.algol_tree.specs.Scopes.{Scopes}
-use Rattle.algol_meaning.specs.Value.{Reference, EventCell, event}
+use Rattle.algol_meaning.specs.Value.{Reference, event}
+use Rattle.b67_deeds.specs.declared.EventAct.TheVariants as act
+use Rattle.b67_deeds.specs.Events.{EventState}
+use Rattle.b67_deeds.specs.Deeds.{Deed, acts, deed}
 use Rattle.algol_meaning.specs.Rest.{Answer}
 use Rattle.algol_meaning.specs.Statements.{items_from, settle_items}
-use Rattle.algol_meaning.specs.World.{Instance, instance_at, Part, Process, ended, set_all_able, with_process, World}
+use Rattle.algol_meaning.specs.World.{Instance, instance_at, Part, Process, ended, with_process, World}
 use Rattle.algol_meaning.specs.Critical.{some_depends, some_depends_on_any, is_evaluation, own_instances}
 use Rattle.algol_meaning.specs.Instances.{leave, Cut, cut_at}
-use Rattle.algol_meaning.specs.Events.{event_at, set_event, caused_by_end}
+use Rattle.algol_meaning.specs.Events.{event_at, change_event, released, caused_by_end}
 use Rattle.algol_meaning.specs.Asks as asks
 use Rattle.algol_meaning.specs.Asks.{ask, resume}
 use Rattle.algol_meaning.specs.Choice.{fails, left_with, ended_releasing, left_or_ended, left, gone, goes_to}
@@ -32,9 +35,13 @@ use Rattle.algol_standing.proofs.LowActing.{old_part, given, task_low, goes_on_l
 
 module _ (sc : Scopes) (texts : KeepToTexts sc) (w : World) (ok : IsSound sc IsWhole w) (p : ℕ) (q : Process) (part : Part) (outer : List Part)
     (is : numbered w.processes p ≡ Some q) (todo : q.todo ≡ part ∷ outer) (b i : ℕ) (X : Type 0) (h : Near sc b i X w part) where
-  -- an event that changes, and processes that are made able
-  pub event_low : (v : World) (r : Reference) (e : EventCell) (ps : List ℕ) → LowIf sc b i X v → LowIf sc b i X (set_all_able (set_event v r e) ps)
-  event_low v r e ps l = able_low sc b i X ps (set_event v r e) (set_cell_low sc b i X v r (event e) (λ t. tt) l)
+  changed_low : (v : World) (r : Reference) (c : Option (EventState → EventState)) → LowIf sc b i X v → LowIf sc b i X (change_event v r c)
+  changed_low v r None l = l
+  changed_low v r (Some change) l = set_cell_low sc b i X v r (event (change (event_at v r))) (λ t. tt) l
+
+  -- a deed
+  pub deed_low : (v : World) (r : Reference) (d : Deed) → LowIf sc b i X v → LowIf sc b i X (released v r d).world
+  deed_low v r d l = able_low sc b i X d.frees (change_event v r d.change) (changed_low v r d.change l)
 
   -- ---- leaving
 
@@ -74,11 +81,10 @@ module _ (sc : Scopes) (texts : KeepToTexts sc) (w : World) (ok : IsSound sc IsW
     ends_low : (v : World) → LowIf sc b i X v → LowIf sc b i X (with_process v p (record q { todo = []; state = ended }))
     ends_low v l = process_low sc b i X v p (record q { todo = []; state = ended }) l (λ x n. absurd n) (task_low sc w ok p q part outer is todo b i X h)
 
-    ended_by : (o : Option Reference) → LowIf sc b i X (ended_releasing sc w p q part outer (caused_by_end without o)).world
+    ended_by : (o : Option Reference) → LowIf sc b i X (ended_releasing sc w p q part outer (caused_by_end without p o)).world
     ended_by None = ends_low without gone_low
     ended_by (Some r) =
-        let d = record (event_at without r) { happened = true; waiters = [] } in
-        ends_low (set_all_able (set_event without r d) ((event_at without r).waiters)) (event_low without r d ((event_at without r).waiters) gone_low)
+        let d = deed (acts act.Cause) p (event_at without r) in ends_low (released without r d).world (deed_low without r d gone_low)
 
     left_or_ended_low : (parts : List Part) → outer ≡ parts → LowIf sc b i X (left_or_ended sc w p q part outer a parts).world
     left_or_ended_low [] below = ended_by q.task

@@ -8,14 +8,14 @@ use Rattle.b67_num.specs.declared.FaultKind.TheVariants as fault
 use Rattle.algol_tree.specs.declared.tree.Kind.{Kind}
 use Rattle.algol_tree.specs.declared.tree.Named.{Named}
 use Rattle.algol_tree.specs.Scopes.{Scopes}
-use Rattle.algol_meaning.specs.Value.{Value, Reference, EventCell, Bounds, ArrayCell, Cell, simple, event, array, named, reference}
+use Rattle.algol_meaning.specs.Value.{Value, Reference, Bounds, ArrayCell, Cell, simple, event, array, named, reference}
+use Rattle.b67_deeds.specs.Events.{EventState, fresh_state}
 use Rattle.algol_meaning.specs.Rest.{Place, own, there, element_of, Rest, Answer, done, value, place}
 use Rattle.algol_meaning.specs.Settle.{settle_actual_place}
 use Rattle.algol_meaning.specs.World.{instance_at, cell_at, set_cell, add_cells, by_cell, followed, value_in, array_in, name_place, Part, Process, able, lives, with_process, World}
 use Rattle.algol_meaning.specs.Arrays.{element_at, with_element, new_array, new_arrays, has_wrong_size, has_no_room}
-use Rattle.algol_meaning.specs.Events.{new_event}
-use Rattle.algol_meaning.specs.Actions as actions
-use Rattle.algol_meaning.specs.Actions.{Action}
+use Rattle.b67_deeds.specs.declared.Letter.TheVariants as actions
+use Rattle.b67_deeds.specs.declared.Letter.{Letter}
 use Rattle.algol_meaning.specs.Asks as asks
 use Rattle.algol_meaning.specs.Asks.{Ask, nothing, ask, resume, located_of}
 use Rattle.algol_meaning.specs.Choice.{Choice, is_subscripted, goes, opens, fails, home, here, read_of, resolved_of, indexed_at, element_read_at, stored, made_arrays, made_event}
@@ -62,10 +62,10 @@ same_ok sc w v ok e f =
     (λ k q x g n. ok.skeleton_ok.evaluates k (stack_of q) x (stack_forth w k q (ap (λ qs. numbered qs k) (sym f) ∙ g)) n)
     (λ r x st g. listed r x (ok.listed r x st (cells r x g)))
   where
-    cells : (r : Reference) (x : EventCell) → cell_at v r ≡ event x → cell_at w r ≡ event x
+    cells : (r : Reference) (x : EventState) → cell_at v r ≡ event x → cell_at w r ≡ event x
     cells r x g = subst (λ xs. cell_at (record w { instances = xs }) r ≡ event x) e g
 
-    listed : (r : Reference) (x : EventCell) → AreListed w r x → AreListed v r x
+    listed : (r : Reference) (x : EventState) → AreListed w r x → AreListed v r x
     listed r x l = subst (λ qs. AreListed (record w { instances = v.instances; processes = qs; output = v.output; fault = v.fault }) r x) (sym f)
         (record { waiters = l.waiters; procurers = l.procurers; once = l.once })
 
@@ -84,7 +84,7 @@ module _ (sc : Scopes) (heads_act : (r : Rest) (a : Answer) → Suits (ask r) a 
 
   module _ (a : Answer) (foreign : IsForeign a) (brings : AreAll Held (held_in_answer a)) (suits : Suits (ask part.rest) a) (after : World)
       (instances : AllPairs InstanceAlike w.instances after.instances) (same : after.processes ≡ w.processes)
-      (events : (r : Reference) (e : EventCell) → cell_at after r ≡ event e → cell_at w r ≡ event e) where
+      (events : (r : Reference) (e : EventState) → cell_at after r ≡ event e → cell_at w r ≡ event e) where
     pub acts : ask (resume sc part.rest a) ≡ nothing → ⊥
     acts = heads_act part.rest a suits
 
@@ -108,7 +108,7 @@ module _ (sc : Scopes) (heads_act : (r : Rest) (a : Answer) → Suits (ask r) a 
   -- .. where an event comes to be, for which nobody waits
   module _ (name : List ℕ) (suits : Suits (ask part.rest) done) where
     abbrev made : World
-    made = add_cells w part.instance (record { name = name; cell = event new_event } ∷ [])
+    made = add_cells w part.instance (record { name = name; cell = event fresh_state } ∷ [])
 
     pub acts_then : ask (resume sc part.rest done) ≡ nothing → ⊥
     acts_then = heads_act part.rest done suits
@@ -119,12 +119,12 @@ module _ (sc : Scopes) (heads_act : (r : Rest) (a : Answer) → Suits (ask r) a 
     pub event_goes : IsSound sc IsWhole (with_process made p moved_then)
     event_goes =
         resumed_ok sc w ok p q part outer is todo live done tt tt acts_then q.state live waits_not (with_process made p moved_then)
-        (add_alike w part.instance (record { name = name; cell = event new_event } ∷ []) ((λ i n. absurd n, λ m n. absurd n), tt))
+        (add_alike w part.instance (record { name = name; cell = event fresh_state } ∷ []) ((λ i n. absurd n, λ m n. absurd n), tt))
         (pairs_then_set Unmoved (Moved sc w ok p q part outer is todo live done tt tt acts_then q.state live waits_not) (λ x y f. ◌⊎◌.inr f) w.processes w.processes p moved_then
         (pairs_self Unmoved unmoved_self w.processes) (λ x e. ◌⊎◌.inl (some_same e is, refl)))
-        (λ r e st f. by r e st (event_before w part.instance name new_event r e f))
+        (λ r e st f. by r e st (event_before w part.instance name fresh_state r e f))
       where
-        by : (r : Reference) (e : EventCell) → IsStanding w r.instance → (cell_at w r ≡ event e) ⊎ (e ≡ new_event) → AreListed (with_process made p moved_then) r e
+        by : (r : Reference) (e : EventState) → IsStanding w r.instance → (cell_at w r ≡ event e) ⊎ (e ≡ fresh_state) → AreListed (with_process made p moved_then) r e
         by r e st (◌⊎◌.inl g) = listed_still w (with_process made p moved_then) p q moved_then is able_is refl r e (ok.listed r e st g)
         by r e st (◌⊎◌.inr g) =
             subst (λ d. AreListed (with_process made p moved_then) r d) (sym g) (record { waiters = λ k n. absurd n; procurers = λ k n. absurd n; once = tt })
@@ -179,10 +179,10 @@ module _ (sc : Scopes) (heads_act : (r : Rest) (a : Answer) → Suits (ask r) a 
     pub suited : (a : Answer) → Suits x a → Suits (ask part.rest) a
     suited a s = subst (λ y. Suits y a) (sym e) s
 
-    pub value_goes : (action : Action) (v : Value) → Suits x (value v) → Keeps (goes sc w p q part outer action w (value v))
+    pub value_goes : (action : Letter) (v : Value) → Suits x (value v) → Keeps (goes sc w p q part outer action w (value v))
     value_goes action v s = same_goes (value v) tt tt (suited (value v) s)
 
-    pub done_goes : (action : Action) → Suits x done → Keeps (goes sc w p q part outer action w done)
+    pub done_goes : (action : Letter) → Suits x done → Keeps (goes sc w p q part outer action w done)
     done_goes action s = same_goes done tt tt (suited done s)
 
   pub read_keeps : (n : Named) → ask part.rest ≡ asks.reads n → (c : Cell) → Held c → Keeps (read_of sc w p q part outer c)

@@ -4,7 +4,8 @@ use Rattle.std.proofs.Common.{◌≡◌, ◌⊎◌, ℕ, List, [], ◌∷◌, �
 use Rattle.b67_list.specs.Numbered.{numbered}
 use Rattle.algol_tree.specs.declared.tree.Named.{Named}
 use Rattle.algol_tree.specs.Scopes.{Scopes}
-use Rattle.algol_meaning.specs.Value.{Value, Reference, Cell, EventCell, simple, event}
+use Rattle.algol_meaning.specs.Value.{Value, Reference, Cell, simple, event}
+use Rattle.b67_deeds.specs.Events.{EventState}
 use Rattle.algol_meaning.specs.Rest as rests
 use Rattle.algol_meaning.specs.Rest.{own, there, element_of, HalfPlace, at, aims, Rest, Answer, done, value, cell, place, entered}
 use Rattle.algol_meaning.specs.Settle.{put_place}
@@ -212,5 +213,5 @@ module _ (sc : Scopes) (w : World) (ok : IsSound sc IsWhole w) (p : ℕ) (q : Pr
   Moved x y = ((x ≡ q) × (y ≡ resumed)) ⊎ Unmoved x y
 
   pub resumed_ok : (v : World) → AllPairs InstanceAlike w.instances v.instances → AllPairs Moved w.processes v.processes →
-      ((r : Reference) (e : EventCell) → IsStanding w r.instance → cell_at v r ≡ event e → AreListed v r e) → IsSound sc IsWhole v
+      ((r : Reference) (e : EventState) → IsStanding w r.instance → cell_at v r ≡ event e → AreListed v r e) → IsSound sc IsWhole v
   resumed_ok v instances processes listed = acted_ok sc w ok p q is resumed alike_then process_then fine_then.holds still_then v instances processes listed

@@ -4,7 +4,9 @@ use Rattle.b67_list.specs.Numbered.{numbered}
 use Rattle.algol_tree.specs.Plain.{PBody}
 use Rattle.algol_tree.specs.Blocks.{around}
 use Rattle.algol_tree.specs.Scopes.{Scopes}
-use Rattle.algol_meaning.specs.Value.{Reference, NameCell, Cell, event, named, reference, EventCell}
+use Rattle.algol_meaning.specs.Value.{Reference, NameCell, Cell, event, named, reference}
+use Rattle.b67_deeds.specs.Events.{EventState}
+use Rattle.b67_deeds.specs.Listed.{IsListed, AreOnce}
 use Rattle.algol_meaning.specs.Rest.{Place, own, there, element_of, Given, passed, Hole, enter, subscript, argument, left, right, negated, inverted, condition, Actuals, pass, in_value, Aim, place_subscript, Rest, giving_place, store, entering, starting, evaluating, locating, aiming, storing, choosing, looping, checking, counting, differing, stepping, selecting, calling, preparing, writing, bounding, inside_place, Answer, cell, place}
 use Rattle.algol_meaning.specs.World.{NamedCell, Instance, Part, Process, State, waits_for, procures, lives, World, instance_at, process_at, cell_at}
 use Rattle.algol_meaning.specs.Critical.{is_evaluation, own_instances, referred_in, referred_by}
@@ -136,18 +138,14 @@ pub data IsPlaced (sc : Scopes) (w : World) (x : Instance) : Type 0 where
 
 -- ---- waiting
 
-abbrev pub IsListed : List ℕ → ℕ → Type 0
-IsListed [] p = ⊥
-IsListed (x ∷ xs) p = (x ≡ p) ⊎ IsListed xs p
+-- who waits in this state, waits for that event to happen
+abbrev pub Awaits : State → Reference → Type 0
+Awaits (waits_for s) r = s ≡ r
+Awaits _ r = ⊥
 
--- each of them stands there once
-abbrev pub AreOnce : List ℕ → Type 0
-AreOnce [] = Unit {0}
-AreOnce (x ∷ xs) = (IsListed xs x → ⊥) × AreOnce xs
-
--- who is in an event's list lives and waits for that very event; nobody waits twice to procure it
-pub record AreListed (w : World) (r : Reference) (e : EventCell) : Type 0 where
-  pub waiters : (p : ℕ) → IsListed e.waiters p → (process_at w p).state ≡ waits_for r
+-- who is in an event's list lives and waits for that event; nobody waits twice to procure it
+pub record AreListed (w : World) (r : Reference) (e : EventState) : Type 0 where
+  pub waiters : (p : ℕ) → IsListed e.waiters p → Awaits ((process_at w p).state) r
   pub procurers : (p : ℕ) → IsListed e.procurers p → (process_at w p).state ≡ procures r
   pub once : AreOnce e.procurers
 
@@ -284,4 +282,4 @@ module _ (sc : Scopes) (Whole : World → ℕ → Type 0) (w : World) where
     pub tasks : (p c : ℕ) (q : Process) (r : Reference) → numbered w.processes p ≡ Some q → lives q.state ≡ true → q.critical ≡ Some c → q.task ≡ Some r →
         IsOnPath w c r.instance
     -- who is listed waits
-    pub listed : (r : Reference) (e : EventCell) → IsStanding w r.instance → cell_at w r ≡ event e → AreListed w r e
+    pub listed : (r : Reference) (e : EventState) → IsStanding w r.instance → cell_at w r ≡ event e → AreListed w r e

@@ -1,7 +1,7 @@
 -- Expressions that break no rule: each name in them is known where it stands, and their calls fit.
-use Rattle.std.proofs.Common.{arith, ◌≡◌, ◌⊎◌, inl, inr, ℕ, ◌==◌, ◌&&◌, not, Bool, true, false, List, [], ◌∷◌, ◌++◌, map, length, is_some, Option, Some, refl, sym, ap, ◌∙◌, subst}
+use Rattle.std.proofs.Common.{arith, ◌≡◌, ◌⊎◌, inl, inr, ℕ, ◌==◌, ◌&&◌, not, Bool, true, false, List, [], ◌∷◌, ◌++◌, map, length, is_some, Option, Some, refl, sym, ap, ◌∙◌, subst, if◌then◌else◌}
 use Rattle.std.proofs.lemmas.Bool.Decides.{nat_tests}
-use Rattle.std.specs.List.{AllByRecursion}
+use Rattle.std.specs.List.{AllByRecursion, flat_map}
 use Rattle.algol_tree.specs.declared.token.Spot.{Spot}
 use Rattle.algol_tree.specs.declared.tree.Heading.{Heading}
 use Rattle.algol_tree.specs.declared.tree.Kind.{Kind}
@@ -9,30 +9,31 @@ use Rattle.algol_tree.specs.declared.tree.Named.{Named}
 use Rattle.algol_tree.specs.Cells.{first_spot}
 use Rattle.algol_tree.specs.Checks.{is_function}
 use Rattle.algol_tree.specs.Classes as class
-use Rattle.algol_tree.specs.Classes.{Class, Formal, same_kind, is_simple, is_array, is_event, is_procedure, is_unspecified}
+use Rattle.algol_tree.specs.Classes.{Class, Formal, same_kind, is_simple, is_array, is_event, is_task, is_procedure, is_unspecified}
 use Rattle.algol_tree.specs.Counted.{exprs_count}
 use Rattle.algol_tree.specs.Names.{if_so}
+use Rattle.algol_tree.specs.declared.tree.EventName.{EventName}
 use Rattle.algol_tree.specs.Plain as tree
-use Rattle.algol_tree.specs.Plain.{PExpr, PExprs}
+use Rattle.algol_tree.specs.Plain.{PExpr, PExprs, name_alone}
 use Rattle.algol_tree.specs.Scopes.{Scopes, names_in_expr}
 use Rattle.algol_tree.specs.Sites as site
 use Rattle.algol_tree.specs.Sites.{Site, sites, first_formal, other_formals, actual_part, inside_expr, inside_list, inside_actuals}
 use Rattle.algol_tree.specs.Sorts.{Sort, procedure_in, is_named_in, sort_in, class_in}
 use Rattle.algol_tree.specs.Surroundings.{Surroundings, class_of, formals_of_class, formals_at}
 use Rattle.algol_tree.specs.Types.{read_type}
-use Rattle.algol_meaning.specs.Settle.{name_alone, sorts_of, sort_at}
+use Rattle.algol_meaning.specs.Settle.{sorts_of, sort_at}
 use Rattle.algol_paths.specs.Blocks.{IsSeen}
 use Rattle.algol_paths.specs.Texts.{InExpr, InExprs}
 use Rattle.algol_calls.specs.Fits as fits
 use Rattle.algol_calls.specs.Fits.{wanted, AloneFits, IsNameOfIt, StandsFor, ExprFits, ExprsFit, ActualsFit}
 use Rattle.algol_front_laws.specs.Declarations.{EachOnce}
 use Rattle.algol_front_laws.specs.Uses.{use_by_name}
-use Rattle.algol_told.proofs.Lists.{none-left, all-left, all-right, false-not-true}
+use Rattle.algol_told.proofs.Lists.{none-left, none-right, all-left, all-right, all-weaker, false-not-true}
 use Rattle.algol_texts.proofs.Parameters.{not_so, IsGiven, given_value, given_name, given_array, given_event, given, parameter}
 use Rattle.algol_texts.proofs.Good.{IsUsed, IsGood, AreGood, actual_used, value_good, nothing, first_so}
 use Rattle.algol_texts.proofs.Callees.{AreSpecified}
 use Rattle.algol_texts.proofs.Around.{IsKnown, IsAround}
-use Rattle.algol_texts.proofs.Uses.{IsOther, array_other, event_other, read_is, simple_left, its_known, its_class, name_right, seen, leads, name_of_it, alone_told, calls}
+use Rattle.algol_texts.proofs.Uses.{IsOther, array_other, event_other, task_other, read_is, simple_left, its_known, its_class, name_right, seen, leads, name_of_it, alone_told, calls}
 
 -- ---- numbers
 
@@ -86,7 +87,7 @@ module _ (sc : Scopes) (j : ℕ) (outer : List Spot) (a : Surroundings) (r : IsA
       expr_known (tree.truth z spot) u g = tt
       expr_known (tree.variable (tree.subscripted n es)) u g = (known n u.0, list_known es g)
       expr_known (tree.call (tree.called n es)) u g = (known n u.0, actuals_known es (formals_at a n) g)
-      expr_known (tree.tested test e spot) u g = known e.name u.0
+      expr_known (tree.tested test es spot) u g = all-weaker (IsUsed sc a) P known (map (λ (e : EventName). e.name) es) u
       expr_known (tree.paren e spot) u g = expr_known e g.0.uses g.1
       expr_known (tree.plus e spot) u g = expr_known e g.0.uses g.1
       expr_known (tree.neg e spot) u g = expr_known e g.0.uses g.1
@@ -127,6 +128,25 @@ module _ (sc : Scopes) (j : ℕ) (outer : List Spot) (a : Surroundings) (r : IsA
         let k = its_known sc j outer a r (use_by_name a n) n u in
         leads sc j outer a r once n u
         (array_other sc.blocks u.declared.block u.declared.name u.declared.sort u.declared.class k.means (name_right sc j outer a r (use_by_name a n) n u is_array h))
+
+    -- an event, or a task for the event of its end
+    pub event_in : (e : EventName) → IsUsed sc a e.name → (if e.task then wrong_by is_task e.name else wrong_by is_event e.name) ≡ [] → fits.Leads sc e.name
+    event_in e u h = leads sc j outer a r once e.name u (by e.task h)
+      where
+        its : IsKnown sc.blocks j a.depth u.declared
+        its = its_known sc j outer a r (use_by_name a e.name) e.name u
+
+        by : (task : Bool) → (if task then wrong_by is_task e.name else wrong_by is_event e.name) ≡ [] → IsOther u.declared.sort
+        by true k =
+            (task_other sc.blocks u.declared.block u.declared.name u.declared.sort u.declared.class its.means (name_right sc j outer a r (use_by_name a e.name) e.name u is_task k)).0
+        by false k =
+            event_other sc.blocks u.declared.block u.declared.name u.declared.sort u.declared.class its.means (name_right sc j outer a r (use_by_name a e.name) e.name u is_event k)
+
+    events_in : (es : List EventName) → AllByRecursion (IsUsed sc a) (map (λ (e : EventName). e.name) es) →
+        flat_map (λ (e : EventName). if e.task then wrong_by is_task e.name else wrong_by is_event e.name) es ≡ [] → AllByRecursion (fits.Leads sc) (map (λ (e : EventName). e.name) es)
+    events_in [] u h = tt
+    events_in (e ∷ es) u h =
+        (event_in e u.0 (none-left (if e.task then wrong_by is_task e.name else wrong_by is_event e.name) _ h), events_in es u.1 (none-right (if e.task then wrong_by is_task e.name else wrong_by is_event e.name) _ h))
 
     -- a name by itself that is read is a variable, or a call without actuals
     alone_fits : (n : Named) → IsUsed sc a n → wrong_by (λ (c : Class). is_some (read_type c)) n ≡ [] →
@@ -225,7 +245,7 @@ module _ (sc : Scopes) (j : ℕ) (outer : List Spot) (a : Surroundings) (r : IsA
           let its : if_so (not (length h.params == exprs_count es)) n.spot ≡ [] = rw c at g.0.counted in
           counted_as (length h.params) (exprs_count es) (not_so (not (length h.params == exprs_count es)) n.spot its))
           g.1 (λ ns h c s i. actuals_fit es ns h c s i)
-      expr_fits (tree.tested test e spot) g = tt
+      expr_fits (tree.tested test es spot) g = events_in es g.0.uses g.0.right
       expr_fits (tree.paren e spot) g = expr_fits e g.1
       expr_fits (tree.plus e spot) g = expr_fits e g.1
       expr_fits (tree.neg e spot) g = expr_fits e g.1

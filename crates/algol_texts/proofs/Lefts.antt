@@ -1,12 +1,11 @@
--- What is stored to, acted on and started with: left sides, control variables, events and tasks. On the left of an assignment the name of a
+-- What is stored to and started with: left sides, control variables and tasks. On the left of an assignment the name of a
 -- procedure is its result, of the procedure's own block, which is one further in.
-use Rattle.std.proofs.Common.{arith, ◌≡◌, ◌⊎◌, inl, inr, ℕ, ◌-◌, ◌&&◌, not, Bool, true, false, List, [], ◌∷◌, length, is_some, Some, None, refl, sym, ap, ◌∙◌, subst, if◌then◌else◌, slice_get}
+use Rattle.std.proofs.Common.{arith, ◌≡◌, ◌⊎◌, inl, inr, ℕ, ◌-◌, ◌&&◌, not, Bool, true, false, List, [], ◌∷◌, length, is_some, Some, None, refl, sym, ap, ◌∙◌, subst, slice_get}
 use Rattle.algol_tree.specs.declared.token.Spot.{Spot}
-use Rattle.algol_tree.specs.declared.tree.EventName.{EventName}
 use Rattle.algol_tree.specs.declared.tree.Heading.{Heading}
 use Rattle.algol_tree.specs.declared.tree.Named.{Named}
 use Rattle.algol_tree.specs.Blocks.{block_numbered, number_at, around}
-use Rattle.algol_tree.specs.Classes.{Class, is_simple, is_array, is_event, is_task}
+use Rattle.algol_tree.specs.Classes.{Class, is_simple, is_array, is_task}
 use Rattle.algol_tree.specs.Names.{if_so}
 use Rattle.algol_tree.specs.Plain as tree
 use Rattle.algol_tree.specs.Plain.{PExpr, PExprs}
@@ -25,7 +24,7 @@ use Rattle.algol_texts.proofs.Parameters.{not_so, is_same, no_parameter, result_
 use Rattle.algol_texts.proofs.Good.{IsUse, IsUsed, IsGood, use_is, nothing}
 use Rattle.algol_texts.proofs.Callees.{parameters_at, IsCallee, is_among, chain_at}
 use Rattle.algol_texts.proofs.Around.{Means, a_variable, a_name, a_procedure, IsKnown, IsAround}
-use Rattle.algol_texts.proofs.Uses.{IsOther, array_other, event_other, task_other, simple_left, told_as, seen_as, its_found, its_known, its_class, name_right, seen, leads, alone_told, settled, left_alone}
+use Rattle.algol_texts.proofs.Uses.{array_other, task_other, simple_left, told_as, seen_as, its_found, its_known, its_class, name_right, seen, leads, alone_told, settled, left_alone}
 use Rattle.algol_texts.proofs.Expressions.{wrong_by}
 
 both_so : (b c : Bool) → not (b && c) ≡ false → (b ≡ true) × (c ≡ true)
@@ -135,19 +134,7 @@ module _ (sc : Scopes) (j : ℕ) (outer : List Spot) (a : Surroundings) (r : IsA
       let simple = simple_left sc.blocks u.declared.block u.declared.name u.declared.sort u.declared.class k.means (name_right sc j outer a r (use_by_name a v) v u is_simple h) in
       (seen sc j outer a r once v u, (left_alone sc j outer a r once v u simple.1, alone_told sc j outer a r once v u simple.0))
 
-  -- an event, and a task
-  pub event_in : (e : EventName) → IsUsed sc a e.name → (if e.task then wrong_by sc j outer a r is_task e.name else wrong_by sc j outer a r is_event e.name) ≡ [] → Leads sc e.name
-  event_in e u h = leads sc j outer a r once e.name u (by e.task h)
-    where
-      its : IsKnown sc.blocks j a.depth u.declared
-      its = its_known sc j outer a r (use_by_name a e.name) e.name u
-
-      by : (task : Bool) → (if task then wrong_by sc j outer a r is_task e.name else wrong_by sc j outer a r is_event e.name) ≡ [] → IsOther u.declared.sort
-      by true k =
-          (task_other sc.blocks u.declared.block u.declared.name u.declared.sort u.declared.class its.means (name_right sc j outer a r (use_by_name a e.name) e.name u is_task k)).0
-      by false k =
-          event_other sc.blocks u.declared.block u.declared.name u.declared.sort u.declared.class its.means (name_right sc j outer a r (use_by_name a e.name) e.name u is_event k)
-
+  -- a task
   pub task_in : (n : Named) → IsUsed sc a n → wrong_by sc j outer a r is_task n ≡ [] → IsSettled sc n
   task_in n u h =
       let k = its_known sc j outer a r (use_by_name a n) n u in

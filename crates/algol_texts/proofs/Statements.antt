@@ -6,7 +6,7 @@ use Rattle.algol_tree.specs.declared.token.Spot.{Spot}
 use Rattle.algol_tree.specs.declared.tree.Named.{Named}
 use Rattle.algol_tree.specs.Blocks.{Block, Begin, of_statement, of_procedure, decls_of, stmts_of, blocks_of, blocks_in_decl, blocks_in_decls, blocks_in_stmts, procedure_block, block_numbered, number_at, around}
 use Rattle.algol_tree.specs.Cells.{level_of}
-use Rattle.algol_tree.specs.Classes.{Class, is_procedure}
+use Rattle.algol_tree.specs.Classes.{Class, is_label, is_procedure}
 use Rattle.algol_tree.specs.Counted.{exprs_count}
 use Rattle.algol_tree.specs.Names.{if_so}
 use Rattle.algol_tree.specs.Plain as tree
@@ -25,11 +25,11 @@ use Rattle.algol_texts.proofs.Parameters.{not_so, HasParameter}
 use Rattle.algol_texts.proofs.Good.{IsGood, AreGood, first_so}
 use Rattle.algol_texts.proofs.Callees.{the_block, IsFine, AreFine, DeclaresCallee, AreCallees, are_callees}
 use Rattle.algol_texts.proofs.Around.{HasAll, IsAround, knows_one, knows_all, enters, enters_procedure}
-use Rattle.algol_texts.proofs.Uses.{name_right, seen}
-use Rattle.algol_texts.proofs.Expressions.{wrong_by, counted_as, call_fits, in_expr, in_list, in_actuals}
+use Rattle.algol_texts.proofs.Uses.{label_is, its_known, name_right, seen, labelled}
+use Rattle.algol_texts.proofs.Expressions.{wrong_by, counted_as, call_fits, event_in, in_expr, in_list, in_actuals}
 use Rattle.algol_texts.proofs.Bounds.{AreEarly, early_inside, early_procedure, in_pairs}
 use Rattle.algol_texts.proofs.Items.{InText, AllInText, HasBounds, HaveBounds, IsTextOf, is_text}
-use Rattle.algol_texts.proofs.Lefts.{left_in, left_element, control_in, event_in, task_in}
+use Rattle.algol_texts.proofs.Lefts.{left_in, left_element, control_in, task_in}
 
 abbrev IsNoBlock : PStmt → Type 0
 IsNoBlock (tree.block b) = ⊥
@@ -142,7 +142,11 @@ module _ (sc : Scopes) where
         counted_as (length k.params) (exprs_count es) (not_so (not (length k.params == exprs_count es)) n.spot its))
         h.1 in
         (text_in g j (tree.call_of (tree.called n es)) tt ((seen sc j outer a r h.0.once n u, in_actuals sc j outer a r h.0.once es (formals_at a n) h.1), fit), tt)
-    in_stmt j outer a (tree.go_to n) g l r y h f = (text_in g j (tree.go_to n) tt (seen sc j outer a r h.0.once n h.0.uses.0, tt), tt)
+    in_stmt j outer a (tree.go_to n) g l r y h f =
+        let u = h.0.uses.0 in
+        let its = its_known sc j outer a r (use_by_name a n) n u in
+        let there = label_is sc.blocks u.declared.block u.declared.name u.declared.sort u.declared.class its.means (name_right sc j outer a r (use_by_name a n) n u is_label h.0.right) in
+        (text_in g j (tree.go_to n) tt (seen sc j outer a r h.0.once n u, labelled sc j outer a r h.0.once n u there), tt)
     in_stmt j outer a (tree.block (tree.body spot tree.no_decls ss)) of_statement l r y h f = in_stmts j outer a ss false r h.1 f
     in_stmt j outer a (tree.block (tree.body spot (tree.decls d ds) ss)) of_statement l r y h f =
         let k = number_at sc.blocks spot in

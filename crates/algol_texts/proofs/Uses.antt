@@ -5,7 +5,7 @@ use Rattle.algol_tree.specs.declared.tree.Heading.{Heading}
 use Rattle.algol_tree.specs.declared.tree.Named.{Named}
 use Rattle.algol_tree.specs.Blocks.{Block, block_numbered, number_at, around}
 use Rattle.algol_tree.specs.Classes as class
-use Rattle.algol_tree.specs.Classes.{Class, is_simple, is_array, is_event, is_task, is_procedure, is_unspecified}
+use Rattle.algol_tree.specs.Classes.{Class, is_simple, is_array, is_event, is_task, is_label, is_procedure, is_unspecified}
 use Rattle.algol_tree.specs.Names.{if_so}
 use Rattle.algol_tree.specs.Scopes.{Scopes, Use, use_of}
 use Rattle.algol_tree.specs.Sorts as sort
@@ -22,7 +22,7 @@ use Rattle.algol_told.proofs.Lists.{of-contained, false-not-true}
 use Rattle.algol_texts.proofs.Parameters.{IsSame, same_sort}
 use Rattle.algol_texts.proofs.Good.{IsUse, IsUsed, use_is, test_holds}
 use Rattle.algol_texts.proofs.Callees.{AreSpecified, parameters_at, IsCallee}
-use Rattle.algol_texts.proofs.Around.{Means, a_variable, a_name, an_array, a_formal_array, an_event, a_task, a_formal_event, a_procedure, IsKnown, HasAll, IsAround, IsFound, found_there, each_at}
+use Rattle.algol_texts.proofs.Around.{Means, a_variable, a_name, an_array, a_formal_array, an_event, a_task, a_formal_event, a_label, a_procedure, IsKnown, HasAll, IsAround, IsFound, found_there, each_at}
 
 -- ---- by class
 
@@ -55,6 +55,10 @@ module _ (blocks : List Block) (block : ℕ) (name : List ℕ) where
   pub task_other : (s : Sort) (c : Class) → Means blocks block name s c → is_task c ≡ true → IsOther s × (is_formal s ≡ false)
   task_other s c a_task e = ((refl, refl), refl)
   task_other s c m e = absurd (false-not-true e)
+
+  pub label_is : (s : Sort) (c : Class) → Means blocks block name s c → is_label c ≡ true → s ≡ sort.label
+  label_is s c a_label e = refl
+  label_is s c m e = absurd (false-not-true e)
 
   -- of a variable only one by name stands for something else
   pub simple_left : (s : Sort) (c : Class) → Means blocks block name s c → is_simple c ≡ true → (procedure_in s ≡ None) × (is_formal s ≡ is_by_name s)
@@ -144,6 +148,9 @@ module _ (sc : Scopes) (j : ℕ) (outer : List Spot) (a : Surroundings) (r : IsA
 
     pub leads : IsOther d.sort → Leads sc n
     leads o = record { told = told; not_by_name = ap is_by_name sorted ∙ o.1 }
+
+    pub labelled : d.sort ≡ sort.label → fits.IsLabel sc n
+    labelled e = sorted ∙ e
 
     pub name_of_it : IsOther d.sort → IsNameOfIt sc (Some n)
     name_of_it o = (ap procedure_in sorted ∙ o.0, ap is_by_name sorted ∙ o.1)
