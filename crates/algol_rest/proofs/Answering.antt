@@ -14,13 +14,13 @@ use Rattle.algol_meaning.specs.Settle.{put, put_actuals, put_place}
 use Rattle.algol_meaning.specs.Statements.{settle_items}
 use Rattle.algol_meaning.specs.Asks.{resume, nth_stmt}
 use Rattle.algol_meaning.specs.SeenTree.{stmt, stmts}
-use Rattle.algol_rest.specs.SeenValue.{value}
-use Rattle.algol_rest.specs.SeenExpression.{hole, wrap, refilled}
+use Rattle.algol_cells.specs.SeenValue.{value}
+use Rattle.algol_rest_expr.specs.SeenExpression.{hole, wrap, refilled}
 use Rattle.algol_rest.specs.SeenRest.{stmt_or_empty}
 use Rattle.algol_rest.specs.SeenStatement.{role_at, sought_at, deed_at, last_at, tested, stepped_by, held}
-use Rattle.algol_rest.proofs.Frames.{put-wrap}
-use Rattle.algol_rest.specs.declared.part.Head.{Head}
-use Rattle.algol_rest.specs.declared.part.Frame.{Frame}
+use Rattle.algol_rest_expr.proofs.Frames.{put-wrap}
+use Rattle.algol_rest_expr.specs.declared.part.Head.{Head}
+use Rattle.algol_rest_expr.specs.declared.part.Frame.{Frame}
 use Rattle.algol_rest.specs.declared.statement.Role.{Role}
 use Rattle.algol_rest.specs.declared.statement.Role.TheVariants as role
 use Rattle.algol_rest.specs.declared.statement.Sought.{Sought}

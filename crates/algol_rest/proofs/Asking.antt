@@ -7,12 +7,12 @@ use Rattle.algol_tree.specs.declared.tree.Named.{Named}
 use Rattle.algol_meaning.specs.Value as plain
 use Rattle.algol_meaning.specs.Rest.{Hole, Actuals, Aim, Item, busy, wants, aims}
 use Rattle.algol_meaning.specs.Asks.{ask, ask_hole, ask_actuals, ask_aim}
-use Rattle.algol_rest.specs.SeenValue.{value}
-use Rattle.algol_rest.specs.SeenExpression.{hole, wrap}
+use Rattle.algol_cells.specs.SeenValue.{value}
+use Rattle.algol_rest_expr.specs.SeenExpression.{hole, wrap}
 use Rattle.algol_rest.specs.SeenStatement.{role_at, sought_at, tested, stepped_by, held}
-use Rattle.algol_rest.proofs.Frames.{ask-wrap}
-use Rattle.algol_rest.specs.declared.part.Head.{Head}
-use Rattle.algol_rest.specs.declared.part.Frame.{Frame}
+use Rattle.algol_rest_expr.proofs.Frames.{ask-wrap}
+use Rattle.algol_rest_expr.specs.declared.part.Head.{Head}
+use Rattle.algol_rest_expr.specs.declared.part.Frame.{Frame}
 use Rattle.algol_rest.specs.declared.statement.Role.{Role}
 use Rattle.algol_rest.specs.declared.statement.Role.TheVariants as role
 use Rattle.algol_rest.specs.declared.statement.Sought.{Sought}

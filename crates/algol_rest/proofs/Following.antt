@@ -5,9 +5,9 @@ use Rattle.algol_tree.specs.Plain.{PStmts}
 use Rattle.algol_tree.specs.Scopes.{Scopes}
 use Rattle.algol_meaning.specs.Rest.{Item, Rest}
 use Rattle.algol_meaning.specs.Statements.{items, settle_stmt, settle_stmts, settle_items}
-use Rattle.algol_rest.proofs.Supplying.{all_done-append, length-append-one}
-use Rattle.algol_rest.specs.SeenValue.{value}
-use Rattle.algol_rest.specs.declared.value.Value.{Value}
+use Rattle.algol_rest_expr.proofs.Supplying.{all_done-append, length-append-one}
+use Rattle.algol_cells.specs.SeenValue.{value}
+use Rattle.algol_cells.specs.declared.value.Value.{Value}
 
 pub values-append : (vs : List Value) (v : Value) → map value (vs ++ v ∷ []) ≡ map value vs ++ value v ∷ []
 values-append [] v = refl

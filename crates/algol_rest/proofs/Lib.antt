@@ -1,11 +1,6 @@
-pub mod Trees
-pub mod Scoping
-pub mod Supplying
 pub mod Following
 pub mod Statements
-pub mod Frames
 pub mod Asking
 pub mod Answering
 pub mod Declaring
 pub mod Labels
-pub mod Tables

@@ -13,11 +13,9 @@ use Rattle.algol_meaning.specs.Statements as statements
 use Rattle.algol_meaning.specs.Statements.{items, decls_items, event_items, settle_items, settle_line, settle_bounds, alone, stepped}
 use Rattle.algol_meaning.specs.Asks as asks
 use Rattle.algol_meaning.specs.SeenTree.{expr, exprs, stmt, stmts, decls, body, pairs}
-use Rattle.algol_rest.specs.SeenValue.{value}
-use Rattle.algol_rest.specs.SeenExpression.{cell, place, all_done, sorts_after, hole, wrap}
-use Rattle.algol_rest.specs.declared.part.Answer.{Answer}
-use Rattle.algol_rest.specs.declared.part.Answer.TheVariants as answers
-use Rattle.algol_rest.specs.declared.part.Frame.{Frame}
+use Rattle.algol_cells.specs.SeenValue.{value}
+use Rattle.algol_rest_expr.specs.SeenExpression.{place, all_done, sorts_after, hole, wrap}
+use Rattle.algol_rest_expr.specs.declared.part.Frame.{Frame}
 use Rattle.algol_rest.specs.declared.statement.Next.{Next}
 use Rattle.algol_rest.specs.declared.statement.Next.TheVariants as next
 use Rattle.algol_rest.specs.declared.statement.Again.{Again}
@@ -39,13 +37,6 @@ use Rattle.algol_rest.specs.declared.statement.Target.TheVariants as target
 use Rattle.algol_rest.specs.declared.statement.Work.{Work}
 use Rattle.algol_rest.specs.declared.statement.Point.{Point}
 use Rattle.algol_rest.specs.declared.statement.Point.TheVariants as point
-
-abbrev pub answered : Answer → rest.Answer
-answered answers.Done = rest.done
-answered (answers.Value v) = rest.value (value v)
-answered (answers.Cell c) = rest.cell (cell c)
-answered (answers.Place p) = rest.place (place p)
-answered answers.Entered = rest.entered
 
 -- ---- what follows
 

@@ -4,16 +4,16 @@ ghost use Rattle.std.specs.Prelude.{◌≡◌, List};
 ghost use Rattle.algol_tree.specs.Scopes as scoping;
 ghost use Rattle.algol_meaning.specs.Rest as rest;
 ghost use Rattle.algol_meaning.specs.Asks as asks;
-ghost use Rattle.algol_rest.specs.SeenExpression.{hole};
+ghost use Rattle.algol_rest_expr.specs.SeenExpression.{hole};
 ghost use Rattle.algol_rest.specs.SeenStatement.{deed_at, last_at, target_at, rest_of};
 ghost use Rattle.algol_rest.specs.SeenRest.{asked};
-ghost use Rattle.algol_rest.specs.declared.part.Frame.{Frame};
+ghost use Rattle.algol_rest_expr.specs.declared.part.Frame.{Frame};
 ghost use Rattle.algol_rest.specs.declared.statement.Next.{Next};
 
-use crate::part::{Given, Head, Place};
 use crate::statement::{Deed, Last, Point, Target};
-use crate::value::Value;
-use algol_tree::{Body, EventAct, Kind, Line, Named, Pair, PhraseText, Stmt};
+use algol_cells::Value;
+use algol_rest_expr::{Given, Head, Place};
+use algol_tree::{Body, EventAct, EventTest, Kind, Line, Named, Pair, PhraseText, Stmt};
 use b67_num::NumFault;
 
 /// What the head of a part asks for. Lists are those of the part.
@@ -27,8 +27,8 @@ pub enum Ask<'a, 'p> {
     ReadsElement(&'p Named, &'a [usize], Value),
     /// A subscript that others follow, or that is a place's: those before it, and its value.
     Indexes(&'p Named, &'a [usize], Value),
-    /// Whether an event has happened.
-    AsksHappened(&'p Named),
+    /// What is asked of an event.
+    Tests(EventTest, &'p Named),
     /// The fault of an operator.
     Fails(NumFault),
     /// The entry of a procedure with its actuals.
@@ -59,21 +59,19 @@ pub enum Ask<'a, 'p> {
     MakesEvent(&'p Named),
 }
 
-impl<'p> Head<'p> {
-    /// What the head of an expression asks for.
-    fn ask<'a>(&'a self) -> Ask<'a, 'p>
-        ensures { (sc : scoping.Scopes) → asked result ≡ asks.ask_hole (hole sc self.now) }
-    {
-        match self {
-            Head::Read(n) => Ask::Reads(*n),
-            Head::Element(n, ks, v) => Ask::ReadsElement(*n, ks.items(), *v),
-            Head::Index(n, ks, v, _, _) => Ask::Indexes(*n, ks.items(), *v),
-            Head::Happens(n) => Ask::AsksHappened(*n),
-            Head::Broken(_, _, _, fault) => Ask::Fails(*fault),
-            Head::Enter(n, gs) => Ask::Enters(*n, gs.items()),
-            Head::Pass(_, _, m, _) => Ask::Passes(*m),
-            Head::Inside => Ask::Nothing,
-        }
+/// What the head of an expression asks for.
+fn ask_head<'a, 'p>(head: &'a Head<'p>) -> Ask<'a, 'p>
+    ensures { (sc : scoping.Scopes) → asked result ≡ asks.ask_hole (hole sc head.now) }
+{
+    match head {
+        Head::Read(n) => Ask::Reads(*n),
+        Head::Element(n, ks, v) => Ask::ReadsElement(*n, ks.items(), *v),
+        Head::Index(n, ks, v, _, _) => Ask::Indexes(*n, ks.items(), *v),
+        Head::Tests(test, n) => Ask::Tests(*test, *n),
+        Head::Broken(_, _, _, fault) => Ask::Fails(*fault),
+        Head::Enter(n, gs) => Ask::Enters(*n, gs.items()),
+        Head::Pass(_, _, m, _) => Ask::Passes(*m),
+        Head::Inside => Ask::Nothing,
     }
 }
 
@@ -139,7 +137,7 @@ impl<'p> Point<'p> {
             Point::Enter(n, gs) => Ask::Enters(*n, gs.items()),
             Point::Pass(_, _, _, m, _) => Ask::Passes(*m),
             Point::Seek(_, target) => target.ask(),
-            Point::In(head, _) => head.ask(),
+            Point::In(head, _) => ask_head(head),
         }
     }
 }

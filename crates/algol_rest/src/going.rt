@@ -6,16 +6,15 @@ ghost use Rattle.algol_tree.specs.Scopes as scoping;
 ghost use Rattle.algol_meaning.specs.Rest as rest;
 ghost use Rattle.algol_meaning.specs.Statements.{decl_items, decls_items, settle_items};
 ghost use Rattle.algol_meaning.specs.SeenTree.{expr, stmt, decl, decls};
-ghost use Rattle.algol_rest.specs.SeenScope.{scoped};
-ghost use Rattle.algol_rest.specs.SeenExpression.{refilled, half};
+ghost use Rattle.algol_cells.specs.SeenScope.{scoped};
+ghost use Rattle.algol_rest_expr.specs.SeenExpression.{refilled, half};
 ghost use Rattle.algol_rest.specs.SeenStatement.{ahead, item, again_item, Finds, Advances, is_action, held, stmt_size, again_size, decl_size, decls_size, weigh};
 ghost use Rattle.algol_rest.specs.declared.statement.Again.TheVariants as again;
 
-use crate::expression::alone;
-use crate::part::{Control, Frame};
-use crate::scope::Scopes;
-use crate::standing::{no_givens, no_values, stand, surround};
+use crate::standing::{no_values, stand};
 use crate::statement::{Again, Deed, Last, Next, Point, Right, Role, Sought, Within, Work};
+use algol_cells::Scopes;
+use algol_rest_expr::{Control, Frame, alone, no_givens, surround};
 use algol_tree::{Decl, Expr, Named, Op, Stmt, Whole};
 use std::alloc::{AllocError, Global};
 

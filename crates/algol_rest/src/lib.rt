@@ -4,30 +4,14 @@
 #![tactic(auto)]
 
 mod ask;
-mod cell;
 mod copying;
-mod expression;
 mod going;
 mod held;
-mod operator;
-mod part;
 mod rest;
 mod resuming;
-mod scope;
 mod silent;
-mod stack;
 mod standing;
 mod statement;
-mod table;
-mod value;
 
 pub use ask::Ask;
-pub use cell::{ArrayCell, Bounds, Cell, EventCell, Reference};
-pub use copying::{copied, copy_cell};
-pub use operator::{truth_of, whole_of};
-pub use part::{Answer, Given, Place};
 pub use rest::Rest;
-pub use scope::{Block, BlockStatements, Owner, Parameter, Scopes, Use};
-pub use stack::{Stack, append};
-pub use table::{Blocks, LowerBounds, Uses};
-pub use value::Value;

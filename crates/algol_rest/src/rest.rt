@@ -7,19 +7,19 @@ ghost use Rattle.algol_meaning.specs.Statements as statements;
 ghost use Rattle.algol_meaning.specs.Statements.{settle_items, items_of, items_from, ending};
 ghost use Rattle.algol_meaning.specs.Asks as asks;
 ghost use Rattle.algol_meaning.specs.SeenTree.{expr, stmt, stmts};
-ghost use Rattle.algol_rest.specs.SeenScope.{scoped, block};
-ghost use Rattle.algol_rest.specs.SeenStatement.{answered, ahead, Finds};
+ghost use Rattle.algol_cells.specs.SeenScope.{scoped, block};
+ghost use Rattle.algol_rest_expr.specs.SeenExpression.{answered};
+ghost use Rattle.algol_rest.specs.SeenStatement.{ahead, Finds};
 ghost use Rattle.algol_rest.specs.SeenRest.{rest, asked};
 
 use crate::ask::Ask;
-use crate::copying::{copy_frames, copy_point};
+use crate::copying::copy_point;
 use crate::held::boxed;
-use crate::part::{Answer, Control};
-use crate::scope::{Block, BlockStatements, Scopes};
-use crate::stack::Stack;
 use crate::standing::stand;
 use crate::statement::{Last, Next, Point, Sought, Target, Within, Work};
+use algol_cells::{Block, BlockStatements, Scopes, Stack};
 use algol_meaning::same_name;
+use algol_rest_expr::{Answer, Control, copy_frames};
 use algol_tree::{Expr, Line, Stmt};
 use std::alloc::{AllocError, Global};
 

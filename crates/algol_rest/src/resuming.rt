@@ -9,19 +9,17 @@ ghost use Rattle.algol_meaning.specs.Statements.{settle_items};
 ghost use Rattle.algol_meaning.specs.Asks as asks;
 ghost use Rattle.algol_meaning.specs.Value as plain;
 ghost use Rattle.algol_meaning.specs.SeenTree.{expr, exprs, stmt, stmts};
-ghost use Rattle.algol_rest.specs.SeenValue.{value};
-ghost use Rattle.algol_rest.specs.SeenScope.{scoped};
-ghost use Rattle.algol_rest.specs.SeenExpression.{cell, all_done, sorts_from, sorts_after, hole, wrap};
+ghost use Rattle.algol_cells.specs.SeenValue.{value};
+ghost use Rattle.algol_cells.specs.SeenScope.{scoped};
+ghost use Rattle.algol_cells.specs.SeenCell.{cell};
+ghost use Rattle.algol_rest_expr.specs.SeenExpression.{answered, all_done, sorts_from, sorts_after, hole, wrap};
 ghost use Rattle.algol_rest.specs.SeenRest.{stmt_or_empty};
-ghost use Rattle.algol_rest.specs.SeenStatement.{answered, ahead, Finds, role_at, sought_at, target_at, held, rest_of};
+ghost use Rattle.algol_rest.specs.SeenStatement.{ahead, Finds, role_at, sought_at, target_at, held, rest_of};
 
-use crate::expression::{cell_of, filled, put, subscripts_of};
-use crate::operator::whole_of;
-use crate::part::{Answer, Given, Head};
-use crate::scope::Scopes;
-use crate::standing::{add_given, leave, stand};
+use crate::standing::{leave, stand};
 use crate::statement::{Deed, Next, Point, Role, Sought, Target, Within, Work};
-use crate::value::Value;
+use algol_cells::{Scopes, Value, whole_of};
+use algol_rest_expr::{Answer, Given, Head, add_given, cell_of, filled, put, subscripts_of};
 use algol_tree::{Expr, List, Named, Stmt};
 use b67_list::discard;
 use std::alloc::{AllocError, Global};
@@ -109,7 +107,7 @@ impl<'p> Work<'p> {
     }
 
     /// An actual of a statement's call is passed, and the actuals after it come next.
-    #[tactic(auto, using(crate::proofs::Supplying::supply_laws))]
+    #[tactic(auto, using(algol_rest_expr::proofs::Supplying::supply_laws))]
     fn pass(
         &mut self,
         alloc: Global,

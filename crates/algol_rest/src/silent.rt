@@ -11,18 +11,18 @@ ghost use Rattle.algol_meaning.specs.SeenTree.{expr, exprs, stmt, stmts, pairs, 
 ghost use Rattle.algol_tree.specs.declared.tree.Named.{Named};
 ghost use Rattle.algol_meaning.specs.SeenTree as seen;
 ghost use Rattle.algol_tree.specs.Scopes as scoping;
-ghost use Rattle.algol_rest.specs.SeenValue.{value};
-ghost use Rattle.algol_rest.specs.SeenScope.{scoped};
-ghost use Rattle.algol_rest.specs.SeenExpression.{place, all_done, sorts_from, sorts_after, refilled, half, Comes};
+ghost use Rattle.algol_cells.specs.SeenValue.{value};
+ghost use Rattle.algol_cells.specs.SeenScope.{scoped};
+ghost use Rattle.algol_rest_expr.specs.SeenExpression.{place, all_done, sorts_from, sorts_after, refilled, half, Comes};
 ghost use Rattle.algol_rest.specs.SeenStatement.{ahead, Finds, Advances, right_side, sought_at, role_at, tested, stepped_by, held, stmt_size, stmts_size, test_size, weigh, within_size};
 
-use crate::expression::{alone, evaluate, supplied};
-use crate::operator::{truth_of, whole_of};
-use crate::part::{Control, Frame, Given, Head, Outcome, Place, Supplied};
-use crate::scope::Scopes;
-use crate::standing::{add_given, add_value, no_subscripts, no_values, stand, surround};
+use crate::standing::{add_value, no_values, stand};
 use crate::statement::{Again, Deed, Last, Next, Point, Right, Role, Sought, Target, Within, Work};
-use crate::value::Value;
+use algol_cells::{Scopes, Value, truth_of, whole_of};
+use algol_rest_expr::{
+    Control, Frame, Given, Head, Outcome, Place, Supplied, add_given, alone, evaluate,
+    no_subscripts, supplied, surround,
+};
 use algol_tree::{
     Body, Decl, Expr, Kind, List, Named, Op, Pair, PhraseText, Stmt, Variable, Whole,
 };
@@ -174,7 +174,7 @@ impl<'p> Work<'p> {
     }
 
     /// The actuals of a statement from the next one on, and its call.
-    #[tactic(auto, using(crate::proofs::Supplying::supply_laws))]
+    #[tactic(auto, using(algol_rest_expr::proofs::Supplying::supply_laws))]
     pub fn prepare(
         &mut self,
         alloc: Global,

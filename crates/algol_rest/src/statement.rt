@@ -1,8 +1,7 @@
 //! What a part has still to do, as to its statements: what follows, and what an expression is evaluated for.
 
-use crate::part::{Frame, Given, Head, Place};
-use crate::stack::Stack;
-use crate::value::Value;
+use algol_cells::{Stack, Value};
+use algol_rest_expr::{Frame, Given, Head, Place};
 use algol_tree::{
     Body, Decl, EventAct, Expr, Kind, Line, List, Named, Pair, PhraseText, Stmt, Whole,
 };

@@ -6,14 +6,14 @@ use Rattle.algol_tree.specs.Scopes.{Scopes}
 use Rattle.algol_meaning.specs.World as world
 use Rattle.algol_meaning.specs.World.{World, Part, Process, or_no_process, with_process}
 use Rattle.algol_meaning.specs.Rest.{Answer}
-use Rattle.algol_meaning.specs.Actions as actions
+use Rattle.b67_deeds.specs.declared.Letter.TheVariants as actions
 use Rattle.algol_meaning.specs.Critical.{is_evaluation, some_depends}
 use Rattle.algol_meaning.specs.Events.{caused_by_end}
 use Rattle.algol_meaning.specs.Instances.{leave}
 use Rattle.algol_world.specs.Going.{chosen}
 use Rattle.algol_world.specs.Leaving.{left_todo, leaving_with, ending, failing, innermost_of, ended_by, leaves_of, leaves_by}
 use Rattle.algol_world.specs.declared.exiting.Innermost.{Innermost}
-use Rattle.algol_world.proofs.Numbering.{set_same}
+use Rattle.algol_instances.proofs.Numbering.{set_same}
 use Rattle.algol_world.proofs.Releasing.{caused_stays}
 
 abbrev pub evaluates_in : Option Innermost → Bool
@@ -62,8 +62,8 @@ module _ (sc : Scopes) (w : World) (p : ℕ) (a : Answer) (x : Innermost) where
       → x.evaluates ≡ false → some_depends w.processes x.instance ≡ false → x.alone ≡ true
       → record {
         action = actions.End;
-        world = ending ((caused_by_end (leave w (x.instance ∷ [])) (or_no_process o).task).world) p;
-        released = (caused_by_end (leave w (x.instance ∷ [])) (or_no_process o).task).processes;
+        world = ending ((caused_by_end (leave w (x.instance ∷ [])) p (or_no_process o).task).world) p;
+        released = (caused_by_end (leave w (x.instance ∷ [])) p (or_no_process o).task).processes;
         started = None;
       }
       ≡ leaves_of sc w p (or_no_process o) ((or_no_process o).todo) a
@@ -74,8 +74,8 @@ module _ (sc : Scopes) (w : World) (p : ℕ) (a : Answer) (x : Innermost) where
           (parts : List Part) → Some x ≡ innermost_of parts
           → record {
             action = actions.End;
-            world = ending ((caused_by_end (leave w (x.instance ∷ [])) q.task).world) p;
-            released = (caused_by_end (leave w (x.instance ∷ [])) q.task).processes;
+            world = ending ((caused_by_end (leave w (x.instance ∷ [])) p q.task).world) p;
+            released = (caused_by_end (leave w (x.instance ∷ [])) p q.task).processes;
             started = None;
           }
           ≡ leaves_of sc w p q parts a
@@ -84,14 +84,14 @@ module _ (sc : Scopes) (w : World) (p : ℕ) (a : Answer) (x : Innermost) where
           let ev : is_evaluation part.purpose ≡ false = sym (ap evaluates_in s) ∙ t in
           let at : part.instance ≡ x.instance = sym (ap instance_in s) in
           let dep : some_depends w.processes part.instance ≡ false = ap (some_depends w.processes) at ∙ d in
-          let stays = caused_stays (leave w (part.instance ∷ [])) p q q.task e able in
+          let stays = caused_stays (leave w (part.instance ∷ [])) p p q q.task e able in
           rw (ev, dep, ← at)
           (ap
           (λ (o : Option Process). record {
             action = actions.End;
             world =
-                with_process ((caused_by_end (leave w (part.instance ∷ [])) q.task).world) p (record (or_no_process o) { todo = []; state = world.ended });
-            released = (caused_by_end (leave w (part.instance ∷ [])) q.task).processes;
+                with_process ((caused_by_end (leave w (part.instance ∷ [])) p q.task).world) p (record (or_no_process o) { todo = []; state = world.ended });
+            released = (caused_by_end (leave w (part.instance ∷ [])) p q.task).processes;
             started = None;
           })
           stays)

@@ -1,12 +1,6 @@
-pub mod Capping
-pub mod Numbering
-pub mod Cells
-pub mod Placing
-pub mod Elements
 pub mod Processes
-pub mod Setting
 pub mod Releasing
+pub mod Deeds
 pub mod Innermosts
 pub mod Exits
-pub mod Counting
 pub mod Copies

@@ -1,20 +1,20 @@
 -- What an effect makes of a world, without the parts by name: the innermost part of the process goes on.
-use Rattle.std.specs.Prelude.{ℕ, if◌then◌else◌, List, [], ◌∷◌, None}
+use Rattle.std.specs.Prelude.{ℕ, List, [], ◌∷◌, None}
+use Rattle.b67_deeds.specs.Deeds.{EventDeed, Deed, deed}
+use Rattle.b67_deeds.specs.declared.Letter.{Letter}
+use Rattle.b67_deeds.specs.declared.Letter.TheVariants as actions
 use Rattle.algol_tree.specs.Scopes.{Scopes}
-use Rattle.algol_tree.specs.declared.tree.EventAct.{EventAct}
-use Rattle.algol_tree.specs.declared.tree.EventAct.TheVariants as act
-use Rattle.algol_meaning.specs.Value as plain
+use Rattle.algol_meaning.specs.Value.{Reference}
 use Rattle.algol_meaning.specs.World as world
-use Rattle.algol_meaning.specs.World.{World, Part, process_at, with_process}
+use Rattle.algol_meaning.specs.World.{World, Part, Process, process_at, with_process}
 use Rattle.algol_meaning.specs.Rest.{Answer, done, entered}
 use Rattle.algol_meaning.specs.Asks.{resume}
-use Rattle.algol_meaning.specs.Actions as actions
-use Rattle.algol_meaning.specs.Actions.{Action}
+use Rattle.algol_meaning.specs.Choice as choices
 use Rattle.algol_meaning.specs.Choice.{Choice}
-use Rattle.algol_meaning.specs.Events.{Released, event_at, caused, reset, liberated, with_waiter, with_procurer, taken}
+use Rattle.algol_meaning.specs.Events.{Released, released, event_at}
 
 -- an action only
-abbrev pub chosen : Action → World → Choice
+abbrev pub chosen : Letter → World → Choice
 chosen action after = record { action = action; world = after; released = []; started = None }
 
 module _ (sc : Scopes) where
@@ -34,24 +34,20 @@ module _ (sc : Scopes) where
   abbrev pub opening : World → ℕ → Part → World
   opening w p inner = with_process w p (record (process_at w p) { todo = inner ∷ resumed (process_at w p).todo entered })
 
+  -- an action that released these, after which the part goes on with nothing
+  abbrev pub releasing : Letter → World → ℕ → List ℕ → Choice
+  releasing action w p ps = record (chosen action (going w p done)) { released = ps }
+
+-- ---- what a process does with an event
+
+abbrev pub done_with : World → ℕ → EventDeed → Reference → Released
+done_with w p x r = released w r (deed x p (event_at w r))
+
 module _ (sc : Scopes) (w : World) (p : ℕ) where
-  -- an action after which the part goes on with nothing
-  abbrev pub did : Action → World → Choice
-  did action after = chosen action (going sc after p done)
+  -- a process without parts has no choice
+  abbrev pub does_of : Process → List Part → EventDeed → Reference → Deed → Choice
+  does_of q [] x r d = chosen actions.Fault w
+  does_of q (part ∷ outer) x r d = choices.does sc w p q part outer x r d
 
-  abbrev pub releasing : Action → Released → Choice
-  releasing action x = record (did action x.world) { released = x.processes }
-
-  abbrev pub waited : plain.Reference → plain.EventCell → Choice
-  waited r e = if e.happened then did actions.Wait w else chosen actions.Wait (stopping sc (with_waiter w r p) p (world.waits_for r))
-
-  abbrev pub procured : plain.Reference → plain.EventCell → Choice
-  procured r e =
-      if e.available then did actions.Procure (taken w r) else chosen actions.Procure (stopping sc (with_procurer w r p) p (world.procures r))
-
-  abbrev pub acted : EventAct → plain.Reference → Choice
-  acted act.Cause r = releasing actions.Cause (caused w r)
-  acted act.Reset r = releasing actions.Reset (reset w r)
-  acted act.Wait r = waited r (event_at w r)
-  acted act.Procure r = procured r (event_at w r)
-  acted act.Liberate r = releasing actions.Liberate (liberated w r)
+  abbrev pub does_by : EventDeed → Reference → Choice
+  does_by x r = does_of (process_at w p) ((process_at w p).todo) x r (deed x p (event_at w r))

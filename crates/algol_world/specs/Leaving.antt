@@ -6,7 +6,7 @@ use Rattle.algol_meaning.specs.World as world
 use Rattle.algol_meaning.specs.World.{World, Part, Process, process_at, with_process}
 use Rattle.algol_meaning.specs.Rest.{Answer}
 use Rattle.algol_meaning.specs.Asks.{resume}
-use Rattle.algol_meaning.specs.Actions as actions
+use Rattle.b67_deeds.specs.declared.Letter.TheVariants as actions
 use Rattle.algol_meaning.specs.Critical.{is_evaluation}
 use Rattle.algol_meaning.specs.Events.{Released, caused_by_end}
 use Rattle.algol_meaning.specs.Instances.{leave}
@@ -50,7 +50,7 @@ abbrev pub ended_after : Released → ℕ → Choice
 ended_after x p = record { action = actions.End; world = ending x.world p; released = x.processes; started = None }
 
 abbrev pub ended_by : World → ℕ → ℕ → Choice
-ended_by w p i = ended_after (caused_by_end (leave w (i ∷ [])) (process_at w p).task) p
+ended_by w p i = ended_after (caused_by_end (leave w (i ∷ [])) p (process_at w p).task) p
 
 -- the leaving of the innermost part with what it gives
 abbrev pub leaves_of : Scopes → World → ℕ → Process → List Part → Answer → Choice

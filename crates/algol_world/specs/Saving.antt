@@ -2,7 +2,7 @@
 use Rattle.std.specs.Prelude.{map}
 use Rattle.algol_tree.specs.Scopes as scoping
 use Rattle.algol_meaning.specs.World as world
-use Rattle.algol_world.specs.SeenInstance.{instance}
+use Rattle.algol_instances.specs.SeenInstance.{instance}
 use Rattle.algol_world.specs.SeenWorld.{processes, fault}
 use Rattle.algol_world.specs.declared.saving.Saved.{Saved}
 

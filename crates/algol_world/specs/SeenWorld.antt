@@ -4,11 +4,11 @@ use Rattle.std.specs.Borrow.{Bor}
 use Rattle.algol_tree.specs.Scopes as scoping
 use Rattle.algol_meaning.specs.Value as plain
 use Rattle.algol_meaning.specs.World as world
-use Rattle.algol_rest.specs.SeenScope.{scoped}
+use Rattle.algol_cells.specs.SeenScope.{scoped}
 use Rattle.algol_rest.specs.SeenRest.{rest}
-use Rattle.algol_rest.specs.SeenExpression.{reference}
-use Rattle.algol_rest.specs.declared.cell.Reference.{Reference}
-use Rattle.algol_world.specs.SeenInstance.{instance}
+use Rattle.algol_cells.specs.SeenCell.{reference}
+use Rattle.algol_cells.specs.declared.cell.Reference.{Reference}
+use Rattle.algol_instances.specs.SeenInstance.{instance}
 use Rattle.algol_world.specs.declared.world.Purpose.{Purpose}
 use Rattle.algol_world.specs.declared.world.Purpose.TheVariants as purposes
 use Rattle.algol_world.specs.declared.world.Part.{Part}

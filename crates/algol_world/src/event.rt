@@ -1,16 +1,20 @@
 //! What the event actions do to an event, and whom they release.
 
-ghost use Rattle.std.specs.Prelude.{◌≡◌, IfOk};
+ghost use Rattle.std.specs.Prelude.{◌≡◌, ℕ, Some, IfOk};
+ghost use Rattle.b67_deeds.specs.declared.EventAct.TheVariants as act;
+ghost use Rattle.b67_deeds.specs.Deeds.{acts};
+ghost use Rattle.b67_deeds.specs.Events.{joined, queued, taken};
 ghost use Rattle.algol_meaning.specs.World as world;
 ghost use Rattle.algol_meaning.specs.Events as events;
-ghost use Rattle.algol_rest.specs.SeenExpression as seen;
-ghost use Rattle.algol_rest.specs.SeenExpression.{reference};
-ghost use Rattle.algol_world.specs.SeenInstance.{zero_cell};
+ghost use Rattle.algol_cells.specs.SeenCell as seen;
+ghost use Rattle.algol_cells.specs.SeenCell.{reference};
+ghost use Rattle.algol_instances.specs.SeenInstance.{zero_cell};
 ghost use Rattle.algol_world.specs.SeenWorld.{world_of};
+ghost use Rattle.algol_world.specs.Going.{done_with};
 
-use crate::lists::{no_items, one_item, take_first};
 use crate::world::World;
-use algol_rest::{Cell, EventCell, Reference, append};
+use algol_cells::{Cell, EventCell, Reference, append};
+use algol_instances::{no_items, one_item, take_first};
 use algol_tree::List;
 use std::alloc::{AllocError, Global};
 
@@ -41,10 +45,10 @@ impl<'p> World<'p> {
     }
 
     /// CAUSE: the event has happened, and all who waited for it are released, in their order.
-    #[tactic(auto, using(crate::proofs::Setting::setting))]
+    #[tactic(auto, using(algol_instances::proofs::Setting::setting))]
     pub fn cause(&mut self, alloc: Global, r: Reference<'p>) -> List<usize>
-        ensures released { result ≡ (events.caused (world_of self.old) (reference r.entry)).processes }
-        ensures after { world_of self.new ≡ (events.caused (world_of self.old) (reference r.entry)).world }
+        ensures released { (p : ℕ) → result ≡ (done_with (world_of self.old) p (acts act.Cause) (reference r.entry)).processes }
+        ensures after { (p : ℕ) → world_of self.new ≡ (done_with (world_of self.old) p (acts act.Cause) (reference r.entry)).world }
         ensures same { self.new.scopes ≡ self.old.scopes }
     {
         let EventCell {
@@ -65,9 +69,9 @@ impl<'p> World<'p> {
     }
 
     /// RESET: the event has not happened.
-    #[tactic(auto, using(crate::proofs::Setting::setting))]
+    #[tactic(auto, using(algol_instances::proofs::Setting::setting))]
     pub fn reset(&mut self, alloc: Global, r: Reference<'p>)
-        ensures after { world_of self.new ≡ (events.reset (world_of self.old) (reference r.entry)).world }
+        ensures after { (p : ℕ) → world_of self.new ≡ (done_with (world_of self.old) p (acts act.Reset) (reference r.entry)).world }
         ensures same { self.new.scopes ≡ self.old.scopes }
     {
         let mut event = self.take_event(alloc, r);
@@ -76,14 +80,14 @@ impl<'p> World<'p> {
     }
 
     /// A process waits for the event, after those that wait for it.
-    #[tactic(auto, using(crate::proofs::Setting::setting))]
+    #[tactic(auto, using(algol_instances::proofs::Setting::setting))]
     pub fn add_waiter(
         &mut self,
         alloc: Global,
         r: Reference<'p>,
         number: usize,
     ) -> Result<(), AllocError>
-        ensures after { IfOk result (λ _. world_of self.new ≡ events.with_waiter (world_of self.old) (reference r.entry) number) }
+        ensures after { IfOk result (λ _. world_of self.new ≡ events.change_event (world_of self.old) (reference r.entry) (Some (joined number))) }
         ensures same { self.new.scopes ≡ self.old.scopes }
     {
         let mut event = self.take_event(alloc, r);
@@ -93,14 +97,14 @@ impl<'p> World<'p> {
     }
 
     /// A process waits to procure the event, after those that wait for that.
-    #[tactic(auto, using(crate::proofs::Setting::setting))]
+    #[tactic(auto, using(algol_instances::proofs::Setting::setting))]
     pub fn add_procurer(
         &mut self,
         alloc: Global,
         r: Reference<'p>,
         number: usize,
     ) -> Result<(), AllocError>
-        ensures after { IfOk result (λ _. world_of self.new ≡ events.with_procurer (world_of self.old) (reference r.entry) number) }
+        ensures after { IfOk result (λ _. world_of self.new ≡ events.change_event (world_of self.old) (reference r.entry) (Some (queued number))) }
         ensures same { self.new.scopes ≡ self.old.scopes }
     {
         let mut event = self.take_event(alloc, r);
@@ -110,9 +114,9 @@ impl<'p> World<'p> {
     }
 
     /// The event is not available any more.
-    #[tactic(auto, using(crate::proofs::Setting::setting))]
+    #[tactic(auto, using(algol_instances::proofs::Setting::setting))]
     pub fn take(&mut self, alloc: Global, r: Reference<'p>)
-        ensures after { world_of self.new ≡ events.taken (world_of self.old) (reference r.entry) }
+        ensures after { world_of self.new ≡ events.change_event (world_of self.old) (reference r.entry) (Some taken) }
         ensures same { self.new.scopes ≡ self.old.scopes }
     {
         let mut event = self.take_event(alloc, r);
@@ -121,10 +125,10 @@ impl<'p> World<'p> {
     }
 
     /// LIBERATE hands the event to who has waited longest to procure it, and makes it available where nobody waits.
-    #[tactic(auto, using(crate::proofs::Setting::setting))]
+    #[tactic(auto, using(algol_instances::proofs::Setting::setting))]
     pub fn liberate(&mut self, alloc: Global, r: Reference<'p>) -> Result<List<usize>, AllocError>
-        ensures released { IfOk result (λ ps. ps ≡ (events.liberated (world_of self.old) (reference r.entry)).processes) }
-        ensures after { IfOk result (λ _. world_of self.new ≡ (events.liberated (world_of self.old) (reference r.entry)).world) }
+        ensures released { IfOk result (λ ps. (p : ℕ) → ps ≡ (done_with (world_of self.old) p (acts act.Liberate) (reference r.entry)).processes) }
+        ensures after { IfOk result (λ _. (p : ℕ) → world_of self.new ≡ (done_with (world_of self.old) p (acts act.Liberate) (reference r.entry)).world) }
         ensures same { self.new.scopes ≡ self.old.scopes }
     {
         let mut event = self.take_event(alloc, r);

@@ -1,21 +1,24 @@
-//! The event actions of a process.
+//! What a process does with an event.
 
-ghost use Rattle.std.specs.Prelude.{◌≡◌, IfOk};
+ghost use Rattle.std.specs.Prelude.{◌≡◌, false, IfOk};
+ghost use Rattle.b67_deeds.specs.declared.EventAct.TheVariants as act;
+ghost use Rattle.b67_deeds.specs.Deeds as deeds;
 ghost use Rattle.algol_meaning.specs.World as world;
-ghost use Rattle.algol_meaning.specs.Events as events;
-ghost use Rattle.algol_rest.specs.SeenScope.{scoped};
-ghost use Rattle.algol_rest.specs.SeenExpression.{reference};
-ghost use Rattle.algol_world.specs.SeenInstance.{cell_or_none};
-ghost use Rattle.algol_world.specs.SeenWorld.{world_of};
+ghost use Rattle.algol_cells.specs.SeenScope.{scoped};
+ghost use Rattle.algol_cells.specs.SeenCell.{reference};
+ghost use Rattle.algol_instances.specs.SeenInstance.{cell_or_none};
+ghost use Rattle.algol_world.specs.SeenWorld.{world_of, process_of};
 ghost use Rattle.algol_world.specs.SeenActed.{acted_choice};
-ghost use Rattle.algol_world.specs.Going as going;
+ghost use Rattle.algol_world.specs.Going.{releasing, does_by};
+ghost use Rattle.algol_world.specs.Leaving.{is_nil};
 
 use crate::acted::Acted;
-use crate::action::Action;
-use crate::instances::cell_at;
 use crate::world::{State, World};
-use algol_rest::{Answer, Cell, Reference};
-use algol_tree::EventAct;
+use algol_cells::{Cell, Reference};
+use algol_instances::{cell_at, no_items};
+use algol_rest_expr::Answer;
+use algol_tree::{EventAct, List};
+use b67_deeds::Letter;
 use std::alloc::{AllocError, Global};
 
 /// Whether the event of a cell has happened.
@@ -39,43 +42,67 @@ fn is_available(cell: Option<&Cell<'_>>) -> bool
 }
 
 impl<'p> World<'p> {
+    /// The process goes on after this action, which released these.
+    fn goes_releasing(
+        &mut self,
+        alloc: Global,
+        number: usize,
+        action: Letter,
+        released: List<usize>,
+    ) -> Result<Acted, AllocError>
+        ensures acted { IfOk result (λ a. acted_choice a (world_of self.new) ≡ releasing (scoped self.old.scopes) action (world_of self.old) number released) }
+        ensures same { self.new.scopes ≡ self.old.scopes }
+    {
+        self.goes(alloc, number, Answer::Done)?;
+        Ok(Acted {
+            action,
+            released,
+            started: None,
+        })
+    }
+
     /// WAIT: the process goes on where the event has happened, else it waits.
+    #[tactic(auto, using(crate::proofs::Deeds::deed_laws))]
     fn wait(&mut self, alloc: Global, number: usize, r: Reference<'p>) -> Result<Acted, AllocError>
-        ensures acted { IfOk result (λ a. acted_choice a (world_of self.new) ≡ going.waited (scoped self.old.scopes) (world_of self.old) number (reference r.entry) (events.event_at (world_of self.old) (reference r.entry))) }
+        requires able { (process_of self.old number).state ≡ world.able }
+        requires acts { is_nil ((process_of self.old number).todo) ≡ false }
+        ensures acted { IfOk result (λ a. acted_choice a (world_of self.new) ≡ does_by (scoped self.old.scopes) (world_of self.old) number (deeds.acts act.Wait) (reference r.entry)) }
         ensures same { self.new.scopes ≡ self.old.scopes }
     {
         if has_happened(cell_at(&self.instances, r)) {
-            self.goes(alloc, number, Answer::Done)?;
-            Ok(Acted::alone(alloc, Action::Wait))
+            self.goes_releasing(alloc, number, Letter::Wait, no_items(alloc))
         } else {
             self.add_waiter(alloc, r, number)?;
             self.stops(alloc, number, State::WaitsFor(r))?;
-            Ok(Acted::alone(alloc, Action::Wait))
+            Ok(Acted::alone(alloc, Letter::Wait))
         }
     }
 
     /// PROCURE: the process takes the event where it is available, else it waits.
+    #[tactic(auto, using(crate::proofs::Deeds::deed_laws))]
     fn procure(
         &mut self,
         alloc: Global,
         number: usize,
         r: Reference<'p>,
     ) -> Result<Acted, AllocError>
-        ensures acted { IfOk result (λ a. acted_choice a (world_of self.new) ≡ going.procured (scoped self.old.scopes) (world_of self.old) number (reference r.entry) (events.event_at (world_of self.old) (reference r.entry))) }
+        requires able { (process_of self.old number).state ≡ world.able }
+        requires acts { is_nil ((process_of self.old number).todo) ≡ false }
+        ensures acted { IfOk result (λ a. acted_choice a (world_of self.new) ≡ does_by (scoped self.old.scopes) (world_of self.old) number (deeds.acts act.Procure) (reference r.entry)) }
         ensures same { self.new.scopes ≡ self.old.scopes }
     {
         if is_available(cell_at(&self.instances, r)) {
             self.take(alloc, r);
-            self.goes(alloc, number, Answer::Done)?;
-            Ok(Acted::alone(alloc, Action::Procure))
+            self.goes_releasing(alloc, number, Letter::Procure, no_items(alloc))
         } else {
             self.add_procurer(alloc, r, number)?;
             self.stops(alloc, number, State::Procures(r))?;
-            Ok(Acted::alone(alloc, Action::Procure))
+            Ok(Acted::alone(alloc, Letter::Procure))
         }
     }
 
-    /// An event action.
+    /// A statement on an event, by a process that is able and has a part.
+    #[tactic(auto, using(crate::proofs::Deeds::deed_laws))]
     pub fn act(
         &mut self,
         alloc: Global,
@@ -83,7 +110,9 @@ impl<'p> World<'p> {
         act: EventAct,
         r: Reference<'p>,
     ) -> Result<Acted, AllocError>
-        ensures acted { IfOk result (λ a. acted_choice a (world_of self.new) ≡ going.acted (scoped self.old.scopes) (world_of self.old) number act (reference r.entry)) }
+        requires able { (process_of self.old number).state ≡ world.able }
+        requires acts { is_nil ((process_of self.old number).todo) ≡ false }
+        ensures acted { IfOk result (λ a. acted_choice a (world_of self.new) ≡ does_by (scoped self.old.scopes) (world_of self.old) number (deeds.acts act) (reference r.entry)) }
         ensures same { self.new.scopes ≡ self.old.scopes }
     {
         match act {
@@ -91,26 +120,15 @@ impl<'p> World<'p> {
             EventAct::Procure => self.procure(alloc, number, r),
             EventAct::Cause => {
                 let released = self.cause(alloc, r);
-                self.goes(alloc, number, Answer::Done)?;
-                Ok(Acted {
-                    action: Action::Cause,
-                    released,
-                    started: None,
-                })
+                self.goes_releasing(alloc, number, Letter::Cause, released)
             }
             EventAct::Reset => {
                 self.reset(alloc, r);
-                self.goes(alloc, number, Answer::Done)?;
-                Ok(Acted::alone(alloc, Action::Reset))
+                self.goes_releasing(alloc, number, Letter::Reset, no_items(alloc))
             }
             EventAct::Liberate => {
                 let released = self.liberate(alloc, r)?;
-                self.goes(alloc, number, Answer::Done)?;
-                Ok(Acted {
-                    action: Action::Liberate,
-                    released,
-                    started: None,
-                })
+                self.goes_releasing(alloc, number, Letter::Liberate, released)
             }
         }
     }

@@ -1,23 +1,24 @@
 //! What the leaving of a part does: it goes back to the part around it, or the process ends.
 
-ghost use Rattle.std.specs.Prelude.{◌≡◌, map, slice_get, IfOk};
+ghost use Rattle.std.specs.Prelude.{◌≡◌, ℕ, map, slice_get, IfOk};
 ghost use Rattle.algol_tree.specs.Scopes as scoping;
 ghost use Rattle.algol_meaning.specs.World as world;
 ghost use Rattle.algol_meaning.specs.Events as events;
-ghost use Rattle.algol_rest.specs.SeenScope.{scoped};
-ghost use Rattle.algol_rest.specs.SeenStatement.{answered};
+ghost use Rattle.algol_cells.specs.SeenScope.{scoped};
+ghost use Rattle.algol_rest_expr.specs.SeenExpression.{answered};
 ghost use Rattle.algol_world.specs.SeenWorld as views;
 ghost use Rattle.algol_world.specs.SeenWorld.{world_of, process_of};
 ghost use Rattle.algol_world.specs.SeenActed.{acted_choice};
 ghost use Rattle.algol_world.specs.Leaving.{is_nothing, innermost_of, ended_by, leaves_by};
 
 use crate::acted::Acted;
-use crate::action::Action;
 use crate::leaving::is_evaluation;
-use crate::lists::no_items;
 use crate::world::{Process, World};
-use algol_rest::{Answer, Reference};
+use algol_cells::Reference;
+use algol_instances::no_items;
+use algol_rest_expr::Answer;
 use algol_tree::List;
+use b67_deeds::Letter;
 use b67_list::discard;
 use b67_num::FaultKind;
 use std::alloc::{AllocError, Global};
@@ -79,8 +80,8 @@ impl<'p> World<'p> {
 
     /// The event of a task is caused, which releases who waits for it.
     fn cause_task(&mut self, alloc: Global, task: Option<Reference<'p>>) -> List<usize>
-        ensures released { result ≡ (events.caused_by_end (world_of self.old) (views.task task.entry)).processes }
-        ensures after { world_of self.new ≡ (events.caused_by_end (world_of self.old) (views.task task.entry)).world }
+        ensures released { (p : ℕ) → result ≡ (events.caused_by_end (world_of self.old) p (views.task task.entry)).processes }
+        ensures after { (p : ℕ) → world_of self.new ≡ (events.caused_by_end (world_of self.old) p (views.task task.entry)).world }
         ensures same { self.new.scopes ≡ self.old.scopes }
     {
         match task {
@@ -99,7 +100,7 @@ impl<'p> World<'p> {
         let released = self.cause_task(alloc, task);
         self.end_process(number);
         Acted {
-            action: Action::End,
+            action: Letter::End,
             released,
             started: None,
         }
@@ -120,23 +121,23 @@ impl<'p> World<'p> {
         match self.innermost(number) {
             None => {
                 discard(answer);
-                Ok(Acted::alone(alloc, Action::Fault))
+                Ok(Acted::alone(alloc, Letter::Fault))
             }
             Some(part) => {
                 if part.evaluates {
                     self.end_part(alloc, number, answer)?;
-                    Ok(Acted::alone(alloc, Action::Leave))
+                    Ok(Acted::alone(alloc, Letter::Leave))
                 } else if self.some_depends(part.instance) {
                     discard(answer);
                     self.fail(number, FaultKind::CriticalBlockExit);
-                    Ok(Acted::alone(alloc, Action::Fault))
+                    Ok(Acted::alone(alloc, Letter::Fault))
                 } else if part.alone {
                     discard(answer);
                     Ok(self.end(alloc, number, part.instance))
                 } else {
                     self.leave(part.instance);
                     self.end_part(alloc, number, answer)?;
-                    Ok(Acted::alone(alloc, Action::Leave))
+                    Ok(Acted::alone(alloc, Letter::Leave))
                 }
             }
         }

@@ -4,15 +4,15 @@ ghost use Rattle.std.specs.Prelude.{◌≡◌, ◌&&◌, ◌∷◌, [], IfOk};
 ghost use Rattle.algol_meaning.specs.World as world;
 ghost use Rattle.algol_meaning.specs.Instances as leaving;
 ghost use Rattle.algol_meaning.specs.Critical as critical;
-ghost use Rattle.algol_rest.specs.SeenScope.{scoped};
-ghost use Rattle.algol_rest.specs.SeenStatement.{answered};
+ghost use Rattle.algol_cells.specs.SeenScope.{scoped};
+ghost use Rattle.algol_rest_expr.specs.SeenExpression.{answered};
 ghost use Rattle.algol_world.specs.SeenWorld.{purpose, process, state, world_of, process_of, process_or_none};
 ghost use Rattle.algol_world.specs.Leaving.{left_todo, leaving_with, failing, ending};
 
-use crate::instance::place;
-use crate::lists::item;
-use crate::world::{Part, Process, Purpose, State, World, WorldFault};
-use algol_rest::{Answer, Scopes};
+use crate::world::{Process, Purpose, State, World, WorldFault};
+use algol_cells::Scopes;
+use algol_instances::{item, place};
+use algol_rest_expr::Answer;
 use b67_list::discard;
 use b67_num::FaultKind;
 use std::alloc::{AllocError, Global};
@@ -50,31 +50,15 @@ impl<'p> Process<'p> {
     ) -> Result<(), AllocError>
         ensures { IfOk result (λ _. process (scoped scopes.now) self.new ≡ record (process (scoped scopes.now) self.old) { todo = left_todo (scoped scopes.now) ((process (scoped scopes.now) self.old).todo) (answered answer.entry) }) }
     {
-        match self.todo.pop() {
+        match self.todo.under(1) {
             None => {
                 discard(answer);
                 Ok(())
             }
-            Some(inner) => match self.todo.pop() {
-                None => {
-                    discard(answer);
-                    self.todo.push(inner)
-                }
-                Some(next) => {
-                    discard(inner);
-                    let Part {
-                        instance,
-                        purpose,
-                        rest,
-                    } = next;
-                    let rest = rest.resume(alloc, scopes, answer)?;
-                    self.todo.push(Part {
-                        instance,
-                        purpose,
-                        rest,
-                    })
-                }
-            },
+            Some(_) => {
+                discard(self.todo.pop());
+                self.go_on(alloc, scopes, answer)
+            }
         }
     }
 
@@ -89,7 +73,7 @@ impl<'p> Process<'p> {
 
 impl<'p> World<'p> {
     /// The process of that number.
-    #[tactic(auto, using(crate::proofs::Numbering::numbers))]
+    #[tactic(auto, using(algol_instances::proofs::Numbering::numbers))]
     pub fn process(&self, number: usize) -> Option<&Process<'p>>
         ensures { process_or_none (scoped self.now.scopes) result ≡ process_of self.now number }
     {
@@ -121,12 +105,19 @@ impl<'p> World<'p> {
         ensures went { IfOk result (λ _. world_of self.new ≡ leaving_with (scoped self.old.scopes) (world_of self.old) number (answered answer.entry)) }
         ensures same { self.new.scopes ≡ self.old.scopes }
     {
-        if let Some(at) = place(number) {
-            if let Some(q) = self.processes.items_mut().get_mut(at) {
-                q.end_part(alloc, &self.scopes, answer)?;
+        match place(number) {
+            None => {
+                discard(answer);
+                Ok(())
             }
+            Some(at) => match self.processes.items_mut().get_mut(at) {
+                None => {
+                    discard(answer);
+                    Ok(())
+                }
+                Some(q) => q.end_part(alloc, &self.scopes, answer),
+            },
         }
-        Ok(())
     }
 
     /// A process has ended.

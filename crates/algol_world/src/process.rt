@@ -3,20 +3,21 @@
 ghost use Rattle.std.specs.Prelude.{◌≡◌, ◌∷◌, IfOk};
 ghost use Rattle.algol_meaning.specs.Rest as rest;
 ghost use Rattle.algol_meaning.specs.World as world;
-ghost use Rattle.algol_rest.specs.SeenScope.{scoped};
-ghost use Rattle.algol_rest.specs.SeenStatement.{answered};
+ghost use Rattle.algol_cells.specs.SeenScope.{scoped};
+ghost use Rattle.algol_rest_expr.specs.SeenExpression.{answered};
 ghost use Rattle.algol_world.specs.SeenWorld.{part, process, state, world_of};
 ghost use Rattle.algol_world.specs.Going.{resumed, going, stopping, opening};
 
-use crate::instance::place;
 use crate::world::{Part, Process, State, World};
-use algol_rest::{Answer, Scopes};
+use algol_cells::Scopes;
+use algol_instances::place;
+use algol_rest_expr::Answer;
 use b67_list::discard;
 use std::alloc::{AllocError, Global};
 
 impl<'p> Process<'p> {
     /// The innermost part goes on with this answer.
-    fn go_on(
+    pub fn go_on(
         &mut self,
         alloc: Global,
         scopes: &Scopes<'p>,
@@ -92,12 +93,19 @@ impl<'p> World<'p> {
         ensures went { IfOk result (λ _. world_of self.new ≡ going (scoped self.old.scopes) (world_of self.old) number (answered answer.entry)) }
         ensures same { self.new.scopes ≡ self.old.scopes }
     {
-        if let Some(at) = place(number) {
-            if let Some(q) = self.processes.items_mut().get_mut(at) {
-                q.go_on(alloc, &self.scopes, answer)?;
+        match place(number) {
+            None => {
+                discard(answer);
+                Ok(())
             }
+            Some(at) => match self.processes.items_mut().get_mut(at) {
+                None => {
+                    discard(answer);
+                    Ok(())
+                }
+                Some(q) => q.go_on(alloc, &self.scopes, answer),
+            },
         }
-        Ok(())
     }
 
     /// A process waits.
@@ -110,12 +118,13 @@ impl<'p> World<'p> {
         ensures went { IfOk result (λ _. world_of self.new ≡ stopping (scoped self.old.scopes) (world_of self.old) number (state until.entry)) }
         ensures same { self.new.scopes ≡ self.old.scopes }
     {
-        if let Some(at) = place(number) {
-            if let Some(q) = self.processes.items_mut().get_mut(at) {
-                q.stop(alloc, &self.scopes, until)?;
-            }
+        match place(number) {
+            None => Ok(()),
+            Some(at) => match self.processes.items_mut().get_mut(at) {
+                None => Ok(()),
+                Some(q) => q.stop(alloc, &self.scopes, until),
+            },
         }
-        Ok(())
     }
 
     /// A part inside the innermost part of a process comes to be.
@@ -123,12 +132,19 @@ impl<'p> World<'p> {
         ensures went { IfOk result (λ _. world_of self.new ≡ opening (scoped self.old.scopes) (world_of self.old) number (part (scoped self.old.scopes) inner.entry)) }
         ensures same { self.new.scopes ≡ self.old.scopes }
     {
-        if let Some(at) = place(number) {
-            if let Some(q) = self.processes.items_mut().get_mut(at) {
-                q.open(alloc, &self.scopes, inner)?;
+        match place(number) {
+            None => {
+                discard(inner);
+                Ok(())
             }
+            Some(at) => match self.processes.items_mut().get_mut(at) {
+                None => {
+                    discard(inner);
+                    Ok(())
+                }
+                Some(q) => q.open(alloc, &self.scopes, inner),
+            },
         }
-        Ok(())
     }
 
     /// A process is able to go on.

@@ -2,14 +2,14 @@
 
 ghost use Rattle.std.specs.Prelude.{◌≡◌, map, IfOk};
 ghost use Rattle.algol_tree.specs.Scopes as scoping;
-ghost use Rattle.algol_rest.specs.SeenScope.{scoped};
+ghost use Rattle.algol_cells.specs.SeenScope.{scoped};
 ghost use Rattle.algol_world.specs.SeenWorld as views;
 ghost use Rattle.algol_world.specs.SeenWorld.{world_of};
 ghost use Rattle.algol_world.specs.Saving.{saved_in};
 
-use crate::instances::Instances;
 use crate::world::{Part, Process, World, WorldFault};
-use algol_rest::Stack;
+use algol_cells::Stack;
+use algol_instances::Instances;
 use algol_tree::{Line, List};
 use b67_list::discard;
 use std::alloc::{AllocError, Global};

@@ -5,19 +5,28 @@ ghost use Rattle.algol_meaning.specs.World as world;
 ghost use Rattle.algol_meaning.specs.Rest as rest;
 ghost use Rattle.algol_meaning.specs.Arrays as arrays;
 ghost use Rattle.algol_meaning.specs.Value as plain;
-ghost use Rattle.algol_rest.specs.SeenScope.{scoped};
-ghost use Rattle.algol_rest.specs.SeenValue.{value};
-ghost use Rattle.algol_rest.specs.SeenExpression.{reference};
-ghost use Rattle.algol_world.specs.SeenInstance.{named_cells};
+ghost use Rattle.algol_cells.specs.SeenScope.{scoped};
+ghost use Rattle.algol_cells.specs.SeenValue.{value};
+ghost use Rattle.algol_cells.specs.SeenCell.{reference};
+ghost use Rattle.algol_instances.specs.SeenArray.{capped};
+ghost use Rattle.algol_instances.specs.SeenInstance.{named_cells};
 ghost use Rattle.algol_world.specs.SeenWorld.{world_of};
 ghost use Rattle.algol_world.specs.Going.{going};
 
-use crate::instance::NamedCell;
 use crate::world::World;
-use algol_rest::{Answer, Cell, Reference, Value};
+use algol_cells::{Cell, Reference, Value};
+use algol_instances::NamedCell;
+use algol_rest_expr::Answer;
 use std::alloc::{AllocError, Global};
 
 impl<'p> World<'p> {
+    /// How many elements the arrays have that live.
+    pub fn live_elements(&self) -> usize
+        ensures { result ≡ capped (arrays.live_elements ((world_of self.now).instances)) }
+    {
+        self.instances.live_elements()
+    }
+
     /// The storing of a value in a simple cell.
     pub fn store(
         &mut self,

@@ -1,7 +1,8 @@
 //! The world of a run.
 
-use crate::instances::Instances;
-use algol_rest::{Reference, Rest, Scopes, Stack};
+use algol_cells::{Reference, Scopes, Stack};
+use algol_instances::Instances;
+use algol_rest::Rest;
 use algol_tree::{Line, List};
 use b67_num::FaultKind;
 

@@ -5,4 +5,4 @@ use Rattle.algol_rest.proofs.statement.Point.ask.Goals as goal
 
 pub returns-in-In : goal.returns-in-In
 returns-in-In c =
-    let i = c.in-In in λ sc fs k. rw i.is (c.ask-in-In.ensures sc ∙ sym (ask-in sc i.head i.field-1 fs (following k)))
+    let i = c.in-In in λ sc fs k. rw i.is (c.ask_head.ensures sc ∙ sym (ask-in sc i.head i.field-1 fs (following k)))

@@ -1,4 +1,4 @@
-use Rattle.algol_rest.specs.SeenScope.{scoped}
+use Rattle.algol_cells.specs.SeenScope.{scoped}
 use Rattle.algol_rest.proofs.statement.Work.again.Goals as goal
 
 pub returns-in-Count : goal.returns-in-Count

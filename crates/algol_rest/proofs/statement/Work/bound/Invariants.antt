@@ -1,8 +1,8 @@
 use Rattle.std.proofs.Common.{◌≡◌, [], map, length}
 use Rattle.algol_meaning.specs.Statements.{settle_bounds}
 use Rattle.algol_meaning.specs.SeenTree.{pairs}
-use Rattle.algol_rest.specs.SeenValue.{value}
-use Rattle.algol_rest.specs.SeenScope.{scoped}
+use Rattle.algol_cells.specs.SeenValue.{value}
+use Rattle.algol_cells.specs.SeenScope.{scoped}
 use Rattle.algol_rest.specs.SeenStatement.{ahead}
 use Rattle.algol_rest.proofs.statement.Work.bound.Given as goal
 

@@ -1,5 +1,5 @@
 use Rattle.std.proofs.Common.{◌≡◌, ◌∷◌}
-use Rattle.algol_rest.specs.SeenScope.{scoped}
+use Rattle.algol_cells.specs.SeenScope.{scoped}
 use Rattle.algol_rest.proofs.Declaring.{next_decl}
 use Rattle.algol_rest.proofs.statement.Work.declare.Goals as goal
 

@@ -1,6 +1,6 @@
 use Rattle.std.proofs.Common.{◌≡◌, []}
 use Rattle.algol_meaning.specs.Statements.{settle_items}
-use Rattle.algol_rest.specs.SeenScope.{scoped}
+use Rattle.algol_cells.specs.SeenScope.{scoped}
 use Rattle.algol_rest.specs.SeenStatement.{ahead, weigh}
 use Rattle.algol_rest.proofs.statement.Work.go_on.Given as goal
 

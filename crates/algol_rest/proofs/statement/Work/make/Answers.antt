@@ -1,7 +1,7 @@
 use Rattle.std.proofs.Common.{◌≡◌, refl, ap, sym, ◌∙◌}
 use Rattle.algol_tree.specs.Plain as tree
 use Rattle.algol_meaning.specs.SeenTree.{stmt, decl}
-use Rattle.algol_rest.specs.SeenScope.{scoped}
+use Rattle.algol_cells.specs.SeenScope.{scoped}
 use Rattle.algol_rest.specs.SeenStatement.{weigh}
 use Rattle.algol_rest.proofs.Declaring.{decl_takes, decl_of_events, decl_of_tasks, decl_of_simple, decl_of_files, decl_of_labels, decl_of_forward, decl_of_procedure}
 use Rattle.algol_rest.proofs.statement.Work.make.Goals as goal

@@ -1,8 +1,8 @@
 use Rattle.std.proofs.Common.{◌≡◌, [], length}
 use Rattle.algol_meaning.specs.Settle.{settle_actuals}
 use Rattle.algol_meaning.specs.SeenTree.{exprs}
-use Rattle.algol_rest.specs.SeenScope.{scoped}
-use Rattle.algol_rest.specs.SeenExpression.{all_done, sorts_from, exprs_size}
+use Rattle.algol_cells.specs.SeenScope.{scoped}
+use Rattle.algol_rest_expr.specs.SeenExpression.{all_done, sorts_from, exprs_size}
 use Rattle.algol_rest.proofs.statement.Work.prepare.Given as goal
 
 abbrev pub invariant-preparing : goal.invariant-preparing

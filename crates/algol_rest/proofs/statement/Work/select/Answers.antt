@@ -1,4 +1,4 @@
-use Rattle.algol_rest.specs.SeenScope.{scoped}
+use Rattle.algol_cells.specs.SeenScope.{scoped}
 use Rattle.algol_rest.proofs.statement.Work.select.Goals as goal
 
 pub returns : goal.returns

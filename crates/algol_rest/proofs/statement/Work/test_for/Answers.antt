@@ -2,8 +2,8 @@ use Rattle.std.proofs.Common.{rules, ◌≡◌}
 use Rattle.algol_meaning.specs.Rest as rest
 use Rattle.algol_meaning.specs.Settle.{settle}
 use Rattle.algol_meaning.specs.SeenTree.{expr}
-use Rattle.algol_rest.specs.SeenValue.{value}
-use Rattle.algol_rest.specs.SeenScope.{scoped}
+use Rattle.algol_cells.specs.SeenValue.{value}
+use Rattle.algol_cells.specs.SeenScope.{scoped}
 use Rattle.algol_rest.proofs.statement.Work.test_for.Goals as goal
 
 pub returns-in-Value : goal.returns-in-Value

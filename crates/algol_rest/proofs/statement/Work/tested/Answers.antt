@@ -4,8 +4,8 @@ use Rattle.algol_tree.specs.declared.tree.Stmt.{Stmt}
 use Rattle.algol_meaning.specs.Value as plain
 use Rattle.algol_meaning.specs.Statements.{repeated_of, counted_body, settle_items}
 use Rattle.algol_meaning.specs.SeenTree.{expr, stmt, branched}
-use Rattle.algol_rest.specs.SeenValue.{value}
-use Rattle.algol_rest.specs.SeenScope.{scoped}
+use Rattle.algol_cells.specs.SeenValue.{value}
+use Rattle.algol_cells.specs.SeenScope.{scoped}
 use Rattle.algol_rest.specs.SeenStatement.{ahead, Advances, stmt_size, weigh}
 use Rattle.algol_rest.proofs.Statements.{stmt_of_if, stmt_of_while, stmt_of_until, stmt_of_thru, stmt_of_for}
 use Rattle.algol_rest.proofs.statement.Work.tested.Goals as goal

@@ -1,8 +1,8 @@
 use Rattle.std.proofs.Common.{◌≤◌, length, ap}
 use Rattle.algol_meaning.specs.World as world
-use Rattle.algol_rest.specs.SeenScope.{scoped}
+use Rattle.algol_cells.specs.SeenScope.{scoped}
 use Rattle.algol_world.specs.SeenWorld.{world_of}
-use Rattle.algol_world.proofs.Numbering.{unchanged}
+use Rattle.algol_instances.proofs.Numbering.{unchanged}
 use Rattle.algol_world.specs.SeenWorld.{process}
 use Rattle.algol_world.proofs.Processes.{changed}
 use Rattle.algol_world.proofs.world.World.set_able.Goals as goal

@@ -1,20 +1,21 @@
 use Rattle.std.proofs.Common.{◌≤◌, length, ap}
 use Rattle.algol_meaning.specs.World as world
-use Rattle.algol_rest.specs.SeenScope.{scoped}
+use Rattle.algol_cells.specs.SeenScope.{scoped}
 use Rattle.algol_meaning.specs.Rest.{done}
 use Rattle.algol_world.specs.SeenWorld.{state}
 use Rattle.algol_world.specs.Going.{resumed}
 use Rattle.algol_world.specs.SeenWorld.{world_of}
-use Rattle.algol_world.proofs.Numbering.{unchanged}
+use Rattle.algol_instances.proofs.Numbering.{unchanged}
 use Rattle.algol_world.specs.SeenWorld.{process}
-use Rattle.algol_world.proofs.Processes.{changed}
+use Rattle.algol_world.proofs.Processes.{if_ok, changed}
 use Rattle.algol_world.proofs.world.World.stops.Goals as goal
 
-pub returns-in_ok-stop-clause-went : goal.returns-in_ok-stop-clause-went
-returns-in_ok-stop-clause-went c =
+pub returns-in-Some-get_mut-clause-went : goal.returns-in-Some-get_mut-clause-went
+returns-in-Some-get_mut-clause-went c =
     let sc = scoped c.args.self.now.scopes in
     let item = c.in-Some-get_mut.ensures.item in
-    rw (← c.items_mut.ensures.shows)
+    if_ok c.stop.result
+    (λ _ gone. rw (← c.items_mut.ensures.shows)
     (ap (λ (qs : _). record (world_of c.args.self.now) { processes = qs })
     (changed
     sc
@@ -27,12 +28,13 @@ returns-in_ok-stop-clause-went c =
     c.in-Some.ensures
     item.3.0
     (item.3.1 c.in-Some-get_mut.q.now)
-    c.in_ok-stop.ensures))
+    gone)))
+    c.stop.ensures
 
-pub returns-in_default-get_mut-clause-went : goal.returns-in_default-get_mut-clause-went
-returns-in_default-get_mut-clause-went c =
+pub returns-in-None-get_mut-clause-went : goal.returns-in-None-get_mut-clause-went
+returns-in-None-get_mut-clause-went c =
     let qs = c.args.self.now.processes in
-    let past : length qs ≤ c.in-Some.at = rw (← c.items_mut.ensures.shows) c.in_default-get_mut.ensures.item.3 in
+    let past : length qs ≤ c.in-Some.at = rw (← c.items_mut.ensures.shows) c.in-None-get_mut.ensures.item.3 in
     rw c.items_mut.ensures.shows
     (ap (λ (all : _). record (world_of c.args.self.now) { processes = all })
     (unchanged qs (process (scoped c.args.self.now.scopes)) c.args.number c.in-Some.at _ c.in-Some.ensures past))

@@ -1,0 +1,3 @@
+pub mod SeenInstance
+pub mod SeenArray
+pub mod Counting

@@ -1,6 +1,0 @@
-use Rattle.std.proofs.Common.{rules}
-use Rattle.algol_rest.specs.SeenScope.{scoped}
-use Rattle.algol_rest.proofs.expression.put.Goals as goal
-
-pub returns : goal.returns
-returns c = search (rules, c.filled.ensures (scoped c.args.scopes.now))

@@ -1,5 +1,0 @@
-use Rattle.std.proofs.Common.{length}
-use Rattle.algol_world.proofs.array.+flat.Given as goal
-
-abbrev pub decreases-flat : goal.decreases-flat
-decreases-flat l = length l.bounds.now
