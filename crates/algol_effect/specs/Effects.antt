@@ -7,16 +7,17 @@ use Rattle.algol_meaning.specs.Value.{simple}
 use Rattle.algol_meaning.specs.World as world
 use Rattle.algol_meaning.specs.Rest as rest
 use Rattle.algol_meaning.specs.Asks as asks
-use Rattle.algol_meaning.specs.Actions as actions
+use Rattle.algol_meaning.specs.Events.{event_at}
+use Rattle.b67_deeds.specs.Deeds.{acts, deed}
+use Rattle.b67_deeds.specs.declared.Letter.TheVariants as actions
 use Rattle.algol_meaning.specs.Choice as choices
 use Rattle.algol_meaning.specs.Choice.{Choice}
-use Rattle.algol_rest.specs.SeenScope.{scoped}
-use Rattle.algol_rest.specs.SeenValue.{value}
-use Rattle.algol_rest.specs.SeenExpression as seen
-use Rattle.algol_rest.specs.SeenExpression.{reference}
-use Rattle.algol_rest.specs.SeenStatement.{answered}
-use Rattle.algol_world.specs.SeenAction.{action}
-use Rattle.algol_world.specs.SeenInstance.{named_cells}
+use Rattle.algol_cells.specs.SeenScope.{scoped}
+use Rattle.algol_cells.specs.SeenValue.{value}
+use Rattle.algol_cells.specs.SeenCell as seen
+use Rattle.algol_cells.specs.SeenCell.{reference}
+use Rattle.algol_rest_expr.specs.SeenExpression.{answered}
+use Rattle.algol_instances.specs.SeenInstance.{named_cells}
 use Rattle.algol_world.specs.SeenWorld as views
 use Rattle.algol_world.specs.SeenWorld.{world_of, process_of}
 use Rattle.algol_world.specs.declared.world.World.{World}
@@ -37,7 +38,7 @@ module _ (sc : Scopes) (w : world.World) (p : ℕ) (q : world.Process) (part : w
   -- the choice that an effect stands for
   abbrev pub choice_by : Effect → Choice
   choice_by effects.Nothing = choices.chosen sc w p q part outer actions.Fault w
-  choice_by (effects.Goes a x) = choices.goes sc w p q part outer (action a) w (answered x)
+  choice_by (effects.Goes a x) = choices.goes sc w p q part outer a w (answered x)
   choice_by (effects.Stores r v) = choices.goes sc w p q part outer actions.Store (world.set_cell w (reference r) (simple (value v))) rest.done
   choice_by (effects.StoresElement r ks v) = choices.stored sc w p q part outer (rest.element_of (reference r) ks) (value v)
   choice_by (effects.Evaluates inner) = choices.opens sc w p q part outer w (views.part sc inner)
@@ -46,7 +47,7 @@ module _ (sc : Scopes) (w : world.World) (p : ℕ) (q : world.Process) (part : w
   choice_by (effects.Leaves x) = choices.left sc w p q part outer (answered x)
   choice_by (effects.GoesTo n i) = choices.goes_to sc w p q part outer n.now i
   choice_by (effects.Starts j parent cells task) = choices.starts sc w p q part outer j parent (map seen.cell cells.items) (views.task task)
-  choice_by (effects.Acts act r) = choices.acted sc w p q part outer act (reference r)
+  choice_by (effects.Acts act r) = choices.does sc w p q part outer (acts act) (reference r) (deed (acts act) p (event_at w (reference r)))
   choice_by (effects.Writes l) = choices.goes sc w p q part outer actions.Line (record w { output = w.output ++ l ∷ [] }) rest.done
   choice_by (effects.MakesArrays cells) = choices.goes sc w p q part outer actions.MakeArrays (world.add_cells w part.instance (named_cells cells.items)) rest.done
   choice_by (effects.MakesEvent n) = choices.made_event sc w p q part outer n.now

@@ -1,8 +1,11 @@
 //! What an action does, once all that it reads is known.
 
-use algol_rest::{Answer, Cell, Reference, Value};
+use algol_cells::{Cell, Reference, Value};
+use algol_instances::NamedCell;
+use algol_rest_expr::Answer;
 use algol_tree::{EventAct, Line, List, Named};
-use algol_world::{Action, NamedCell, Part};
+use algol_world::Part;
+use b67_deeds::Letter;
 use b67_num::FaultKind;
 
 /// What the action of a part does to the world.
@@ -11,7 +14,7 @@ pub enum Effect<'p> {
     /// Nothing: a part inside is in progress. A run comes to no such head.
     Nothing,
     /// The part goes on with this answer.
-    Goes(Action, Answer<'p>),
+    Goes(Letter, Answer<'p>),
     Stores(Reference<'p>, Value),
     /// The storing of an element, with its subscripts counted from the lower bounds.
     StoresElement(Reference<'p>, List<usize>, Value),
@@ -26,6 +29,7 @@ pub enum Effect<'p> {
     GoesTo(&'p Named, usize),
     /// The start of a process: its block, the instance around it, what its parameters hold, and its task.
     Starts(usize, usize, Vec<Cell<'p>>, Option<Reference<'p>>),
+    /// A statement on an event.
     Acts(EventAct, Reference<'p>),
     /// A line of the output.
     Writes(Line),

@@ -1,5 +1,5 @@
 -- What the world's changes make of a world, as the definitions choose it.
-use Rattle.std.proofs.Common.{◌≡◌, refl, ℕ, true, false, Bool, List, [], ◌∷◌, ◌++◌}
+use Rattle.std.proofs.Common.{◌≡◌, refl, ℕ, false, List, [], ◌∷◌, ◌++◌}
 use Rattle.b67_num.specs.declared.FaultKind.{FaultKind}
 use Rattle.std.specs.declared.vec.Vec.{Vec}
 use Rattle.std.specs.declared.alloc.Global.{Global}
@@ -8,31 +8,34 @@ use Rattle.algol_meaning.specs.Value as plain
 use Rattle.algol_meaning.specs.World as world
 use Rattle.algol_meaning.specs.World.{World, Part, process_at, set_cell, array_in, cell_at}
 use Rattle.algol_meaning.specs.Rest as rest
-use Rattle.algol_meaning.specs.Actions as actions
+use Rattle.algol_meaning.specs.Events.{event_at}
+use Rattle.b67_deeds.specs.declared.EventAct.{EventAct}
+use Rattle.b67_deeds.specs.Deeds as deeds
+use Rattle.b67_deeds.specs.Deeds.{deed}
+use Rattle.b67_deeds.specs.declared.Letter.{Letter}
+use Rattle.b67_deeds.specs.declared.Letter.TheVariants as actions
 use Rattle.algol_meaning.specs.Arrays.{with_element}
-use Rattle.algol_rest.specs.SeenValue.{value}
-use Rattle.algol_rest.specs.SeenExpression.{reference}
-use Rattle.algol_rest.specs.SeenStatement.{answered}
-use Rattle.algol_rest.specs.declared.cell.Reference.{Reference}
-use Rattle.algol_rest.specs.declared.value.Value.{Value}
-use Rattle.algol_rest.specs.declared.part.Answer.{Answer}
-use Rattle.algol_world.specs.SeenAction.{action}
+use Rattle.algol_cells.specs.SeenValue.{value}
+use Rattle.algol_cells.specs.SeenCell.{reference}
+use Rattle.algol_rest_expr.specs.SeenExpression.{answered}
+use Rattle.algol_cells.specs.declared.cell.Reference.{Reference}
+use Rattle.algol_cells.specs.declared.value.Value.{Value}
+use Rattle.algol_rest_expr.specs.declared.part.Answer.{Answer}
 use Rattle.algol_world.specs.SeenWorld as views
-use Rattle.algol_world.specs.Going.{chosen, going, stopping, opening, resumed}
+use Rattle.algol_world.specs.Going.{chosen, going, opening, resumed, does_of, does_by}
 use Rattle.algol_world.specs.Leaving.{is_nil, failing, leaves_by, leaves_of}
-use Rattle.algol_world.specs.SeenInstance.{named_cells}
-use Rattle.algol_world.specs.declared.action.Action.{Action}
-use Rattle.algol_world.specs.declared.instance.NamedCell.{NamedCell}
+use Rattle.algol_instances.specs.SeenInstance.{named_cells}
+use Rattle.algol_instances.specs.declared.instance.NamedCell.{NamedCell}
 use Rattle.algol_world.specs.declared.world.Part as code
 use Rattle.algol_effect.specs.declared.effect.Effect.TheVariants as effects
 use Rattle.algol_perform.specs.Going.{instance_in}
 use Rattle.algol_perform.specs.Performing.{performed, performed_by}
 
 module _ (sc : Scopes) (w : World) (p : ℕ) where
-  pub goes : (x : Action) (a : Answer) → is_nil ((process_at w p).todo) ≡ false → chosen (action x) (going sc w p (answered a)) ≡ performed sc w p (effects.Goes x a)
+  pub goes : (x : Letter) (a : Answer) → is_nil ((process_at w p).todo) ≡ false → chosen x (going sc w p (answered a)) ≡ performed sc w p (effects.Goes x a)
   goes x a has = under ((process_at w p).todo) has
     where
-      under : (parts : List Part) → is_nil parts ≡ false → chosen (action x) (world.with_process w p (record (process_at w p) { todo = resumed sc parts (answered a) })) ≡ performed_by sc w p (process_at w p) parts (effects.Goes x a)
+      under : (parts : List Part) → is_nil parts ≡ false → chosen x (world.with_process w p (record (process_at w p) { todo = resumed sc parts (answered a) })) ≡ performed_by sc w p (process_at w p) parts (effects.Goes x a)
       under [] h = cc
       under (part ∷ outer) h = refl
 
@@ -69,6 +72,16 @@ module _ (sc : Scopes) (w : World) (p : ℕ) where
   leaves a = under ((process_at w p).todo)
     where
       under : (parts : List Part) → leaves_of sc w p (process_at w p) parts (answered a) ≡ performed_by sc w p (process_at w p) parts (effects.Leaves a)
+      under [] = refl
+      under (part ∷ outer) = refl
+
+  pub acts : (x : EventAct) (r : Reference) → does_by sc w p (deeds.acts x) (reference r) ≡ performed sc w p (effects.Acts x r)
+  acts x r = under ((process_at w p).todo)
+    where
+      under :
+          (parts : List Part)
+          → does_of sc w p (process_at w p) parts (deeds.acts x) (reference r) (deed (deeds.acts x) p (event_at w (reference r)))
+          ≡ performed_by sc w p (process_at w p) parts (effects.Acts x r)
       under [] = refl
       under (part ∷ outer) = refl
 

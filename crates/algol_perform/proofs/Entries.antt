@@ -6,9 +6,9 @@ use Rattle.algol_tree.specs.Scopes.{Scopes}
 use Rattle.algol_meaning.specs.World as world
 use Rattle.algol_meaning.specs.World.{World, Part, process_at, with_process}
 use Rattle.algol_meaning.specs.Rest as rest
-use Rattle.algol_meaning.specs.Actions as actions
-use Rattle.algol_rest.specs.SeenExpression as seen
-use Rattle.algol_rest.specs.declared.cell.Cell.{Cell}
+use Rattle.b67_deeds.specs.declared.Letter.TheVariants as actions
+use Rattle.algol_cells.specs.SeenCell as seen
+use Rattle.algol_cells.specs.declared.cell.Cell.{Cell}
 use Rattle.algol_world.specs.Going.{chosen, opening, resumed}
 use Rattle.algol_world.specs.Leaving.{is_nil}
 use Rattle.algol_effect.specs.declared.effect.Effect.TheVariants as effects

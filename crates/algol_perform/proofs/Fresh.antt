@@ -1,20 +1,18 @@
 -- Laws of the cells of a new instance, and of lists that grow.
 use Rattle.std.proofs.Common.{arith, ◌≡◌, refl, ℕ, suc, List, [], ◌∷◌, ◌++◌, length, map, drop, ap, sym, ◌∙◌, append_assoc, append-nil, Some, None, slice_get}
-use Rattle.algol_tree.specs.declared.tree.Kind.{Kind}
 use Rattle.algol_tree.specs.Plain as tree
 use Rattle.algol_tree.specs.Plain.{PDecl, PDecls}
 use Rattle.algol_tree.specs.Scopes.{Scopes}
-use Rattle.algol_meaning.specs.World as world
 use Rattle.algol_tree.specs.Sorts as sorts
 use Rattle.algol_meaning.specs.Instances.{variable_cells, parameter_cells}
-use Rattle.algol_rest.specs.SeenExpression as seen
-use Rattle.algol_rest.specs.SeenScope.{parameter}
-use Rattle.algol_rest.specs.declared.cell.Cell.{Cell}
-use Rattle.algol_rest.specs.declared.scope.Parameter.{Parameter}
-use Rattle.algol_world.specs.SeenInstance.{named_cell, named_cells, instance}
+use Rattle.algol_cells.specs.SeenCell as seen
+use Rattle.algol_cells.specs.SeenScope.{parameter}
+use Rattle.algol_cells.specs.declared.cell.Cell.{Cell}
+use Rattle.algol_cells.specs.declared.scope.Parameter.{Parameter}
+use Rattle.algol_instances.specs.SeenInstance.{named_cell, named_cells, instance}
 use Rattle.algol_world.specs.SeenWorld.{process}
-use Rattle.algol_world.specs.declared.instance.NamedCell.{NamedCell}
-use Rattle.algol_world.specs.declared.instance.Instance.{Instance}
+use Rattle.algol_instances.specs.declared.instance.NamedCell.{NamedCell}
+use Rattle.algol_instances.specs.declared.instance.Instance.{Instance}
 use Rattle.algol_world.specs.declared.world.Process.{Process}
 use Rattle.algol_perform.specs.Making.{declared_cells}
 use Rattle.algol_perform.proofs.Newer.{drop_more, drop_none}

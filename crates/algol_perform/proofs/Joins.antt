@@ -4,7 +4,7 @@ use Rattle.std.specs.Borrow.{Bor}
 use Rattle.algol_tree.specs.Scopes.{Scopes}
 use Rattle.algol_tree.specs.declared.tree.Named.{Named}
 use Rattle.algol_meaning.specs.World.{World, Part, process_at}
-use Rattle.algol_meaning.specs.Actions as actions
+use Rattle.b67_deeds.specs.declared.Letter.TheVariants as actions
 use Rattle.algol_world.specs.Going.{chosen}
 use Rattle.algol_effect.specs.declared.effect.Effect.TheVariants as effects
 use Rattle.algol_perform.specs.Going.{going_by, going_to, making_by, making}

@@ -1,5 +1,5 @@
 -- What GO TO and the making of an event make of a world, as the definitions choose it.
-use Rattle.std.proofs.Common.{◌≡◌, refl, ℕ, ◌==◌, true, false, List, [], ◌∷◌, length, map, take, drop, ap, sym, ◌∙◌, Option, Some, None, slice_get}
+use Rattle.std.proofs.Common.{◌≡◌, refl, ℕ, ◌==◌, true, false, List, [], ◌∷◌, length, take, drop, ap, sym, ◌∙◌, Option, Some, None, slice_get}
 use Rattle.b67_num.specs.declared.FaultKind.TheVariants as fault
 use Rattle.b67_list.specs.Numbered.{numbered}
 use Rattle.algol_tree.specs.Blocks.{block_numbered}
@@ -11,15 +11,13 @@ use Rattle.algol_meaning.specs.World.{World, Part, Process, process_at, instance
 use Rattle.algol_meaning.specs.Rest as rest
 use Rattle.algol_meaning.specs.Rest.{Rest}
 use Rattle.algol_meaning.specs.Statements.{settle_items, items_from}
-use Rattle.algol_meaning.specs.Actions as actions
+use Rattle.b67_deeds.specs.declared.Letter.TheVariants as actions
 use Rattle.algol_meaning.specs.Critical.{some_depends_on_any, own_instances}
-use Rattle.algol_meaning.specs.Instances.{Cut, cut_at, leave}
-use Rattle.algol_meaning.specs.Events.{new_event}
-use Rattle.algol_meaning.specs.Choice as choices
-use Rattle.algol_meaning.specs.Choice.{Choice}
+use Rattle.algol_meaning.specs.Instances.{leave}
+use Rattle.b67_deeds.specs.Events.{fresh_state}
 use Rattle.algol_world.specs.Going.{chosen, going, resumed}
 use Rattle.algol_world.specs.Leaving.{is_nil, is_nothing, failing}
-use Rattle.algol_perform.specs.Going.{instance_in, own, owned, AreLeft, redirected, going_back, going_by, going_to, making, making_by}
+use Rattle.algol_perform.specs.Going.{instance_in, owned, AreLeft, redirected, going_back, going_by, going_to, making, making_by}
 use Rattle.algol_perform.proofs.Newer.{owned_left, drop_more, drop_none}
 
 leaving_keeps : (w : World) (is : List ℕ) → (leave w is).processes ≡ w.processes
@@ -138,7 +136,7 @@ pub ruleset jump_laws = goes_nowhere
 module _ (sc : Scopes) (w : World) (p : ℕ) (n : Named) where
   pub makes :
       is_nil ((process_at w p).todo) ≡ false
-      → chosen actions.MakeEvent (going sc (add_cells w (instance_in ((process_at w p).todo)) (record { name = n.name; cell = event new_event } ∷ [])) p rest.done)
+      → chosen actions.MakeEvent (going sc (add_cells w (instance_in ((process_at w p).todo)) (record { name = n.name; cell = event fresh_state } ∷ [])) p rest.done)
       ≡ making sc w p n
   makes has = under ((process_at w p).todo) has
     where
@@ -146,7 +144,7 @@ module _ (sc : Scopes) (w : World) (p : ℕ) (n : Named) where
           (parts : List Part) → is_nil parts ≡ false
           → chosen
           actions.MakeEvent
-          (with_process (add_cells w (instance_in parts) (record { name = n.name; cell = event new_event } ∷ [])) p
+          (with_process (add_cells w (instance_in parts) (record { name = n.name; cell = event fresh_state } ∷ [])) p
           (record (process_at w p) { todo = resumed sc parts rest.done }))
           ≡ making_by sc w p (process_at w p) parts n
       under [] h = cc

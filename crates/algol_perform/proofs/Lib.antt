@@ -1,5 +1,4 @@
 pub mod Effects
-pub mod Acts
 pub mod Fresh
 pub mod Entries
 pub mod Paths

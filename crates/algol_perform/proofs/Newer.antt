@@ -1,15 +1,15 @@
 -- Laws of the parts of a process.
-use Rattle.std.proofs.Common.{arith, ◌≡◌, refl, ℕ, zero, suc, ◌+◌, ◌-◌, ◌<◌, ◌==◌, if◌then◌else◌, Bool, true, false, List, [], ◌∷◌, ◌++◌, length, map, take, drop, ap, sym, ◌∙◌, Option, Some, None, slice_get}
+use Rattle.std.proofs.Common.{arith, ◌≡◌, refl, ℕ, zero, suc, ◌-◌, ◌<◌, ◌==◌, if◌then◌else◌, Bool, true, false, List, [], ◌∷◌, ◌++◌, length, map, take, drop, ap, sym, ◌∙◌, Option, Some, None, slice_get}
 use Rattle.std.specs.Borrow.{Bor}
 use Rattle.algol_tree.specs.Scopes.{Scopes}
-use Rattle.algol_meaning.specs.World.{World, Part, Process}
+use Rattle.algol_meaning.specs.World.{Part}
 use Rattle.algol_meaning.specs.Critical.{is_evaluation, is_this, own_instances}
-use Rattle.algol_meaning.specs.Instances.{Cut, cut_at, is_part_of}
-use Rattle.algol_rest.specs.Shown.{shown}
+use Rattle.algol_meaning.specs.Instances.{cut_at, is_part_of}
+use Rattle.algol_cells.specs.Shown.{shown}
 use Rattle.algol_world.specs.SeenWorld as views
 use Rattle.algol_world.specs.declared.world.Part as code
 use Rattle.algol_world.specs.Leaving.{is_nothing}
-use Rattle.algol_world.proofs.Numbering.{map_get_none, map_get_some}
+use Rattle.algol_instances.proofs.Numbering.{map_get_none, map_get_some}
 use Rattle.algol_perform.specs.Going.{part_or_none, instance_in, own, owned, AreLeft}
 
 pub part_shown :

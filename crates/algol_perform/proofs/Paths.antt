@@ -1,7 +1,7 @@
 -- Laws of the path of a process.
 use Rattle.std.proofs.Common.{arith, ◌≡◌, ◌⊎◌, inl, inr, refl, ℕ, zero, suc, ◌+◌, ◌-◌, ◌<◌, ◌≤◌, ◌&&◌, ◌||◌, ◌==◌, not, if◌then◌else◌, Bool, true, false, List, [], ◌∷◌, ◌++◌, length, map, take, ap, sym, ◌∙◌, append_assoc, Option, Some, None, slice_get}
 use Rattle.std.specs.Prelude.{nat_lt}
-use Rattle.std.proofs.lemmas.Bool.Decides.{nat_tests, leb_tells, eqb_tells}
+use Rattle.std.proofs.lemmas.Bool.Decides.{nat_tests}
 use Rattle.algol_meaning.specs.World.{Instance, or_no_instance, World, instance_at, process_at}
 use Rattle.algol_meaning.specs.Critical.{NumberedInstance, newest_first, first_on_path, is_one_of, is_this}
 use Rattle.algol_perform.specs.Path.{critical_below, is_own, newer_own, newest_own}

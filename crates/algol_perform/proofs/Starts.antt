@@ -1,5 +1,5 @@
 -- What the start of a process makes of a world, as the definitions choose it.
-use Rattle.std.proofs.Common.{◌≡◌, refl, ℕ, zero, suc, ◌+◌, false, List, [], ◌∷◌, ◌++◌, length, map, ap, sym, ◌∙◌, Option, Some, None}
+use Rattle.std.proofs.Common.{◌≡◌, refl, ℕ, zero, suc, ◌+◌, false, List, [], ◌∷◌, ◌++◌, length, map, ap, ◌∙◌, Option, Some}
 use Rattle.std.specs.declared.vec.Vec.{Vec}
 use Rattle.std.specs.declared.alloc.Global.{Global}
 use Rattle.b67_list.specs.Numbered.{numbered}
@@ -7,18 +7,18 @@ use Rattle.algol_tree.specs.Scopes.{Scopes}
 use Rattle.algol_meaning.specs.World as world
 use Rattle.algol_meaning.specs.World.{World, Part, Process, process_at, or_no_process, with_process}
 use Rattle.algol_meaning.specs.Rest as rest
-use Rattle.algol_meaning.specs.Actions as actions
+use Rattle.b67_deeds.specs.declared.Letter.TheVariants as actions
 use Rattle.algol_meaning.specs.Critical.{newest_first, first_on_path, referred_by, referred_by_task}
-use Rattle.algol_rest.specs.SeenExpression as seen
-use Rattle.algol_rest.specs.declared.cell.Cell.{Cell}
-use Rattle.algol_rest.specs.declared.cell.Reference.{Reference}
+use Rattle.algol_cells.specs.SeenCell as seen
+use Rattle.algol_cells.specs.declared.cell.Cell.{Cell}
+use Rattle.algol_cells.specs.declared.cell.Reference.{Reference}
 use Rattle.algol_world.specs.SeenWorld as views
 use Rattle.algol_world.specs.Going.{going, resumed}
 use Rattle.algol_world.specs.Leaving.{is_nil}
 use Rattle.algol_effect.specs.declared.effect.Effect.TheVariants as effects
 use Rattle.algol_perform.specs.Making.{with_instance_of, part_of, with_process_of}
 use Rattle.algol_perform.specs.Performing.{performed, performed_by}
-use Rattle.algol_perform.proofs.Acts.{one_of_these}
+use Rattle.algol_world.proofs.Deeds.{one_of_these}
 
 one_more : {A : Type 0} (xs : List A) (n : ℕ) (x y : A) → numbered xs n ≡ Some x → numbered (xs ++ y ∷ []) n ≡ Some x
 one_more xs zero x y e = cc

@@ -5,7 +5,7 @@ use Rattle.algol_tree.specs.Scopes.{Scopes}
 use Rattle.algol_tree.specs.declared.tree.Named.{Named}
 use Rattle.algol_meaning.specs.World.{World, Process, Part, process_at, with_process}
 use Rattle.algol_meaning.specs.Rest.{Rest}
-use Rattle.algol_meaning.specs.Actions as actions
+use Rattle.b67_deeds.specs.declared.Letter.TheVariants as actions
 use Rattle.algol_meaning.specs.Critical.{is_evaluation}
 use Rattle.algol_meaning.specs.Instances.{cut_at}
 use Rattle.algol_meaning.specs.Choice as choices

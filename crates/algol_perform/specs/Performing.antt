@@ -2,10 +2,9 @@
 use Rattle.std.specs.Prelude.{ℕ, List, [], ◌∷◌}
 use Rattle.algol_tree.specs.Scopes.{Scopes}
 use Rattle.algol_meaning.specs.World.{World, Part, Process, process_at}
-use Rattle.algol_meaning.specs.Actions as actions
+use Rattle.b67_deeds.specs.declared.Letter.TheVariants as actions
 use Rattle.algol_meaning.specs.Choice.{Choice}
 use Rattle.algol_world.specs.Going.{chosen}
-use Rattle.algol_world.specs.Leaving.{is_nil}
 use Rattle.algol_effect.specs.Effects.{choice_by}
 use Rattle.algol_effect.specs.declared.effect.Effect.{Effect}
 

@@ -2,13 +2,14 @@
 
 ghost use Rattle.std.specs.Prelude.{◌≡◌, IfOk};
 ghost use Rattle.algol_meaning.specs.Run as run;
-ghost use Rattle.algol_rest.specs.SeenScope.{scoped};
+ghost use Rattle.algol_cells.specs.SeenScope.{scoped};
 ghost use Rattle.algol_world.specs.SeenWorld.{world_of};
 
 use crate::making::{add_instance, add_process, part_in};
-use algol_rest::Scopes;
+use algol_cells::Scopes;
+use algol_instances::Instances;
 use algol_tree::List;
-use algol_world::{Instances, Purpose, World};
+use algol_world::{Purpose, World};
 use std::alloc::{AllocError, Global};
 
 /// The world in which a run of the tree begins whose scopes these are: process 1 only at the head of the outer block,

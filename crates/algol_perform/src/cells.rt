@@ -4,16 +4,16 @@ ghost use Rattle.std.specs.Prelude.{◌≡◌, ◌++◌, map, slice_get, IfOk};
 ghost use Rattle.algol_meaning.specs.Value.{initial_value};
 ghost use Rattle.algol_meaning.specs.Instances as instances;
 ghost use Rattle.algol_meaning.specs.SeenTree.{decl, decls};
-ghost use Rattle.algol_rest.specs.SeenValue.{value};
-ghost use Rattle.algol_rest.specs.Shown.{shown};
-ghost use Rattle.algol_rest.specs.SeenExpression as seen;
-ghost use Rattle.algol_rest.specs.SeenScope.{parameter, block};
-ghost use Rattle.algol_world.specs.SeenInstance.{named_cells};
+ghost use Rattle.algol_cells.specs.SeenValue.{value};
+ghost use Rattle.algol_cells.specs.Shown.{shown};
+ghost use Rattle.algol_cells.specs.SeenCell as seen;
+ghost use Rattle.algol_cells.specs.SeenScope.{parameter, block};
+ghost use Rattle.algol_instances.specs.SeenInstance.{named_cells};
 ghost use Rattle.algol_perform.specs.Making.{declared_cells};
 
-use algol_rest::{Block, Cell, Parameter, Value};
+use algol_cells::{Block, Cell, Parameter, Value};
+use algol_instances::NamedCell;
 use algol_tree::{Decl, Kind, Named, Whole};
-use algol_world::NamedCell;
 use std::alloc::{AllocError, Global};
 
 /// What a variable starts as.

@@ -5,7 +5,7 @@ ghost use Rattle.algol_tree.specs.Blocks as blocks;
 ghost use Rattle.algol_meaning.specs.World as plain;
 ghost use Rattle.algol_meaning.specs.Critical as critical;
 ghost use Rattle.algol_meaning.specs.Statements.{settle_items, items_from};
-ghost use Rattle.algol_rest.specs.SeenScope.{scoped};
+ghost use Rattle.algol_cells.specs.SeenScope.{scoped};
 ghost use Rattle.algol_rest.specs.SeenRest as seen;
 ghost use Rattle.algol_world.specs.SeenWorld.{world_of, process_of};
 ghost use Rattle.algol_world.specs.SeenActed.{acted_choice};
@@ -14,9 +14,12 @@ ghost use Rattle.algol_perform.specs.Going.{going_to, making, owned, AreLeft};
 
 use crate::making::no_block;
 use crate::parts::{cut_back, innermost, is_past, leave_all, left_by, some_depends_on_any};
-use algol_rest::{Cell, EventCell, Rest};
+use algol_cells::{Cell, EventCell};
+use algol_instances::{NamedCell, instance_at};
+use algol_rest::Rest;
 use algol_tree::{Line, List, Named};
-use algol_world::{Acted, Action, NamedCell, World, instance_at};
+use algol_world::{Acted, World};
+use b67_deeds::Letter;
 use b67_num::FaultKind;
 use std::alloc::{AllocError, Global};
 
@@ -76,12 +79,12 @@ fn go_back<'p>(
     ensures same { world.new.scopes ≡ world.old.scopes }
 {
     if is_past(world, process, left.len()) {
-        return Ok(Acted::alone(alloc, Action::GoTo));
+        return Ok(Acted::alone(alloc, Letter::GoTo));
     }
     let rest = rest_from(world, alloc, number, &n.name)?;
     leave_all(world, left);
     cut_back(world, process, left.len(), rest)?;
-    Ok(Acted::alone(alloc, Action::GoTo))
+    Ok(Acted::alone(alloc, Letter::GoTo))
 }
 
 /// GO TO a label in the block of that instance: to no other process's, and past no critical block.
@@ -99,12 +102,12 @@ pub fn perform_go_to<'p>(
 {
     if !is_own(world, process, number) {
         world.fail(process, FaultKind::BadGoTo);
-        return Ok(Acted::alone(alloc, Action::Fault));
+        return Ok(Acted::alone(alloc, Letter::Fault));
     }
     let left = left_by(world, alloc, process, number)?;
     if some_depends_on_any(world, left.items()) {
         world.fail(process, FaultKind::CriticalBlockExit);
-        return Ok(Acted::alone(alloc, Action::Fault));
+        return Ok(Acted::alone(alloc, Letter::Fault));
     }
     go_back(world, alloc, process, left.items(), n, number)
 }
@@ -134,5 +137,5 @@ pub fn perform_event<'p>(
     })?;
     let instance = innermost(world, process);
     let went = world.make(alloc, process, instance, cells);
-    went.and(Ok(Acted::alone(alloc, Action::MakeEvent)))
+    went.and(Ok(Acted::alone(alloc, Letter::MakeEvent)))
 }

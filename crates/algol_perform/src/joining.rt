@@ -2,7 +2,7 @@
 
 ghost use Rattle.std.specs.Prelude.{◌≡◌, false, IfOk};
 ghost use Rattle.algol_meaning.specs.World as plain;
-ghost use Rattle.algol_rest.specs.SeenScope.{scoped};
+ghost use Rattle.algol_cells.specs.SeenScope.{scoped};
 ghost use Rattle.algol_world.specs.SeenWorld.{world_of, process_of};
 ghost use Rattle.algol_world.specs.SeenActed.{acted_choice};
 ghost use Rattle.algol_world.specs.Leaving.{is_nil};
@@ -16,7 +16,8 @@ use crate::performing::{
 };
 use crate::starting::perform_start;
 use algol_effect::Effect;
-use algol_world::{Acted, Action, World};
+use algol_world::{Acted, World};
+use b67_deeds::Letter;
 use std::alloc::{AllocError, Global};
 
 /// Performs what the innermost part of a process does to the world: what was done, with the processes that it released in
@@ -38,7 +39,7 @@ pub fn perform<'p>(
     ensures same { world.new.scopes ≡ world.old.scopes }
 {
     match effect {
-        Effect::Nothing => Ok(Acted::alone(alloc, Action::Fault)),
+        Effect::Nothing => Ok(Acted::alone(alloc, Letter::Fault)),
         Effect::Goes(action, answer) => perform_goes(world, alloc, process, action, answer),
         Effect::Stores(r, v) => perform_store(world, alloc, process, r, v),
         Effect::StoresElement(r, subscripts, v) => {

@@ -5,10 +5,10 @@ ghost use Rattle.algol_tree.specs.Blocks as blocks;
 ghost use Rattle.algol_meaning.specs.World as plain;
 ghost use Rattle.algol_meaning.specs.Instances as instances;
 ghost use Rattle.algol_meaning.specs.Statements.{settle_items, items_of};
-ghost use Rattle.algol_rest.specs.SeenExpression as seen;
+ghost use Rattle.algol_cells.specs.SeenCell as seen;
 ghost use Rattle.algol_rest.specs.SeenRest as seen_rest;
-ghost use Rattle.algol_rest.specs.SeenScope.{scoped, block};
-ghost use Rattle.algol_world.specs.SeenInstance as shown;
+ghost use Rattle.algol_cells.specs.SeenScope.{scoped, block};
+ghost use Rattle.algol_instances.specs.SeenInstance as shown;
 ghost use Rattle.algol_world.specs.SeenWorld as views;
 ghost use Rattle.algol_world.specs.SeenWorld.{world_of, process_of};
 ghost use Rattle.algol_world.specs.SeenActed.{acted_choice};
@@ -19,9 +19,12 @@ ghost use Rattle.algol_perform.specs.Performing.{performed};
 
 use crate::cells::fresh_cells;
 use crate::parts::innermost;
-use algol_rest::{Block, BlockStatements, Cell, Reference, Rest, Scopes, Stack, append};
+use algol_cells::{Block, BlockStatements, Cell, Reference, Scopes, Stack, append};
+use algol_instances::{Instance, NamedCell};
+use algol_rest::Rest;
 use algol_tree::{List, Spot};
-use algol_world::{Acted, Action, Instance, NamedCell, Part, Process, Purpose, State, World};
+use algol_world::{Acted, Part, Process, Purpose, State, World};
+use b67_deeds::Letter;
 use std::alloc::{AllocError, Global};
 
 /// An empty block.
@@ -165,7 +168,7 @@ pub fn perform_enter<'p>(
     let part = part_in(world, alloc, number, Purpose::Procedure)?;
     add_instance(world, alloc, number, parent, process, given)?;
     world.opens(alloc, process, part)?;
-    Ok(Acted::alone(alloc, Action::Enter))
+    Ok(Acted::alone(alloc, Letter::Enter))
 }
 
 /// A block is entered: a new instance of it, around which is the one in which the innermost part goes on.
@@ -184,5 +187,5 @@ pub fn perform_block<'p>(
     let part = part_in(world, alloc, number, Purpose::Block)?;
     add_instance(world, alloc, number, parent, process, Vec::new(alloc))?;
     world.opens(alloc, process, part)?;
-    Ok(Acted::alone(alloc, Action::Enter))
+    Ok(Acted::alone(alloc, Letter::Enter))
 }

@@ -4,16 +4,18 @@ ghost use Rattle.std.specs.Prelude.{◌≡◌, drop, map, slice_get, IfOk};
 ghost use Rattle.algol_meaning.specs.World as plain;
 ghost use Rattle.algol_meaning.specs.Instances as instances;
 ghost use Rattle.algol_meaning.specs.Critical as critical;
-ghost use Rattle.algol_rest.specs.SeenScope.{scoped};
+ghost use Rattle.algol_cells.specs.SeenScope.{scoped};
 ghost use Rattle.algol_rest.specs.SeenRest as seen;
 ghost use Rattle.algol_world.specs.SeenWorld as views;
 ghost use Rattle.algol_world.specs.SeenWorld.{world_of, process_of};
 ghost use Rattle.algol_world.specs.Leaving.{is_nothing};
 ghost use Rattle.algol_perform.specs.Going.{part_or_none, instance_in, own_in, owned, AreLeft, redirected, going_back};
 
-use algol_rest::{Rest, Scopes};
+use algol_cells::Scopes;
+use algol_instances::place;
+use algol_rest::Rest;
 use algol_tree::List;
-use algol_world::{Part, Process, World, is_evaluation, place};
+use algol_world::{Part, Process, World, is_evaluation};
 use std::alloc::{AllocError, Global};
 
 /// The part of a process before which so many newer ones stand.

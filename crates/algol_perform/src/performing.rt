@@ -2,7 +2,7 @@
 
 ghost use Rattle.std.specs.Prelude.{◌≡◌, false, IfOk};
 ghost use Rattle.algol_meaning.specs.World as plain;
-ghost use Rattle.algol_rest.specs.SeenScope.{scoped};
+ghost use Rattle.algol_cells.specs.SeenScope.{scoped};
 ghost use Rattle.algol_world.specs.SeenWorld.{world_of, process_of};
 ghost use Rattle.algol_world.specs.SeenActed.{acted_choice};
 ghost use Rattle.algol_world.specs.Leaving.{is_nil};
@@ -10,9 +10,12 @@ ghost use Rattle.algol_effect.specs.declared.effect.Effect.TheVariants as effect
 ghost use Rattle.algol_perform.specs.Performing.{performed};
 
 use crate::parts::innermost;
-use algol_rest::{Answer, Reference, Value, append};
+use algol_cells::{Reference, Value, append};
+use algol_instances::NamedCell;
+use algol_rest_expr::Answer;
 use algol_tree::{EventAct, Line, List};
-use algol_world::{Acted, Action, NamedCell, Part, World};
+use algol_world::{Acted, Part, World};
+use b67_deeds::Letter;
 use b67_num::FaultKind;
 use std::alloc::{AllocError, Global};
 
@@ -22,7 +25,7 @@ pub fn perform_goes<'p>(
     world: &mut World<'p>,
     alloc: Global,
     process: usize,
-    action: Action,
+    action: Letter,
     answer: Answer<'p>,
 ) -> Result<Acted, AllocError>
     requires acts { is_nil ((process_of world.old process).todo) ≡ false }
@@ -47,7 +50,7 @@ pub fn perform_store<'p>(
     ensures same { world.new.scopes ≡ world.old.scopes }
 {
     let went = world.store(alloc, process, r, v);
-    went.and(Ok(Acted::alone(alloc, Action::Store)))
+    went.and(Ok(Acted::alone(alloc, Letter::Store)))
 }
 
 /// A value is stored in an element.
@@ -65,7 +68,7 @@ pub fn perform_store_element<'p>(
     ensures same { world.new.scopes ≡ world.old.scopes }
 {
     let went = world.store_element(alloc, process, r, subscripts.items(), v);
-    went.and(Ok(Acted::alone(alloc, Action::ElementStore)))
+    went.and(Ok(Acted::alone(alloc, Letter::ElementStore)))
 }
 
 /// A part that evaluates a name comes to be inside the innermost part.
@@ -81,7 +84,7 @@ pub fn perform_evaluation<'p>(
     ensures same { world.new.scopes ≡ world.old.scopes }
 {
     let went = world.opens(alloc, process, inner);
-    went.and(Ok(Acted::alone(alloc, Action::Enter)))
+    went.and(Ok(Acted::alone(alloc, Letter::Enter)))
 }
 
 /// The innermost part of a process, which is able, is left with what it gives; the last one ends the process.
@@ -100,7 +103,6 @@ pub fn perform_leaving<'p>(
 }
 
 /// A statement on an event, by a process that is able.
-#[tactic(auto, using(crate::proofs::Acts::act_laws))]
 pub fn perform_act<'p>(
     world: &mut World<'p>,
     alloc: Global,
@@ -130,7 +132,7 @@ pub fn perform_line<'p>(
 {
     append(&mut world.output, line)?;
     let went = world.goes(alloc, process, Answer::Done);
-    went.and(Ok(Acted::alone(alloc, Action::Line)))
+    went.and(Ok(Acted::alone(alloc, Letter::Line)))
 }
 
 /// Arrays are made in the instance in which the innermost part goes on.
@@ -147,7 +149,7 @@ pub fn perform_arrays<'p>(
 {
     let instance = innermost(world, process);
     let went = world.make(alloc, process, instance, cells);
-    went.and(Ok(Acted::alone(alloc, Action::MakeArrays)))
+    went.and(Ok(Acted::alone(alloc, Letter::MakeArrays)))
 }
 
 /// A fault ends the run.
@@ -163,5 +165,5 @@ pub fn perform_fault<'p>(
     ensures same { world.new.scopes ≡ world.old.scopes }
 {
     world.fail(process, kind);
-    Acted::alone(alloc, Action::Fault)
+    Acted::alone(alloc, Letter::Fault)
 }

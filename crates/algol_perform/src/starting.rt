@@ -3,9 +3,9 @@
 ghost use Rattle.std.specs.Prelude.{◌≡◌, [], ◌∷◌, ◌++◌, false, map, IfOk};
 ghost use Rattle.algol_meaning.specs.World as plain;
 ghost use Rattle.algol_meaning.specs.Critical as critical;
-ghost use Rattle.algol_rest.specs.SeenExpression as seen;
-ghost use Rattle.algol_rest.specs.SeenScope.{scoped};
-ghost use Rattle.algol_world.specs.SeenInstance as shown;
+ghost use Rattle.algol_cells.specs.SeenCell as seen;
+ghost use Rattle.algol_cells.specs.SeenScope.{scoped};
+ghost use Rattle.algol_instances.specs.SeenInstance as shown;
 ghost use Rattle.algol_world.specs.SeenWorld as views;
 ghost use Rattle.algol_world.specs.SeenWorld.{world_of, process_of};
 ghost use Rattle.algol_world.specs.SeenActed.{acted_choice};
@@ -15,9 +15,12 @@ ghost use Rattle.algol_perform.specs.Path as path;
 ghost use Rattle.algol_perform.specs.Performing.{performed};
 
 use crate::making::{add_instance, add_process, part_in};
-use algol_rest::{Answer, Cell, Reference};
+use algol_cells::{Cell, Reference};
+use algol_instances::instance_at;
+use algol_rest_expr::Answer;
 use algol_tree::List;
-use algol_world::{Acted, Action, Purpose, World, instance_at};
+use algol_world::{Acted, Purpose, World};
+use b67_deeds::Letter;
 use std::alloc::{AllocError, Global};
 
 /// The instance that a cell refers to, after others.
@@ -182,7 +185,7 @@ pub fn perform_start<'p>(
     add_process(world, alloc, part, Some(critical), task)?;
     world.goes(alloc, process, Answer::Done)?;
     Ok(Acted {
-        action: Action::Start,
+        action: Letter::Start,
         released: List::of(Vec::new(alloc)),
         started: Some(number),
     })

@@ -5,8 +5,8 @@ use Rattle.algol_tree.specs.Scopes.{Scopes}
 use Rattle.algol_meaning.specs.World.{World}
 use Rattle.algol_meaning.specs.Choice.{Choice, choice}
 use Rattle.algol_meaning.specs.Run.{End, end_of, may_go, after_entry, run_from}
-use Rattle.algol_rest.specs.SeenScope.{scoped}
-use Rattle.algol_rest.specs.declared.scope.Scopes as code
+use Rattle.algol_cells.specs.SeenScope.{scoped}
+use Rattle.algol_cells.specs.declared.scope.Scopes as code
 use Rattle.algol_perform.proofs.Newer.{take_more}
 use Rattle.algol_run.specs.Stepping.{Step, ended, not_able, went, chosen_by, step_by, step_of}
 

@@ -4,7 +4,7 @@ use Rattle.algol_tree.specs.Scopes.{Scopes}
 use Rattle.algol_meaning.specs.World as world
 use Rattle.algol_meaning.specs.World.{World, WorldFault, State, Process, Part, is_able, lives, process_at, or_no_process}
 use Rattle.algol_meaning.specs.Asks.{ask}
-use Rattle.algol_meaning.specs.Actions as actions
+use Rattle.b67_deeds.specs.declared.Letter.TheVariants as actions
 use Rattle.algol_meaning.specs.Choice.{Choice, choice, choice_in, choice_of}
 use Rattle.algol_meaning.specs.Run.{End, some_able, some_lives, all_waiting, end_by, end_of, finished, goes_on, may_go}
 use Rattle.algol_world.specs.Going.{chosen}

@@ -2,7 +2,7 @@
 
 ghost use Rattle.std.specs.Prelude.{◌≡◌, ◌+◌, ◌<◌, ◌≤◌, length, take, Some, None, IfOk, OnErr};
 ghost use Rattle.algol_meaning.specs.Run.{run_from};
-ghost use Rattle.algol_rest.specs.SeenScope.{scoped};
+ghost use Rattle.algol_cells.specs.SeenScope.{scoped};
 ghost use Rattle.algol_world.specs.SeenWorld.{world_of};
 
 use crate::stepping::{Stepped, step_in_place};

@@ -3,7 +3,7 @@
 ghost use Rattle.std.specs.Prelude.{◌≡◌, ◌&&◌, not, false, IfOk, OnErr};
 ghost use Rattle.algol_meaning.specs.World as plain;
 ghost use Rattle.algol_meaning.specs.Choice.{choice};
-ghost use Rattle.algol_rest.specs.SeenScope.{scoped};
+ghost use Rattle.algol_cells.specs.SeenScope.{scoped};
 ghost use Rattle.algol_world.specs.SeenWorld.{world_of, process_of};
 ghost use Rattle.algol_world.specs.SeenActed.{acted_choice};
 ghost use Rattle.algol_run.specs.Stepping.{told, step_of, is_going, is_over};
@@ -11,7 +11,8 @@ ghost use Rattle.algol_run.specs.Stepping.{told, step_of, is_going, is_over};
 use crate::ending::{has_end, is_able, is_finished};
 use algol_perform::{part_under, perform};
 use algol_step::decide_part;
-use algol_world::{Acted, Action, World};
+use algol_world::{Acted, World};
+use b67_deeds::Letter;
 use b67_list::discard;
 use std::alloc::{AllocError, Global};
 
@@ -41,7 +42,7 @@ fn act<'p>(world: &mut World<'p>, alloc: Global, process: usize) -> Result<Acted
     ensures same { world.new.scopes ≡ world.old.scopes }
 {
     let effect = match part_under(world, process, 0) {
-        None => return Ok(Acted::alone(alloc, Action::Fault)),
+        None => return Ok(Acted::alone(alloc, Letter::Fault)),
         Some(part) => decide_part(world, alloc, process, part)?,
     };
     perform(world, alloc, process, effect)

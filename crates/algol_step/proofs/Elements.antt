@@ -1,11 +1,11 @@
 -- Laws of the cells and elements of new arrays.
 use Rattle.std.proofs.Common.{◌≡◌, refl, ℕ, zero, suc, List, [], ◌∷◌, ◌++◌, map, ap, replicate}
-use Rattle.algol_rest.specs.SeenValue.{value}
-use Rattle.algol_rest.specs.SeenExpression as seen
-use Rattle.algol_rest.specs.declared.value.Value.{Value}
-use Rattle.algol_rest.specs.declared.cell.Bounds.{Bounds}
-use Rattle.algol_world.specs.SeenInstance.{named_cell, named_cells}
-use Rattle.algol_world.specs.declared.instance.NamedCell.{NamedCell}
+use Rattle.algol_cells.specs.SeenValue.{value}
+use Rattle.algol_cells.specs.SeenCell as seen
+use Rattle.algol_cells.specs.declared.value.Value.{Value}
+use Rattle.algol_cells.specs.declared.cell.Bounds.{Bounds}
+use Rattle.algol_instances.specs.SeenInstance.{named_cell, named_cells}
+use Rattle.algol_instances.specs.declared.instance.NamedCell.{NamedCell}
 
 pub bounds-append : (bs : List Bounds) (b : Bounds) → map seen.bounds (bs ++ b ∷ []) ≡ map seen.bounds bs ++ seen.bounds b ∷ []
 bounds-append [] b = refl

@@ -4,15 +4,17 @@ ghost use Rattle.std.specs.Prelude.{◌≡◌, ◌++◌, ◌∷◌, [], map, IfO
 ghost use Rattle.algol_tree.specs.Scopes as scoping;
 ghost use Rattle.algol_meaning.specs.Settle as settling;
 ghost use Rattle.algol_meaning.specs.Asks as asks;
-ghost use Rattle.algol_rest.specs.SeenScope.{scoped};
-ghost use Rattle.algol_rest.specs.SeenExpression as seen;
+ghost use Rattle.algol_cells.specs.SeenScope.{scoped};
+ghost use Rattle.algol_cells.specs.SeenCell.{cell};
+ghost use Rattle.algol_rest_expr.specs.SeenExpression as seen;
 ghost use Rattle.algol_world.specs.SeenWorld.{task, world_of};
 ghost use Rattle.algol_effect.specs.Effects.{asked_choice, effect_choice, given_cell_in, given_cells_in, task_in};
 
 use crate::deciding::here;
+use algol_cells::{Cell, Reference, copy_cell};
 use algol_effect::Effect;
 use algol_meaning::MOST_STARTED;
-use algol_rest::{Cell, Given, Reference, copy_cell};
+use algol_rest_expr::Given;
 use algol_tree::Named;
 use algol_world::{Part, World};
 use b67_num::FaultKind;
@@ -26,7 +28,7 @@ fn given_cell<'p>(
     part: &Part<'p>,
     given: &Given<'p>,
 ) -> Result<Cell<'p>, AllocError>
-    ensures { IfOk result (λ c. seen.cell c ≡ given_cell_in world.now process part.now (seen.done given.now)) }
+    ensures { IfOk result (λ c. cell c ≡ given_cell_in world.now process part.now (seen.done given.now)) }
 {
     match given {
         Given::Valued(v) => Ok(Cell::Simple(*v)),
@@ -46,7 +48,7 @@ fn push_given<'p>(
     part: &Part<'p>,
     given: &Given<'p>,
 ) -> Result<(), AllocError>
-    ensures { OnOk result (map seen.cell cells.new.items ≡ map seen.cell cells.old.items ++ given_cells_in world.now process part.now (seen.done given.now ∷ [])) }
+    ensures { OnOk result (map cell cells.new.items ≡ map cell cells.old.items ++ given_cells_in world.now process part.now (seen.done given.now ∷ [])) }
 {
     let cell = given_cell(world, alloc, process, part, given)?;
     cells.push(cell)?;
@@ -61,7 +63,7 @@ fn given_cells<'p>(
     part: &Part<'p>,
     givens: &[Given<'p>],
 ) -> Result<Vec<Cell<'p>>, AllocError>
-    ensures { IfOk result (λ cs. map seen.cell cs.items ≡ given_cells_in world.now process part.now (seen.all_done givens.now)) }
+    ensures { IfOk result (λ cs. map cell cs.items ≡ given_cells_in world.now process part.now (seen.all_done givens.now)) }
 {
     let mut cells = Vec::new(alloc);
     'giving: for given in givens {

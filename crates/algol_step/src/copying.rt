@@ -1,10 +1,10 @@
 //! Copies of cells, as parameters are passed on.
 
 ghost use Rattle.std.specs.Prelude.{◌≡◌, IfOk};
-ghost use Rattle.algol_rest.specs.SeenExpression as seen;
-ghost use Rattle.algol_world.specs.SeenInstance.{cell_or_none};
+ghost use Rattle.algol_cells.specs.SeenCell as seen;
+ghost use Rattle.algol_instances.specs.SeenInstance.{cell_or_none};
 
-use algol_rest::{Cell, Value, copy_cell};
+use algol_cells::{Cell, Value, copy_cell};
 use algol_tree::Whole;
 use std::alloc::{AllocError, Global};
 

@@ -3,17 +3,21 @@
 ghost use Rattle.std.specs.Prelude.{◌≡◌, IfOk};
 ghost use Rattle.algol_meaning.specs.World as plain;
 ghost use Rattle.algol_meaning.specs.Asks as asks;
-ghost use Rattle.algol_rest.specs.SeenScope.{scoped};
-ghost use Rattle.algol_rest.specs.SeenValue.{value};
-ghost use Rattle.algol_rest.specs.SeenExpression.{reference};
-ghost use Rattle.algol_world.specs.SeenInstance.{cell_or_none};
+ghost use Rattle.algol_cells.specs.SeenScope.{scoped};
+ghost use Rattle.algol_cells.specs.SeenValue.{value};
+ghost use Rattle.algol_cells.specs.SeenCell.{reference};
+ghost use Rattle.algol_instances.specs.SeenInstance.{cell_or_none};
 ghost use Rattle.algol_world.specs.SeenWorld.{world_of};
 ghost use Rattle.algol_effect.specs.Effects.{asked_choice, effect_choice, here_in};
 
+use algol_cells::{Cell, Reference, Value};
 use algol_effect::Effect;
-use algol_rest::{Answer, Cell, Reference, Rest, Value};
+use algol_instances::{ancestor, cell_at};
+use algol_rest::Rest;
+use algol_rest_expr::Answer;
 use algol_tree::{Line, Named, Whole};
-use algol_world::{Action, Part, Purpose, World, ancestor, cell_at};
+use algol_world::{Part, Purpose, World};
+use b67_deeds::Letter;
 use std::alloc::{AllocError, Global};
 
 /// The value of a simple variable, 0 for another cell.
@@ -59,9 +63,9 @@ pub fn decide_read<'p>(
         }
         Some(Cell::Reference(r)) => {
             let read = value_in(cell_at(&world.instances, *r));
-            Ok(Effect::Goes(Action::Read, Answer::Value(read)))
+            Ok(Effect::Goes(Letter::Read, Answer::Value(read)))
         }
-        _ => Ok(Effect::Goes(Action::Read, Answer::Value(value_in(found)))),
+        _ => Ok(Effect::Goes(Letter::Read, Answer::Value(value_in(found)))),
     }
 }
 
@@ -79,5 +83,5 @@ pub fn decide_read_result<'p>(
         name,
     };
     let read = value_in(cell_at(&world.instances, r));
-    Effect::Goes(Action::Read, Answer::Value(read))
+    Effect::Goes(Letter::Read, Answer::Value(read))
 }

@@ -4,13 +4,15 @@ ghost use Rattle.std.specs.Prelude.{◌≡◌};
 ghost use Rattle.algol_meaning.specs.Asks as asks;
 ghost use Rattle.algol_meaning.specs.Choice as choices;
 ghost use Rattle.algol_meaning.specs.SeenTree.{stmts, body};
-ghost use Rattle.algol_rest.specs.SeenValue.{value};
+ghost use Rattle.algol_cells.specs.SeenValue.{value};
 ghost use Rattle.algol_effect.specs.Effects.{asked_choice, effect_choice};
 
+use algol_cells::{Value, whole_of};
 use algol_effect::Effect;
-use algol_rest::{Answer, Value, whole_of};
+use algol_rest_expr::Answer;
 use algol_tree::{Body, Stmt};
-use algol_world::{Action, Part, World};
+use algol_world::{Part, World};
+use b67_deeds::Letter;
 use b67_num::FaultKind;
 
 /// Tests that a list has a statement of that number, from 0.
@@ -31,7 +33,7 @@ pub fn decide_select<'p>(
     ensures { asked_choice world.now process part.now (asks.selects (value v) (stmts ss.now)) ≡ effect_choice world.now process part.now result }
 {
     if nth_exists(whole_of(v).number(), ss) {
-        Effect::Goes(Action::Select, Answer::Done)
+        Effect::Goes(Letter::Select, Answer::Done)
     } else {
         Effect::Fails(FaultKind::CaseIndex)
     }

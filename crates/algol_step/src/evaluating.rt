@@ -2,23 +2,26 @@
 
 ghost use Rattle.std.specs.Prelude.{◌≡◌, ◌++◌, ◌∷◌, [], IfOk};
 ghost use Rattle.algol_meaning.specs.World as plain;
+ghost use Rattle.b67_deeds.specs.Deeds.{tests};
 ghost use Rattle.algol_meaning.specs.Asks as asks;
 ghost use Rattle.algol_meaning.specs.Choice as choices;
 ghost use Rattle.algol_meaning.specs.SeenTree.{expr};
-ghost use Rattle.algol_rest.specs.SeenValue.{value};
-ghost use Rattle.algol_rest.specs.SeenExpression.{reference};
+ghost use Rattle.algol_cells.specs.SeenValue.{value};
+ghost use Rattle.algol_cells.specs.SeenCell.{reference};
 ghost use Rattle.algol_world.specs.SeenWorld.{world_of};
 ghost use Rattle.algol_effect.specs.Effects.{asked_choice, effect_choice};
 
 use crate::copying::copy_or_zero;
 use crate::deciding::here;
 use crate::lists::has_items;
+use algol_cells::{Cell, Reference, Value, append, copied, whole_of};
 use algol_effect::Effect;
-use algol_rest::{Answer, Cell, Place, Reference, Rest, Value, append, copied, whole_of};
-use algol_tree::{Expr, List, Named};
-use algol_world::{
-    Action, Part, Purpose, World, cell_at, element_at, has_happened, subscript_place,
-};
+use algol_instances::{cell_at, element_at, subscript_place};
+use algol_rest::Rest;
+use algol_rest_expr::{Answer, Place};
+use algol_tree::{EventTest, Expr, List, Named};
+use algol_world::{Part, Purpose, World, has_happened};
+use b67_deeds::Letter;
 use b67_num::FaultKind;
 use std::alloc::{AllocError, Global};
 
@@ -70,7 +73,7 @@ pub fn decide_read_element<'p>(
         Some(k) => {
             let all = with_last(alloc, before, k)?;
             let read = element_at(cell, all.items());
-            Ok(Effect::Goes(Action::ElementRead, Answer::Value(read)))
+            Ok(Effect::Goes(Letter::ElementRead, Answer::Value(read)))
         }
     }
 }
@@ -93,25 +96,28 @@ pub fn decide_index<'p>(
         None => Ok(Effect::Fails(FaultKind::InvalidIndex)),
         Some(k) => {
             let all = with_last(alloc, before, k)?;
-            Ok(Effect::Goes(Action::Index, Answer::Place(Place::ElementOf(r, all))))
+            Ok(Effect::Goes(Letter::Index, Answer::Place(Place::ElementOf(r, all))))
         }
     }
 }
 
 /// The test of an event.
-pub fn decide_happened<'p>(
+pub fn decide_test<'p>(
     world: &World<'p>,
     process: usize,
     part: &Part<'p>,
+    test: EventTest,
     n: &'p Named,
 ) -> Effect<'p>
-    ensures { asked_choice world.now process part.now (asks.asks_happened n.now) ≡ effect_choice world.now process part.now result }
+    ensures { asked_choice world.now process part.now (asks.event_deed (tests test) (n.now ∷ [])) ≡ effect_choice world.now process part.now result }
 {
     let cell = cell_at(&world.instances, followed(world, here(world, part, n)));
-    Effect::Goes(
-        Action::Happened,
-        Answer::Value(Value::Truth(has_happened(cell))),
-    )
+    match test {
+        EventTest::Happened => Effect::Goes(
+            Letter::Happened,
+            Answer::Value(Value::Truth(has_happened(cell))),
+        ),
+    }
 }
 
 /// The passing of a parameter's own cell.
@@ -125,7 +131,7 @@ pub fn decide_pass<'p>(
     ensures { IfOk result (λ e. asked_choice world.now process part.now (asks.passes n.now) ≡ effect_choice world.now process part.now e) }
 {
     let cell = copy_or_zero(alloc, cell_at(&world.instances, here(world, part, n)))?;
-    Ok(Effect::Goes(Action::Pass, Answer::Cell(cell)))
+    Ok(Effect::Goes(Letter::Pass, Answer::Cell(cell)))
 }
 
 /// The place of a name parameter.
@@ -153,8 +159,8 @@ pub fn decide_resolve<'p>(
             }
         }
         Some(Cell::Reference(r)) => {
-            Ok(Effect::Goes(Action::Resolve, Answer::Place(Place::There(*r))))
+            Ok(Effect::Goes(Letter::Resolve, Answer::Place(Place::There(*r))))
         }
-        _ => Ok(Effect::Goes(Action::Resolve, Answer::Place(Place::There(here)))),
+        _ => Ok(Effect::Goes(Letter::Resolve, Answer::Place(Place::There(here)))),
     }
 }

@@ -2,7 +2,7 @@
 
 ghost use Rattle.std.specs.Prelude.{◌≡◌, IfOk};
 ghost use Rattle.algol_meaning.specs.Asks as asks;
-ghost use Rattle.algol_rest.specs.SeenScope.{scoped};
+ghost use Rattle.algol_cells.specs.SeenScope.{scoped};
 ghost use Rattle.algol_rest.specs.SeenRest.{rest, asked};
 ghost use Rattle.algol_effect.specs.Effects.{asked_choice, effect_choice};
 
@@ -10,7 +10,7 @@ use crate::calling::{decide_enter, decide_start};
 use crate::deciding::{decide_read, decide_read_result};
 use crate::entering::{decide_enter_block, decide_select};
 use crate::evaluating::{
-    decide_happened, decide_index, decide_pass, decide_read_element, decide_resolve,
+    decide_index, decide_pass, decide_read_element, decide_resolve, decide_test,
 };
 use crate::lists::held;
 use crate::making::decide_arrays;
@@ -19,8 +19,10 @@ use crate::stating::{
     decide_leaving, decide_store, decide_turn,
 };
 use crate::writing::decide_line;
+use algol_cells::Value;
 use algol_effect::Effect;
-use algol_rest::{Ask, Given, Place, Value};
+use algol_rest::Ask;
+use algol_rest_expr::{Given, Place};
 use algol_tree::{Body, Line, Named, Pair, PhraseText, Stmt};
 use algol_world::{Part, World};
 use std::alloc::{AllocError, Global};
@@ -42,7 +44,7 @@ pub fn decide<'p>(
             decide_read_element(world, alloc, process, part, *n, *ks, *v)
         }
         Ask::Indexes(n, ks, v) => decide_index(world, alloc, process, part, *n, *ks, *v),
-        Ask::AsksHappened(n) => Ok(decide_happened(world, process, part, *n)),
+        Ask::Tests(test, n) => Ok(decide_test(world, process, part, *test, *n)),
         Ask::Fails(fault) => Ok(decide_fault(world, process, part, *fault)),
         Ask::Enters(n, gs) => decide_enter(world, alloc, process, part, *n, held(gs)),
         Ask::Passes(n) => decide_pass(world, alloc, process, part, *n),

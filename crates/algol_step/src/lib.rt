@@ -15,9 +15,7 @@ mod writing;
 pub use calling::{decide_enter, decide_start};
 pub use deciding::{decide_read, decide_read_result};
 pub use entering::{decide_enter_block, decide_select};
-pub use evaluating::{
-    decide_happened, decide_index, decide_pass, decide_read_element, decide_resolve,
-};
+pub use evaluating::{decide_index, decide_pass, decide_read_element, decide_resolve, decide_test};
 pub use heads::{decide, decide_part};
 pub use making::decide_arrays;
 pub use stating::{

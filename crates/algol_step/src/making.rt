@@ -6,19 +6,20 @@ ghost use Rattle.algol_meaning.specs.Arrays as arrays;
 ghost use Rattle.algol_meaning.specs.Asks as asks;
 ghost use Rattle.algol_meaning.specs.Choice as choices;
 ghost use Rattle.algol_meaning.specs.SeenTree as trees;
-ghost use Rattle.algol_rest.specs.SeenScope.{scoped};
-ghost use Rattle.algol_rest.specs.SeenValue.{value};
-ghost use Rattle.algol_rest.specs.SeenExpression as seen;
-ghost use Rattle.algol_world.specs.SeenInstance.{named_cells};
+ghost use Rattle.algol_cells.specs.SeenScope.{scoped};
+ghost use Rattle.algol_cells.specs.SeenValue.{value};
+ghost use Rattle.algol_cells.specs.SeenCell as seen;
+ghost use Rattle.algol_instances.specs.SeenInstance.{named_cells};
 ghost use Rattle.algol_world.specs.SeenWorld as views;
 ghost use Rattle.algol_world.specs.SeenWorld.{world_of, process_of};
 ghost use Rattle.algol_effect.specs.Effects.{asked_choice, effect_choice, outer_of};
 
+use algol_cells::{ArrayCell, Bounds, Cell, Value, copied, whole_of};
 use algol_effect::Effect;
+use algol_instances::{NamedCell, elements_of, some_empty};
 use algol_meaning::MOST_ELEMENTS;
-use algol_rest::{ArrayCell, Bounds, Cell, Value, copied, whole_of};
 use algol_tree::{Kind, List, Named, Pair, Whole};
-use algol_world::{NamedCell, Part, World, elements_of, some_empty};
+use algol_world::{Part, World};
 use b67_num::FaultKind;
 use std::alloc::{AllocError, Global};
 

@@ -1,18 +1,21 @@
 //! What the heads of statements do.
 
-ghost use Rattle.std.specs.Prelude.{◌≡◌, IfOk};
+ghost use Rattle.std.specs.Prelude.{◌≡◌, [], ◌∷◌, IfOk};
+ghost use Rattle.b67_deeds.specs.Deeds.{acts};
 ghost use Rattle.algol_meaning.specs.Asks as asks;
 ghost use Rattle.algol_meaning.specs.Rest as rest;
-ghost use Rattle.algol_rest.specs.SeenValue.{value};
-ghost use Rattle.algol_rest.specs.SeenExpression as seen;
+ghost use Rattle.algol_cells.specs.SeenValue.{value};
+ghost use Rattle.algol_rest_expr.specs.SeenExpression as seen;
 ghost use Rattle.algol_effect.specs.Effects.{asked_choice, effect_choice};
 
 use crate::deciding::here;
 use crate::evaluating::followed;
+use algol_cells::{Value, copied};
 use algol_effect::Effect;
-use algol_rest::{Answer, Place, Value, copied};
+use algol_rest_expr::{Answer, Place};
 use algol_tree::{EventAct, Named};
-use algol_world::{Action, Part, World};
+use algol_world::{Part, World};
+use b67_deeds::Letter;
 use b67_num::{FaultKind, NumFault};
 use std::alloc::{AllocError, Global};
 
@@ -53,7 +56,7 @@ pub fn decide_store<'p>(
 pub fn decide_turn<'p>(world: &World<'p>, process: usize, part: &Part<'p>) -> Effect<'p>
     ensures { asked_choice world.now process part.now asks.turns ≡ effect_choice world.now process part.now result }
 {
-    Effect::Goes(Action::Turn, Answer::Done)
+    Effect::Goes(Letter::Turn, Answer::Done)
 }
 
 /// GO TO a label.
@@ -76,7 +79,7 @@ pub fn decide_act<'p>(
     act: EventAct,
     n: &'p Named,
 ) -> Effect<'p>
-    ensures { asked_choice world.now process part.now (asks.acts act n.now) ≡ effect_choice world.now process part.now result }
+    ensures { asked_choice world.now process part.now (asks.event_deed (acts act) (n.now ∷ [])) ≡ effect_choice world.now process part.now result }
 {
     Effect::Acts(act, followed(world, here(world, part, n)))
 }

@@ -6,11 +6,11 @@ ghost use Rattle.algol_tree.specs.declared.tree.PhraseText.{PhraseText};
 ghost use Rattle.algol_meaning.specs.Value as plain;
 ghost use Rattle.algol_meaning.specs.Lines as lines;
 ghost use Rattle.algol_meaning.specs.Asks as asks;
-ghost use Rattle.algol_rest.specs.SeenValue.{value};
+ghost use Rattle.algol_cells.specs.SeenValue.{value};
 ghost use Rattle.algol_effect.specs.Effects.{asked_choice, effect_choice};
 
+use algol_cells::{Value, whole_of};
 use algol_effect::Effect;
-use algol_rest::{Value, whole_of};
 use algol_tree::{Line, PhraseText};
 use algol_world::{Part, World};
 use b67_list::{push_copies, push_justified};

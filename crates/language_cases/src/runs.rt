@@ -41,9 +41,9 @@ fn first<'p>(
 /// end.
 fn push_letter(text: &mut Vec<u8>, stepped: &Stepped) {
     match stepped {
-        Stepped::Went(acted) => say(text, &[acted.action.letter()]),
+        Stepped::Went(acted) => say(text, &[acted.action.byte()]),
         Stepped::NotAble => say(text, b"-"),
-        Stepped::Ended(acted) => say(text, &[acted.action.letter(), b'.']),
+        Stepped::Ended(acted) => say(text, &[acted.action.byte(), b'.']),
     }
 }
 

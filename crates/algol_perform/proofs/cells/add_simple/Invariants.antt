@@ -1,6 +1,6 @@
 use Rattle.std.proofs.Common.{◌≡◌, ◌++◌, drop}
 use Rattle.algol_meaning.specs.Instances.{initial_cells}
-use Rattle.algol_world.specs.SeenInstance.{named_cells}
+use Rattle.algol_instances.specs.SeenInstance.{named_cells}
 use Rattle.algol_perform.proofs.cells.add_simple.Given as goal
 
 abbrev pub invariant-naming : goal.invariant-naming

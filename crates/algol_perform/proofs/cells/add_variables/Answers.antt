@@ -1,9 +1,9 @@
-use Rattle.std.proofs.Common.{◌≡◌, ℕ, ◌+◌, ◌<◌, suc, List, [], ◌∷◌, ◌++◌, length, map, drop, get_or, drop-cons, append_assoc, sym, ap, ◌∙◌, arith}
+use Rattle.std.proofs.Common.{◌≡◌, ℕ, ◌+◌, ◌<◌, suc, List, ◌∷◌, ◌++◌, length, drop, get_or, drop-cons, append_assoc, sym, ap, ◌∙◌, arith}
 use Rattle.algol_tree.specs.declared.tree.Decl.{Decl}
 use Rattle.algol_meaning.specs.World.{NamedCell}
 use Rattle.algol_meaning.specs.Instances.{variable_cells}
 use Rattle.algol_meaning.specs.SeenTree.{decl, decls}
-use Rattle.algol_world.specs.SeenInstance.{named_cells}
+use Rattle.algol_instances.specs.SeenInstance.{named_cells}
 use Rattle.algol_perform.specs.Making.{declared_cells}
 use Rattle.algol_perform.proofs.Fresh.{variables_next}
 use Rattle.algol_perform.proofs.cells.add_variables.Goals as goal

@@ -1,7 +1,7 @@
 use Rattle.std.proofs.Common.{◌≡◌, ◌++◌, drop}
 use Rattle.algol_meaning.specs.Instances.{variable_cells}
 use Rattle.algol_meaning.specs.SeenTree.{decls}
-use Rattle.algol_world.specs.SeenInstance.{named_cells}
+use Rattle.algol_instances.specs.SeenInstance.{named_cells}
 use Rattle.algol_perform.proofs.cells.add_variables.Given as goal
 
 abbrev pub invariant-declaring : goal.invariant-declaring

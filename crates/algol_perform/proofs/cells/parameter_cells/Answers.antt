@@ -1,11 +1,11 @@
 use Rattle.std.proofs.Common.{arith, ◌≡◌, ◌++◌, length, map, drop, List, ◌∷◌, ap, sym, ◌∙◌, refl, Some, None, slice_get}
 use Rattle.std.specs.Vec.Iter.{into_iter_items}
 use Rattle.algol_meaning.specs.Instances.{parameter_cells}
-use Rattle.algol_rest.specs.SeenExpression.{cell}
-use Rattle.algol_rest.specs.SeenScope.{parameter}
-use Rattle.algol_rest.specs.declared.cell.Cell.{Cell}
-use Rattle.algol_world.specs.SeenInstance.{named_cells}
-use Rattle.algol_world.specs.declared.instance.NamedCell.{NamedCell}
+use Rattle.algol_cells.specs.SeenCell.{cell}
+use Rattle.algol_cells.specs.SeenScope.{parameter}
+use Rattle.algol_cells.specs.declared.cell.Cell.{Cell}
+use Rattle.algol_instances.specs.SeenInstance.{named_cells}
+use Rattle.algol_instances.specs.declared.instance.NamedCell.{NamedCell}
 use Rattle.algol_perform.proofs.Fresh.{given_all, no_more, given_more}
 use Rattle.algol_perform.proofs.cells.parameter_cells.Goals as goal
 

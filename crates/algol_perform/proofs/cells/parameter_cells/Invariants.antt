@@ -1,9 +1,9 @@
 use Rattle.std.proofs.Common.{◌≡◌, ◌++◌, length, map, drop}
 use Rattle.std.specs.Vec.Iter.{into_iter_items, into_iter_len}
 use Rattle.algol_meaning.specs.Instances.{parameter_cells}
-use Rattle.algol_rest.specs.SeenExpression.{cell}
-use Rattle.algol_rest.specs.SeenScope.{parameter}
-use Rattle.algol_world.specs.SeenInstance.{named_cells}
+use Rattle.algol_cells.specs.SeenCell.{cell}
+use Rattle.algol_cells.specs.SeenScope.{parameter}
+use Rattle.algol_instances.specs.SeenInstance.{named_cells}
 use Rattle.algol_perform.proofs.cells.parameter_cells.Given as goal
 
 abbrev pub invariant-giving : goal.invariant-giving

@@ -1,10 +1,10 @@
-use Rattle.std.proofs.Common.{◌≡◌, length, ap, sym, ◌∙◌}
+use Rattle.std.proofs.Common.{length, ap, sym, ◌∙◌}
 use Rattle.algol_meaning.specs.World.{World}
-use Rattle.algol_meaning.specs.Actions as actions
+use Rattle.b67_deeds.specs.declared.Letter.TheVariants as actions
 use Rattle.algol_meaning.specs.Instances.{leave}
 use Rattle.algol_rest.specs.SeenRest as seen
-use Rattle.algol_rest.specs.SeenScope.{scoped}
-use Rattle.algol_rest.specs.declared.scope.Scopes.{Scopes}
+use Rattle.algol_cells.specs.SeenScope.{scoped}
+use Rattle.algol_cells.specs.declared.scope.Scopes.{Scopes}
 use Rattle.algol_world.specs.Going.{chosen}
 use Rattle.algol_world.specs.SeenActed.{acted_choice}
 use Rattle.algol_world.specs.SeenWorld.{world_of}

@@ -1,7 +1,7 @@
 use Rattle.std.proofs.Common.{◌≡◌, true, List, ℕ, Option, ap, sym, ◌∙◌}
-use Rattle.algol_meaning.specs.Actions as actions
+use Rattle.b67_deeds.specs.declared.Letter.TheVariants as actions
 use Rattle.algol_meaning.specs.Critical.{some_depends_on_any}
-use Rattle.algol_rest.specs.SeenScope.{scoped}
+use Rattle.algol_cells.specs.SeenScope.{scoped}
 use Rattle.algol_world.specs.Going.{chosen}
 use Rattle.algol_world.specs.SeenActed.{acted_choice}
 use Rattle.algol_world.specs.SeenWorld.{world_of}

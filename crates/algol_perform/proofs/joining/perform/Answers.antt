@@ -1,5 +1,5 @@
 use Rattle.std.proofs.Common.{◌≡◌, sym, subst, IfOk}
-use Rattle.algol_rest.specs.SeenScope.{scoped}
+use Rattle.algol_cells.specs.SeenScope.{scoped}
 use Rattle.algol_world.specs.SeenWorld.{world_of}
 use Rattle.algol_world.specs.SeenActed.{acted_choice}
 use Rattle.algol_perform.specs.Performing.{performed}

@@ -1,9 +1,9 @@
 use Rattle.std.proofs.Common.{◌≤◌, length, ap, drop}
 use Rattle.algol_meaning.specs.World as world
-use Rattle.algol_rest.specs.SeenScope.{scoped}
+use Rattle.algol_cells.specs.SeenScope.{scoped}
 use Rattle.algol_rest.specs.SeenRest as seen
 use Rattle.algol_world.specs.SeenWorld.{process, world_of}
-use Rattle.algol_world.proofs.Numbering.{unchanged}
+use Rattle.algol_instances.proofs.Numbering.{unchanged}
 use Rattle.algol_world.proofs.Processes.{changed}
 use Rattle.algol_perform.specs.Going.{redirected}
 use Rattle.algol_perform.proofs.parts.cut_back.Goals as goal

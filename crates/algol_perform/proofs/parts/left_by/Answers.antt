@@ -1,6 +1,6 @@
-use Rattle.std.proofs.Common.{arith, ◌≡◌, ◌<◌, ◌-◌, ℕ, suc, true, false, List, [], ◌∷◌, ◌++◌, length, ap, sym, ◌∙◌, subst, Option, Some, None, slice_get}
+use Rattle.std.proofs.Common.{arith, ◌≡◌, ◌<◌, ◌-◌, ℕ, suc, true, false, List, length, ap, sym, ◌∙◌, subst, Option, Some, None, slice_get}
 use Rattle.algol_meaning.specs.Critical.{is_this}
-use Rattle.algol_rest.specs.SeenScope.{scoped}
+use Rattle.algol_cells.specs.SeenScope.{scoped}
 use Rattle.algol_world.specs.SeenWorld as views
 use Rattle.algol_world.specs.SeenWorld.{process_of}
 use Rattle.algol_perform.specs.Going.{own, AreLeft}

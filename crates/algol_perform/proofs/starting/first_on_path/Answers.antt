@@ -1,4 +1,4 @@
-use Rattle.std.proofs.Common.{arith, ◌≡◌, ◌<◌, ◌≤◌, ◌-◌, ap, sym, ◌∙◌}
+use Rattle.std.proofs.Common.{arith, ◌<◌, ◌≤◌, ◌-◌, ap, sym, ◌∙◌}
 use Rattle.algol_meaning.specs.World.{process_at}
 use Rattle.algol_world.specs.SeenWorld.{world_of}
 use Rattle.algol_perform.specs.Path.{newest_own}

@@ -1,6 +1,6 @@
 use Rattle.std.proofs.Common.{◌≡◌, ◌≤◌, ◌+◌, ◌-◌, [], take, length, map}
 use Rattle.algol_meaning.specs.Critical.{newest_first, first_on_path}
-use Rattle.algol_world.specs.SeenInstance.{instance}
+use Rattle.algol_instances.specs.SeenInstance.{instance}
 use Rattle.algol_world.specs.SeenWorld.{world_of}
 use Rattle.algol_perform.proofs.starting.first_on_path.Given as goal
 

@@ -1,16 +1,15 @@
-use Rattle.std.proofs.Common.{◌≡◌, ◌+◌, ◌∷◌, ◌++◌, ℕ, List, [], length, map, ap, sym, ◌∙◌, Some}
-use Rattle.algol_meaning.specs.World as world
+use Rattle.std.proofs.Common.{◌≡◌, ◌+◌, ◌∷◌, ◌++◌, List, [], length, map, ap, sym, ◌∙◌, Some}
 use Rattle.algol_meaning.specs.World.{World, Part}
 use Rattle.algol_meaning.specs.Rest as rest
 use Rattle.algol_meaning.specs.Critical.{newest_first, first_on_path, referred_by, referred_by_task}
-use Rattle.algol_rest.specs.SeenExpression.{cell}
-use Rattle.algol_rest.specs.SeenScope.{scoped}
-use Rattle.algol_rest.specs.declared.cell.Cell.{Cell}
-use Rattle.algol_rest.specs.declared.scope.Scopes.{Scopes}
+use Rattle.algol_cells.specs.SeenCell.{cell}
+use Rattle.algol_cells.specs.SeenScope.{scoped}
+use Rattle.algol_cells.specs.declared.cell.Cell.{Cell}
+use Rattle.algol_cells.specs.declared.scope.Scopes.{Scopes}
 use Rattle.algol_world.specs.SeenWorld as views
 use Rattle.algol_world.specs.SeenWorld.{world_of}
 use Rattle.algol_world.specs.Going.{going}
-use Rattle.algol_perform.specs.Making.{with_instance_of, part_of, with_process_of}
+use Rattle.algol_perform.specs.Making.{with_instance_of, with_process_of}
 use Rattle.algol_perform.proofs.Fresh.{processes_count}
 use Rattle.algol_perform.proofs.Starts.{starts_so}
 use Rattle.algol_perform.proofs.starting.perform_start.Goals as goal

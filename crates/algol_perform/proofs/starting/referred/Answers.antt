@@ -1,8 +1,8 @@
 use Rattle.std.proofs.Common.{◌≡◌, ℕ, ◌+◌, ◌<◌, ◌≤◌, suc, List, [], ◌∷◌, ◌++◌, length, map, drop, get_or, drop-cons, append_assoc, append-nil, sym, ap, ◌∙◌, arith}
 use Rattle.std.proofs.lemmas.List.{drop_all}
 use Rattle.algol_meaning.specs.Critical.{referred_in, referred_by}
-use Rattle.algol_rest.specs.SeenExpression.{cell}
-use Rattle.algol_rest.specs.declared.cell.Cell.{Cell}
+use Rattle.algol_cells.specs.SeenCell.{cell}
+use Rattle.algol_cells.specs.declared.cell.Cell.{Cell}
 use Rattle.algol_perform.proofs.starting.referred.Goals as goal
 
 next_cell : (cs : List Cell) (i : ℕ) (x : Cell) → i < length cs → x ≡ get_or cs i x → drop i cs ≡ x ∷ drop (i + 1) cs

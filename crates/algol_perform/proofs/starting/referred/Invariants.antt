@@ -1,6 +1,6 @@
 use Rattle.std.proofs.Common.{◌≡◌, ◌∷◌, ◌++◌, drop, map}
 use Rattle.algol_meaning.specs.Critical.{referred_by}
-use Rattle.algol_rest.specs.SeenExpression.{cell}
+use Rattle.algol_cells.specs.SeenCell.{cell}
 use Rattle.algol_perform.proofs.starting.referred.Given as goal
 
 abbrev pub invariant-referring : goal.invariant-referring

@@ -1,6 +1,6 @@
 use Rattle.std.proofs.Common.{◌≡◌, drop}
 use Rattle.algol_meaning.specs.Run.{some_able}
-use Rattle.algol_rest.specs.SeenScope.{scoped}
+use Rattle.algol_cells.specs.SeenScope.{scoped}
 use Rattle.algol_world.specs.SeenWorld.{processes}
 use Rattle.algol_run.proofs.ending.some_able.Given as goal
 

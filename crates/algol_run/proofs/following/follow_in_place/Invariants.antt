@@ -1,6 +1,6 @@
 use Rattle.std.proofs.Common.{◌≡◌, ◌≤◌, length, take, Some}
 use Rattle.algol_meaning.specs.Run.{run_from}
-use Rattle.algol_rest.specs.SeenScope.{scoped}
+use Rattle.algol_cells.specs.SeenScope.{scoped}
 use Rattle.algol_world.specs.SeenWorld.{world_of}
 use Rattle.algol_run.proofs.following.follow_in_place.Given as goal
 

@@ -1,8 +1,9 @@
 use Rattle.std.proofs.Common.{◌≡◌, ℕ, ◌+◌, ◌<◌, ◌≤◌, List, [], ◌∷◌, ◌++◌, length, map, drop, get_or, append-nil, append_assoc, sym, ap, ◌∙◌}
 use Rattle.std.proofs.lemmas.List.{drop_all}
 use Rattle.algol_meaning.specs.Value as plain
-use Rattle.algol_rest.specs.SeenExpression as seen
-use Rattle.algol_rest.specs.declared.part.Given.{Given}
+use Rattle.algol_cells.specs.SeenCell as cells
+use Rattle.algol_rest_expr.specs.SeenExpression as seen
+use Rattle.algol_rest_expr.specs.declared.part.Given.{Given}
 use Rattle.algol_world.specs.declared.world.World.{World}
 use Rattle.algol_world.specs.declared.world.Part.{Part}
 use Rattle.algol_effect.specs.Effects.{given_cells_in}
@@ -28,8 +29,8 @@ cells_given w p part done all gs i h inv = sym (append-nil done) ∙ ap (λ (hs 
 
 pub giving-preserved : goal.giving-preserved
 giving-preserved c =
-    cells_next c.args.world.now c.args.process c.args.part.now (map seen.cell c.giving.cells.items) _ _ c.args.givens.now c.giving.given-index c.given-item.result
+    cells_next c.args.world.now c.args.process c.args.part.now (map cells.cell c.giving.cells.items) _ _ c.args.givens.now c.giving.given-index c.given-item.result
     c.giving-test.true c.given-item.is c.in_ok-push_given.ensures c.giving.invariant
 
 pub returns : goal.returns
-returns c = cells_given c.args.world.now c.args.process c.args.part.now (map seen.cell c.giving.cells.items) _ c.args.givens.now c.giving.given-index c.giving-test.false c.giving.invariant
+returns c = cells_given c.args.world.now c.args.process c.args.part.now (map cells.cell c.giving.cells.items) _ c.args.givens.now c.giving.given-index c.giving-test.false c.giving.invariant

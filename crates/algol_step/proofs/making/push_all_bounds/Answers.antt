@@ -4,9 +4,9 @@ use Rattle.algol_tree.specs.Plain.{PPair}
 use Rattle.algol_meaning.specs.Value as plain
 use Rattle.algol_meaning.specs.Arrays as arrays
 use Rattle.algol_meaning.specs.SeenTree.{pair, pairs}
-use Rattle.algol_rest.specs.SeenValue.{value}
-use Rattle.algol_rest.specs.SeenExpression as seen
-use Rattle.algol_rest.specs.declared.value.Value.{Value}
+use Rattle.algol_cells.specs.SeenValue.{value}
+use Rattle.algol_cells.specs.SeenCell as seen
+use Rattle.algol_cells.specs.declared.value.Value.{Value}
 use Rattle.algol_step.proofs.Walking.{left_next}
 use Rattle.algol_step.proofs.making.push_all_bounds.Goals as goal
 

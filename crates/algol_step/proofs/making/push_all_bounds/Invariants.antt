@@ -1,8 +1,8 @@
 use Rattle.std.proofs.Common.{◌≡◌, ◌++◌, drop, map}
 use Rattle.algol_meaning.specs.Arrays as arrays
 use Rattle.algol_meaning.specs.SeenTree.{pairs}
-use Rattle.algol_rest.specs.SeenValue.{value}
-use Rattle.algol_rest.specs.SeenExpression as seen
+use Rattle.algol_cells.specs.SeenValue.{value}
+use Rattle.algol_cells.specs.SeenCell as seen
 use Rattle.algol_step.proofs.making.push_all_bounds.Given as goal
 
 abbrev pub invariant-pairing : goal.invariant-pairing

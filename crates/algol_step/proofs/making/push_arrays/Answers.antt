@@ -5,8 +5,8 @@ use Rattle.algol_tree.specs.declared.tree.Named.{Named}
 use Rattle.algol_meaning.specs.World as world
 use Rattle.algol_meaning.specs.Value as plain
 use Rattle.algol_meaning.specs.Arrays as arrays
-use Rattle.algol_rest.specs.SeenExpression as seen
-use Rattle.algol_world.specs.SeenInstance.{named_cells}
+use Rattle.algol_cells.specs.SeenCell as seen
+use Rattle.algol_instances.specs.SeenInstance.{named_cells}
 use Rattle.algol_step.proofs.Walking.{left_next}
 use Rattle.algol_step.proofs.making.push_arrays.Goals as goal
 

@@ -1,7 +1,7 @@
 use Rattle.std.proofs.Common.{◌≡◌, ◌++◌, drop, map}
 use Rattle.algol_meaning.specs.Arrays as arrays
-use Rattle.algol_rest.specs.SeenExpression as seen
-use Rattle.algol_world.specs.SeenInstance.{named_cells}
+use Rattle.algol_cells.specs.SeenCell as seen
+use Rattle.algol_instances.specs.SeenInstance.{named_cells}
 use Rattle.algol_step.proofs.making.push_arrays.Given as goal
 
 abbrev pub invariant-making : goal.invariant-making

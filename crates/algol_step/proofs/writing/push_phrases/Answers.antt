@@ -3,7 +3,7 @@ use Rattle.std.proofs.lemmas.List.{drop_all}
 use Rattle.algol_tree.specs.declared.tree.PhraseText.{PhraseText}
 use Rattle.algol_meaning.specs.Value as plain
 use Rattle.algol_meaning.specs.Lines.{line_of}
-use Rattle.algol_rest.specs.SeenValue.{value}
+use Rattle.algol_cells.specs.SeenValue.{value}
 use Rattle.algol_step.proofs.Walking.{left_next}
 use Rattle.algol_step.proofs.writing.push_phrases.Goals as goal
 

@@ -1,6 +1,6 @@
 use Rattle.std.proofs.Common.{◌≡◌, ◌++◌, drop, map}
 use Rattle.algol_meaning.specs.Lines.{line_of}
-use Rattle.algol_rest.specs.SeenValue.{value}
+use Rattle.algol_cells.specs.SeenValue.{value}
 use Rattle.algol_step.proofs.writing.push_phrases.Given as goal
 
 -- the line so far, and that of the phrases and values that are left
