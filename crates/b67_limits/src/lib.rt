@@ -1,6 +1,9 @@
 //! The limits that the language and the machine share: each is one constant, which both sides read.
 #![tactic(auto)]
 
+ghost use Rattle.std.specs.Prelude.{◌≡◌};
+ghost use Rattle.b67_limits.specs.declared.TheConstants.{OUTER_LEVEL, MOST_LEVEL, MOST_BLOCK_CELLS, MOST_FRAME_CELLS, MOST_PROCEDURES, MOST_ELEMENTS, MOST_PROCESSES};
+
 /// The level of the outer block: the program's own, under which level 0 is the system's.
 pub const OUTER_LEVEL: u8 = 2;
 
@@ -22,3 +25,16 @@ pub const MOST_ELEMENTS: u32 = 1_048_576;
 
 /// The most processes of a run, the first among them, by this project's profile.
 pub const MOST_PROCESSES: u32 = 256;
+
+/// Law: the numbers of this crate, which the language and the machine are defined with. The deepest level, the cells of a frame and the procedures
+/// are as many as five, nine and ten bits of a control word have; the level of the outer block is 2, above the system's; the others are this
+/// project's profile. docs/LANGUAGE.md and docs/MACHINE.md have them.
+pub fn numbers_are_told()
+    ensures outer { OUTER_LEVEL ≡ 2 }
+    ensures level { MOST_LEVEL ≡ 31 }
+    ensures block { MOST_BLOCK_CELLS ≡ 400 }
+    ensures frame { MOST_FRAME_CELLS ≡ 511 }
+    ensures procedures { MOST_PROCEDURES ≡ 1023 }
+    ensures elements { MOST_ELEMENTS ≡ 1048576 }
+    ensures processes { MOST_PROCESSES ≡ 256 }
+{}

@@ -4,6 +4,7 @@
 ghost use Rattle.std.specs.Prelude.{◌≡◌, ◌++◌, ◌^◌, ◌+◌, ◌<◌, ◌≤◌, ℕ, length, IfOk, OnOk};
 ghost use Rattle.std.specs.List.{flat_map, range_with_len};
 ghost use Rattle.b67_make.specs.Made.{line, adder, group, groups_of, made};
+ghost use Rattle.b67_make.specs.declared.TheConstants.{MOST_ADDED};
 
 use b67_list::push_number;
 use std::alloc::{AllocError, Global};
@@ -115,3 +116,8 @@ fn push_line(text: &mut Vec<u8>, start: &[u8], number: u64, end: &[u8]) -> Resul
     push_number(text, start, number)?;
     text.extend_from_slice(end)
 }
+
+/// Law: the number of this crate, which the text that is made is defined with. A group has fifty numbers, by this project's profile.
+pub fn numbers_are_told()
+    ensures { MOST_ADDED ≡ 50 }
+{}

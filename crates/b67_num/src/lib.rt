@@ -4,8 +4,9 @@
 //! an operation whose exact result is no such number ends the run is this project's profile.
 #![tactic(auto)]
 
-ghost use Rattle.std.specs.Prelude.{◌≡◌, ℤ, ◌*ℤ◌, ◌≤◌, unsigned_abs, IfOk, Ok};
+ghost use Rattle.std.specs.Prelude.{◌≡◌, ℤ, ◌*ℤ◌, ◌-◌, ◌^◌, ◌≤◌, pos, unsigned_abs, IfOk, Ok};
 ghost use Rattle.b67_num.specs.Whole.{most, whole, calculated, related, negation_of, IsDivision};
+ghost use Rattle.b67_num.specs.declared.TheConstants.{MOST};
 ghost use Rattle.b67_num.specs.declared.Calculation.{Calculation};
 ghost use Rattle.b67_num.specs.declared.Calculation.TheVariants.{Sum, Difference, Product, WholeQuotient, TruncatedQuotient, Remainder};
 
@@ -222,4 +223,9 @@ pub fn division_truncates()
 /// Law: what a calculation gives is a whole number.
 pub fn results_are_whole()
     ensures { (calculation : Calculation) (a b z : ℤ) → calculated calculation a b ≡ Ok z → unsigned_abs z ≤ most }
+{}
+
+/// Law: the number of this crate, which whole numbers are defined with: the mantissa of an operand has 39 bits, as in the B6700's word.
+pub fn numbers_are_told()
+    ensures { MOST ≡ pos (2 ^ 39 - 1) }
 {}

@@ -3,8 +3,9 @@
 //! A record ends with an LF, or with a CR and an LF, and the last one may end with the input. A mark holds neither.
 #![tactic(auto)]
 
-ghost use Rattle.std.specs.Prelude.{◌≡◌, ◌≢◌, ℕ, List, codes, slice_index, option_copied, EachIndex, MatchOption, Option};
+ghost use Rattle.std.specs.Prelude.{◌≡◌, ◌≢◌, ℕ, List, slice_index, option_copied, EachIndex, MatchOption, Option};
 ghost use Rattle.b67_parts.specs.Parts.{Begins, Ends, IsFirstLineFeed, Parts};
+ghost use Rattle.b67_parts.specs.declared.TheConstants.{MOST_INPUT_BYTES};
 
 /// The most bytes of an input that has two parts.
 pub const MOST_INPUT_BYTES: usize = 16_777_216;
@@ -13,15 +14,6 @@ pub const MOST_INPUT_BYTES: usize = 16_777_216;
 pub fn inputs_have_one_division()
     ensures { (mark bytes source other : List ℕ) (text later : Option (List ℕ)) → Parts mark bytes source text → Parts mark bytes other later → (source ≡ other) × (text ≡ later) }
 {}
-
-/// The source and the schedule text of an input. The source is what stands before the first record that is exactly
-/// `%%SCHEDULE`, and the schedule text is all after it; without such a record the source is the whole input, and
-/// there is no schedule text. Takes no memory.
-pub fn parts(bytes: &[u8]) -> (&[u8], Option<&[u8]>)
-    ensures { Parts (codes "%%SCHEDULE") bytes.now result.0.now (option_copied result.1) }
-{
-    divided(b"%%SCHEDULE", bytes)
-}
 
 /// What stands before the first record that is exactly the mark, and what stands after it; the whole, where no record
 /// is the mark. Takes no memory.
@@ -69,3 +61,8 @@ fn first_line_feed(bytes: &[u8]) -> Option<usize>
 {
     bytes.iter().position(|byte| *byte == b'\n')
 }
+
+/// Law: the number of this crate. An input that has two parts has at most 16 megabytes, by this project's profile.
+pub fn numbers_are_told()
+    ensures { MOST_INPUT_BYTES ≡ 16777216 }
+{}

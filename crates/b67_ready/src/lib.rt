@@ -9,7 +9,7 @@ ghost use Rattle.b67_ready.specs.Turning.{Move, taken, takes_in};
 
 mod order;
 
-pub use order::Order;
+pub use order::{Order, numbers_are_told};
 use std::alloc::{AllocError, Global};
 use std::marker::Model;
 

@@ -2,6 +2,7 @@
 
 ghost use Rattle.std.specs.Prelude.{◌≡◌, ◌<◌};
 ghost use Rattle.b67_ready.specs.Orders.{spread};
+ghost use Rattle.b67_ready.specs.declared.order.TheConstants.{FACTOR};
 
 use crate::Rule;
 
@@ -47,3 +48,8 @@ fn spread(seed: u32, length: u32, takes: u64) -> u32
         .wrapping_mul(FACTOR);
     ((spread >> 33) % u64::from(length)) as u32
 }
+
+/// Law: the number of this crate, which the rule that spreads the takes is defined with, as Knuth's MMIX has it.
+pub fn numbers_are_told()
+    ensures { FACTOR ≡ 6364136223846793005 }
+{}

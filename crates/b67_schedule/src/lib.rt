@@ -7,6 +7,7 @@ ghost use Rattle.std.specs.Prelude.{◌≡◌, ℕ, ◌+◌, ◌<◌, ◌≤◌,
 ghost use Rattle.std.specs.Fmt.{decimal};
 ghost use Rattle.std.specs.List.{flat_map};
 ghost use Rattle.b67_schedule.specs.Schedules.{most, entries, IsSchedule, IsLast, run_line, ScheduleText};
+ghost use Rattle.b67_schedule.specs.declared.TheConstants.{MOST_NUMBER};
 
 use b67_list::push_number;
 pub use b67_text::BadText;
@@ -150,3 +151,9 @@ fn push_line(text: &mut Vec<u8>, run: &Run) -> Result<(), AllocError>
     push_number(text, b"*", run.times)?;
     text.extend_from_slice(b"\n")
 }
+
+/// Law: the number of this crate, which schedules and their texts are defined with: a number of a schedule has at most nine digits, by this
+/// project's profile.
+pub fn numbers_are_told()
+    ensures { MOST_NUMBER ≡ 999999999 }
+{}

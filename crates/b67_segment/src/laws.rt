@@ -5,6 +5,7 @@ ghost use Rattle.b67_ops.specs.declared.BranchKind.{BranchKind};
 ghost use Rattle.b67_segment.specs.Operators.{Placed, StandsAmong, size, aimed_from};
 ghost use Rattle.b67_segment.specs.Syllables.{Spells};
 ghost use Rattle.b67_segment.specs.Fetching.{fetched, StandsIn};
+ghost use Rattle.b67_segment.specs.declared.TheConstants.{MOST_SEGMENT_WORDS, MOST_SEGMENT_SYLLABLES};
 ghost use Rattle.b67_segment.specs.declared.code.Segment.{Segment};
 ghost use Rattle.b67_segment.specs.declared.code.Code.{Code};
 
@@ -37,4 +38,11 @@ pub fn operators_are_fetched()
         → slice_get code.segments number ≡ Some segment → Spells ps segment
         → StandsAmong ps at level op next
         → fetched code (record { segment = number; place = at }) level ≡ Ok (op, next) }
+{}
+
+/// Law: the numbers of this crate, which segments are defined with: the most words by this project's profile, each of six syllables, as
+/// docs/MACHINE.md has them.
+pub fn numbers_are_told()
+    ensures words { MOST_SEGMENT_WORDS ≡ 8192 }
+    ensures syllables { MOST_SEGMENT_SYLLABLES ≡ 49152 }
 {}

@@ -17,4 +17,4 @@ pub use builder::Builder;
 pub use code::{Code, Format, Mark, Phrase, Pointer, Segment};
 pub use decoding::Decoded;
 pub use fetching::fetch;
-pub use laws::{operators_are_fetched, operators_stand};
+pub use laws::{numbers_are_told, operators_are_fetched, operators_stand};

@@ -8,6 +8,7 @@
 ghost use Rattle.std.specs.Prelude.{◌≡◌, ℕ, ◌+◌, ◌-◌, ◌<◌, ◌≤◌, Bool, true, false, List, [], ◌∷◌, ◌++◌, length, reverse, take, Option, Some, None, slice_get, is_some, IfSome, is_ok, IfOk, IfErr, OnOk, OnErr, option_map, if◌then◌else◌, IsSome};
 ghost use Rattle.b67_store.specs.Laws.{IsByNumber, CountsOpenRows};
 ghost use Rattle.b67_word.specs.Word.{Word};
+ghost use Rattle.b67_store.specs.declared.TheConstants.{MOST_STACK_WORDS, MOST_COUNTED_WORDS, MOST_ROWS};
 ghost use Rattle.b67_store.specs.Store.{Row, Stacks, Rows, stack_at, words_of, word_at, with_stack, with_word, with_push, with_cut, opened_at, closed_at, least_free, stack_limit, PushFails, OpenFails, row_at, row_words, with_row_word, zero_row, counted_words, count_limit, row_limit, exceeds, RowFails};
 
 mod free_numbers;
@@ -217,4 +218,12 @@ pub fn numbers_stand_alone()
 /// Law: the words of a counted row count from its opening to its closing, whatever is written into it.
 pub fn open_rows_are_counted()
     ensures { CountsOpenRows }
+{}
+
+/// Law: the numbers of this crate, which stores are defined with: the most words of a stack and of all counted rows, and the most rows, by
+/// this project's profile, as docs/MACHINE.md has them.
+pub fn numbers_are_told()
+    ensures stack { MOST_STACK_WORDS ≡ 65536 }
+    ensures counted { MOST_COUNTED_WORDS ≡ 1048576 }
+    ensures rows { MOST_ROWS ≡ 4194304 }
 {}
