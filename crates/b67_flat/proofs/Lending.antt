@@ -7,7 +7,7 @@ use Rattle.b67_store.specs.Store.{at_number, stack_limit, words_of, IsRoom}
 use Rattle.b67_flat.specs.declared.Span.{Span}
 use Rattle.b67_flat.specs.declared.stack_table.HeldStack.{HeldStack}
 use Rattle.b67_flat.specs.declared.row_table.HeldRow.{HeldRow}
-use Rattle.b67_flat.specs.Flat.{memory_of, IsMemory, words_at, pasted, stack_in, row_in, stacks_in, rows_in, span_of_stack, span_of_row, AreSpans, Flat, refilled, laid_over, whole, place_in, lent_room}
+use Rattle.b67_flat.specs.Flat.{memory_of, IsMemory, words_at, pasted, stack_in, row_in, stacks_in, rows_in, span_of_stack, span_of_row, AreSpans, Flat, refilled, laid_over, whole, place_of_stack, lent_room}
 use Rattle.b67_flat.proofs.Areas.{mapped_same, mapped_set}
 use Rattle.b67_flat.proofs.Keeping.{pasted_apart, pasted_inside}
 use Rattle.b67_flat.proofs.Stores.{number_of, is_stack, differ, row_of, stack_within, size_seen, words_seen}
@@ -47,11 +47,11 @@ module _ (words : List Word) (spans : List Span) (stacks : List (Option HeldStac
       ∙ mapped_set (stack_in (pasted words held.place others)) (stack_in words) stacks n (whole held) (λ k x d e. pasted_apart words others spans (span_of_stack n held) (span_of_stack k x) x.used m.0 m.1 size (are.of_stacks n held h).0 (are.of_stacks k x e).0 (λ z. d (sym (ap (λ (s : Span). number_of s.holder) z))) (are.of_stacks k x e).1)
       ∙ ap (λ (ws : List Word). set (stacks_in words stacks) n (Some ws)) (ap (λ (k : ℕ). words_at (pasted words held.place others) held.place k) (sym size) ∙ pasted_inside words others held.place (omega (arith, fits)))
 
-  pub lent_rows : rows_in (laid_over words (place_in (at_number stacks n)) others) rows ≡ rows_in words rows
-  lent_rows = ap (λ (o : Option HeldStack). rows_in (laid_over words (place_in o) others) rows) h ∙ laid_rows
+  pub lent_rows : rows_in (laid_over words (place_of_stack (at_number stacks n)) others) rows ≡ rows_in words rows
+  lent_rows = ap (λ (o : Option HeldStack). rows_in (laid_over words (place_of_stack o) others) rows) h ∙ laid_rows
 
-  pub lent_stacks : stacks_in (laid_over words (place_in (at_number stacks n)) others) (set stacks n (option_map whole (at_number stacks n))) ≡ set (stacks_in words stacks) n (Some others)
-  lent_stacks = ap (λ (o : Option HeldStack). stacks_in (laid_over words (place_in o) others) (set stacks n (option_map whole o))) h ∙ laid_stacks
+  pub lent_stacks : stacks_in (laid_over words (place_of_stack (at_number stacks n)) others) (set stacks n (option_map whole (at_number stacks n))) ≡ set (stacks_in words stacks) n (Some others)
+  lent_stacks = ap (λ (o : Option HeldStack). stacks_in (laid_over words (place_of_stack o) others) (set stacks n (option_map whole o))) h ∙ laid_stacks
 
 abbrev flat_of : List Word → List Span → List (Option HeldStack) → List (Option HeldRow) → Flat
 flat_of words spans stacks rows = record { memory = memory_of words spans; stacks = stacks; rows = rows }
@@ -61,7 +61,7 @@ pub lent_is : (words : List Word) (spans : List Span) (stacks now : List (Option
 lent_is words spans stacks now rows n size held left h e f =
     ap (λ (k : ℕ). flat_of (take k ((take held.place words ++ (left ++ drop (length left) (drop held.place words))) ++ drop (length (take held.place words ++ (left ++ drop (length left) (drop held.place words)))) words)) spans now rows) e
     ∙ ap (λ (t : List (Option HeldStack)). flat_of (laid_over words held.place left) spans t rows) f
-    ∙ ap (λ (o : Option HeldStack). flat_of (laid_over words (place_in o) left) spans (set stacks n (option_map whole o)) rows) (sym h)
+    ∙ ap (λ (o : Option HeldStack). flat_of (laid_over words (place_of_stack o) left) spans (set stacks n (option_map whole o)) rows) (sym h)
 
 -- what is lent is the stack's words, and what stands above them
 pub room_is : (words : List Word) (spans : List Span) (stacks : List (Option HeldStack)) (rows : List (Option HeldRow)) (n : ℕ) (held : HeldStack) (room : List Word) → IsMemory (memory_of words spans) → AreSpans spans stacks rows → at_number stacks n ≡ Some held → room ≡ take stack_limit (drop held.place words) → IsRoom (words_of (stacks_in words stacks) n) room

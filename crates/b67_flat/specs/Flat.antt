@@ -89,6 +89,21 @@ pub record Flat : Type 0 where
   pub stacks : List (Option HeldStack)
   pub rows : List (Option HeldRow)
 
+abbrev pub stacks_of : Flat → Stacks
+stacks_of core = stacks_in core.memory.words core.stacks
+
+abbrev pub rows_of : Flat → Rows
+rows_of core = rows_in core.memory.words core.rows
+
+-- the places at which the spans of a stack and of a row begin
+abbrev pub place_of_stack : Option HeldStack → ℕ
+place_of_stack None = 0
+place_of_stack (Some held) = held.place
+
+abbrev pub place_of_row : Option HeldRow → ℕ
+place_of_row None = 0
+place_of_row (Some held) = held.place
+
 -- ---- what it holds where the room of a stack was lent
 
 -- words, with others in place of the first of them
@@ -103,10 +118,6 @@ laid_over words place others = refilled words (take place words ++ (others ++ dr
 abbrev pub whole : HeldStack → HeldStack
 whole held = record held { used = stack_limit }
 
-abbrev pub place_in : Option HeldStack → ℕ
-place_in None = 0
-place_in (Some held) = held.place
-
 -- with these words left in the room of a stack
 abbrev pub lent_room : Flat → ℕ → List Word → Flat
-lent_room core n room = record { memory = memory_of (laid_over core.memory.words (place_in (at_number core.stacks n)) room) core.memory.spans; stacks = slice_set core.stacks n (option_map whole (at_number core.stacks n)); rows = core.rows }
+lent_room core n room = record { memory = memory_of (laid_over core.memory.words (place_of_stack (at_number core.stacks n)) room) core.memory.spans; stacks = slice_set core.stacks n (option_map whole (at_number core.stacks n)); rows = core.rows }

@@ -1,7 +1,9 @@
 // The store that keeps all stacks and all rows in one list of words.
-ghost use Rattle.std.specs.Prelude.{◌≡◌, ℕ, []};
-ghost use Rattle.b67_store.specs.Store.{at_number};
-ghost use Rattle.b67_flat.specs.Flat.{IsMemory, AreSpans, stacks_in, rows_in};
+ghost use Rattle.std.specs.Prelude.{◌≡◌, ℕ, ◌≤◌, ◌<◌, None, [], is_ok, is_some, OnOk, OnErr, IfOk, IfErr, false, if◌then◌else◌};
+ghost use Rattle.b67_store.specs.Store.{at_number, stack_at, stack_limit, opened_at, closed_at, OpenFails, row_at, row_limit, count_limit, least_free, zero_row, exceeds, RowFails};
+ghost use Rattle.b67_flat.specs.declared.Holder.TheVariants.{Stack, Row};
+ghost use Rattle.b67_flat.specs.Spans.{place_for, opened, closed};
+ghost use Rattle.b67_flat.specs.Flat.{IsMemory, AreSpans, stacks_in, rows_in, lengthened, stacks_of, rows_of, zeroed, place_of_stack, place_of_row};
 
 use crate::memory::{open_span, read_at, write_at, zero};
 use crate::row_table::{HeldRow, RowTable};
@@ -83,11 +85,11 @@ impl FlatCore {
 }
 
 impl Core for FlatCore {
-    ghost use Rattle.b67_flat.specs.Flat.{stacks_in, rows_in, lent_room};
+    ghost use Rattle.b67_flat.specs.Flat.{stacks_of, rows_of, lent_room};
 
-    ghost stacks = { λ c. stacks_in c.memory.words c.stacks };
+    ghost stacks = { λ c. stacks_of c };
 
-    ghost rows = { λ c. rows_in c.memory.words c.rows };
+    ghost rows = { λ c. rows_of c };
 
     ghost lent = { λ c n lent left. lent_room c n left };
 
@@ -158,7 +160,16 @@ impl Core for FlatCore {
         self.words.slice_mut(first..first + MOST_STACK_WORDS)
     }
 
-    fn open_stack(&mut self, stack: u16) -> Result<(), OpenFault> {
+    // Its span is opened at the least place at which there is room. No other span is moved, and no word: their list may
+    // become longer.
+    fn open_stack(&mut self, stack: u16) -> Result<(), OpenFault>
+        ensures free { OnOk result (stack_at (stacks_of self.old) stack ≡ None) }
+        ensures fault { IfErr result (OpenFails (stacks_of self.old) stack) }
+        ensures stacks { stacks_of self.new ≡ (if is_ok result then opened_at (stacks_of self.old) stack [] else stacks_of self.old) }
+        ensures rows { rows_of self.new ≡ rows_of self.old }
+        ensures spans { self.new.memory.spans ≡ (if is_ok result then opened stack_limit (Stack stack) self.old.memory.spans else self.old.memory.spans) }
+        ensures words { (more : ℕ) × (self.new.memory.words ≡ lengthened self.old.memory.words more) }
+    {
         if self.held(stack).is_some() {
             return Err(OpenFault::InUse);
         }
@@ -175,7 +186,14 @@ impl Core for FlatCore {
         Ok(())
     }
 
-    fn close_stack(&mut self, stack: u16) -> Result<(), NoSuchPlace> {
+    // Its span is taken away, and nothing is moved.
+    fn close_stack(&mut self, stack: u16) -> Result<(), NoSuchPlace>
+        ensures found { is_ok result ≡ is_some (stack_at (stacks_of self.old) stack) }
+        ensures stacks { stacks_of self.new ≡ (if is_ok result then closed_at (stacks_of self.old) stack else stacks_of self.old) }
+        ensures rows { rows_of self.new ≡ rows_of self.old }
+        ensures spans { self.new.memory.spans ≡ (if is_ok result then closed (place_of_stack (at_number self.old.stacks stack)) self.old.memory.spans else self.old.memory.spans) }
+        ensures words { self.new.memory.words ≡ self.old.memory.words }
+    {
         let Some(held) = self.held(stack) else {
             return Err(NoSuchPlace);
         };
@@ -184,7 +202,21 @@ impl Core for FlatCore {
         Ok(())
     }
 
-    fn open_row(&mut self, length: u32, counted: bool) -> Result<u32, RowFault> {
+    // Its span is opened at the least place at which there is room, and its words there become operands 0. No other span
+    // is moved, and no word.
+    fn open_row(&mut self, length: u32, counted: bool) -> Result<u32, RowFault>
+        requires some { 1 ≤ length }
+        requires most { length ≤ count_limit }
+        ensures number { IfOk result (λ row. (row ≡ least_free (rows_of self.old)) × (row < row_limit)) }
+        ensures room { OnOk result (exceeds (rows_of self.old) length counted ≡ false) }
+        ensures fault { IfErr result (RowFails (rows_of self.old) length counted) }
+        ensures rows { IfOk result (λ row. rows_of self.new ≡ opened_at (rows_of self.old) row (zero_row length counted)) }
+        ensures unchanged { OnErr result (rows_of self.new ≡ rows_of self.old) }
+        ensures stacks { stacks_of self.new ≡ stacks_of self.old }
+        ensures spans { IfOk result (λ row. self.new.memory.spans ≡ opened length (Row row) self.old.memory.spans) }
+        ensures kept { OnErr result (self.new.memory.spans ≡ self.old.memory.spans) }
+        ensures words { OnOk result ((more : ℕ) × (self.new.memory.words ≡ zeroed (lengthened self.old.memory.words more) (place_for length self.old.memory.spans) length)) }
+    {
         if self.rows.exceeds(length, counted) {
             return Err(RowFault::CoreFull);
         }
@@ -234,7 +266,14 @@ impl Core for FlatCore {
         Ok(())
     }
 
-    fn close_row(&mut self, row: u32) -> Result<(), NoSuchPlace> {
+    // Its span is taken away, and nothing is moved.
+    fn close_row(&mut self, row: u32) -> Result<(), NoSuchPlace>
+        ensures found { is_ok result ≡ is_some (row_at (rows_of self.old) row) }
+        ensures rows { rows_of self.new ≡ (if is_ok result then closed_at (rows_of self.old) row else rows_of self.old) }
+        ensures stacks { stacks_of self.new ≡ stacks_of self.old }
+        ensures spans { self.new.memory.spans ≡ (if is_ok result then closed (place_of_row (at_number self.old.rows row)) self.old.memory.spans else self.old.memory.spans) }
+        ensures words { self.new.memory.words ≡ self.old.memory.words }
+    {
         let Some(held) = self.rows.close(row) else {
             return Err(NoSuchPlace);
         };

@@ -6,6 +6,10 @@
 #![tactic(auto)]
 
 ghost use Rattle.b67_flat.specs.Spans.{PlacesAreLeast};
+ghost use Rattle.b67_flat.specs.declared.memory.TheConstants.{MOST_WORDS};
+ghost use Rattle.b67_flat.specs.declared.spans.TheConstants.{CHUNK};
+ghost use Rattle.b67_flat.specs.declared.widest.TheConstants.{GROUP};
+ghost use Rattle.std.specs.Prelude.{◌≡◌, ◌^◌};
 
 mod flat_core;
 mod memory;
@@ -39,4 +43,12 @@ pub struct Span {
 /// Law: the place at which a span is opened is the least at which so many words belong to no span.
 pub fn places_are_least()
     ensures { PlacesAreLeast }
+{}
+
+/// Law: the numbers of this crate, which a memory and its spans are defined with: a place has 32 bits, and for 64 spans, and for 64 times
+/// as many, it is kept how wide the gaps before them are at most.
+pub fn numbers_are_told()
+    ensures words { MOST_WORDS ≡ 2 ^ 32 }
+    ensures chunk { CHUNK ≡ 64 }
+    ensures group { GROUP ≡ 64 }
 {}

@@ -83,6 +83,12 @@ returns-in_default-open-clause-stacks c =
     let now = row_placed c.self.inside.words.items c.open_span.new.words.items c.zero.new.words.items c.self.inside.spans c.open_span.new.spans c.self.inside.stacks.items c.self.inside.rows c.in-Some.number c.in-Ok.ensures.words.0 (record { place = c.in-Ok.place; length = c.args.length; counted = c.args.counted }) c.self.invariant.0 c.self.invariant.1 free c.in-Ok.ensures.words.1 spans place c.zero.ensures c.in-Ok.ensures.memory in
     rw (← c.self.view_is) now.stacks_still
 
+pub returns-in_default-open-clause-kept : goal.returns-in_default-open-clause-kept
+returns-in_default-open-clause-kept c =
+    let spans : c.open_span.new.spans ≡ opened c.args.length (of.Row c.in-Some.number) c.self.inside.spans = search rules in
+    let place : c.in-Ok.place ≡ place_for c.args.length c.self.inside.spans = search rules in
+    rw (← c.self.view_is) (c.close.ensures ∙ reclosed c.args.length (of.Row c.in-Some.number) c.self.inside.spans c.open_span.new.spans c.in-Ok.place spans place c.self.invariant.0.0)
+
 pub returns-clause-number : goal.returns-clause-number
 returns-clause-number c =
     rw (← c.self.view_is) (least_seen c.self.inside.words.items c.self.inside.rows c.in-Ok-open.opened c.in-Ok-open.ensures.number.0, c.in-Ok-open.ensures.number.1)

@@ -53,6 +53,12 @@ pub returns-in_default-hold_at-clause-rows : goal.returns-in_default-hold_at-cla
 returns-in_default-hold_at-clause-rows c =
     rw (c.in-Ok.ensures.words.1, ← c.self.view_is) (long_rows c.self.inside.words.items c.self.inside.spans c.self.inside.stacks.items c.self.inside.rows c.self.invariant.0 c.self.invariant.1 c.in-Ok.ensures.words.0)
 
+pub returns-in_default-hold_at-clause-spans : goal.returns-in_default-hold_at-clause-spans
+returns-in_default-hold_at-clause-spans c =
+    let spans : c.open_span.new.spans ≡ opened stack_limit (of.Stack c.args.stack) c.self.inside.spans = search rules in
+    let place : c.in-Ok.place ≡ place_for stack_limit c.self.inside.spans = search rules in
+    rw (← c.self.view_is) (c.close.ensures ∙ reclosed stack_limit (of.Stack c.args.stack) c.self.inside.spans c.open_span.new.spans c.in-Ok.place spans place c.self.invariant.0.0)
+
 pub returns-clause-free : goal.returns-clause-free
 returns-clause-free c =
     let shut : is_some (at_number c.self.inside.stacks.items c.args.stack) ≡ false = search rules in
