@@ -8,5 +8,7 @@ pub mod Gathering
 pub mod Taking
 pub mod Whole
 pub mod Unbroken
+pub mod PhrasesBack
+pub mod PhrasesFound
 pub mod Formats
 pub mod Writable

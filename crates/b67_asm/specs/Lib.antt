@@ -4,3 +4,4 @@ pub mod Assembling
 pub mod Writable
 pub mod Steps
 pub mod Codes
+pub mod Formats

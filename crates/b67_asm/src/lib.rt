@@ -15,6 +15,7 @@ ghost use Rattle.std.specs.Prelude.{◌≡◌, ℕ, List};
 ghost use Rattle.b67_segment.specs.declared.code.Code.{Code};
 ghost use Rattle.b67_asm.specs.declared.refusal.Refusal.{Refusal};
 ghost use Rattle.b67_asm.specs.Assembling.{Assembles, IsRefusedText};
+ghost use Rattle.b67_asm.specs.Formats.{FormatsAreListed};
 ghost use Rattle.b67_asm.specs.Writable.{IsWritable};
 
 pub use assembler::assemble;
@@ -30,4 +31,10 @@ pub fn texts_have_one_code()
 /// The code of a text can be listed, has a segment, and its formats have phrases that fit a line.
 pub fn codes_of_texts_can_be_written()
     ensures { (bytes : List ℕ) (code : Code) → Assembles bytes code → IsWritable code }
+{}
+
+/// Law: the phrases of a format that fits a line are read exactly where they stand as in a listing: after the word FORMAT, between
+/// brackets, with commas between them, and with blanks wherever no phrase is cut.
+pub fn formats_are_listed()
+    ensures { FormatsAreListed }
 {}

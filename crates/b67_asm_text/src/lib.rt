@@ -17,4 +17,5 @@ mod words;
 
 pub use item::{Reading, Written};
 pub use name::reserved_words_are_those_of_the_language;
+pub use number::numbers_are_told;
 pub use text::{Text, read_text};

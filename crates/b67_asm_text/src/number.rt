@@ -1,7 +1,10 @@
 //! Numbers as they are written in operands.
 
-ghost use Rattle.std.specs.Prelude.{◌≡◌, ◌<◌, ◌≤◌, length, IfSome};
+ghost use Rattle.std.specs.Prelude.{◌≡◌, ◌+◌, ◌^◌, ◌<◌, ◌≤◌, codes, length, IfSome};
 ghost use Rattle.b67_asm_text.specs.Numbers.{digit_value, number_after, number_in, has_leading_zero, word_after, word_in};
+ghost use Rattle.b67_asm_text.specs.declared.number.TheConstants.{TOO_GREAT, GREATEST_WORD, WORD_DIGITS};
+ghost use Rattle.b67_asm_text.specs.declared.operand.TheConstants.{MOST_INDEX_BITS};
+ghost use Rattle.b67_asm_text.specs.declared.phrase.TheConstants.{FORMAT_BYTES};
 
 use crate::bytes::is_digit;
 
@@ -85,3 +88,13 @@ fn digit_value(byte: u8) -> Option<u8>
         _ => None,
     }
 }
+
+/// Law: the numbers of this crate, which the items of a text are defined with. `LT16` and a branch take 16 bits, a word has 48 bits, which
+/// are 12 hexadecimal digits, and a couple's index has at most 13 bits, as docs/MACHINE.md has them; the word FORMAT has 6 bytes.
+pub fn numbers_are_told()
+    ensures operand { TOO_GREAT ≡ 2 ^ 16 }
+    ensures word { GREATEST_WORD + 1 ≡ 2 ^ 48 }
+    ensures digits { WORD_DIGITS ≡ 12 }
+    ensures index { MOST_INDEX_BITS ≡ 13 }
+    ensures format { FORMAT_BYTES ≡ length (codes "FORMAT") }
+{}

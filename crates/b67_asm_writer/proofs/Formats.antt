@@ -1,77 +1,26 @@
 -- The lines of formats, read back.
-use Rattle.std.proofs.Common.{◌≡◌, ◌≢◌, ℕ, ◌+◌, ◌-◌, ◌*◌, ◌/◌, ◌%◌, ◌≤◌, ◌<◌, ◌==◌, ◌&&◌, Bool, true, false, not, List, [], ◌∷◌, ◌++◌, length, codes, drop, Option, Some, None, refl, sym, ap, subst, arith, ◌∙◌, inl, inr, append_assoc, append-nil}
-use Rattle.std.specs.Prelude.{◌||◌, min, nat_le, if◌then◌else◌}
+use Rattle.std.proofs.Common.{◌≡◌, ◌≢◌, ℕ, ◌+◌, ◌≤◌, ◌<◌, ◌==◌, ◌&&◌, Bool, true, false, not, List, [], ◌∷◌, ◌++◌, length, codes, drop, Option, Some, refl, sym, ap, subst, arith, ◌∙◌, append_assoc}
 use Rattle.std.specs.List.{All, flat_map, list_all}
 use Rattle.std.specs.Fmt.{decimal}
-use Rattle.std.proofs.lemmas.Fmt.{decimal_by_steps}
-use Rattle.std.proofs.lemmas.Bool.{and_from, and_right, cases_Bool, cond-true, cond-false, eqb-false, le-leb, leb-true, ne_eqb, not-false, not_from_false, or_parts}
-use Rattle.std.proofs.lemmas.List.Elements.{All-head, All-tail}
+use Rattle.std.proofs.lemmas.Bool.{and_from, and_right, cond-false, ne_eqb, not_from_false}
+use Rattle.std.proofs.lemmas.List.Elements.{All-cons, All-head, All-nil, All-tail}
 use Rattle.algol_tree.specs.declared.TheConstants.{MOST_LINE_WIDTH}
-use Rattle.algol_tree.specs.Spelling.{is_digit}
+use Rattle.algol_tree.specs.Spelling.{is_blank, is_digit}
 use Rattle.b67_segment.specs.declared.code.Phrase.{Phrase}
 use Rattle.b67_segment.specs.declared.code.Phrase.TheVariants.{Text, Number, Blanks}
 use Rattle.b67_segment.specs.declared.code.Format.{Format as Form}
 use Rattle.b67_listing.specs.Formats.{phrase_text, phrases_text}
 use Rattle.b67_listing.specs.Listings.{IsPhrase}
-use Rattle.b67_asm_text.specs.declared.number.TheConstants.{TOO_GREAT}
-use Rattle.b67_asm_text.specs.declared.phrase.Stand.{Stand}
-use Rattle.b67_asm_text.specs.declared.phrase.Stand.TheVariants.{Due, Quoted, Sized, After, Closed, Wrong}
 use Rattle.b67_asm_text.specs.declared.item.Reading.TheVariants.{Format}
 use Rattle.b67_asm_text.specs.Records.{code_length, code_part, is_open_after, unblanked}
-use Rattle.b67_asm_text.specs.Phrases.{Read, after, are_in_range, columns, ended, fit_in, has_no_width, is_printable, longer, phrases_at, phrases_in, quoted, read_from, sized_phrase}
+use Rattle.b67_asm_text.specs.Phrases.{are_in_range, phrases_in}
 use Rattle.b67_asm_text.specs.Items.{format_from, format_of, format_or, reading, reading_of}
+use Rattle.b67_asm.specs.Formats.{PhraseStands, PhrasesStand}
 use Rattle.b67_asm.specs.Writable.{CanBeWritten}
+use Rattle.b67_asm.proofs.PhrasesBack.{IsTextByte, CanBeRead, Each, each_in, listed_read}
 use Rattle.b67_asm_writer.specs.Sources.{format_source}
 use Rattle.b67_asm_writer.proofs.Quiet.{append_no_feed, are_quiet, has_no_feed, high_first, high_quiet, is_no_feed, outside, quiet_length, quiet_no_feed, whole_code}
-use Rattle.b67_asm_writer.proofs.Numbers.{digit_is, digits_high, digits_of}
-
--- ---- which phrases are read back
-
-abbrev IsTextByte : ℕ → Type 0
-IsTextByte byte = (32 ≤ byte) × (byte ≤ 126) × (byte ≢ 34)
-
--- a phrase of a format that fits a line
-CanBeRead : Phrase → Type 0
-CanBeRead (Text text) = All IsTextByte text
-CanBeRead (Number width) = (1 ≤ width) × (width < 65536)
-CanBeRead (Blanks width) = (1 ≤ width) × (width < 65536)
-
--- each of these
-abbrev Each : List Phrase → Type 0
-Each [] = Unit {0}
-Each (phrase ∷ phrases) = CanBeRead phrase × Each phrases
-
--- a phrase that has a width and fits
-abbrev HasRoom : ℕ → Phrase → Type 0
-HasRoom left phrase = (has_no_width phrase ≡ false) × (columns phrase ≤ left)
-
-room_here : (left : ℕ) (phrase : Phrase) (phrases : List Phrase) → fit_in left (phrase ∷ phrases) ≡ true → HasRoom left phrase × (fit_in (left - columns phrase) phrases ≡ true)
-room_here left phrase phrases h =
-    let test = has_no_width phrase || not (nat_le (columns phrase) left) in
-    let more = fit_in (left - columns phrase) phrases in
-    elim (cases_Bool test) [
-      | inl bad ↦ (let clash : false ≡ true = sym (cond-true test false more bad) ∙ h in absurd cc)
-      | inr good ↦
-          let p = or_parts (has_no_width phrase) (not (nat_le (columns phrase) left)) good in
-          ((p.0, leb-true (columns phrase) left (not-false (nat_le (columns phrase) left) p.1)), sym (cond-false test false more good) ∙ h)
-    ]
-
-some_width : (width : ℕ) → (width ≡ 0 → ⊥) → 1 ≤ width
-some_width width some = omega (arith, some)
-
-can_read : (left : ℕ) (phrase : Phrase) → left ≤ 132 → IsPhrase phrase → HasRoom left phrase → CanBeRead phrase
-unfolding CanBeRead
-can_read left (Text text) most is room = is
-can_read left (Number width) most is room = (let some = eqb-false width 0 room.0 in (some_width width some, omega (arith, most, room.1)))
-can_read left (Blanks width) most is room = (let some = eqb-false width 0 room.0 in (some_width width some, omega (arith, most, room.1)))
-
-each_in : (left : ℕ) (phrases : List Phrase) → left ≤ 132 → All IsPhrase phrases → fit_in left phrases ≡ true → Each phrases
-each_in left [] most all fits = tt
-each_in left (phrase ∷ phrases) most all fits =
-    let room = room_here left phrase phrases fits in (
-      can_read left phrase most (All-head IsPhrase phrase phrases all) room.0,
-      each_in (left - columns phrase) phrases (omega (arith, most)) (All-tail IsPhrase phrase phrases all) room.1,
-    )
+use Rattle.b67_asm_writer.proofs.Numbers.{digits_high, digits_of}
 
 -- ---- no comment begins
 
@@ -126,127 +75,41 @@ phrases_whole (phrase ∷ phrases) rest can h =
     subst (λ (t : List ℕ). code_length false t ≡ length t) (sym (append_assoc (phrase_text phrase) (others_text phrases) rest))
     (phrase_whole phrase (others_text phrases ++ rest) can.0 (others_whole phrases rest can.1 h))
 
--- ---- phrases, byte by byte
+-- ---- phrases stand in their line
 
-abbrev stands : Stand → List ℕ → List Phrase → Read
-stands stand text phrases = record { stand = stand; text = text; phrases = phrases }
+abbrev IsBlank : ℕ → Type 0
+IsBlank byte = is_blank byte ≡ true
 
--- a text and the quote after it
-text_back : (front text rest : List ℕ) (phrases : List Phrase) → All IsTextByte text →
-    read_from (stands Quoted front phrases) (text ++ 34 ∷ rest) ≡ read_from (stands After (front ++ text) (phrases ++ Text (front ++ text) ∷ [])) rest
-text_back front [] rest phrases all = ap (λ (t : List ℕ). read_from (stands After t (phrases ++ Text t ∷ [])) rest) (sym (append-nil front))
-text_back front (b ∷ text) rest phrases all =
-    let is = All-head IsTextByte b text all in
-    let r = stands Quoted front phrases in
-    let done = stands After front (phrases ++ Text front ∷ []) in
-    let on = stands Quoted (front ++ b ∷ []) phrases in
-    let wrong = stands Wrong front phrases in
-    let step : quoted r b ≡ on =
-    cond-false (b == 34) done (if is_printable b then on else wrong) (ne_eqb b 34 is.2)
-    ∙ cond-true (is_printable b) on wrong (and_from (nat_le 32 b) (nat_le b 126) (le-leb 32 b is.0) (le-leb b 126 is.1)) in
-    ap (λ (s : Read). read_from s (text ++ 34 ∷ rest)) step
-    ∙ text_back (front ++ b ∷ []) text rest phrases (All-tail IsTextByte b text all)
-    ∙ ap (λ (t : List ℕ). read_from (stands After t (phrases ++ Text t ∷ [])) rest) (append_assoc front (b ∷ []) text)
+-- without blanks around it
+phrase_stands : (phrase : Phrase) (bytes rest : List ℕ) → IsPhrase phrase → bytes ≡ phrase_text phrase ++ rest → PhraseStands phrase bytes rest
+phrase_stands phrase bytes rest is are =
+    record { is_phrase = is; before = []; after = []; blanks_before = All-nil IsBlank; blanks_after = All-nil IsBlank; bytes_are = are }
 
--- the digits of a width
-module _ (blanks : Bool) (text : List ℕ) (phrases : List Phrase) where
-  first_digit : (d : ℕ) (rest : List ℕ) → d < 10 → read_from (stands (Sized blanks None) text phrases) ((48 + d) ∷ rest) ≡ read_from (stands (Sized blanks (Some d)) text phrases) rest
-  first_digit d rest small =
-      let r = stands (Sized blanks None) text phrases in
-      let on = stands (longer blanks None (48 + d)) text phrases in
-      let same : 48 + d - 48 ≡ d = omega arith in
-      ap (λ (s : Read). read_from s rest) (cond-true (is_digit (48 + d)) on (ended r blanks None (48 + d)) (digit_is d small))
-      ∙ ap (λ (k : ℕ). read_from (stands (Sized blanks (Some k)) text phrases) rest) same
-
-  next_digit : (m d n : ℕ) (rest : List ℕ) → d < 10 → 1 ≤ m → 10 * m + d ≡ n → n < 65536 →
-      read_from (stands (Sized blanks (Some m)) text phrases) ((48 + d) ∷ rest) ≡ read_from (stands (Sized blanks (Some n)) text phrases) rest
-  next_digit m d n rest small some sum fits =
-      let r = stands (Sized blanks (Some m)) text phrases in
-      let on = stands (longer blanks (Some m) (48 + d)) text phrases in
-      let value : min TOO_GREAT (10 * m + (48 + d - 48)) ≡ n = omega arith in
-      ap (λ (s : Read). read_from s rest) (cond-true (is_digit (48 + d)) on (ended r blanks (Some m) (48 + d)) (digit_is d small))
-      ∙ ap (λ (s : Stand). read_from (stands s text phrases) rest)
-      (cond-false (m == 0) Wrong (Sized blanks (Some (min TOO_GREAT (10 * m + (48 + d - 48))))) (ne_eqb m 0 (λ e. omega (arith, e, some))))
-      ∙ ap (λ (k : ℕ). read_from (stands (Sized blanks (Some k)) text phrases) rest) value
-
-  ReadsWidth : ℕ → List ℕ → Type 0
-  ReadsWidth n ds = 1 ≤ n → n < 65536 → (rest : List ℕ) → read_from (stands (Sized blanks None) text phrases) (ds ++ rest) ≡ read_from (stands (Sized blanks (Some n)) text phrases) rest
-
-  one_width : (n : ℕ) → n < 10 → ReadsWidth n ((48 + n) ∷ [])
-  unfolding ReadsWidth
-  one_width n small some fits rest = first_digit n rest small
-
-  more_width : (n : ℕ) (ds : List ℕ) → 10 ≤ n → ReadsWidth (n / 10) ds → ReadsWidth n (ds ++ (48 + n % 10) ∷ [])
-  unfolding ReadsWidth
-  more_width n ds long h some fits rest =
-      ap (read_from (stands (Sized blanks None) text phrases)) (append_assoc ds ((48 + n % 10) ∷ []) rest)
-      ∙ h (omega (arith, long)) (omega (arith, fits)) ((48 + n % 10) ∷ rest)
-      ∙ next_digit (n / 10) (n % 10) n rest (omega arith) (omega (arith, long)) (omega arith) fits
-
-  width_read : (n : ℕ) (rest : List ℕ) → 1 ≤ n → n < 65536 → read_from (stands (Sized blanks None) text phrases) (decimal n ++ rest) ≡ read_from (stands (Sized blanks (Some n)) text phrases) rest
-  unfolding ReadsWidth
-  width_read n rest some fits = decimal_by_steps ReadsWidth one_width more_width n (omega (arith, fits)) some fits rest
-
-  -- and the byte that ends it
-  width_back : (n end : ℕ) (rest : List ℕ) → 1 ≤ n → n < 65536 → is_digit end ≡ false →
-      read_from (stands (Sized blanks None) text phrases) (decimal n ++ end ∷ rest) ≡ read_from (stands (after end) text (phrases ++ sized_phrase blanks n ∷ [])) rest
-  width_back n end rest some fits ends =
-      let r = stands (Sized blanks (Some n)) text phrases in
-      width_read n (end ∷ rest) some fits
-      ∙ ap (λ (s : Read). read_from s rest) (cond-false (is_digit end) (stands (longer blanks (Some n) end) text phrases) (ended r blanks (Some n) end) ends)
-
--- the text that is kept after a phrase
-kept : Phrase → List ℕ
-kept (Text text) = text
-kept (Number width) = []
-kept (Blanks width) = []
-
--- a phrase and the byte that ends it
-phrase_back : (phrase : Phrase) (end : ℕ) (rest text : List ℕ) (phrases : List Phrase) → CanBeRead phrase → is_digit end ≡ false →
-    read_from (stands Due text phrases) (phrase_text phrase ++ end ∷ rest) ≡ read_from (stands (after end) (kept phrase) (phrases ++ phrase ∷ [])) rest
-unfolding CanBeRead kept
-phrase_back (Text own) end rest text phrases can ends =
-    ap (read_from (stands Quoted [] phrases)) (append_assoc own (34 ∷ []) (end ∷ rest))
-    ∙ text_back [] own (end ∷ rest) phrases can
-phrase_back (Number width) end rest text phrases can ends = width_back false [] phrases width end rest can.0 can.1 ends
-phrase_back (Blanks width) end rest text phrases can ends = width_back true [] phrases width end rest can.0 can.1 ends
-
--- the phrases of a format, and its last bracket
-record AreBack (phrases : List Phrase) (r : Read) : Type 0 where
-  closed : r.stand ≡ Closed
-  are : r.phrases ≡ phrases
-
-comma_next : (first second : Phrase) (more : List Phrase) (rest : List ℕ) →
-    phrases_text (first ∷ second ∷ more) ++ rest ≡ phrase_text first ++ 44 ∷ (phrases_text (second ∷ more) ++ rest)
-comma_next first second more rest = append_assoc (phrase_text first) (others_text (second ∷ more)) rest
-
-all_back : (first : Phrase) (more : List Phrase) (text : List ℕ) (done : List Phrase) → Each (first ∷ more) →
-    AreBack (done ++ first ∷ more) (read_from (stands Due text done) (phrases_text (first ∷ more) ++ 62 ∷ []))
-all_back first [] text done can =
-    let whole : phrases_text (first ∷ []) ++ 62 ∷ [] ≡ phrase_text first ++ 62 ∷ [] = ap (λ (t : List ℕ). t ++ 62 ∷ []) (append-nil (phrase_text first)) in
-    let read : read_from (stands Due text done) (phrases_text (first ∷ []) ++ 62 ∷ []) ≡ stands Closed (kept first) (done ++ first ∷ []) =
-    ap (read_from (stands Due text done)) whole ∙ phrase_back first 62 [] text done can.0 refl in
-    subst (AreBack (done ++ first ∷ [])) (sym read) (record { closed = refl; are = refl })
-all_back first (second ∷ more) text done can =
-    let rest = phrases_text (second ∷ more) ++ 62 ∷ [] in
-    let read : read_from (stands Due text done) (phrases_text (first ∷ second ∷ more) ++ 62 ∷ []) ≡ read_from (stands Due (kept first) (done ++ first ∷ [])) rest =
-    ap (read_from (stands Due text done)) (comma_next first second more (62 ∷ [])) ∙ phrase_back first 44 rest text done can.0 refl in
-    let later = all_back second more (kept first) (done ++ first ∷ []) can.1 in
-    subst (AreBack (done ++ first ∷ second ∷ more)) (sym read)
-    (subst (λ (ps : List Phrase). AreBack ps (read_from (stands Due (kept first) (done ++ first ∷ [])) rest)) (append_assoc done (first ∷ []) (second ∷ more)) later)
-
-closed_are : (phrases : List Phrase) (r : Read) → AreBack phrases r → phrases_at r.stand r.phrases ≡ Some phrases
-closed_are phrases r back = ap (λ (s : Stand). phrases_at s r.phrases) back.closed ∙ ap (λ (ps : List Phrase). Some ps) back.are
+-- the phrases after the first, and the last bracket
+others_stand : (phrases : List Phrase) → All IsPhrase phrases → PhrasesStand (codes ",") phrases (others_text phrases ++ 62 ∷ [])
+others_stand [] all = ([], refl, All-nil IsBlank)
+others_stand (phrase ∷ phrases) all =
+    let rest = others_text phrases ++ 62 ∷ [] in (
+      phrase_text phrase ++ rest,
+      rest,
+      ap (λ (bs : List ℕ). 44 ∷ bs) (append_assoc (phrase_text phrase) (others_text phrases) (62 ∷ [])),
+      phrase_stands phrase (phrase_text phrase ++ rest) rest (All-head IsPhrase phrase phrases all) refl,
+      others_stand phrases (All-tail IsPhrase phrase phrases all),
+    )
 
 -- ---- the line of a format
 
 abbrev line_of : List Phrase → List ℕ
 line_of phrases = codes "FORMAT <" ++ (phrases_text phrases ++ 62 ∷ [])
 
-phrases_read : (first : Phrase) (more : List Phrase) → Each (first ∷ more) → phrases_in (line_of (first ∷ more)) ≡ Some (first ∷ more)
-unfolding phrases_in
-phrases_read first more can =
-    closed_are (first ∷ more) (read_from (stands Due [] []) (phrases_text (first ∷ more) ++ 62 ∷ [])) (all_back first more [] [] can)
+phrases_read : (first : Phrase) (more : List Phrase) → All IsPhrase (first ∷ more) → are_in_range (first ∷ more) ≡ true → phrases_in (line_of (first ∷ more)) ≡ Some (first ∷ more)
+phrases_read first more all fits =
+    let rest = others_text more ++ 62 ∷ [] in
+    let here = phrases_text (first ∷ more) ++ 62 ∷ [] in
+    let own : PhraseStands first here rest = phrase_stands first here rest (All-head IsPhrase first more all) (append_assoc (phrase_text first) (others_text more) (62 ∷ [])) in
+    let stand : PhrasesStand (codes "<") (first ∷ more) (60 ∷ here) = (here, rest, refl, own, others_stand more (All-tail IsPhrase first more all)) in
+    listed_read (line_of (first ∷ more)) (first ∷ more) fits
+    (record { some = omega arith; blanks = 32 ∷ []; are_blanks = All-cons IsBlank 32 [] refl (All-nil IsBlank); rest = 60 ∷ here; stand = stand; bytes_are = refl })
 
 line_whole : (phrases : List Phrase) → Each phrases → code_part (line_of phrases) ≡ line_of phrases
 line_whole phrases can =
@@ -257,24 +120,24 @@ pub record IsFormatBack (form : Form) : Type 0 where
   pub reads : reading (format_source form) ≡ Format true
   pub own : format_of (format_source form) ≡ form ∷ []
 
-form_of : (phrases : List Phrase) → 1 ≤ length phrases → Each phrases → are_in_range phrases ≡ true → IsFormatBack (record { phrases = phrases })
+form_of : (phrases : List Phrase) → 1 ≤ length phrases → All IsPhrase phrases → Each phrases → are_in_range phrases ≡ true → IsFormatBack (record { phrases = phrases })
 unfolding reading format_of
-form_of [] some can fits = absurd (omega arith)
-form_of (first ∷ more) some can fits =
+form_of [] some all can fits = absurd (omega arith)
+form_of (first ∷ more) some all can fits =
     let phrases = first ∷ more in
     let form : Form = record { phrases = phrases } in
     let line = line_of phrases in
     let same : format_source form ≡ line = append_assoc (codes "FORMAT <") (phrases_text phrases) (62 ∷ []) in
     let here : unblanked (code_part (format_source form)) ≡ line =
     ap (λ (t : List ℕ). unblanked (code_part t)) same ∙ ap unblanked (line_whole phrases can) ∙ high_first 70 (drop 1 line) refl in
-    let read : phrases_in line ≡ Some phrases = phrases_read first more can in
+    let read : phrases_in line ≡ Some phrases = phrases_read first more all fits in
     record {
       reads = ap reading_of here ∙ ap (λ (o : Option (List Phrase)). format_or o line) read ∙ ap Format fits;
       own = ap (λ (t : List ℕ). format_from (phrases_in t)) here ∙ ap format_from read;
     }
 
 pub format_back : (form : Form) → All IsPhrase form.phrases → CanBeWritten form → IsFormatBack form
-format_back form all can = form_of form.phrases can.some (each_in MOST_LINE_WIDTH form.phrases (omega arith) all can.fits) can.fits
+format_back form all can = form_of form.phrases can.some all (each_in MOST_LINE_WIDTH form.phrases (omega arith) all can.fits) can.fits
 
 -- ---- it has no LF
 

@@ -11,12 +11,10 @@ use Rattle.b67_listing.specs.Digits.{last_digits}
 use Rattle.b67_asm_text.specs.declared.number.TheConstants.{GREATEST_WORD, TOO_GREAT}
 use Rattle.b67_asm_text.specs.Numbers.{digit_value, has_leading_zero, number_after, number_in, with_digit, word_after, word_in}
 use Rattle.b67_asm_text.specs.Operands.{comma_place}
+use Rattle.b67_asm.proofs.PhrasesBack.{digit_is}
 use Rattle.b67_asm_writer.proofs.Quiet.{are_high, is_high}
 
 -- ---- decimal digits
-
-pub digit_is : (d : ℕ) → d < 10 → is_digit (48 + d) ≡ true
-digit_is d small = and_from (nat_le 48 (48 + d)) (nat_le (48 + d) 57) (le-leb 48 (48 + d) (omega arith)) (le-leb (48 + d) 57 (omega arith))
 
 digit_step : (m d n : ℕ) (rest : List ℕ) → d < 10 → 10 * m + d ≡ n → n < 65536 → number_after m ((48 + d) ∷ rest) ≡ number_after n rest
 digit_step m d n rest small sum fits =
