@@ -1,12 +1,16 @@
 -- How often a process waits, before and after each action.
-use Rattle.std.proofs.Common.{◌≡◌, ℕ, ◌+◌, ◌≤◌, Bool, true, false, cond, not, eqb, List, [], ◌∷◌, ◌++◌, drop, refl, sym, ap, ◌∙◌, inl, inr, arith}
-use Rattle.std.specs.Prelude.{filter, slice_get, Some}
+use Rattle.std.proofs.Common.{◌≡◌, ℕ, ◌+◌, ◌≤◌, Bool, true, false, cond, not, eqb, List, [], ◌∷◌, ◌++◌, All, take, drop, Option, Some, None, refl, sym, ap, ◌∙◌, subst, inl, inr, arith}
+use Rattle.std.specs.Prelude.{filter}
 use Rattle.std.specs.List.{list_any}
+use Rattle.std.proofs.lemmas.List.Elements.{All-nil, All-cons, All-head, All-tail, All-filter}
 use Rattle.std.proofs.lemmas.Bool.{cases_Bool, cond-true, cond-false, both_ways, false_from_ne_true, eqb-true, eq-eqb, or_cases, or_parts}
 use Rattle.b67_word.specs.declared.Place.{Place}
-use Rattle.b67_events.specs.Events.{Event, same_place, event_at, is_open, is_from, waiters_of, waiters_at, procurers_of, procurers_at, happened_at, available_at, is_waiting, changed, fresh, is_before, placed, joined, caused, cleared, taken, queued, served, passed_on}
+use Rattle.b67_deeds.specs.declared.EventAct.TheVariants as act
+use Rattle.b67_deeds.specs.Events.{EventState, caused, joined, queued, taken, served, passed_on}
+use Rattle.b67_deeds.specs.Deeds.{EventDeed, acts, tests, Next, goes, waits, procures}
+use Rattle.b67_events.specs.Events.{Event, same_place, event_at, is_open, is_from, state_of, waiters_at, procurers_at, happened_at, available_at, is_waiting, changed, with_state, changed_by, deed_at, done_at, fresh, is_before, placed, opened}
 use Rattle.b67_events.specs.Laws.{AreApart}
-use Rattle.b67_events.specs.Once.{times_in, times_at, times, EachOnce, EachWaitsOnce, ReleasedWaitNowhere}
+use Rattle.b67_events.specs.Once.{times_in, times, waiters_of, procurers_of, all_of, EachOnce, MayWait, EachWaitsOnce, ReleasedWaitNowhere}
 use Rattle.b67_events.proofs.Listed.{same_place-true}
 
 abbrev one_if : Bool → ℕ
@@ -24,7 +28,7 @@ times_in-none p (x ∷ xs) h =
     let rest = times_in-none p xs parts.1 in
     let head : one_if (eqb p x) ≡ 0 = cond-false (eqb p x) 1 0 parts.0 in omega arith
 
-times_in-some : (p : ℕ) (xs : List ℕ) → list_any (eqb p) xs ≡ true → 1 ≤ times_in p xs
+pub times_in-some : (p : ℕ) (xs : List ℕ) → list_any (eqb p) xs ≡ true → 1 ≤ times_in p xs
 times_in-some p [] h = cc
 times_in-some p (x ∷ xs) h = elim (or_cases (eqb p x) (list_any (eqb p) xs) h) [
   | inl e ↦ let head : one_if (eqb p x) ≡ 1 = cond-true (eqb p x) 1 0 e in omega arith
@@ -35,60 +39,68 @@ times_in-join : (p : ℕ) (xs ys : List ℕ) → times_in p (xs ++ ys) ≡ times
 times_in-join p [] ys = omega arith
 times_in-join p (x ∷ xs) ys = let rest = times_in-join p xs ys in omega arith
 
-times-none : (p : ℕ) (es : List Event) → is_waiting p es ≡ false → times p es ≡ 0
+times-none : (p : ℕ) (es : List Event) → is_waiting p es ≡ false → times all_of p es ≡ 0
 times-none p [] h = refl
 times-none p (e ∷ es) h =
-    let parts = or_parts (list_any (eqb p) (e.waiters ++ e.procurers)) (is_waiting p es) h in
-    let here = times_in-none p (e.waiters ++ e.procurers) parts.0 in
-    let both = times_in-join p e.waiters e.procurers in
+    let parts = or_parts (list_any (eqb p) (e.state.waiters ++ e.state.procurers)) (is_waiting p es) h in
+    let here = times_in-none p (e.state.waiters ++ e.state.procurers) parts.0 in
     let rest = times-none p es parts.1 in
     omega arith
 
-waiting-none : (p : ℕ) (es : List Event) → times p es ≡ 0 → is_waiting p es ≡ false
+waiting-none : (p : ℕ) (es : List Event) → times all_of p es ≡ 0 → is_waiting p es ≡ false
 waiting-none p [] h = refl
 waiting-none p (e ∷ es) h = false_from_ne_true (is_waiting p (e ∷ es)) (λ k.
-    elim (or_cases (list_any (eqb p) (e.waiters ++ e.procurers)) (is_waiting p es) k) [
+    elim (or_cases (list_any (eqb p) (e.state.waiters ++ e.state.procurers)) (is_waiting p es) k) [
       | inl t ↦
-          let here = times_in-some p (e.waiters ++ e.procurers) t in
-          let both = times_in-join p e.waiters e.procurers in
-          absurd (omega arith)
+          let here = times_in-some p (e.state.waiters ++ e.state.procurers) t in absurd (omega arith)
       | inr t ↦ both_ways (is_waiting p es) (waiting-none p es (omega arith)) t
     ])
+
+-- who procures waits
+procures-less : (p : ℕ) (es : List Event) → times procurers_of p es ≤ times all_of p es
+procures-less p [] = omega arith
+procures-less p (e ∷ es) =
+    let both = times_in-join p e.state.waiters e.state.procurers in
+    let rest = procures-less p es in omega arith
 
 one_of : Place → (Event → Event) → Event → Event
 one_of at change e = cond (same_place e.place at) (change e) e
 
--- an action by which no event has a process more often
-times-fewer : (p : ℕ) (at : Place) (change : Event → Event) → ((e : Event) → times_at p (change e) ≤ times_at p e)
-    → (es : List Event) → times p (changed at change es) ≤ times p es
-unfolding one_of
-times-fewer p at change less [] = omega arith
-times-fewer p at change less (e ∷ es) =
-    let rest = times-fewer p at change less es in
-    let b = same_place e.place at in
-    let head : times_at p (one_of at change e) ≤ times_at p e = elim (cases_Bool b) [
-      | inl h ↦ let is : times_at p (one_of at change e) ≡ times_at p (change e) = ap (times_at p) (cond-true b (change e) e h) in let l = less e in omega arith
-      | inr h ↦ let is : times_at p (one_of at change e) ≡ times_at p e = ap (times_at p) (cond-false b (change e) e h) in omega arith
-    ] in
-    omega arith
+-- a change by which no event has a process more often in such lists
+module _ (lists : EventState → List ℕ) (p : ℕ) where
+  count : Event → ℕ
+  count e = times_in p (lists e.state)
 
-times-filter : (p : ℕ) (r : Event → Bool) (es : List Event) → times p (filter r es) ≤ times p es
-times-filter p r [] = omega arith
-times-filter p r (e ∷ es) =
-    let rest = times-filter p r es in
-    elim (cases_Bool (r e)) [
-      | inl h ↦ let is : times p (filter r (e ∷ es)) ≡ times p (e ∷ filter r es) = ap (times p) (cond-true (r e) (e ∷ filter r es) (filter r es) h) in omega arith
-      | inr h ↦ let is : times p (filter r (e ∷ es)) ≡ times p (filter r es) = ap (times p) (cond-false (r e) (e ∷ filter r es) (filter r es) h) in omega arith
-    ]
+  times-fewer : (at : Place) (change : EventState → EventState) → ((s : EventState) → times_in p (lists (change s)) ≤ times_in p (lists s))
+      → (es : List Event) → times lists p (changed at (with_state change) es) ≤ times lists p es
+  unfolding one_of count
+  times-fewer at change less [] = omega arith
+  times-fewer at change less (e ∷ es) =
+      let rest = times-fewer at change less es in
+      let b = same_place e.place at in
+      let head : count (one_of at (with_state change) e) ≤ count e = elim (cases_Bool b) [
+        | inl h ↦ let is : count (one_of at (with_state change) e) ≡ count (with_state change e) = ap count (cond-true b (with_state change e) e h) in let l = less e.state in omega arith
+        | inr h ↦ let is : count (one_of at (with_state change) e) ≡ count e = ap count (cond-false b (with_state change e) e h) in omega arith
+      ] in
+      omega arith
 
-times-placed : (p : ℕ) (f : Event) (es : List Event) → times p (placed f es) ≡ times p es + times_at p f
-times-placed p f [] = omega arith
-times-placed p f (e ∷ es) =
-    let rest = times-placed p f es in
-    elim (cases_Bool (is_before f.place e.place)) [
-      | inl h ↦ ap (times p) (cond-true (is_before f.place e.place) (f ∷ e ∷ es) (e ∷ placed f es) h) ∙ omega arith
-      | inr h ↦ ap (times p) (cond-false (is_before f.place e.place) (f ∷ e ∷ es) (e ∷ placed f es) h) ∙ omega arith
-    ]
+  times-filter : (r : Event → Bool) (es : List Event) → times lists p (filter r es) ≤ times lists p es
+  times-filter r [] = omega arith
+  times-filter r (e ∷ es) =
+      let rest = times-filter r es in
+      elim (cases_Bool (r e)) [
+        | inl h ↦ let is : times lists p (filter r (e ∷ es)) ≡ times lists p (e ∷ filter r es) = ap (times lists p) (cond-true (r e) (e ∷ filter r es) (filter r es) h) in omega arith
+        | inr h ↦ let is : times lists p (filter r (e ∷ es)) ≡ times lists p (filter r es) = ap (times lists p) (cond-false (r e) (e ∷ filter r es) (filter r es) h) in omega arith
+      ]
+
+  times-placed : (f : Event) (es : List Event) → times lists p (placed f es) ≡ times lists p es + times_in p (lists f.state)
+  times-placed f [] = omega arith
+  times-placed f (e ∷ es) =
+      let rest = times-placed f es in
+      elim (cases_Bool (is_before f.place e.place)) [
+        | inl h ↦ ap (times lists p) (cond-true (is_before f.place e.place) (f ∷ e ∷ es) (e ∷ placed f es) h) ∙ omega arith
+        | inr h ↦ ap (times lists p) (cond-false (is_before f.place e.place) (f ∷ e ∷ es) (e ∷ placed f es) h) ∙ omega arith
+      ]
 
 unchanged : (at : Place) (change : Event → Event) (es : List Event) → is_open at es ≡ false → changed at change es ≡ es
 unchanged at change [] h = refl
@@ -97,153 +109,213 @@ unchanged at change (e ∷ es) h =
     let parts = or_parts b (is_open at es) h in
     ap (λ x. x ∷ changed at change es) (cond-false b (change e) e parts.0) ∙ ap (λ xs. e ∷ xs) (unchanged at change es parts.1)
 
--- an action by which the event at a place has a process more often
-times-more : (p k : ℕ) (at : Place) (change : Event → Event) → ((e : Event) → times_at p (change e) ≤ times_at p e + k)
-    → (es : List Event) → AreApart es → times p (changed at change es) ≤ times p es + k
-times-more p k at change more [] apart = omega arith
-times-more p k at change more (e ∷ es) apart =
+-- one more waits to procure the event at a place
+queued-more : (p q : ℕ) (at : Place) (es : List Event) → AreApart es
+    → times procurers_of q (changed at (with_state (queued p)) es) ≤ times procurers_of q es + one_if (eqb q p)
+queued-more p q at [] apart = omega arith
+queued-more p q at (e ∷ es) apart =
     let b = same_place e.place at in
-    let rest = changed at change es in
+    let more = with_state (queued p) in
+    let rest = changed at more es in
     elim (cases_Bool b) [
       | inl h ↦
-          let none : is_open at es ≡ false = ap (λ q. is_open q es) (sym (same_place-true e.place at h)) ∙ apart.0 in
-          let is : times p (changed at change (e ∷ es)) ≡ times p (change e ∷ es) =
-          ap (λ x. times p (x ∷ rest)) (cond-true b (change e) e h) ∙ ap (λ xs. times p (change e ∷ xs)) (unchanged at change es none) in
-          let m = more e in omega arith
+          let none : is_open at es ≡ false = ap (λ x. is_open x es) (sym (same_place-true e.place at h)) ∙ apart.0 in
+          let is : times procurers_of q (changed at more (e ∷ es)) ≡ times procurers_of q (more e ∷ es) =
+          ap (λ x. times procurers_of q (x ∷ rest)) (cond-true b (more e) e h) ∙ ap (λ xs. times procurers_of q (more e ∷ xs)) (unchanged at more es none) in
+          let one = times_in-push q p e.state.procurers in omega arith
       | inr h ↦
-          let is : times p (changed at change (e ∷ es)) ≡ times p (e ∷ rest) = ap (λ x. times p (x ∷ rest)) (cond-false b (change e) e h) in
-          let tail = times-more p k at change more es apart.1 in
+          let is : times procurers_of q (changed at more (e ∷ es)) ≡ times procurers_of q (e ∷ rest) =
+          ap (λ x. times procurers_of q (x ∷ rest)) (cond-false b (more e) e h) in
+          let tail = queued-more p q at es apart.1 in
           omega arith
     ]
-
-joined-more : (p q : ℕ) (e : Event) → times_at q (joined p e) ≤ times_at q e + one_if (eqb q p)
-joined-more p q e = let more = times_in-push q p e.waiters in omega arith
-
-queued-more : (p q : ℕ) (e : Event) → times_at q (queued p e) ≤ times_at q e + one_if (eqb q p)
-queued-more p q e = let more = times_in-push q p e.procurers in omega arith
-
--- a process that waited nowhere waits once
-once-more : (at : Place) (p : ℕ) (change : Event → Event) → ((q : ℕ) (e : Event) → times_at q (change e) ≤ times_at q e + one_if (eqb q p))
-    → (es : List Event) → AreApart es → is_waiting p es ≡ false → EachOnce es → EachOnce (changed at change es)
-once-more at p change more es apart idle h = record {
-  once = λ q.
-      let grown = times-more q (one_if (eqb q p)) at change (more q) es apart in
-      elim (cases_Bool (eqb q p)) [
-        | inl e ↦
-            let none : times q es ≡ 0 = ap (λ k. times k es) (eqb-true q p e) ∙ times-none p es idle in
-            let is : one_if (eqb q p) ≡ 1 = cond-true (eqb q p) 1 0 e in omega arith
-        | inr e ↦
-            let is : one_if (eqb q p) ≡ 0 = cond-false (eqb q p) 1 0 e in
-            let before = h.once q in omega arith
-      ];
-}
-
-once-fewer : (at : Place) (change : Event → Event) → ((q : ℕ) (e : Event) → times_at q (change e) ≤ times_at q e)
-    → (es : List Event) → EachOnce es → EachOnce (changed at change es)
-once-fewer at change less es h = record {
-  once = λ q. let fewer = times-fewer q at change (less q) es in let before = h.once q in omega arith;
-}
 
 times_in-drop : (p : ℕ) (xs : List ℕ) → times_in p (drop 1 xs) ≤ times_in p xs
 times_in-drop p [] = omega arith
 times_in-drop p (x ∷ xs) = omega arith
 
-caused-less : (q : ℕ) (e : Event) → times_at q (caused e) ≤ times_at q e
-caused-less q e = omega arith
+-- ---- once in each list
 
-served-less : (q : ℕ) (e : Event) → times_at q (served e) ≤ times_at q e
-served-less q e = let less = times_in-drop q e.procurers in omega arith
+abbrev StandsOnce : ℕ → Event → Type 0
+StandsOnce p e = times_in p e.state.waiters ≤ 1
 
-passed-less : (xs : List ℕ) (q : ℕ) (e : Event) → times_at q (passed_on xs e) ≤ times_at q e
-passed-less [] q e = omega arith
-passed-less (x ∷ xs) q e = served-less q e
+all-filter : (p : ℕ) (r : Event → Bool) (es : List Event) → All (StandsOnce p) es → All (StandsOnce p) (filter r es)
+all-filter p r es h = All-filter r (StandsOnce p) es h
 
-once-cond : (b : Bool) (xs ys : List Event) → EachOnce xs → EachOnce ys → EachOnce (cond b xs ys)
-once-cond true xs ys h k = h
-once-cond false xs ys h k = k
+all-placed : (p : ℕ) (f : Event) (es : List Event) → StandsOnce p f → All (StandsOnce p) es → All (StandsOnce p) (placed f es)
+all-placed p f [] k h = All-cons (StandsOnce p) f [] k h
+all-placed p f (e ∷ es) k h =
+    let first = All-head (StandsOnce p) e es h in
+    by_test first (all-placed p f es k (All-tail (StandsOnce p) e es h)) (is_before f.place e.place)
+  where
+    by_test : StandsOnce p e → All (StandsOnce p) (placed f es) → (b : Bool) → All (StandsOnce p) (cond b (f ∷ e ∷ es) (e ∷ placed f es))
+    by_test first rest true = All-cons (StandsOnce p) f (e ∷ es) k h
+    by_test first rest false = All-cons (StandsOnce p) e (placed f es) first rest
 
--- those who are released are counted once less
-caused-times : (p : ℕ) (at : Place) (es : List Event) → times p (changed at caused es) + times_in p (waiters_at at es) ≤ times p es
-caused-times p at [] = omega arith
-caused-times p at (e ∷ es) =
-    let b = same_place e.place at in
-    let rest = changed at caused es in
-    elim (cases_Bool b) [
+-- a change after which a process stands once, where it stood once and had to
+abbrev StaysOnce : ℕ → (EventState → EventState) → Event → Type 0
+StaysOnce p change e = StandsOnce p e → StandsOnce p (with_state change e)
+
+all-changed : (p : ℕ) (at : Place) (change : EventState → EventState) (es : List Event) → All (StaysOnce p change) es → All (StandsOnce p) es
+    → All (StandsOnce p) (changed at (with_state change) es)
+all-changed p at change [] k h = h
+all-changed p at change (e ∷ es) k h =
+    let one = by_test (same_place e.place at) in
+    All-cons (StandsOnce p) _ (changed at (with_state change) es) one
+    (all-changed p at change es (All-tail (StaysOnce p change) e es k) (All-tail (StandsOnce p) e es h))
+  where
+    by_test : (b : Bool) → StandsOnce p (cond b (with_state change e) e)
+    by_test true = All-head (StaysOnce p change) e es k (All-head (StandsOnce p) e es h)
+    by_test false = All-head (StandsOnce p) e es h
+
+all-stay : (p : ℕ) (change : EventState → EventState) → ((s : EventState) → times_in p s.waiters ≤ 1 → times_in p (change s).waiters ≤ 1) → (es : List Event)
+    → All (StaysOnce p change) es
+all-stay p change k [] = All-nil (StaysOnce p change)
+all-stay p change k (e ∷ es) = All-cons (StaysOnce p change) e es (k e.state) (all-stay p change k es)
+
+-- who waited nowhere stands once in the list that it joins
+all-joined : (p q : ℕ) (es : List Event) → is_waiting p es ≡ false → All (StaysOnce q (joined p)) es
+all-joined p q [] idle = All-nil (StaysOnce q (joined p))
+all-joined p q (e ∷ es) idle =
+    let parts = or_parts (list_any (eqb p) (e.state.waiters ++ e.state.procurers)) (is_waiting p es) idle in
+    let one = times_in-push q p e.state.waiters in
+    let step : StaysOnce q (joined p) e = λ k. elim (cases_Bool (eqb q p)) [
       | inl h ↦
-          let is : times p (changed at caused (e ∷ es)) ≡ times p (caused e ∷ rest) = ap (λ x. times p (x ∷ rest)) (cond-true b (caused e) e h) in
-          let here : times_in p (waiters_at at (e ∷ es)) ≡ times_in p e.waiters = ap (λ o. times_in p (waiters_of o)) (cond-true b (Some e) (event_at at es) h) in
-          let fewer = times-fewer p at caused (caused-less p) es in
-          omega arith
-      | inr h ↦
-          let is : times p (changed at caused (e ∷ es)) ≡ times p (e ∷ rest) = ap (λ x. times p (x ∷ rest)) (cond-false b (caused e) e h) in
-          let here : times_in p (waiters_at at (e ∷ es)) ≡ times_in p (waiters_at at es) =
-          ap (λ o. times_in p (waiters_of o)) (cond-false b (Some e) (event_at at es) h) in
-          let tail = caused-times p at es in
-          omega arith
-    ]
+          let none = times_in-none p (e.state.waiters ++ e.state.procurers) parts.0 in
+          let both = times_in-join p e.state.waiters e.state.procurers in
+          let same : times_in q e.state.waiters ≡ times_in p e.state.waiters = ap (λ n. times_in n e.state.waiters) (eqb-true q p h) in
+          let is : one_if (eqb q p) ≡ 1 = cond-true (eqb q p) 1 0 h in omega arith
+      | inr h ↦ let is : one_if (eqb q p) ≡ 0 = cond-false (eqb q p) 1 0 h in omega arith
+    ] in
+    All-cons (StaysOnce q (joined p)) e es step (all-joined p q es parts.1)
 
-first-less : (p : ℕ) (xs : List ℕ) → slice_get xs 0 ≡ Some p → times_in p (drop 1 xs) + 1 ≤ times_in p xs
-first-less p [] h = cc
-first-less p (x ∷ xs) h =
-    let same : x ≡ p = cc in
-    let head : one_if (eqb p x) ≡ 1 = cond-true (eqb p x) 1 0 (eq-eqb p x (sym same)) in omega arith
+-- a change by which nobody stands in a list more often
+once-fewer : (at : Place) (change : EventState → EventState) → ((q : ℕ) (s : EventState) → times_in q (change s).waiters ≤ times_in q s.waiters)
+    → ((q : ℕ) (s : EventState) → times_in q (change s).procurers ≤ times_in q s.procurers)
+    → (es : List Event) → EachOnce es → EachOnce (changed at (with_state change) es)
+once-fewer at change fewer less es h = record {
+  waiting = λ q. all-changed q at change es (all-stay q change (λ s k. let f = fewer q s in omega arith) es) (h.waiting q);
+  procuring = λ q. let f = times-fewer procurers_of q at change (less q) es in let k = h.procuring q in omega arith;
+}
 
-served-times : (p : ℕ) (at : Place) (es : List Event) → slice_get (procurers_at at es) 0 ≡ Some p → times p (changed at served es) + 1 ≤ times p es
-served-times p at [] h = cc
-served-times p at (e ∷ es) h =
-    let b = same_place e.place at in
-    let rest = changed at served es in
-    elim (cases_Bool b) [
-      | inl k ↦
-          let is : times p (changed at served (e ∷ es)) ≡ times p (served e ∷ rest) = ap (λ x. times p (x ∷ rest)) (cond-true b (served e) e k) in
-          let first : slice_get e.procurers 0 ≡ Some p = sym (ap (λ o. slice_get (procurers_of o) 0) (cond-true b (Some e) (event_at at es) k)) ∙ h in
-          let less = first-less p e.procurers first in
-          let fewer = times-fewer p at served (served-less p) es in
-          omega arith
-      | inr k ↦
-          let is : times p (changed at served (e ∷ es)) ≡ times p (e ∷ rest) = ap (λ x. times p (x ∷ rest)) (cond-false b (served e) e k) in
-          let first : slice_get (procurers_at at es) 0 ≡ Some p =
-          sym (ap (λ o. slice_get (procurers_of o) 0) (cond-false b (Some e) (event_at at es) k)) ∙ h in
-          let tail = served-times p at es first in
-          omega arith
-    ]
+once-joined : (at : Place) (p : ℕ) (es : List Event) → is_waiting p es ≡ false → EachOnce es → EachOnce (changed at (with_state (joined p)) es)
+once-joined at p es idle h = record {
+  waiting = λ q. all-changed q at (joined p) es (all-joined p q es idle) (h.waiting q);
+  procuring = λ q. let f = times-fewer procurers_of q at (joined p) (λ s. omega arith) es in let k = h.procuring q in omega arith;
+}
 
-passed-on-served : (xs : List ℕ) (p : ℕ) → slice_get xs 0 ≡ Some p → passed_on xs ≡ served
-passed-on-served [] p h = cc
-passed-on-served (x ∷ xs) p h = refl
+once-queued : (at : Place) (p : ℕ) (es : List Event) → AreApart es → is_waiting p es ≡ false → EachOnce es → EachOnce (changed at (with_state (queued p)) es)
+once-queued at p es apart idle h = record {
+  waiting = λ q. all-changed q at (queued p) es (all-stay q (queued p) (λ s k. k) es) (h.waiting q);
+  procuring = λ q.
+      let grown = queued-more p q at es apart in
+      elim (cases_Bool (eqb q p)) [
+        | inl e ↦
+            let none : times all_of q es ≡ 0 = ap (λ k. times all_of k es) (eqb-true q p e) ∙ times-none p es idle in
+            let less = procures-less q es in
+            let is : one_if (eqb q p) ≡ 1 = cond-true (eqb q p) 1 0 e in omega arith
+        | inr e ↦
+            let is : one_if (eqb q p) ≡ 0 = cond-false (eqb q p) 1 0 e in
+            let before = h.procuring q in omega arith
+      ];
+}
+
+once-passed : (at : Place) (xs : List ℕ) (es : List Event) → EachOnce es → EachOnce (changed at (with_state (passed_on xs)) es)
+once-passed at [] es h = once-fewer at (passed_on []) (λ q s. omega arith) (λ q s. omega arith) es h
+once-passed at (x ∷ xs) es h = once-fewer at (passed_on (x ∷ xs)) (λ q s. omega arith) (λ q s. times_in-drop q s.procurers) es h
+
+once-deed : (x : EventDeed) (p : ℕ) (at : Place) (es : List Event) → MayWait (deed_at x p at es).next p es → EachOnce es → EachOnce (done_at x p at es)
+once-deed (acts act.Cause) p at es may h = once-fewer at caused (λ q s. omega arith) (λ q s. omega arith) es h
+once-deed (acts act.Reset) p at es may h = once-fewer at _ (λ q s. omega arith) (λ q s. omega arith) es h
+once-deed (acts act.Wait) p at es may h = by_flag (happened_at at es) may
+  where
+    by_flag : (b : Bool) → MayWait (cond b goes waits) p es → EachOnce (changed_by (cond b None (Some (joined p))) at es)
+    by_flag true m = h
+    by_flag false m = once-joined at p es m.1 h
+once-deed (acts act.Procure) p at es may h = by_flag (available_at at es) may
+  where
+    by_flag : (b : Bool) → MayWait (cond b goes procures) p es → EachOnce (changed at (with_state (cond b taken (queued p))) es)
+    by_flag true m = once-fewer at taken (λ q s. omega arith) (λ q s. omega arith) es h
+    by_flag false m = once-queued at p es m.0 m.1 h
+once-deed (acts act.Liberate) p at es may h = once-passed at (procurers_at at es) es h
+once-deed (tests t) p at es may h = h
 
 pub waits_once : EachWaitsOnce
 waits_once = record {
-  by_wait = λ at p es apart idle h.
-      once-cond (happened_at at es) es (changed at (joined p) es) h (once-more at p (joined p) (λ q e. joined-more p q e) es apart idle h);
-  by_procure = λ at p es apart idle h.
-      once-cond (available_at at es) (changed at taken es) (changed at (queued p) es)
-      (once-fewer at taken (λ q e. omega arith) es h) (once-more at p (queued p) (λ q e. queued-more p q e) es apart idle h);
-  by_cause = λ at es h. once-fewer at caused caused-less es h;
-  by_reset = λ at es h. once-fewer at cleared (λ q e. omega arith) es h;
-  by_liberate = λ at es h. once-fewer at (passed_on (procurers_at at es)) (passed-less (procurers_at at es)) es h;
+  by_deed = once-deed;
   by_opening = λ at es h. record {
-    once = λ p.
+    waiting = λ p.
+        all-placed p (fresh at) (filter (λ e. not (same_place e.place at)) es) (omega arith) (all-filter p (λ e. not (same_place e.place at)) es (h.waiting p));
+    procuring = λ p.
         let rest = filter (λ (e : Event). not (same_place e.place at)) es in
-        let fewer = times-filter p (λ e. not (same_place e.place at)) es in
-        let one = times-placed p (fresh at) rest in
-        let before = h.once p in omega arith;
+        let fewer = times-filter procurers_of p (λ e. not (same_place e.place at)) es in
+        let one = times-placed procurers_of p (fresh at) rest in
+        let before = h.procuring p in omega arith;
   };
   by_closing = λ stack low es h. record {
-    once = λ p. let fewer = times-filter p (λ e. not (is_from stack low e.place)) es in let before = h.once p in omega arith;
+    waiting = λ p. all-filter p (λ e. not (is_from stack low e.place)) es (h.waiting p);
+    procuring = λ p. let fewer = times-filter procurers_of p (λ e. not (is_from stack low e.place)) es in let before = h.procuring p in omega arith;
   };
 }
 
+-- ---- who is released waits nowhere
+
+-- the change takes those who are released out of the event's lists
+module _ (q : ℕ) (at : Place) (change : EventState → EventState) (frees : EventState → List ℕ)
+    (less : (s : EventState) → times_in q (all_of (change s)) + times_in q (frees s) ≤ times_in q (all_of s)) (none : frees (state_of None) ≡ []) where
+  freed-times : (es : List Event) → times all_of q (changed at (with_state change) es) + times_in q (frees (state_of (event_at at es))) ≤ times all_of q es
+  freed-times [] = let nobody : times_in q (frees (state_of None)) ≡ 0 = ap (times_in q) none in omega arith
+  freed-times (e ∷ es) =
+      let b = same_place e.place at in
+      let rest = changed at (with_state change) es in
+      elim (cases_Bool b) [
+        | inl h ↦
+            let is : times all_of q (changed at (with_state change) (e ∷ es)) ≡ times all_of q (with_state change e ∷ rest) =
+            ap (λ x. times all_of q (x ∷ rest)) (cond-true b (with_state change e) e h) in
+            let here : times_in q (frees (state_of (event_at at (e ∷ es)))) ≡ times_in q (frees e.state) =
+            ap (λ o. times_in q (frees (state_of o))) (cond-true b (Some e) (event_at at es) h) in
+            let head = less e.state in
+            let fewer = times-fewer all_of q at change (λ s. let l = less s in omega arith) es in
+            omega arith
+        | inr h ↦
+            let is : times all_of q (changed at (with_state change) (e ∷ es)) ≡ times all_of q (e ∷ rest) =
+            ap (λ x. times all_of q (x ∷ rest)) (cond-false b (with_state change e) e h) in
+            let here : times_in q (frees (state_of (event_at at (e ∷ es)))) ≡ times_in q (frees (state_of (event_at at es))) =
+            ap (λ o. times_in q (frees (state_of o))) (cond-false b (Some e) (event_at at es) h) in
+            let tail = freed-times es in
+            omega arith
+      ]
+
+  freed-nowhere : (es : List Event) → times all_of q es ≤ 1 → list_any (eqb q) (frees (state_of (event_at at es))) ≡ true
+      → is_waiting q (changed at (with_state change) es) ≡ false
+  freed-nowhere es once is =
+      let less = freed-times es in
+      let some = times_in-some q (frees (state_of (event_at at es))) is in
+      waiting-none q (changed at (with_state change) es) (omega arith)
+
+pub times_in-first : (p : ℕ) (xs : List ℕ) → times_in p (drop 1 xs) + times_in p (take 1 xs) ≤ times_in p xs
+times_in-first p [] = omega arith
+times_in-first p (x ∷ xs) = omega arith
+
+served-nowhere : (q : ℕ) (at : Place) (es : List Event) → times all_of q es ≤ 1 → list_any (eqb q) (take 1 (procurers_at at es)) ≡ true
+    → is_waiting q (changed at (with_state (passed_on (procurers_at at es))) es) ≡ false
+served-nowhere q at es once is = by_list (procurers_at at es) refl
+  where
+    by_list : (xs : List ℕ) → procurers_at at es ≡ xs → is_waiting q (changed at (with_state (passed_on xs)) es) ≡ false
+    by_list [] e = let no : list_any (eqb q) (take 1 (procurers_at at es)) ≡ false = ap (λ ys. list_any (eqb q) (take 1 ys)) e in absurd (both_ways (list_any (eqb q) (take 1 (procurers_at at es))) no is)
+    by_list (x ∷ xs) e =
+        freed-nowhere q at served (λ s. take 1 s.procurers)
+        (λ s.
+        let after = times_in-join q s.waiters (drop 1 s.procurers) in
+        let before = times_in-join q s.waiters s.procurers in
+        let first = times_in-first q s.procurers in omega arith)
+        refl es once is
+
 pub wait_nowhere : ReleasedWaitNowhere
-wait_nowhere = record {
-  by_cause = λ at p es h released.
-      let less = caused-times p at es in
-      let some = times_in-some p (waiters_at at es) released in
-      let before = h.once p in
-      waiting-none p (changed at caused es) (omega arith);
-  by_liberate = λ at p es h first.
-      let less = served-times p at es first in
-      let before = h.once p in
-      let none : is_waiting p (changed at served es) ≡ false = waiting-none p (changed at served es) (omega arith) in
-      ap (λ f. is_waiting p (changed at f es)) (passed-on-served (procurers_at at es) p first) ∙ none;
-}
+wait_nowhere (acts act.Cause) p q at es once is =
+    freed-nowhere q at caused (λ s. s.waiters) (λ s. let before = times_in-join q s.waiters s.procurers in omega arith) refl es once is
+wait_nowhere (acts act.Reset) p q at es once is = cc
+wait_nowhere (acts act.Wait) p q at es once is = cc
+wait_nowhere (acts act.Procure) p q at es once is = cc
+wait_nowhere (acts act.Liberate) p q at es once is = served-nowhere q at es once is
+wait_nowhere (tests t) p q at es once is = cc

@@ -1,9 +1,12 @@
 -- What each call leaves, over plain lists.
-use Rattle.std.proofs.Common.{◌≡◌, ℕ, ◌<◌, ◌≤◌, Bool, true, false, not, List, [], ◌∷◌, ◌++◌, length, refl, sym, ap, ◌∙◌, subst, inl, inr, arith}
+use Rattle.std.proofs.Common.{◌≡◌, ℕ, ◌<◌, ◌≤◌, Bool, true, false, not, cond, List, [], ◌∷◌, ◌++◌, take, length, refl, sym, ap, ◌∙◌, subst, inl, inr, arith}
 use Rattle.std.specs.Prelude.{filter, slice_get, Option, Some, None}
 use Rattle.std.proofs.lemmas.Bool.{cond-true, cond-false, or_cases, or_right}
 use Rattle.b67_word.specs.declared.Place.{Place}
-use Rattle.b67_events.specs.Events.{Event, Events, same_place, event_at, is_open, happened_at, available_at, waiters_of, waiters_at, procurers_of, procurers_at, is_waiting, changed, joined, waited, taken, queued, procured, served, freed, passed_on, liberated, took}
+use Rattle.b67_deeds.specs.declared.EventAct.TheVariants as act
+use Rattle.b67_deeds.specs.Events.{EventState, joined, taken, queued, served, freed, passed_on}
+use Rattle.b67_deeds.specs.Deeds.{acts, Next, goes, waits, procures}
+use Rattle.b67_events.specs.Events.{Event, Events, same_place, event_at, is_open, state_of, happened_at, available_at, waiters_at, procurers_at, is_waiting, changed, with_state, changed_by, done_at, took}
 use Rattle.b67_events.specs.Kept.{stands_in, listed, Entry, events_of, has_flags, set_flags, put, with_available, without_first, IsKept}
 use Rattle.b67_events.specs.declared.Took.TheVariants.{Went, Waits}
 use Rattle.b67_events.specs.declared.Flags.{Flags}
@@ -16,26 +19,41 @@ use Rattle.b67_events.proofs.Queued.{queued-filter, queued-first, queued-flags, 
 abbrev pub held : List Event → ℕ → Events
 held es n = record { events = es; room = n }
 
-pub waited-went : (at : Place) (p : ℕ) (es : List Event) → happened_at at es ≡ true → es ≡ waited at p es
-waited-went at p es h = sym (cond-true (happened_at at es) es (changed at (joined p) es) h)
+-- what changes by a test that passes, and by one that fails
+changed-true : (b : Bool) (x y : Option (EventState → EventState)) (at : Place) (es : List Event) → b ≡ true
+    → changed_by x at es ≡ changed_by (cond b x y) at es
+changed-true b x y at es h = ap (λ c. changed_by c at es) (sym (cond-true b x y h))
 
-pub waited-waits : (at : Place) (p : ℕ) (fs : List Entry) (ws : List Waiting) → happened_at at (events_of fs ws) ≡ false
-    → events_of fs (ws ++ record { process = p; place = at; queue = Waiters } ∷ []) ≡ waited at p (events_of fs ws)
-waited-waits at p fs ws h =
-    let es = events_of fs ws in events-joined at p fs ws ∙ sym (cond-false (happened_at at es) es (changed at (joined p) es) h)
+changed-false : (b : Bool) (x y : Option (EventState → EventState)) (at : Place) (es : List Event) → b ≡ false
+    → changed_by y at es ≡ changed_by (cond b x y) at es
+changed-false b x y at es h = ap (λ c. changed_by c at es) (sym (cond-false b x y h))
 
-pub procured-went : (at : Place) (p : ℕ) (fs : List Entry) (ws : List Waiting) → available_at at (events_of fs ws) ≡ true
-    → events_of (set_flags at (with_available false) fs) ws ≡ procured at p (events_of fs ws)
-procured-went at p fs ws h =
+pub wait-goes : (at : Place) (p : ℕ) (es : List Event) → happened_at at es ≡ true → es ≡ done_at (acts act.Wait) p at es
+wait-goes at p es h = changed-true (happened_at at es) None (Some (joined p)) at es h
+
+pub wait-waits : (at : Place) (p : ℕ) (fs : List Entry) (ws : List Waiting) → happened_at at (events_of fs ws) ≡ false
+    → events_of fs (ws ++ record { process = p; place = at; queue = Waiters } ∷ []) ≡ done_at (acts act.Wait) p at (events_of fs ws)
+wait-waits at p fs ws h =
+    let es = events_of fs ws in events-joined at p fs ws ∙ changed-false (happened_at at es) None (Some (joined p)) at es h
+
+one-true : (b : Bool) (x y : EventState → EventState) (at : Place) (es : List Event) → b ≡ true
+    → changed at (with_state x) es ≡ changed at (with_state (cond b x y)) es
+one-true b x y at es h = ap (λ c. changed at (with_state c) es) (sym (cond-true b x y h))
+
+one-false : (b : Bool) (x y : EventState → EventState) (at : Place) (es : List Event) → b ≡ false
+    → changed at (with_state y) es ≡ changed at (with_state (cond b x y)) es
+one-false b x y at es h = ap (λ c. changed at (with_state c) es) (sym (cond-false b x y h))
+
+pub procure-goes : (at : Place) (p : ℕ) (fs : List Entry) (ws : List Waiting) → available_at at (events_of fs ws) ≡ true
+    → events_of (set_flags at (with_available false) fs) ws ≡ done_at (acts act.Procure) p at (events_of fs ws)
+procure-goes at p fs ws h =
     let es = events_of fs ws in
-    events-flags at (with_available false) taken ws (λ x. refl) fs
-    ∙ sym (cond-true (available_at at es) (changed at taken es) (changed at (queued p) es) h)
+    events-flags at (with_available false) (with_state taken) ws (λ x. refl) fs ∙ one-true (available_at at es) taken (queued p) at es h
 
-pub procured-waits : (at : Place) (p : ℕ) (fs : List Entry) (ws : List Waiting) → available_at at (events_of fs ws) ≡ false
-    → events_of fs (ws ++ record { process = p; place = at; queue = Procurers } ∷ []) ≡ procured at p (events_of fs ws)
-procured-waits at p fs ws h =
-    let es = events_of fs ws in
-    events-queued at p fs ws ∙ sym (cond-false (available_at at es) (changed at taken es) (changed at (queued p) es) h)
+pub procure-waits : (at : Place) (p : ℕ) (fs : List Entry) (ws : List Waiting) → available_at at (events_of fs ws) ≡ false
+    → events_of fs (ws ++ record { process = p; place = at; queue = Procurers } ∷ []) ≡ done_at (acts act.Procure) p at (events_of fs ws)
+procure-waits at p fs ws h =
+    let es = events_of fs ws in events-queued at p fs ws ∙ one-false (available_at at es) taken (queued p) at es h
 
 pub kept-room : (fs : List Entry) (ws : List Waiting) (n capacity p : ℕ) → IsKept fs ws n capacity → 1 ≤ p → p ≤ n
     → is_waiting p (events_of fs ws) ≡ false → length ws < capacity
@@ -94,11 +112,11 @@ kept-opened at flags fs ws n capacity low k =
       ];
     }
 
-waiters_is : (o : Option Event) → list_of Waiters o ≡ waiters_of o
+waiters_is : (o : Option Event) → list_of Waiters o ≡ (state_of o).waiters
 waiters_is None = refl
 waiters_is (Some e) = refl
 
-procurers_is : (o : Option Event) → list_of Procurers o ≡ procurers_of o
+procurers_is : (o : Option Event) → list_of Procurers o ≡ (state_of o).procurers
 procurers_is None = refl
 procurers_is (Some e) = refl
 
@@ -120,26 +138,30 @@ none-nil : (xs : List ℕ) → slice_get xs 0 ≡ None → xs ≡ []
 none-nil [] h = refl
 none-nil (x ∷ xs) h = cc
 
+pub first-taken : (xs : List ℕ) → slice_get xs 0 ≡ slice_get (take 1 xs) 0
+first-taken [] = refl
+first-taken (x ∷ xs) = refl
+
 pub liberated-served : (at : Place) (p : ℕ) (fs : List Entry) (ws : List Waiting) → is_open at (events_of fs ws) ≡ true
     → slice_get (listed Procurers at ws) 0 ≡ Some p
-    → events_of fs (without_first (stands_in Procurers at) ws) ≡ liberated at (events_of fs ws)
+    → events_of fs (without_first (stands_in Procurers at) ws) ≡ done_at (acts act.Liberate) 0 at (events_of fs ws)
 liberated-served at p fs ws h first =
     let es = events_of fs ws in
-    let act : passed_on (procurers_at at es) ≡ served =
+    let same : passed_on (procurers_at at es) ≡ served =
     ap passed_on (sym (procurers-shown at fs ws h)) ∙ passed-served (listed Procurers at ws) p first in
-    events-served at ws fs ∙ ap (λ f. changed at f es) (sym act)
+    events-served at ws fs ∙ ap (λ f. changed at (with_state f) es) (sym same)
 
 pub liberated-freed : (at : Place) (fs : List Entry) (ws : List Waiting) → is_open at (events_of fs ws) ≡ true
     → slice_get (listed Procurers at ws) 0 ≡ None
-    → events_of (set_flags at (with_available true) fs) (without_first (stands_in Procurers at) ws) ≡ liberated at (events_of fs ws)
+    → events_of (set_flags at (with_available true) fs) (without_first (stands_in Procurers at) ws) ≡ done_at (acts act.Liberate) 0 at (events_of fs ws)
 liberated-freed at fs ws h first =
     let es = events_of fs ws in
     let none : listed Procurers at ws ≡ [] = none-nil (listed Procurers at ws) first in
-    let act : passed_on (procurers_at at es) ≡ freed = ap passed_on (sym (procurers-shown at fs ws h) ∙ none) in
-    events-freed at ws none fs ∙ ap (λ f. changed at f es) (sym act)
+    let same : passed_on (procurers_at at es) ≡ freed = ap passed_on (sym (procurers-shown at fs ws h) ∙ none) in
+    events-freed at ws none fs ∙ ap (λ f. changed at (with_state f) es) (sym same)
 
-pub took-went : (b : Bool) → b ≡ true → Went ≡ took b
-took-went b h = sym (ap took h)
+pub took-goes : (b : Bool) (n : Next) → b ≡ true → Went ≡ took (cond b goes n)
+took-goes b n h = sym (ap took (cond-true b goes n h))
 
-pub took-waits : (b : Bool) → b ≡ false → Waits ≡ took b
-took-waits b h = sym (ap took h)
+pub took-waits : (b : Bool) (n : Next) → took n ≡ Waits → b ≡ false → Waits ≡ took (cond b goes n)
+took-waits b n k h = sym (ap took (cond-false b goes n h) ∙ k)

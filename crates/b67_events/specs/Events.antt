@@ -1,18 +1,16 @@
--- Events at places, and what each action does to them.
+-- Events at places, and what each deed does to them.
 use Rattle.std.specs.Prelude.{ℕ, Bool, true, false, not, ◌&&◌, ◌||◌, ◌==◌, nat_lt, nat_le, Option, Some, None, List, [], ◌∷◌, ◌++◌, map, filter, find, drop, if◌then◌else◌}
 use Rattle.std.specs.List.{list_any}
 use Rattle.b67_word.specs.declared.Place.{Place}
+use Rattle.b67_deeds.specs.Events.{EventState, fresh_state}
+use Rattle.b67_deeds.specs.Deeds.{EventDeed, Deed, Next, goes, waits, procures, deed}
 use Rattle.b67_events.specs.declared.Took.{Took}
 use Rattle.b67_events.specs.declared.Took.TheVariants.{Went, Waits}
 
--- an event that is open at a place: whether it has happened, whether it is available, and the processes that wait for it to happen
--- and that wait to procure it, in order of arrival
+-- an event that is open at a place, and its state
 pub record Event : Type 0 where
   pub place : Place
-  pub happened : Bool
-  pub available : Bool
-  pub waiters : List ℕ
-  pub procurers : List ℕ
+  pub state : EventState
 
 -- the events that are open, in the order of their places, and the number of processes that there is room for
 pub record Events : Type 0 where
@@ -29,45 +27,36 @@ event_at at events = find (λ e. same_place e.place at) events
 abbrev pub is_open : Place → List Event → Bool
 is_open at events = list_any (λ e. same_place e.place at) events
 
-abbrev pub happens : Option Event → Bool
-happens (Some e) = e.happened
-happens None = false
+-- the state of an event; where none is open, it has not happened, is not available, and nobody waits for it
+abbrev pub state_of : Option Event → EventState
+state_of (Some e) = e.state
+state_of None = record { happened = false; available = false; waiters = []; procurers = [] }
+
+abbrev pub state_at : Place → List Event → EventState
+state_at at events = state_of (event_at at events)
 
 abbrev pub happened_at : Place → List Event → Bool
-happened_at at events = happens (event_at at events)
-
-abbrev pub avails : Option Event → Bool
-avails (Some e) = e.available
-avails None = false
+happened_at at events = (state_at at events).happened
 
 abbrev pub available_at : Place → List Event → Bool
-available_at at events = avails (event_at at events)
-
-abbrev pub waiters_of : Option Event → List ℕ
-waiters_of (Some e) = e.waiters
-waiters_of None = []
+available_at at events = (state_at at events).available
 
 abbrev pub waiters_at : Place → List Event → List ℕ
-waiters_at at events = waiters_of (event_at at events)
-
-abbrev pub procurers_of : Option Event → List ℕ
-procurers_of (Some e) = e.procurers
-procurers_of None = []
+waiters_at at events = (state_at at events).waiters
 
 abbrev pub procurers_at : Place → List Event → List ℕ
-procurers_at at events = procurers_of (event_at at events)
+procurers_at at events = (state_at at events).procurers
 
 -- whether a process waits for an event, to happen or to be procured
 abbrev pub is_waiting : ℕ → List Event → Bool
-is_waiting process events = list_any (λ e. list_any (λ p. process == p) (e.waiters ++ e.procurers)) events
+is_waiting process events = list_any (λ e. list_any (λ p. process == p) (e.state.waiters ++ e.state.procurers)) events
 
 -- the event at a place is changed, and every other one stays
 abbrev pub changed : Place → (Event → Event) → List Event → List Event
 changed at change events = map (λ e. if same_place e.place at then change e else e) events
 
--- a fresh event has not happened, is available, and nobody waits for it
 abbrev pub fresh : Place → Event
-fresh at = record { place = at; happened = false; available = true; waiters = []; procurers = [] }
+fresh at = record { place = at; state = fresh_state }
 
 -- whether a place stands before another: in an earlier stack, or lower in the same
 abbrev pub is_before : Place → Place → Bool
@@ -90,50 +79,25 @@ is_from stack at p = p.stack == stack && nat_le at p.at
 abbrev pub closed_from : ℕ → ℕ → List Event → List Event
 closed_from stack at events = filter (λ e. not (is_from stack at e.place)) events
 
--- a process joins those who wait for the event to happen, as the last
-abbrev pub joined : ℕ → Event → Event
-joined process e = record e { waiters = e.waiters ++ process ∷ [] }
+-- its state is changed, and it stays at its place
+abbrev pub with_state : (EventState → EventState) → Event → Event
+with_state change e = record e { state = change e.state }
 
--- a process goes on where the event has happened, else it waits for it
-abbrev pub waited : Place → ℕ → List Event → List Event
-waited at process events = if happened_at at events then events else changed at (joined process) events
+-- the event at a place is changed so, if it is
+abbrev pub changed_by : Option (EventState → EventState) → Place → List Event → List Event
+changed_by None at events = events
+changed_by (Some change) at events = changed at (with_state change) events
 
--- an event happens, and all who wait for it are released
-abbrev pub caused : Event → Event
-caused e = record e { happened = true; waiters = [] }
+-- what a process does with the event at a place
+abbrev pub deed_at : EventDeed → ℕ → Place → List Event → Deed
+deed_at x process at events = deed x process (state_at at events)
 
--- an event has not happened; who was released stays released
-abbrev pub cleared : Event → Event
-cleared e = record e { happened = false }
-
--- an event is taken
-abbrev pub taken : Event → Event
-taken e = record e { available = false }
-
--- a process joins those who wait to procure the event, as the last
-abbrev pub queued : ℕ → Event → Event
-queued process e = record e { procurers = e.procurers ++ process ∷ [] }
-
--- a process takes the event where it is available, else it waits to procure it
-abbrev pub procured : Place → ℕ → List Event → List Event
-procured at process events = if available_at at events then changed at taken events else changed at (queued process) events
-
--- the first procurer has the event, which stays as available as it was
-abbrev pub served : Event → Event
-served e = record e { procurers = drop 1 e.procurers }
-
--- an event is available
-abbrev pub freed : Event → Event
-freed e = record e { available = true }
-
--- what is done to an event that is liberated while these wait to procure it
-abbrev pub passed_on : List ℕ → Event → Event
-passed_on [] = freed
-passed_on (p ∷ ps) = served
-
-abbrev pub liberated : Place → List Event → List Event
-liberated at events = changed at (passed_on (procurers_at at events)) events
+-- the events when it has done that
+abbrev pub done_at : EventDeed → ℕ → Place → List Event → List Event
+done_at x process at events = changed_by (deed_at x process at events).change at events
 
 -- a process goes on, or it waits
-abbrev pub took : Bool → Took
-took goes = if goes then Went else Waits
+abbrev pub took : Next → Took
+took goes = Went
+took waits = Waits
+took procures = Waits

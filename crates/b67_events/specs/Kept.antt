@@ -31,10 +31,7 @@ Entry = Place × Flags
 abbrev pub shown : List Waiting → Entry → Event
 shown ws f = record {
   place = f.0;
-  happened = f.1.happened;
-  available = f.1.available;
-  waiters = listed Waiters f.0 ws;
-  procurers = listed Procurers f.0 ws;
+  state = record { happened = f.1.happened; available = f.1.available; waiters = listed Waiters f.0 ws; procurers = listed Procurers f.0 ws };
 }
 
 abbrev pub events_of : List Entry → List Waiting → List Event

@@ -6,7 +6,10 @@
 
 ghost use Rattle.std.specs.Prelude.{◌≡◌, ℕ, ◌+◌, ◌<◌, ◌≤◌, not, [], ◌∷◌, ◌++◌, filter, length, slice_get, vec_capacity, IfOk, IfSome, IfNone, OnOk, OnErr, IsTrue, IsFalse};
 ghost use Rattle.std.specs.BTreeMap.{insert_entry};
-ghost use Rattle.b67_events.specs.Events.{same_place, is_open, is_from, happened_at, available_at, waiters_at, procurers_at, is_waiting, changed, opened, closed_from, waited, caused, cleared, procured, liberated, took};
+ghost use Rattle.b67_deeds.specs.declared.EventAct.TheVariants as act;
+ghost use Rattle.b67_deeds.specs.declared.EventTest.TheVariants as test;
+ghost use Rattle.b67_deeds.specs.Deeds.{acts, answers};
+ghost use Rattle.b67_events.specs.Events.{same_place, is_open, is_from, state_at, is_waiting, opened, closed_from, deed_at, done_at, took};
 ghost use Rattle.b67_events.specs.Kept.{same_queue, stands_in, listed, flags_at, flag_of, has_flags, set_flags, with_happened, with_available, AreWithin, without_first};
 ghost use Rattle.b67_events.specs.Laws.{OneEventChanges, EventsStayApart};
 ghost use Rattle.b67_events.specs.Once.{EachWaitsOnce, ReleasedWaitNowhere};
@@ -303,8 +306,8 @@ impl Kernel {
         requires open { IsTrue (is_open at self.old.events) }
         requires process { (1 ≤ process) × (process ≤ self.old.room) }
         requires idle { IsFalse (is_waiting process self.old.events) }
-        ensures answer { result ≡ took (happened_at at self.old.events) }
-        ensures after { self.new ≡ record self.old { events = waited at process self.old.events } }
+        ensures answer { result ≡ took (deed_at (acts act.Wait) process at self.old.events).next }
+        ensures after { self.new ≡ record self.old { events = done_at (acts act.Wait) process at self.old.events } }
     {
         if has_happened(&self.events, at) {
             return Took::Went;
@@ -325,8 +328,8 @@ impl Kernel {
     pub fn cause(&mut self, at: Place, woken: &mut Woken)
         requires open { IsTrue (is_open at self.old.events) }
         requires room { self.old.room ≤ vec_capacity woken.old.processes }
-        ensures after { self.new ≡ record self.old { events = changed at caused self.old.events } }
-        ensures woken { woken.new.processes.items ≡ waiters_at at self.old.events }
+        ensures after { self.new ≡ record self.old { events = done_at (acts act.Cause) 0 at self.old.events } }
+        ensures woken { woken.new.processes.items ≡ (deed_at (acts act.Cause) 0 at self.old.events).frees }
         ensures room { vec_capacity woken.old.processes ≤ vec_capacity woken.new.processes }
     {
         woken.processes.clear();
@@ -338,7 +341,7 @@ impl Kernel {
     /// goes on waiting.
     pub fn reset(&mut self, at: Place)
         requires { IsTrue (is_open at self.old.events) }
-        ensures { self.new ≡ record self.old { events = changed at cleared self.old.events } }
+        ensures { self.new ≡ record self.old { events = done_at (acts act.Reset) 0 at self.old.events } }
     {
         set_happened(&mut self.events, at, false);
     }
@@ -346,7 +349,7 @@ impl Kernel {
     /// Tests that the event at a place has happened.
     pub fn happened(&self, at: Place) -> bool
         requires { IsTrue (is_open at self.now.events) }
-        ensures { result ≡ happened_at at self.now.events }
+        ensures { result ≡ answers test.Happened (state_at at self.now.events) }
     {
         has_happened(&self.events, at)
     }
@@ -357,8 +360,8 @@ impl Kernel {
         requires open { IsTrue (is_open at self.old.events) }
         requires process { (1 ≤ process) × (process ≤ self.old.room) }
         requires idle { IsFalse (is_waiting process self.old.events) }
-        ensures answer { result ≡ took (available_at at self.old.events) }
-        ensures after { self.new ≡ record self.old { events = procured at process self.old.events } }
+        ensures answer { result ≡ took (deed_at (acts act.Procure) process at self.old.events).next }
+        ensures after { self.new ≡ record self.old { events = done_at (acts act.Procure) process at self.old.events } }
     {
         if is_available(&self.events, at) {
             set_available(&mut self.events, at, false);
@@ -379,8 +382,8 @@ impl Kernel {
     /// does, the event is available.
     pub fn liberate(&mut self, at: Place) -> Option<u32>
         requires { IsTrue (is_open at self.old.events) }
-        ensures answer { result ≡ slice_get (procurers_at at self.old.events) 0 }
-        ensures after { self.new ≡ record self.old { events = liberated at self.old.events } }
+        ensures answer { result ≡ slice_get (deed_at (acts act.Liberate) 0 at self.old.events).frees 0 }
+        ensures after { self.new ≡ record self.old { events = done_at (acts act.Liberate) 0 at self.old.events } }
     {
         if let Some(process) = serve(&mut self.waiting, at) {
             return Some(process);
@@ -401,14 +404,14 @@ pub fn events_stay_apart()
     ensures { EventsStayApart }
 {}
 
-/// Law: where each process waits once, at the most, and no two events are open at one place, each waits once
-/// after every action.
+/// Law: each process stands once, at the most, in the list of those who wait for an event to happen, and once in
+/// all lists of those who wait to procure one, after each deed as before it, where who has to wait has waited
+/// nowhere and no two events are open at one place.
 pub fn each_waits_once()
     ensures { EachWaitsOnce }
 {}
 
-/// Law: where each process waits once, who is released by a cause, or is given an event that is liberated,
-/// waits nowhere.
+/// Law: a process that waited once in all, and is released by a deed, waits nowhere.
 pub fn released_wait_nowhere()
     ensures { ReleasedWaitNowhere }
 {}

@@ -14,6 +14,8 @@ use Rattle.b67_ops.specs.declared.BranchKind.TheVariants.{Brfl, Brtr, Brun}
 use Rattle.b67_ops.specs.declared.Couple.{Couple}
 use Rattle.b67_segment.specs.declared.code.Code.{Code}
 use Rattle.b67_store.specs.Store.{Row, row_words_or}
+use Rattle.b67_deeds.specs.declared.EventTest.{EventTest}
+use Rattle.b67_deeds.specs.Deeds.{EventDeed}
 use Rattle.b67_table.specs.declared.Reached.{Reached}
 use Rattle.b67_table.specs.Limits.{most_cells, most_processes}
 use Rattle.b67_table.specs.Private.{frame}
@@ -25,7 +27,7 @@ use Rattle.b67_table.specs.Questions.{Answer, told}
 use Rattle.b67_table.specs.Questions as questions
 use Rattle.b67_table.specs.Writes.{written}
 use Rattle.b67_table.specs.Writes as writes
-use Rattle.b67_table.specs.Program.{Test, answer, interrupt, fault, ask, ◌>>=◌, asked, see, Change, done, look_up, write, changed, registers, row_of, close_row, close_events, start, Program}
+use Rattle.b67_table.specs.Program.{Test, answer, interrupt, fault, ask, ◌>>=◌, asked, see, Change, done, look_up, write, changed, registers, row_of, close_row, close_events, event_deed, start, Program}
 use Rattle.b67_table.specs.Moves.{pushed}
 use Rattle.b67_table.specs.Linkage.{entering, selected, entry, accidental, closed_by, rows_closed, array_closed, arrays_closed, is_critical, if_not_critical, leaving, leave_base, leave_other}
 use Rattle.b67_table.specs.Arrays.{as_indexed, element, index_in, index_or_fault, subscripted, subscripted_element, index, index_and_load, index_mother, Extents, one, two}
@@ -40,7 +42,7 @@ use Rattle.b67_table.proofs.Keeping.{Gives}
 
 -- ---- changes
 
--- a change that makes no process wait, able or ended, and starts none
+-- a change that does nothing with events that are open, ends no process, and starts none
 abbrev pub Calm : Change → Type 0
 Calm done = Unit {0}
 Calm (look_up q more) = (a : Answer q) → Calm (more a)
@@ -53,11 +55,7 @@ Calm (write (writes.write_row n at w) next) = Calm next
 Calm (write (writes.close_row n) next) = Calm next
 Calm (write (writes.open_event place) next) = Calm next
 Calm (write (writes.close_events stack at) next) = Calm next
-Calm (write (writes.wait place) next) = ⊥
-Calm (write (writes.procure place) next) = ⊥
-Calm (write (writes.cause place) next) = ⊥
-Calm (write (writes.reset place) next) = Calm next
-Calm (write (writes.liberate place) next) = ⊥
+Calm (write (writes.event_deed x place) next) = ⊥
 Calm (write (writes.line bytes) next) = Calm next
 Calm (write (writes.start r words) next) = ⊥
 Calm (write (writes.end_process stack) next) = ⊥
@@ -74,11 +72,7 @@ calm_keeps p (write (writes.write_row n at w) next) img k = calm_keeps p next (w
 calm_keeps p (write (writes.close_row n) next) img k = calm_keeps p next (written p (writes.close_row n) img) k
 calm_keeps p (write (writes.open_event place) next) img k = calm_keeps p next (written p (writes.open_event place) img) k
 calm_keeps p (write (writes.close_events stack at) next) img k = calm_keeps p next (written p (writes.close_events stack at) img) k
-calm_keeps p (write (writes.wait place) next) img k = absurd k
-calm_keeps p (write (writes.procure place) next) img k = absurd k
-calm_keeps p (write (writes.cause place) next) img k = absurd k
-calm_keeps p (write (writes.reset place) next) img k = calm_keeps p next (written p (writes.reset place) img) k
-calm_keeps p (write (writes.liberate place) next) img k = absurd k
+calm_keeps p (write (writes.event_deed x place) next) img k = absurd k
 calm_keeps p (write (writes.line bytes) next) img k = calm_keeps p next (written p (writes.line bytes) img) k
 calm_keeps p (write (writes.start r words) next) img k = absurd k
 calm_keeps p (write (writes.end_process stack) next) img k = absurd k
@@ -290,17 +284,17 @@ module _ (r : Registers) (next : ℕ) where
     event_calm code [] = each_chained Calm _ tt
     event_calm code (w ∷ ws) = tt
 
-    pub tell_calm : (code : Code) (ws : List Word) → Each Calm (tell_event code r next m ws)
-    tell_calm code [] = tt
-    tell_calm code (w ∷ []) = each_then Calm (event_of r w) _ (λ c. each_chained Calm _ (λ happened. tt))
-    tell_calm code (w ∷ v ∷ ws) = tt
+    pub tell_calm : (x : EventTest) (code : Code) (ws : List Word) → Each Calm (tell_event x code r next m ws)
+    tell_calm x code [] = tt
+    tell_calm x code (w ∷ []) = each_then Calm (event_of r w) _ (λ c. each_chained Calm _ (λ told. tt))
+    tell_calm x code (w ∷ v ∷ ws) = tt
 
-    -- a property of each action on an event
-    pub each_event : (P : Change → Type 0) (act : Place → Change → Change) → ((at : Place) → P (act at (finished_at r m [] next))) → (code : Code) (ws : List Word)
-        → Each P (on_event act code r next m ws)
-    each_event P act h code [] = tt
-    each_event P act h code (w ∷ []) = each_then P (event_of r w) _ (λ c. each_chained P _ (h (cell_place c)))
-    each_event P act h code (w ∷ v ∷ ws) = tt
+    -- a property of each deed that is done with an event
+    pub each_event : (P : Change → Type 0) (x : EventDeed) → ((at : Place) → P (event_deed x at (finished_at r m [] next))) → (code : Code) (ws : List Word)
+        → Each P (on_event x code r next m ws)
+    each_event P x h code [] = tt
+    each_event P x h code (w ∷ []) = each_then P (event_of r w) _ (λ c. each_chained P _ (h (cell_place c)))
+    each_event P x h code (w ∷ v ∷ ws) = tt
 
     -- and of each start of a process
     pub each_start : (P : Change → Type 0) → ((s : Registers) (ws : List Word) → P (start s ws (finished_at r m [] next))) → (code : Code) (ws : List Word)

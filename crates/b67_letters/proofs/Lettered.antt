@@ -35,8 +35,8 @@ use Rattle.b67_table.specs.Rows.{private_part, acts as acts_by, row, plain_row, 
 use Rattle.b67_table.specs.Runs.{Acts, acts, fails}
 use Rattle.b67_table.specs.Table.{raw, table, plain, stack_length, by_row, by_operator, by_registers, operator_at, class_at, class_by, is_private, is_new, private_at, private_in, private_next}
 use Rattle.b67_table.proofs.Limit.{new_of}
-use Rattle.b67_letters.specs.declared.Letter.{Letter}
-use Rattle.b67_letters.specs.declared.Letter.TheVariants.{Index, ElementRead, Pass, Enter, Leave, Turn, Fault}
+use Rattle.b67_deeds.specs.declared.Letter.{Letter}
+use Rattle.b67_deeds.specs.declared.Letter.TheVariants.{Index, ElementRead, Pass, Enter, Leave, Turn, Fault}
 use Rattle.b67_letters.specs.Letters.{told_by, value_letter, place_letter, loaded_letter, stored_letter, left_letter, letter_of, intrinsic_letter, called_letter, called_by, called, plain_letter, operator_letter, fetched_letter, registers_letter, letter_by, letter}
 use Rattle.b67_letters.specs.Laws.{ActionsHaveLetters}
 use Rattle.b67_letters.proofs.Looks.{then_seen}
@@ -59,7 +59,7 @@ module _ (code : Code) (img after : Image) (p : ℕ) (r : Registers) (next : ℕ
 
   -- ---- ENTR
 
-  callee_has : (m : Mscw) (pcw : Pcw) (home : Option Place) → Comes (enter_procedure code r next m pcw home) → Has (called_letter pcw)
+  callee_has : (m : Mscw) (pcw : Pcw) (home : Option Place) → Comes (enter_procedure code r next m pcw home) → Has (called_letter img pcw)
   callee_has m pcw home e = by pcw.intrinsic e
     where
       named : (o : Option Intrinsic) (ws : List Word) → Comes (intrinsic_row o code r next m ws) → Has (intrinsic_letter o)
@@ -75,14 +75,14 @@ module _ (code : Code) (img after : Image) (p : ℕ) (r : Registers) (next : ℕ
   above_mark = at (place r.stack (r.f + 1)) (λ (w : Option Word). valid w)
 
   found_has : (above : Word) → seen img.stacks above_mark ≡ Ok above → (o : Option Cell) → cell_of r above ≡ o → (pcw : Pcw) → seen img.stacks (called_by above o) ≡ Ok pcw
-      → Has (called_letter pcw) → Has (told_by called_letter (seen img.stacks (called r)))
+      → Has (called_letter img pcw) → Has (told_by (called_letter img) (seen img.stacks (called r)))
   found_has above is o c pcw v h =
       let here : seen img.stacks (called r) ≡ Ok pcw =
       then_seen img.stacks above_mark above (λ (a : Word). called_by a (cell_of r a)) is ∙ ap (λ (x : Option Cell). seen img.stacks (called_by above x)) c ∙ v in
-      (h.0, ap (told_by called_letter) here ∙ h.1)
+      (h.0, ap (told_by (called_letter img)) here ∙ h.1)
 
   by_cell : (m : Mscw) (above : Word) → seen img.stacks above_mark ≡ Ok above → (o : Option Cell) → cell_of r above ≡ o → Comes (enter_by code r next m above o)
-      → Has (told_by called_letter (seen img.stacks (called r)))
+      → Has (told_by (called_letter img) (seen img.stacks (called r)))
   by_cell m above is None c e =
       let g = goes p img after (valid (as_pcw above)) (λ (pcw : Pcw). enter_procedure code r next m pcw (level_below r pcw.level)) e in
       found_has above is None c g.value g.is (callee_has m g.value (level_below r g.value.level) g.comes)
@@ -92,7 +92,7 @@ module _ (code : Code) (img after : Image) (p : ℕ) (r : Registers) (next : ℕ
       found_has above is (Some x) c k.value (then_seen img.stacks (reached (Some x)) g.value (λ (u : Reached). valid (as_pcw u.word)) g.is ∙ k.is)
       (callee_has m k.value (Some g.value.cell.frame) k.comes)
 
-  enter_has : Comes (enter code r next) → Has (told_by called_letter (seen img.stacks (called r)))
+  enter_has : Comes (enter code r next) → Has (told_by (called_letter img) (seen img.stacks (called r)))
   enter_has e =
       let g = goes p img after (marked r) _ e in
       let k = goes p img after above_mark (λ (above : Word). enter_by code r next g.value above (cell_of r above)) g.comes in

@@ -3,3 +3,4 @@ pub mod Calm
 pub mod Seen
 pub mod Mute
 pub mod Lettered
+pub mod Deeds

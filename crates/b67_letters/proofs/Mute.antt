@@ -33,7 +33,7 @@ use Rattle.b67_table.specs.Questions.{told}
 use Rattle.b67_table.specs.Questions as questions
 use Rattle.b67_table.specs.Writes.{written}
 use Rattle.b67_table.specs.Writes as writes
-use Rattle.b67_table.specs.Program.{asked, Change, done, look_up, write, registers, close_events, wait, procure, reset, start, end_process, Program}
+use Rattle.b67_table.specs.Program.{asked, Change, done, look_up, write, registers, close_events, start, end_process, Program}
 use Rattle.b67_table.specs.Linkage.{entry, caused_by, leave_base, leave_other, frame_cells}
 use Rattle.b67_table.specs.Arguments.{finished_at}
 use Rattle.b67_table.specs.Intrinsics.{row_of_intrinsic, intrinsic_row, intrinsic}
@@ -41,8 +41,11 @@ use Rattle.b67_table.specs.Arrays.{index, index_and_load, index_mother}
 use Rattle.b67_table.specs.Rows.{private_part, row, plain_row, acts, turn, value_call, load_value, load_through, evaluate, store, enter_procedure, enter_by, level_below, marked, enter, exit, return_value}
 use Rattle.b67_table.specs.Table.{table, operator_at}
 use Rattle.b67_table.proofs.Keeping.{Gives}
-use Rattle.b67_letters.specs.declared.Letter.{Letter}
-use Rattle.b67_letters.specs.declared.Letter.TheVariants.{Enter, Leave, End, Cause, Liberate}
+use Rattle.b67_deeds.specs.declared.EventAct.TheVariants as act
+use Rattle.b67_deeds.specs.declared.EventTest.TheVariants as test
+use Rattle.b67_deeds.specs.Deeds as deeds
+use Rattle.b67_deeds.specs.declared.Letter.{Letter}
+use Rattle.b67_deeds.specs.declared.Letter.TheVariants.{Enter, Leave, End, Cause, Liberate}
 use Rattle.b67_letters.specs.Letters.{told_by, letter_of, intrinsic_letter, called_letter, called_by, called, plain_letter, operator_letter, fetched_letter, registers_letter, letter_by, letter}
 use Rattle.b67_letters.specs.Releases.{change_releases, effect_releases, row_releases, fetched_releases, registers_releases, released_by, releases}
 use Rattle.b67_letters.specs.Laws.{may_release, FewOperatorsRelease}
@@ -68,11 +71,7 @@ calm_mute p (write (writes.write_row n j w) next) k img = calm_mute p next k (wr
 calm_mute p (write (writes.close_row n) next) k img = calm_mute p next k (written p (writes.close_row n) img)
 calm_mute p (write (writes.open_event place) next) k img = calm_mute p next k (written p (writes.open_event place) img)
 calm_mute p (write (writes.close_events stack j) next) k img = calm_mute p next k (written p (writes.close_events stack j) img)
-calm_mute p (write (writes.wait place) next) k img = absurd k
-calm_mute p (write (writes.procure place) next) k img = absurd k
-calm_mute p (write (writes.cause place) next) k img = absurd k
-calm_mute p (write (writes.reset place) next) k img = calm_mute p next k (written p (writes.reset place) img)
-calm_mute p (write (writes.liberate place) next) k img = absurd k
+calm_mute p (write (writes.event_deed x place) next) k img = absurd k
 calm_mute p (write (writes.line bytes) next) k img = calm_mute p next k (written p (writes.line bytes) img)
 calm_mute p (write (writes.start r words) next) k img = absurd k
 calm_mute p (write (writes.end_process stack) next) k img = absurd k
@@ -135,18 +134,18 @@ module _ (code : Code) (img : Image) (p : ℕ) (l : Letter) (r : Registers) (har
     name_mute names.Event e ws = calmly names.Event ws (event_calm r next m code ws)
     name_mute names.Start e ws = each_start r next m (Mute p) (λ s words i. finish_mute (written p (writes.start s words) i)) code ws
     name_mute names.Write e ws = calmly names.Write ws (write_calm r next m code ws)
-    name_mute names.Wait e ws = each_event r next m (Mute p) wait (λ x i. finish_mute (written p (writes.wait x) i)) code ws
+    name_mute names.Wait e ws = each_event r next m (Mute p) (deeds.acts act.Wait) (λ x i. finish_mute (written p (writes.event_deed (deeds.acts act.Wait) x) i)) code ws
     name_mute names.Cause e ws = harm l Cause r refl (λ same idle. cc) e harmless
-    name_mute names.Reset e ws = each_event r next m (Mute p) reset (λ x i. finish_mute (written p (writes.reset x) i)) code ws
-    name_mute names.Happened e ws = calmly names.Happened ws (tell_calm r next m code ws)
-    name_mute names.Procure e ws = each_event r next m (Mute p) procure (λ x i. finish_mute (written p (writes.procure x) i)) code ws
+    name_mute names.Reset e ws = each_event r next m (Mute p) (deeds.acts act.Reset) (λ x i. finish_mute (written p (writes.event_deed (deeds.acts act.Reset) x) i)) code ws
+    name_mute names.Happened e ws = calmly names.Happened ws (tell_calm r next m test.Happened code ws)
+    name_mute names.Procure e ws = each_event r next m (Mute p) (deeds.acts act.Procure) (λ x i. finish_mute (written p (writes.event_deed (deeds.acts act.Procure) x) i)) code ws
     name_mute names.Liberate e ws = harm l Liberate r refl (λ same idle. cc) e harmless
 
     intrinsic_mute : (o : Option Intrinsic) → intrinsic_letter o ≡ Some l → (ws : List Word) → Each (Mute p) (intrinsic_row o code r next m ws)
     intrinsic_mute None e ws = tt
     intrinsic_mute (Some name) e ws = name_mute name e ws
 
-    callee_mute : (pcw : Pcw) (home : Option Place) → called_letter pcw ≡ Some l → Gives (Mute p) (asked img (enter_procedure code r next m pcw home))
+    callee_mute : (pcw : Pcw) (home : Option Place) → called_letter img pcw ≡ Some l → Gives (Mute p) (asked img (enter_procedure code r next m pcw home))
     callee_mute pcw home e = by pcw.intrinsic e
       where
         by : (b : Bool) → (if b then intrinsic_letter (intrinsic_numbered pcw.number) else Some Enter) ≡ Some l
@@ -157,13 +156,13 @@ module _ (code : Code) (img : Image) (p : ℕ) (l : Letter) (r : Registers) (har
   abbrev above_mark : Look Word
   above_mark = at (place r.stack (r.f + 1)) (λ (w : Option Word). valid w)
 
-  module _ (e : told_by called_letter (seen img.stacks (called r)) ≡ Some l) where
+  module _ (e : told_by (called_letter img) (seen img.stacks (called r)) ≡ Some l) where
     same : (above : Word) → seen img.stacks above_mark ≡ Ok above → (o : Option Cell) → cell_of r above ≡ o → (pcw : Pcw) → seen img.stacks (called_by above o) ≡ Ok pcw
-        → called_letter pcw ≡ Some l
+        → called_letter img pcw ≡ Some l
     same above is o c pcw v =
         let here : seen img.stacks (called r) ≡ Ok pcw =
         then_seen img.stacks above_mark above (λ (a : Word). called_by a (cell_of r a)) is ∙ ap (λ (x : Option Cell). seen img.stacks (called_by above x)) c ∙ v in
-        sym (ap (told_by called_letter) here) ∙ e
+        sym (ap (told_by (called_letter img)) here) ∙ e
 
     by_cell : (m : Mscw) (above : Word) → seen img.stacks above_mark ≡ Ok above → (o : Option Cell) → cell_of r above ≡ o → Gives (Mute p) (asked img (enter_by code r next m above o))
     by_cell m above is None c = gives_seen img (Mute p) (valid (as_pcw above)) _ (λ pcw v. callee_mute m pcw (level_below r pcw.level) (same above is None c pcw v))

@@ -6,8 +6,8 @@ use Rattle.b67_segment.specs.declared.code.Code.{Code}
 use Rattle.b67_table.specs.Image.{Image}
 use Rattle.b67_table.specs.Runs.{Acts}
 use Rattle.b67_table.specs.Table.{plain}
-use Rattle.b67_letters.specs.declared.Letter.{Letter}
-use Rattle.b67_letters.specs.declared.Letter.TheVariants.{End, Cause, Liberate}
+use Rattle.b67_deeds.specs.declared.Letter.{Letter}
+use Rattle.b67_deeds.specs.declared.Letter.TheVariants.{End, Cause, Liberate}
 use Rattle.b67_letters.specs.Letters.{letter}
 use Rattle.b67_letters.specs.Releases.{releases}
 

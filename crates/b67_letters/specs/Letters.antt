@@ -26,8 +26,11 @@ use Rattle.b67_table.specs.Outcome.{Outcome, gives, faults, interrupts, limit}
 use Rattle.b67_table.specs.Private.{frame}
 use Rattle.b67_table.specs.References.{couple_cell, cell_of, reached, popped, Two, popped_two}
 use Rattle.b67_table.specs.Table.{table, operator_at}
-use Rattle.b67_letters.specs.declared.Letter.{Letter}
-use Rattle.b67_letters.specs.declared.Letter.TheVariants.{Read, Index, ElementRead, Resolve, Store, ElementStore, Pass, Enter, Leave, MakeArrays, MakeEvent, Select, Turn, GoTo, Line, Start, End, Fault, Wait, Cause, Reset, Happened, Procure, Liberate}
+use Rattle.b67_deeds.specs.declared.Letter.{Letter}
+use Rattle.b67_deeds.specs.declared.Letter.TheVariants.{Read, Index, ElementRead, Resolve, Store, ElementStore, Pass, Enter, Leave, MakeArrays, MakeEvent, Select, Turn, GoTo, Line, Start, End, Fault}
+use Rattle.b67_deeds.specs.declared.EventAct.TheVariants as act
+use Rattle.b67_deeds.specs.declared.EventTest.TheVariants as test
+use Rattle.b67_deeds.specs.Deeds as deeds
 
 -- ---- by what is found
 
@@ -72,20 +75,20 @@ letter_of names.Arrays = MakeArrays
 letter_of names.Event = MakeEvent
 letter_of names.Start = Start
 letter_of names.Write = Line
-letter_of names.Wait = Wait
-letter_of names.Cause = Cause
-letter_of names.Reset = Reset
-letter_of names.Happened = Happened
-letter_of names.Procure = Procure
-letter_of names.Liberate = Liberate
+letter_of names.Wait = deeds.letter_of (deeds.acts act.Wait)
+letter_of names.Cause = deeds.letter_of (deeds.acts act.Cause)
+letter_of names.Reset = deeds.letter_of (deeds.acts act.Reset)
+letter_of names.Happened = deeds.letter_of (deeds.tests test.Happened)
+letter_of names.Procure = deeds.letter_of (deeds.acts act.Procure)
+letter_of names.Liberate = deeds.letter_of (deeds.acts act.Liberate)
 
 abbrev pub intrinsic_letter : Option Intrinsic → Option Letter
 intrinsic_letter None = None
 intrinsic_letter (Some name) = Some (letter_of name)
 
--- an intrinsic is one of its number, and another procedure is entered
-abbrev pub called_letter : Pcw → Option Letter
-called_letter pcw = if pcw.intrinsic then intrinsic_letter (intrinsic_numbered pcw.number) else Some Enter
+-- an intrinsic is one of its number, in this image, and another procedure is entered
+abbrev pub called_letter : Image → Pcw → Option Letter
+called_letter img pcw = if pcw.intrinsic then intrinsic_letter (intrinsic_numbered pcw.number) else Some Enter
 
 abbrev pub called_by : Word → Option Cell → Look Pcw
 called_by w None = valid (as_pcw w)
@@ -106,7 +109,7 @@ plain_letter kinds.Load img r = told_by loaded_letter (seen img.stacks (popped r
 plain_letter kinds.Eval img r = told_by place_letter (seen img.stacks (popped r >-> (λ (x : Word). reached (cell_of r x))))
 plain_letter kinds.Stod img r = told_by stored_letter (seen img.stacks (popped_two r))
 plain_letter kinds.Ston img r = told_by stored_letter (seen img.stacks (popped_two r))
-plain_letter kinds.Entr img r = told_by called_letter (seen img.stacks (called r))
+plain_letter kinds.Entr img r = told_by (called_letter img) (seen img.stacks (called r))
 plain_letter kinds.Exit img r = Some (left_letter (frame r))
 plain_letter kinds.Retn img r = Some Leave
 plain_letter _ img r = None

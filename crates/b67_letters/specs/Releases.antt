@@ -1,8 +1,8 @@
 -- Whom an operator releases, in their order, and whom it starts.
-use Rattle.std.specs.Prelude.{ℕ, nat_lt, if◌then◌else◌, List, [], ◌∷◌, ◌++◌, take, Option, Some, None, Result, Ok, Err}
+use Rattle.std.specs.Prelude.{ℕ, nat_lt, if◌then◌else◌, List, [], ◌∷◌, ◌++◌, Option, Some, None, Result, Ok, Err}
 use Rattle.b67_list.specs.Numbered.{numbered}
 use Rattle.b67_control.specs.declared.Registers.{Registers}
-use Rattle.b67_events.specs.Events.{waiters_at, procurers_at}
+use Rattle.b67_events.specs.Events.{deed_at}
 use Rattle.b67_ops.specs.declared.Operator.{Operator}
 use Rattle.b67_ops.specs.declared.BadCode.{BadCode}
 use Rattle.b67_segment.specs.declared.code.Code.{Code}
@@ -19,16 +19,15 @@ use Rattle.b67_table.specs.Writes as writes
 
 -- ---- whom it releases
 
--- an event that happens releases all who wait for it, and one that is freed the first who waits to procure it
-abbrev pub write_releases : Write → Image → List ℕ
-write_releases (writes.cause place) img = waiters_at place img.events
-write_releases (writes.liberate place) img = take 1 (procurers_at place img.events)
-write_releases _ img = []
+-- what is done with an event frees whom the table of deeds says
+abbrev pub write_releases : ℕ → Write → Image → List ℕ
+write_releases p (writes.event_deed x place) img = (deed_at x p place img.events).frees
+write_releases p _ img = []
 
 abbrev pub change_releases : ℕ → Change → Image → List ℕ
 change_releases p done img = []
 change_releases p (look_up q more) img = change_releases p (more (told img q)) img
-change_releases p (write w next) img = write_releases w img ++ change_releases p next (written p w img)
+change_releases p (write w next) img = write_releases p w img ++ change_releases p next (written p w img)
 
 abbrev pub effect_releases : ℕ → Image → Effect Change → List ℕ
 effect_releases p img (effects.gives change) = change_releases p change img

@@ -1,5 +1,8 @@
 -- The numbers of the intrinsics.
 use Rattle.std.specs.Prelude.{ℕ, ◌+◌, List, [], ◌∷◌}
+use Rattle.b67_deeds.specs.declared.EventAct.TheVariants as act
+use Rattle.b67_deeds.specs.declared.EventTest.TheVariants as test
+use Rattle.b67_deeds.specs.Deeds.{EventDeed, acts, tests}
 use Rattle.b67_ops.specs.contracts.intrinsic.Intrinsic as generated
 use Rattle.b67_ops.specs.declared.Couple.{Couple}
 use Rattle.b67_ops.specs.declared.intrinsic.Intrinsic.{Intrinsic}
@@ -18,3 +21,12 @@ couple_of_intrinsic intrinsic = record { level = 0; index = number_of intrinsic 
 -- the intrinsics in the order of their numbers
 abbrev pub intrinsics : List Intrinsic
 intrinsics = GoTo ∷ Select ∷ Arrays ∷ Event ∷ Start ∷ Write ∷ Wait ∷ Cause ∷ Reset ∷ Happened ∷ Procure ∷ Liberate ∷ []
+
+-- the intrinsic that does what is done with an event
+abbrev pub intrinsic_of : EventDeed → Intrinsic
+intrinsic_of (acts act.Cause) = Cause
+intrinsic_of (acts act.Reset) = Reset
+intrinsic_of (acts act.Wait) = Wait
+intrinsic_of (acts act.Procure) = Procure
+intrinsic_of (acts act.Liberate) = Liberate
+intrinsic_of (tests test.Happened) = Happened

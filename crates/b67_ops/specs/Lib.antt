@@ -4,3 +4,4 @@ pub mod Codes
 pub mod Spelling
 pub mod Decoding
 pub mod Refusals
+pub mod Printed

@@ -41,6 +41,9 @@ pub const FIRST_INTRINSIC: u16 = Intrinsic::GoTo as u16;
 /// The number of the last intrinsic.
 pub const LAST_INTRINSIC: u16 = Intrinsic::Liberate as u16;
 
+/// How many intrinsics there are.
+pub const INTRINSICS: usize = (LAST_INTRINSIC - FIRST_INTRINSIC + 1) as usize;
+
 impl Intrinsic {
     /// The number of the intrinsic.
     pub fn number(self) -> u16

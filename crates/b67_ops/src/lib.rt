@@ -21,9 +21,9 @@ ghost use Rattle.b67_ops.specs.Decoding.{couple_of, byte_front, place_front, six
 mod intrinsic;
 mod table;
 
-pub use intrinsic::{FIRST_INTRINSIC, Intrinsic, LAST_INTRINSIC};
+pub use intrinsic::{FIRST_INTRINSIC, INTRINSICS, Intrinsic, LAST_INTRINSIC};
 use std::alloc::AllocError;
-pub use table::{OperatorKind, operators_are_told_apart};
+pub use table::{OperatorKind, numbers_are_told, operators_are_told, operators_are_told_apart};
 
 /// The level of the outer block.
 pub const OUTER_LEVEL: u8 = b67_limits::OUTER_LEVEL;

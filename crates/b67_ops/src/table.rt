@@ -3,6 +3,9 @@
 ghost use Rattle.std.specs.Prelude.{◌≡◌, ◌<◌, Some, [], length, get_or, map};
 ghost use Rattle.b67_ops.specs.declared.table.OperatorKind.{OperatorKind};
 ghost use Rattle.b67_ops.specs.Codes.{code_of, codes_of, name_of, kind_with, index, first_with};
+ghost use Rattle.b67_ops.specs.Printed.{OperatorsAreTold};
+ghost use Rattle.b67_ops.specs.declared.TheConstants.{OUTER_LEVEL, MOST_LEVEL};
+ghost use Rattle.b67_ops.specs.declared.intrinsic.TheConstants.{FIRST_INTRINSIC};
 
 use crate::{BranchKind, PlainKind};
 
@@ -161,4 +164,17 @@ pub fn operators_are_told_apart()
     ensures found { (kind : OperatorKind) → kind_with (code_of kind) ≡ Some kind }
     ensures codes { (a b : OperatorKind) → code_of a ≡ code_of b → a ≡ b }
     ensures names { (a b : OperatorKind) → name_of a ≡ name_of b → a ≡ b }
+{}
+
+/// Law: the operators with their codes, names and kinds of operand are those that docs/MACHINE.md prints.
+pub fn operators_are_told()
+    ensures { OperatorsAreTold }
+{}
+
+/// Law: the other numbers of this crate, which the code is defined with: blocks are at the levels 2 to 31, as the five bits of a level in a
+/// control word of the B6700 have it, and the intrinsics are numbered from 2 on.
+pub fn numbers_are_told()
+    ensures outer { OUTER_LEVEL ≡ 2 }
+    ensures deepest { MOST_LEVEL ≡ 31 }
+    ensures first { FIRST_INTRINSIC ≡ 2 }
 {}

@@ -37,6 +37,9 @@ use Rattle.b67_table.specs.Program.{asked, Change, changed, effect_of}
 use Rattle.b67_table.specs.Intrinsics.{row_of_intrinsic, intrinsic_row, intrinsic}
 use Rattle.b67_table.specs.PrivateRows.{branch}
 use Rattle.b67_table.specs.Rows.{Row, private_part, action, row, plain_row, acts, turn, level_below, enter_procedure, enter_by, not_entered, marked, enter}
+use Rattle.b67_deeds.specs.declared.EventAct.TheVariants as act
+use Rattle.b67_deeds.specs.declared.EventTest.TheVariants as test
+use Rattle.b67_deeds.specs.Deeds as deeds
 use Rattle.b67_table.specs.Table.{raw, table, class_at, class_by, is_private, private_at, private_in, program_by, operator_at, by_row, by_operator, by_registers, stack_length}
 use Rattle.b67_table.specs.Ending.{failed}
 use Rattle.b67_table.specs.Valid.{IsHeld, IsProcess, IsValid, OperatorsKeepValid}
@@ -53,14 +56,14 @@ use Rattle.b67_table.proofs.Evaluating.{turn_kept, value_kept, load_kept, throug
 use Rattle.b67_table.proofs.Indexing.{index_kept, index_and_load_kept, index_mother_kept, store_kept}
 use Rattle.b67_table.proofs.Entries.{entry_kept}
 use Rattle.b67_table.proofs.Exits.{exit_kept, return_kept, go_to_kept}
-use Rattle.b67_table.proofs.Calls.{select_kept, write_kept, make_event_kept, tell_kept, cause_kept, reset_kept, liberate_kept, wait_kept, procure_kept}
+use Rattle.b67_table.proofs.Calls.{select_kept, write_kept, make_event_kept, tell_kept, event_deed_kept}
 use Rattle.b67_table.proofs.Making.{arrays_kept}
 use Rattle.b67_table.proofs.Begun.{start_kept}
 
 module _ (code : Code) (img : Image) (p : ℕ) (r : Registers) (v : IsValid code img) (able : is_able (numbered img.states p) ≡ true)
     (has : numbered img.regs p ≡ Some r) (next : ℕ) (small : next < 2 ^ 16) where
   live : is_live (numbered img.states p) ≡ true
-  live = able_live code img v p able (numbered img.states p) able
+  live = able_live (numbered img.states p) able
 
   abbrev E : Change → Type 0
   E = Ends code img p
@@ -96,12 +99,12 @@ module _ (code : Code) (img : Image) (p : ℕ) (r : Registers) (v : IsValid code
   intrinsic_by names.Event m k words a = make_event_kept code img p r v live has next small m k.low k.high words
   intrinsic_by names.Start m k words a = start_kept code img p r v live has next small m k.low k.high words a
   intrinsic_by names.Write m k words a = write_kept code img p r v live has next small m k.low k.high words
-  intrinsic_by names.Wait m k words a = wait_kept code img p r v live has next small m k.low k.high able words
-  intrinsic_by names.Cause m k words a = cause_kept code img p r v live has next small m k.low k.high words
-  intrinsic_by names.Reset m k words a = reset_kept code img p r v live has next small m k.low k.high words
-  intrinsic_by names.Happened m k words a = tell_kept code img p r v live has next small m k.low k.high words
-  intrinsic_by names.Procure m k words a = procure_kept code img p r v live has next small m k.low k.high able words
-  intrinsic_by names.Liberate m k words a = liberate_kept code img p r v live has next small m k.low k.high words
+  intrinsic_by names.Wait m k words a = event_deed_kept code img p r v live has next small m k.low k.high able (deeds.acts act.Wait) words
+  intrinsic_by names.Cause m k words a = event_deed_kept code img p r v live has next small m k.low k.high able (deeds.acts act.Cause) words
+  intrinsic_by names.Reset m k words a = event_deed_kept code img p r v live has next small m k.low k.high able (deeds.acts act.Reset) words
+  intrinsic_by names.Happened m k words a = tell_kept code img p r v live has next small m k.low k.high test.Happened words
+  intrinsic_by names.Procure m k words a = event_deed_kept code img p r v live has next small m k.low k.high able (deeds.acts act.Procure) words
+  intrinsic_by names.Liberate m k words a = event_deed_kept code img p r v live has next small m k.low k.high able (deeds.acts act.Liberate) words
 
   named_by : (o : Option Intrinsic) (m : Mscw) → IsMarked m → (words : List Word) → All IsWord words → Gives E (asked img (intrinsic_row o code r next m words))
   named_by None m k words a = tt
@@ -214,7 +217,7 @@ ends_new code img new p (interrupts kind) k e small few = cc
 module _ (code : Code) (img new : Image) (p : ℕ) (v : IsValid code img) (able : is_able (numbered img.states p) ≡ true)
     (t : table code img p ≡ outcomes.gives new) (small : stack_length p new ≤ stack_limit) (few : length new.rows ≤ row_limit) where
   lives : is_live (numbered img.states p) ≡ true
-  lives = able_live code img v p able (numbered img.states p) able
+  lives = able_live (numbered img.states p) able
 
   by_rows : (r : Registers) → numbered img.regs p ≡ Some r → (op : Operator) (next : ℕ) → operator_at code r ≡ Ok (op, next) → (w : Row) → row op r.place ≡ w
       → by_row w code img p r next ≡ gives new → IsValid code new
@@ -243,7 +246,7 @@ unfolding table raw
 able_kept code img new p v able t few =
     let g = new_of (stack_length p) (raw code img p) new t in
     by_process code img new p v able t g.1 few (numbered img.regs p) refl
-    (sym (ap (λ (b : Bool). cond b (by_registers code img p (numbered img.regs p)) (interrupts bad_code)) (able_live code img v p able (numbered img.states p) able))
+    (sym (ap (λ (b : Bool). cond b (by_registers code img p (numbered img.regs p)) (interrupts bad_code)) (able_live (numbered img.states p) able))
     ∙ g.0)
 
 failed_kept : (code : Code) (img : Image) (p : ℕ) (kind : FaultKind) → IsValid code img → IsValid code (failed img p kind)
@@ -260,7 +263,7 @@ failed_kept code img p kind v = record {
   processes = λ q r l i. process_stays img (failed img p kind) q r refl (v.processes q r l i);
   earlier = v.earlier;
   rows = record { few = v.rows.few; room = v.rows.room; short = v.rows.short; words = v.rows.words; shallow = v.rows.shallow };
-  events = record { apart = v.events.apart; once = v.events.once; waiting = v.events.waiting };
+  events = v.events;
 }
 
 pub operators_keep_valid : OperatorsKeepValid

@@ -14,7 +14,6 @@ use Rattle.b67_control.proofs.ControlLaws.{IsWord-mscw_word, IsWord-rcw_word, as
 use Rattle.b67_segment.specs.declared.code.Code.{Code}
 use Rattle.b67_store.specs.Store.{stack_at, words_of, words_or, opened_at}
 use Rattle.b67_store.proofs.StoreLaws.{opened_here, opened_others}
-use Rattle.b67_events.specs.Events.{is_waiting}
 use Rattle.b67_table.specs.declared.Cell.{Cell}
 use Rattle.b67_table.specs.declared.ProcessState.TheVariants.{Able}
 use Rattle.b67_table.specs.declared.InterruptKind.TheVariants.{InvalidOperand}
@@ -38,7 +37,7 @@ use Rattle.b67_table.proofs.Chained.{Shows, linked_found}
 use Rattle.b67_table.proofs.Referring.{IsReached, cell_is, reached_found}
 use Rattle.b67_table.proofs.OwnValid.{process_stays}
 use Rattle.b67_table.proofs.Simple.{Ends, finished_ends}
-use Rattle.b67_table.proofs.EventKept.{not_both, within_of}
+use Rattle.b67_table.proofs.EventKept.{not_both, within_of, states_kept}
 use Rattle.b67_table.proofs.Wordly.{All-tail}
 use Rattle.b67_table.proofs.Calls.{chained_kept}
 
@@ -177,11 +176,11 @@ module _ (code : Code) (img : Image) (v : IsValid code img) (t : Starting) (fits
       omega (arith, e, earlier c (ap (λ (x : Registers). x.critical) (sym same) ∙ j))
   earlier_by q s (no h) i c j = v.earlier q s (sym (regs_old q h) ∙ i) c j
 
-  waits_by : (q : ℕ) → Dec (q ≡ img.started + 1) → is_waiting q img.events ≡ true → waits (numbered (img.states ++ Able ∷ []) q) ≡ true
+  waits_by : (q : ℕ) → Dec (q ≡ img.started + 1) → waits (numbered img.states q) ≡ true → numbered (img.states ++ Able ∷ []) q ≡ numbered img.states q
   waits_by q (yes e) i =
-      absurd (not_both (waits (numbered img.states q)) (v.events.waiting q i)
+      absurd (not_both (waits (numbered img.states q)) i
       (ap (λ (m : ℕ). waits (numbered img.states m)) (e ∙ number) ∙ ap waits (no_more img.states)))
-  waits_by q (no h) i = ap waits (state_old q h) ∙ v.events.waiting q i
+  waits_by q (no h) i = state_old q h
 
   pub started_valid : IsValid code (written p (writes.start (begun (img.started + 1) t display depends) (first_words t)) img)
   unfolding new
@@ -197,7 +196,7 @@ module _ (code : Code) (img : Image) (v : IsValid code img) (t : Starting) (fits
     processes = λ q s l i. processes_by q s (ℕ_discrete q (img.started + 1)) l i;
     earlier = λ q s i. earlier_by q s (ℕ_discrete q (img.started + 1)) i;
     rows = record { few = v.rows.few; room = v.rows.room; short = v.rows.short; words = v.rows.words; shallow = v.rows.shallow };
-    events = record { apart = v.events.apart; once = v.events.once; waiting = λ q i. waits_by q (ℕ_discrete q (img.started + 1)) i };
+    events = states_kept img.events img.states v.events (img.states ++ Able ∷ []) (λ q i. waits_by q (ℕ_discrete q (img.started + 1)) i);
   }
     where
       not_zero : (k : ℕ) → 0 ≢ k + 1

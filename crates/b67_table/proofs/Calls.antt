@@ -1,5 +1,5 @@
 -- Intrinsics that neither make arrays nor start a process keep an image valid.
-use Rattle.std.proofs.Common.{◌≡◌, refl, subst, ℕ, ◌+◌, ◌-◌, ◌*◌, ◌+ℤ◌, ◌<◌, ◌≤◌, ◌^◌, true, ℤ, pos, List, [], ◌∷◌, ◌++◌, All, Option, Some, None, cond, arith}
+use Rattle.std.proofs.Common.{◌≡◌, refl, subst, ◌∙◌, ℕ, ◌+◌, ◌-◌, ◌*◌, ◌+ℤ◌, ◌<◌, ◌≤◌, ◌^◌, true, ℤ, pos, List, [], ◌∷◌, ◌++◌, All, Option, Some, None, cond, arith}
 use Rattle.std.specs.Prelude.{nat_le}
 use Rattle.std.proofs.lemmas.List.Elements.{All-nil, All-cons}
 use Rattle.b67_list.specs.Numbered.{numbered}
@@ -11,9 +11,10 @@ use Rattle.b67_control.specs.declared.Mscw.{Mscw}
 use Rattle.b67_control.specs.Control.{event_word}
 use Rattle.b67_control.proofs.ControlLaws.{IsWord-event_word}
 use Rattle.b67_segment.specs.declared.code.Code.{Code}
-use Rattle.b67_events.specs.Events.{happened_at, available_at}
+use Rattle.b67_deeds.specs.declared.EventTest.{EventTest}
+use Rattle.b67_deeds.specs.Deeds.{EventDeed, answers}
+use Rattle.b67_events.specs.Events.{state_at}
 use Rattle.b67_table.specs.declared.Cell.{Cell}
-use Rattle.b67_table.specs.declared.ProcessState.TheVariants.{WaitsFor, Procures}
 use Rattle.b67_table.specs.declared.InterruptKind.TheVariants.{InvalidOperand}
 use Rattle.b67_table.specs.Limits.{end_of_code}
 use Rattle.b67_table.specs.Private.{floor}
@@ -23,7 +24,7 @@ use Rattle.b67_table.specs.References.{cell_place}
 use Rattle.b67_table.specs.Image.{Image, is_able, is_live}
 use Rattle.b67_table.specs.Writes.{written}
 use Rattle.b67_table.specs.Writes as writes
-use Rattle.b67_table.specs.Program.{asked, Change, wait, procure, cause, reset, liberate, Program}
+use Rattle.b67_table.specs.Program.{asked, Change, Program}
 use Rattle.b67_table.specs.Arguments.{Three, three, wholes, number_in, event_of, if_chained, finished_at}
 use Rattle.b67_table.specs.Intrinsics.{case_in, case_place, gone_to_case, select, write, make_event, on_event, tell_event}
 use Rattle.b67_table.specs.Lines.{line_for}
@@ -32,8 +33,8 @@ use Rattle.b67_table.proofs.Keeping.{Gives, anything}
 use Rattle.b67_table.proofs.Finding.{Found, look_then, see_then, test_then, there_found, anything_found}
 use Rattle.b67_table.proofs.OwnValid.{process_stays}
 use Rattle.b67_table.proofs.Simple.{Ends, finished_ends}
-use Rattle.b67_table.proofs.EventKept.{open_event_valid, reset_valid}
-use Rattle.b67_table.proofs.Waking.{cause_valid, liberate_valid, wait_valid, procure_valid, wait_live, caused_live, liberated_live}
+use Rattle.b67_table.proofs.EventKept.{open_event_valid}
+use Rattle.b67_table.proofs.Waking.{event_deed_valid, event_deed_live}
 use Rattle.b67_table.proofs.Exits.{number_by}
 
 pub output_valid : (code : Code) (img : Image) (lines : List (List ℕ)) → IsValid code img → IsValid code (record img { output = lines })
@@ -49,7 +50,7 @@ output_valid code img lines v = record {
   processes = λ q r l i. process_stays img (record img { output = lines }) q r refl (v.processes q r l i);
   earlier = v.earlier;
   rows = record { few = v.rows.few; room = v.rows.room; short = v.rows.short; words = v.rows.words; shallow = v.rows.shallow };
-  events = record { apart = v.events.apart; once = v.events.once; waiting = v.events.waiting };
+  events = v.events;
 }
 
 module _ (code : Code) (img : Image) (p : ℕ) (r : Registers) (v : IsValid code img) (live : is_live (numbered img.states p) ≡ true)
@@ -113,49 +114,21 @@ module _ (code : Code) (img : Image) (p : ℕ) (r : Registers) (v : IsValid code
       (event_word (record {}) ∷ []) next low (omega (arith, high)) (All-cons IsWord (event_word (record {})) [] (IsWord-event_word (record {}) tt) (All-nil IsWord)) small)
   make_event_kept (w ∷ words) = tt
 
-  pub tell_kept : (words : List Word) → Gives (Ends code img p) (asked img (tell_event code r next m words))
+  pub tell_kept : (x : EventTest) (words : List Word) → Gives (Ends code img p) (asked img (tell_event x code r next m words))
   unfolding E
-  tell_kept [] = tt
-  tell_kept (w ∷ []) =
+  tell_kept x [] = tt
+  tell_kept x (w ∷ []) =
       test_then img (λ (c : Cell). Unit {0}) E (event_of r w) _ (anything (asked img (event_of r w))) (λ c u.
-      chained_kept _ (finish (truth (happened_at (cell_place c) img.events) ∷ [])
-      (All-cons IsWord (truth (happened_at (cell_place c) img.events)) [] (truth-word (happened_at (cell_place c) img.events)) (All-nil IsWord))))
-  tell_kept (w ∷ x ∷ words) = tt
+      let told = answers x (state_at (cell_place c) img.events) in
+      chained_kept _ (finish (truth told ∷ []) (All-cons IsWord (truth told) [] (truth-word told) (All-nil IsWord))))
+  tell_kept x (w ∷ v ∷ words) = tt
 
-  -- an action on one event
-  on_event_kept : (act : Place → Change → Change) → ((x : Place) → Ends code img p (act x (finished_at r m [] next))) → (words : List Word)
-      → Gives (Ends code img p) (asked img (on_event act code r next m words))
-  on_event_kept act k [] = tt
-  on_event_kept act k (w ∷ []) =
+  -- what is done with one event
+  pub event_deed_kept : is_able (numbered img.states p) ≡ true → (x : EventDeed) (words : List Word) → Gives (Ends code img p) (asked img (on_event x code r next m words))
+  unfolding Ends
+  event_deed_kept able x [] = tt
+  event_deed_kept able x (w ∷ []) =
       test_then img (λ (c : Cell). Unit {0}) (Ends code img p) (event_of r w) _ (anything (asked img (event_of r w))) (λ c u.
-      chained_kept _ (k (cell_place c)))
-  on_event_kept act k (w ∷ x ∷ words) = tt
-
-  pub cause_kept : (words : List Word) → Gives (Ends code img p) (asked img (on_event cause code r next m words))
-  unfolding Ends
-  cause_kept = on_event_kept cause (λ x.
-      finished_ends code (written p (writes.cause x) img) p r (cause_valid code img v x) (caused_live code img v x p live) has m [] next low (omega (arith, high))
-      (All-nil IsWord) small)
-
-  pub reset_kept : (words : List Word) → Gives (Ends code img p) (asked img (on_event reset code r next m words))
-  unfolding Ends
-  reset_kept = on_event_kept reset (λ x.
-      finished_ends code (written p (writes.reset x) img) p r (reset_valid code img v x) live has m [] next low (omega (arith, high)) (All-nil IsWord) small)
-
-  pub liberate_kept : (words : List Word) → Gives (Ends code img p) (asked img (on_event liberate code r next m words))
-  unfolding Ends
-  liberate_kept = on_event_kept liberate (λ x.
-      finished_ends code (written p (writes.liberate x) img) p r (liberate_valid code img v x) (liberated_live code img v x p live) has m [] next low
-      (omega (arith, high)) (All-nil IsWord) small)
-
-  pub wait_kept : is_able (numbered img.states p) ≡ true → (words : List Word) → Gives (Ends code img p) (asked img (on_event wait code r next m words))
-  unfolding Ends
-  wait_kept able = on_event_kept wait (λ x.
-      finished_ends code (written p (writes.wait x) img) p r (wait_valid code img v p able x)
-      (wait_live code img v p able (happened_at x img.events) (WaitsFor x) refl) has m [] next low (omega (arith, high)) (All-nil IsWord) small)
-
-  pub procure_kept : is_able (numbered img.states p) ≡ true → (words : List Word) → Gives (Ends code img p) (asked img (on_event procure code r next m words))
-  unfolding Ends
-  procure_kept able = on_event_kept procure (λ x.
-      finished_ends code (written p (writes.procure x) img) p r (procure_valid code img v p able x)
-      (wait_live code img v p able (available_at x img.events) (Procures x) refl) has m [] next low (omega (arith, high)) (All-nil IsWord) small)
+      chained_kept _ (finished_ends code (written p (writes.event_deed x (cell_place c)) img) p r (event_deed_valid code img v p able x (cell_place c))
+      (event_deed_live code img v p able x (cell_place c) p ∙ live) has m [] next low (omega (arith, high)) (All-nil IsWord) small))
+  event_deed_kept able x (w ∷ y ∷ words) = tt

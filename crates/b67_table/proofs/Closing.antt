@@ -12,8 +12,11 @@ use Rattle.b67_control.specs.Control.{as_descriptor}
 use Rattle.b67_segment.specs.declared.code.Code.{Code}
 use Rattle.b67_store.specs.Store.{Row, row_at, row_words_or, stack_at, words_of, words_or, closed_at}
 use Rattle.b67_store.proofs.StoreLaws.{closed_here}
-use Rattle.b67_events.specs.Events.{is_waiting, closed_from, waiters_at}
-use Rattle.b67_table.specs.declared.ProcessState.TheVariants.{Ended}
+use Rattle.b67_deeds.specs.declared.EventAct.TheVariants as act
+use Rattle.b67_deeds.specs.Deeds.{acts}
+use Rattle.b67_events.specs.Events.{closed_from, waiters_at}
+use Rattle.b67_table.specs.declared.ProcessState.{ProcessState}
+use Rattle.b67_table.specs.declared.ProcessState.TheVariants.{Able, WaitsFor, Procures, Ended}
 use Rattle.b67_table.specs.Image.{Image, with_stacks, with_rows, with_events, with_states, is_able, is_live}
 use Rattle.b67_table.specs.Program.{Change, done, row_of, close_row, close_events, end_process}
 use Rattle.b67_table.specs.Linkage.{closed_by, rows_closed, array_closed, arrays_closed, frame_left, caused_by}
@@ -26,8 +29,8 @@ use Rattle.b67_table.proofs.States.{able_all}
 use Rattle.b67_table.proofs.OwnValid.{process_stays}
 use Rattle.b67_table.proofs.Simple.{Ends}
 use Rattle.b67_table.proofs.Saving.{close_valid}
-use Rattle.b67_table.proofs.EventKept.{not_both, length_states, within_of, close_events_valid}
-use Rattle.b67_table.proofs.Waking.{cause_valid, idle, able_live}
+use Rattle.b67_table.proofs.EventKept.{not_both, length_states, within_of, states_kept, close_events_valid}
+use Rattle.b67_table.proofs.Waking.{able_live, event_deed_valid}
 
 -- ---- rows and events of a frame
 
@@ -91,7 +94,7 @@ module _ (code : Code) (img : Image) (p : ℕ) (v : IsValid code img) (able : is
   gone = with_states (with_stacks img (closed_at img.stacks p)) (set_numbered img.states p Ended)
 
   inside : (1 ≤ p) × (p ≤ length img.states)
-  inside = within_of img.states p (able_live code img v p able (numbered img.states p) able)
+  inside = within_of img.states p (able_live (numbered img.states p) able)
 
   here : numbered (set_numbered img.states p Ended) p ≡ Some Ended
   here = numbered_set img.states p Ended inside.0 inside.1
@@ -118,11 +121,16 @@ module _ (code : Code) (img : Image) (p : ℕ) (v : IsValid code img) (able : is
       process_stays img (with_states (with_stacks img (closed_at img.stacks p)) (set_numbered img.states p Ended)) q r
       (ap words_or (set_other img.stacks p q None h)) (v.processes q r (sym (ap is_live (get_numbered_other img.states p q Ended h)) ∙ l) i)
 
-  waits_by : (q : ℕ) → Dec (q ≡ p) → is_waiting q img.events ≡ true → waits (numbered (set_numbered img.states p Ended) q) ≡ true
-  waits_by q (yes e) i =
-      absurd (not_both (is_waiting q img.events) i
-      (subst (λ (m : ℕ). is_waiting m img.events ≡ false) (sym e) (idle code img v p able (is_waiting p img.events) refl)))
-  waits_by q (no h) i = ap waits (get_numbered_other img.states p q Ended h) ∙ v.events.waiting q i
+  able_waits : (o : Option ProcessState) {A : Type 0} → is_able o ≡ true → waits o ≡ true → A
+  able_waits (Some Able) a w = cc
+  able_waits (Some (WaitsFor x)) a w = cc
+  able_waits (Some (Procures x)) a w = cc
+  able_waits (Some Ended) a w = cc
+  able_waits None a w = cc
+
+  waits_by : (q : ℕ) → Dec (q ≡ p) → waits (numbered img.states q) ≡ true → numbered (set_numbered img.states p Ended) q ≡ numbered img.states q
+  waits_by q (yes e) w = able_waits (numbered img.states p) able (subst (λ (m : ℕ). waits (numbered img.states m) ≡ true) e w)
+  waits_by q (no h) w = get_numbered_other img.states p q Ended h
 
   ended_valid : IsValid code (with_states (with_stacks img (closed_at img.stacks p)) (set_numbered img.states p Ended))
   ended_valid = record {
@@ -137,7 +145,7 @@ module _ (code : Code) (img : Image) (p : ℕ) (v : IsValid code img) (able : is
     processes = λ q r l i. processes_by q r (ℕ_discrete q p) l i;
     earlier = v.earlier;
     rows = record { few = v.rows.few; room = v.rows.room; short = v.rows.short; words = v.rows.words; shallow = v.rows.shallow };
-    events = record { apart = v.events.apart; once = v.events.once; waiting = λ q i. waits_by q (ℕ_discrete q p) i };
+    events = states_kept img.events img.states v.events (set_numbered img.states p Ended) (λ q w. waits_by q (ℕ_discrete q p) w);
   }
 
   end_ends : (stack : ℕ) → stack ≡ p → Ends code img p (end_process stack done)
@@ -150,5 +158,5 @@ pub caused_ends : (code : Code) (img : Image) (p : ℕ) → IsValid code img →
 unfolding Ends
 caused_ends code img p v able None stack e = end_ends code img p v able stack e
 caused_ends code img p v able (Some x) stack e =
-    end_ends code (written p (writes.cause x) img) p (cause_valid code img v x)
+    end_ends code (written p (writes.event_deed (acts act.Cause) x) img) p (event_deed_valid code img v p able (acts act.Cause) x)
     (able_all is_able refl (waiters_at x img.events) img.states p able) stack e

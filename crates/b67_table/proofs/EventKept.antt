@@ -1,31 +1,32 @@
--- What is done to events keeps an image valid.
-use Rattle.std.proofs.Common.{◌≡◌, ◌≢◌, refl, sym, ap, subst, ◌∙◌, ℕ, zero, suc, ◌≤◌, ◌==◌, ◌||◌, not, Bool, true, false, cond, List, [], ◌∷◌, ◌++◌, length, drop, Option, Some, None, arith, inl, inr}
-use Rattle.std.specs.Prelude.{slice_get, filter}
+-- Events that are opened and closed, and states that change, keep an image valid.
+use Rattle.std.proofs.Common.{◌≡◌, ◌≢◌, refl, sym, ap, subst, ◌∙◌, ◌⊎◌, ℕ, zero, suc, ◌≤◌, ◌==◌, ◌||◌, Bool, true, false, cond, List, [], ◌∷◌, ◌++◌, length, Option, Some, None, arith, inl, inr}
+use Rattle.std.specs.Prelude.{slice_get, is_some}
 use Rattle.std.specs.List.{list_any}
 use Rattle.std.proofs.Math.Decide.{ℕ_discrete}
-use Rattle.std.proofs.lemmas.Bool.{or_cases, or_parts, eqb-true, eq-eqb}
+use Rattle.std.proofs.lemmas.Bool.{cases_Bool, cond-false, or_cases, or_parts, eqb-true, eq-eqb}
 use Rattle.std.proofs.lemmas.List.{length-set}
 use Rattle.b67_list.specs.Numbered.{numbered, set_numbered}
 use Rattle.b67_word.specs.declared.Place.{Place}
 use Rattle.b67_segment.specs.declared.code.Code.{Code}
-use Rattle.b67_events.specs.Events.{Event, same_place, is_from, is_waiting, is_before, placed, happened_at, available_at, changed, fresh, opened, closed_from, joined, waited, caused, cleared, taken, queued, procured, passed_on}
+use Rattle.b67_deeds.specs.Events.{EventState}
+use Rattle.b67_events.specs.Events.{Event, same_place, is_from, is_open, event_at, state_of, waiters_at, procurers_at, is_waiting, fresh, opened, closed_from}
 use Rattle.b67_events.specs.Laws.{AreApart}
-use Rattle.b67_events.specs.Once.{EachOnce}
-use Rattle.b67_events.proofs.EventLaws.{stay_apart}
+use Rattle.b67_events.specs.Once.{EachOnce, waiters_of, procurers_of}
+use Rattle.b67_events.proofs.Listed.{same_place-true, same_place-self}
+use Rattle.b67_events.proofs.EventLaws.{one_event, stay_apart}
 use Rattle.b67_events.proofs.OnceLaws.{waits_once}
 use Rattle.b67_table.specs.declared.ProcessState.{ProcessState}
 use Rattle.b67_table.specs.declared.ProcessState.TheVariants.{Able, WaitsFor, Procures, Ended}
-use Rattle.b67_table.specs.Image.{Image, with_events, with_states, is_live}
+use Rattle.b67_table.specs.Image.{Image, with_events, with_states, is_able, is_live}
 use Rattle.b67_table.specs.Writes.{able_again}
 use Rattle.b67_table.specs.Valid.{IsValid, AreEvents, waits}
 use Rattle.b67_table.proofs.Stacks.{get_numbered_other}
 use Rattle.b67_table.proofs.Lists.{numbered_set}
 use Rattle.b67_table.proofs.OwnValid.{process_stays}
 
--- ---- who waits
-
-unfoldable pub waits_at : ℕ → Event → Bool
-waits_at q e = list_any (λ p. q == p) (e.waiters ++ e.procurers)
+-- a process stands in a list
+abbrev pub Among : ℕ → List ℕ → Type 0
+Among q xs = list_any (λ p. q == p) xs ≡ true
 
 pub or_left : (a b : Bool) → a ≡ true → a || b ≡ true
 or_left true b e = refl
@@ -35,142 +36,50 @@ pub or_right : (a b : Bool) → b ≡ true → a || b ≡ true
 or_right true b e = refl
 or_right false b e = e
 
--- a test that passes on part of a list passes on the whole
-filter_by : {X : Type 0} (f g : X → Bool) (x : X) (xs : List X) → (list_any f (filter g xs) ≡ true → list_any f xs ≡ true) → (b : Bool)
-    → list_any f (cond b (x ∷ filter g xs) (filter g xs)) ≡ true → list_any f (x ∷ xs) ≡ true
-filter_by f g x xs k true i = elim (or_cases (f x) (list_any f (filter g xs)) i) [
-  | inl j ↦ or_left (f x) (list_any f xs) j
-  | inr j ↦ or_right (f x) (list_any f xs) (k j)
-]
-filter_by f g x xs k false i = or_right (f x) (list_any f xs) (k i)
-
-any_filter : {X : Type 0} (f g : X → Bool) (xs : List X) → list_any f (filter g xs) ≡ true → list_any f xs ≡ true
-any_filter f g [] e = e
-any_filter f g (x ∷ xs) e = filter_by f g x xs (any_filter f g xs) (g x) e
-
-any_front : {X : Type 0} (f : X → Bool) (xs ys : List X) → list_any f ys ≡ false → list_any f (xs ++ ys) ≡ true → list_any f xs ≡ true
-any_front f [] ys h e = cc
-any_front f (x ∷ xs) ys h e = elim (or_cases (f x) (list_any f (xs ++ ys)) e) [
-  | inl j ↦ or_left (f x) (list_any f xs) j
-  | inr j ↦ or_right (f x) (list_any f xs) (any_front f xs ys h j)
+pub in_either : (q : ℕ) (xs ys : List ℕ) → Among q (xs ++ ys) → Among q xs ⊎ Among q ys
+in_either q [] ys e = inr e
+in_either q (x ∷ xs) ys e = elim (or_cases (q == x) (list_any (λ p. q == p) (xs ++ ys)) e) [
+  | inl j ↦ inl (or_left (q == x) (list_any (λ p. q == p) xs) j)
+  | inr j ↦ elim (in_either q xs ys j) [
+    | inl k ↦ inl (or_right (q == x) (list_any (λ p. q == p) xs) k)
+    | inr k ↦ inr k
+  ]
 ]
 
-map_by : (q : ℕ) (at : Place) (change : Event → Event) (x : Event) (xs : List Event) → (waits_at q (change x) ≡ true → waits_at q x ≡ true)
-    → (is_waiting q (changed at change xs) ≡ true → is_waiting q xs ≡ true) → (b : Bool)
-    → waits_at q (cond b (change x) x) || is_waiting q (changed at change xs) ≡ true → waits_at q x || is_waiting q xs ≡ true
-map_by q at change x xs k more true i = elim (or_cases (waits_at q (change x)) (is_waiting q (changed at change xs)) i) [
-  | inl j ↦ or_left (waits_at q x) (is_waiting q xs) (k j)
-  | inr j ↦ or_right (waits_at q x) (is_waiting q xs) (more j)
-]
-map_by q at change x xs k more false i = elim (or_cases (waits_at q x) (is_waiting q (changed at change xs)) i) [
-  | inl j ↦ or_left (waits_at q x) (is_waiting q xs) j
-  | inr j ↦ or_right (waits_at q x) (is_waiting q xs) (more j)
-]
-
--- a change after which nobody waits that did not
-pub any_map : (q : ℕ) (at : Place) (change : Event → Event) → ((e : Event) → waits_at q (change e) ≡ true → waits_at q e ≡ true) → (es : List Event)
-    → is_waiting q (changed at change es) ≡ true → is_waiting q es ≡ true
-unfolding waits_at
-any_map q at change k [] e = e
-any_map q at change k (x ∷ xs) e = map_by q at change x xs (k x) (any_map q at change k xs) (same_place x.place at) e
-
-any_both : {X : Type 0} (f : X → Bool) (xs ys zs : List X) → (list_any f xs ≡ true → list_any f zs ≡ true) → list_any f (xs ++ ys) ≡ true → list_any f (zs ++ ys) ≡ true
-any_both f [] ys zs k e = onto zs
-  where
-    onto : (us : List _) → list_any f (us ++ ys) ≡ true
-    onto [] = e
-    onto (u ∷ us) = or_right (f u) (list_any f (us ++ ys)) (onto us)
-any_both f (x ∷ xs) ys zs k e = elim (or_cases (f x) (list_any f (xs ++ ys)) e) [
-  | inl j ↦ back zs (k (or_left (f x) (list_any f xs) j))
-  | inr j ↦ any_both f xs ys zs (λ i. k (or_right (f x) (list_any f xs) i)) j
+-- who waits stands in a list of the event at some place
+stands_at : (q : ℕ) (es : List Event) → AreApart es → is_waiting q es ≡ true → (at : Place) × (Among q (waiters_at at es) ⊎ Among q (procurers_at at es))
+stands_at q [] apart e = cc
+stands_at q (x ∷ xs) apart e = elim (or_cases (list_any (λ p. q == p) (x.state.waiters ++ x.state.procurers)) (is_waiting q xs) e) [
+  | inl i ↦
+      let here : event_at x.place (x ∷ xs) ≡ Some x = ap (λ b. cond b (Some x) (event_at x.place xs)) (same_place-self x.place x.place refl) in (
+        x.place,
+        elim (in_either q x.state.waiters x.state.procurers i) [
+          | inl j ↦ inl (ap (λ o. list_any (λ p. q == p) (state_of o).waiters) here ∙ j)
+          | inr j ↦ inr (ap (λ o. list_any (λ p. q == p) (state_of o).procurers) here ∙ j)
+        ],
+      )
+  | inr i ↦
+      let there = stands_at q xs apart.1 i in (
+        there.0,
+        elim there.1 [
+          | inl j ↦ inl (ap (λ o. list_any (λ p. q == p) (state_of o).waiters) (later there.0 (by_lists waiters_of refl there.0 j)) ∙ j)
+          | inr j ↦ inr (ap (λ o. list_any (λ p. q == p) (state_of o).procurers) (later there.0 (by_lists procurers_of refl there.0 j)) ∙ j)
+        ],
+      )
 ]
   where
-    back : (us : List _) → list_any f us ≡ true → list_any f (us ++ ys) ≡ true
-    back [] i = cc
-    back (u ∷ us) i = elim (or_cases (f u) (list_any f us) i) [
-      | inl j ↦ or_left (f u) (list_any f (us ++ ys)) j
-      | inr j ↦ or_right (f u) (list_any f (us ++ ys)) (back us j)
+    open_by : (lists : EventState → List ℕ) → lists (state_of None) ≡ [] → (o : Option Event) (b : Bool) → b ≡ is_some o → Among q (lists (state_of o)) → b ≡ true
+    open_by lists n None b h j = let clash : false ≡ true = ap (list_any (λ p. q == p)) (sym n) ∙ j in cc
+    open_by lists n (Some y) b h j = h
+
+    by_lists : (lists : EventState → List ℕ) → lists (state_of None) ≡ [] → (at : Place) → Among q (lists (state_of (event_at at xs))) → is_open at xs ≡ true
+    by_lists lists n at j = open_by lists n (event_at at xs) (is_open at xs) (one_event.found at xs) j
+
+    later : (at : Place) → is_open at xs ≡ true → event_at at (x ∷ xs) ≡ event_at at xs
+    later at h = elim (cases_Bool (same_place x.place at)) [
+      | inl k ↦ let no : is_open x.place xs ≡ true = ap (λ a. is_open a xs) (same_place-true x.place at k) ∙ h in let clash : false ≡ true = sym apart.0 ∙ no in cc
+      | inr k ↦ cond-false (same_place x.place at) (Some x) (event_at at xs) k
     ]
-
-pub caused_waits : (q : ℕ) (e : Event) → waits_at q (caused e) ≡ true → waits_at q e ≡ true
-unfolding waits_at
-caused_waits q e i = any_both (λ p. q == p) [] e.procurers e.waiters (λ j. cc) i
-
-any_drop : {X : Type 0} (f : X → Bool) (xs ys : List X) → list_any f (xs ++ drop 1 ys) ≡ true → list_any f (xs ++ ys) ≡ true
-any_drop f xs [] e = e
-any_drop f [] (y ∷ ys) e = or_right (f y) (list_any f ys) e
-any_drop f (x ∷ xs) (y ∷ ys) e = elim (or_cases (f x) (list_any f (xs ++ ys)) e) [
-  | inl j ↦ or_left (f x) (list_any f (xs ++ y ∷ ys)) j
-  | inr j ↦ or_right (f x) (list_any f (xs ++ y ∷ ys)) (any_drop f xs (y ∷ ys) j)
-]
-
-pub passed_waits : (q : ℕ) (ps : List ℕ) (e : Event) → waits_at q (passed_on ps e) ≡ true → waits_at q e ≡ true
-unfolding waits_at
-passed_waits q [] e i = i
-passed_waits q (p ∷ ps) e i = any_drop (λ x. q == x) e.waiters e.procurers i
-
--- who joins a list
-any_one : (q p : ℕ) (xs : List ℕ) → q ≢ p → list_any (λ x. q == x) (xs ++ p ∷ []) ≡ true → list_any (λ x. q == x) xs ≡ true
-any_one q p [] n e = elim (or_cases (q == p) false e) [ inl j ↦ absurd (n (eqb-true q p j)) | inr j ↦ j ]
-any_one q p (x ∷ xs) n e = elim (or_cases (q == x) (list_any (λ y. q == y) (xs ++ p ∷ [])) e) [
-  | inl j ↦ or_left (q == x) (list_any (λ y. q == y) xs) j
-  | inr j ↦ or_right (q == x) (list_any (λ y. q == y) xs) (any_one q p xs n j)
-]
-
-joined_waits : (q p : ℕ) → q ≢ p → (e : Event) → waits_at q (joined p e) ≡ true → waits_at q e ≡ true
-unfolding waits_at
-joined_waits q p n e i = any_both (λ x. q == x) (e.waiters ++ p ∷ []) e.procurers e.waiters (any_one q p e.waiters n) i
-
-any_last : (q p : ℕ) (xs ys : List ℕ) → q ≢ p → list_any (λ x. q == x) (xs ++ (ys ++ p ∷ [])) ≡ true → list_any (λ x. q == x) (xs ++ ys) ≡ true
-any_last q p [] ys n e = any_one q p ys n e
-any_last q p (x ∷ xs) ys n e = elim (or_cases (q == x) (list_any (λ y. q == y) (xs ++ (ys ++ p ∷ []))) e) [
-  | inl j ↦ or_left (q == x) (list_any (λ y. q == y) (xs ++ ys)) j
-  | inr j ↦ or_right (q == x) (list_any (λ y. q == y) (xs ++ ys)) (any_last q p xs ys n j)
-]
-
-queued_waits : (q p : ℕ) → q ≢ p → (e : Event) → waits_at q (queued p e) ≡ true → waits_at q e ≡ true
-unfolding waits_at
-queued_waits q p n e i = any_last q p e.waiters e.procurers n i
-
-pub waited_waits : (q p : ℕ) (at : Place) (es : List Event) → q ≢ p → is_waiting q (waited at p es) ≡ true → is_waiting q es ≡ true
-waited_waits q p at es n e = by_test (happened_at at es) e
-  where
-    by_test : (b : Bool) → is_waiting q (cond b es (changed at (joined p) es)) ≡ true → is_waiting q es ≡ true
-    by_test true i = i
-    by_test false i = any_map q at (joined p) (joined_waits q p n) es i
-
-taken_waits : (q : ℕ) (e : Event) → waits_at q (taken e) ≡ true → waits_at q e ≡ true
-unfolding waits_at
-taken_waits q e i = i
-
-pub procured_waits : (q p : ℕ) (at : Place) (es : List Event) → q ≢ p → is_waiting q (procured at p es) ≡ true → is_waiting q es ≡ true
-procured_waits q p at es n e = by_test (available_at at es) e
-  where
-    by_test : (b : Bool) → is_waiting q (cond b (changed at taken es) (changed at (queued p) es)) ≡ true → is_waiting q es ≡ true
-    by_test true i = any_map q at taken (taken_waits q) es i
-    by_test false i = any_map q at (queued p) (queued_waits q p n) es i
-
-cleared_waits : (q : ℕ) (e : Event) → waits_at q (cleared e) ≡ true → waits_at q e ≡ true
-unfolding waits_at
-cleared_waits q e i = i
-
-placed_waits : (q : ℕ) (at : Place) (es : List Event) → is_waiting q (placed (fresh at) es) ≡ true → is_waiting q es ≡ true
-unfolding waits_at
-placed_waits q at [] e = e
-placed_waits q at (x ∷ xs) e = by_order (is_before at x.place) (placed_waits q at xs) e
-  where
-    by_first : (w : Bool) → (is_waiting q (placed (fresh at) xs) ≡ true → is_waiting q xs ≡ true) → (w || is_waiting q (placed (fresh at) xs)) ≡ true → (w || is_waiting q xs) ≡ true
-    by_first true later e = refl
-    by_first false later e = later e
-
-    by_order : (b : Bool) → (is_waiting q (placed (fresh at) xs) ≡ true → is_waiting q xs ≡ true) → is_waiting q (cond b (fresh at ∷ x ∷ xs) (x ∷ placed (fresh at) xs)) ≡ true → is_waiting q (x ∷ xs) ≡ true
-    by_order true later e = e
-    by_order false later e = by_first (waits_at q x) later e
-
-opened_waits : (q : ℕ) (at : Place) (es : List Event) → is_waiting q (opened at es) ≡ true → is_waiting q es ≡ true
-unfolding waits_at
-opened_waits q at es e =
-    any_filter (waits_at q) (λ x. not (same_place x.place at)) es (placed_waits q at (filter (λ x. not (same_place x.place at)) es) e)
 
 -- ---- states
 
@@ -226,12 +135,87 @@ again_live (p ∷ ps) xs q k =
     (λ x e. set_live xs p x here (ℕ_discrete x p) ∙ k x (or_right (x == p) (list_any (λ y. x == y) ps) e))
     ∙ set_live xs p q here (ℕ_discrete q p)
 
+-- ---- events
+
+module _ (es : List Event) (xs : List ProcessState) (v : AreEvents es xs) where
+  -- who stands in a list waits
+  pub who_waits : (q : ℕ) → is_waiting q es ≡ true → waits (numbered xs q) ≡ true
+  who_waits q e =
+      let there = stands_at q es v.apart e in
+      elim there.1 [ inl i ↦ ap waits (v.waiters q there.0 i) | inr i ↦ ap waits (v.procurers q there.0 i) ]
+
+  -- who is able stands in none
+  pub nowhere : (q : ℕ) → is_able (numbered xs q) ≡ true → is_waiting q es ≡ false
+  nowhere q able = by_test (is_waiting q es) refl
+    where
+      able_waits : (o : Option ProcessState) → is_able o ≡ true → waits o ≡ true → ⊥
+      able_waits (Some Able) e f = cc
+      able_waits (Some Ended) e f = cc
+      able_waits (Some (WaitsFor x)) e f = cc
+      able_waits (Some (Procures x)) e f = cc
+      able_waits None e f = cc
+
+      by_test : (b : Bool) → is_waiting q es ≡ b → is_waiting q es ≡ false
+      by_test true e = absurd (able_waits (numbered xs q) able (who_waits q e))
+      by_test false e = e
+
+  -- those who wait are as before
+  pub states_kept : (ys : List ProcessState) → ((q : ℕ) → waits (numbered xs q) ≡ true → numbered ys q ≡ numbered xs q) → AreEvents es ys
+  states_kept ys k = record {
+    apart = v.apart;
+    once = v.once;
+    waiters = λ q at i. let is = v.waiters q at i in k q (ap waits is) ∙ is;
+    procurers = λ q at i. let is = v.procurers q at i in k q (ap waits is) ∙ is;
+  }
+
+  -- at each place there is the event of before, or one for which nobody waits
+  events_kept : (fs : List Event) → AreApart fs → EachOnce fs
+      → ((at : Place) → (event_at at fs ≡ event_at at es) ⊎ ((waiters_at at fs ≡ []) × (procurers_at at fs ≡ []))) → AreEvents fs xs
+  events_kept fs apart once k = record {
+    apart = apart;
+    once = once;
+    waiters = λ q at i. elim (k at) [
+      | inl same ↦ v.waiters q at (ap (λ o. list_any (λ p. q == p) (state_of o).waiters) (sym same) ∙ i)
+      | inr none ↦ nobody q (waiters_at at fs) none.0 i
+    ];
+    procurers = λ q at i. elim (k at) [
+      | inl same ↦ v.procurers q at (ap (λ o. list_any (λ p. q == p) (state_of o).procurers) (sym same) ∙ i)
+      | inr none ↦ nobody q (procurers_at at fs) none.1 i
+    ];
+  }
+    where
+      nobody : {A : Type 0} (q : ℕ) (ps : List ℕ) → ps ≡ [] → Among q ps → A
+      nobody q [] n i = cc
+      nobody q (p ∷ ps) n i = cc
+
+  closed_kept : (stack at : ℕ) → AreEvents (closed_from stack at es) xs
+  closed_kept stack at =
+      events_kept (closed_from stack at es) (stay_apart.by_closing stack at es v.apart) (waits_once.by_closing stack at es v.once)
+      (λ to. by_test to (is_from stack at to) (one_event.closed_there stack at to es))
+    where
+      by_test : (to : Place) (b : Bool) → event_at to (closed_from stack at es) ≡ cond b None (event_at to es)
+          → (event_at to (closed_from stack at es) ≡ event_at to es) ⊎ ((waiters_at to (closed_from stack at es) ≡ []) × (procurers_at to (closed_from stack at es) ≡ []))
+      by_test to true e = inr (ap (λ o. (state_of o).waiters) e, ap (λ o. (state_of o).procurers) e)
+      by_test to false e = inl e
+
+  opened_kept : (at : Place) → AreEvents (opened at es) xs
+  opened_kept at =
+      events_kept (opened at es) (stay_apart.by_opening at es v.apart) (waits_once.by_opening at es v.once)
+      (λ to. by_test to (same_place to at) refl)
+    where
+      by_test : (to : Place) (b : Bool) → same_place to at ≡ b
+          → (event_at to (opened at es) ≡ event_at to es) ⊎ ((waiters_at to (opened at es) ≡ []) × (procurers_at to (opened at es) ≡ []))
+      by_test to true e =
+          let here : event_at to (opened at es) ≡ Some (fresh at) = ap (λ a. event_at a (opened at es)) (same_place-true to at e) ∙ one_event.opened_here at es in
+          inr (ap (λ o. (state_of o).waiters) here, ap (λ o. (state_of o).procurers) here)
+      by_test to false e = inl (one_event.opened_elsewhere at to (λ k. not_both (same_place to at) (same_place-self to at k) e) es)
+
 -- ---- images
 
 module _ (code : Code) (img : Image) (v : IsValid code img) where
   -- an image with other events and states, in which the same processes live
   pub states_valid : (es : List Event) (xs : List ProcessState) → length xs ≡ length img.states → ((q : ℕ) → is_live (numbered xs q) ≡ is_live (numbered img.states q))
-      → AreEvents (with_states (with_events img es) xs) → IsValid code (with_states (with_events img es) xs)
+      → AreEvents es xs → IsValid code (with_states (with_events img es) xs)
   states_valid es xs n l a = record {
     segments = v.segments;
     words = v.words;
@@ -247,24 +231,9 @@ module _ (code : Code) (img : Image) (v : IsValid code img) where
     events = a;
   }
 
-  events_valid : (es : List Event) → AreApart es → EachOnce es → ((q : ℕ) → is_waiting q es ≡ true → is_waiting q img.events ≡ true)
-      → IsValid code (with_events img es)
-  events_valid es a o k =
-      states_valid es img.states refl (λ q. refl) (record { apart = a; once = o; waiting = λ q e. v.events.waiting q (k q e) })
-
   pub close_events_valid : (stack at : ℕ) → IsValid code (with_events img (closed_from stack at img.events))
-  unfolding waits_at
   close_events_valid stack at =
-      events_valid (closed_from stack at img.events) (stay_apart.by_closing stack at img.events v.events.apart)
-      (waits_once.by_closing stack at img.events v.events.once)
-      (λ q e. any_filter (waits_at q) (λ x. not (is_from stack at x.place)) img.events e)
+      states_valid (closed_from stack at img.events) img.states refl (λ q. refl) (closed_kept img.events img.states v.events stack at)
 
   pub open_event_valid : (at : Place) → IsValid code (with_events img (opened at img.events))
-  open_event_valid at =
-      events_valid (opened at img.events) (stay_apart.by_opening at img.events v.events.apart) (waits_once.by_opening at img.events v.events.once)
-      (λ q e. opened_waits q at img.events e)
-
-  pub reset_valid : (at : Place) → IsValid code (with_events img (changed at cleared img.events))
-  reset_valid at =
-      events_valid (changed at cleared img.events) (stay_apart.by_change at cleared (λ e. refl) img.events v.events.apart)
-      (waits_once.by_reset at img.events v.events.once) (λ q e. any_map q at cleared (cleared_waits q) img.events e)
+  open_event_valid at = states_valid (opened at img.events) img.states refl (λ q. refl) (opened_kept img.events img.states v.events at)

@@ -2,6 +2,7 @@
 use Rattle.std.proofs.Common.{◌≡◌, refl, sym, ap, ℕ, zero, suc, ◌+◌, ◌<◌, ◌≤◌, ◌^◌, Bool, true, false, List, [], ◌∷◌, length, All, Option, Some, None, ◌∙◌, arith, subst}
 use Rattle.std.specs.Prelude.{nat_le, ◌&&◌, is_some}
 use Rattle.std.proofs.lemmas.Bool.{leb-true}
+use Rattle.std.proofs.lemmas.List.Elements.{All-nil}
 use Rattle.b67_list.specs.Numbered.{numbered}
 use Rattle.b67_word.specs.Word.{Word, IsWord}
 use Rattle.b67_control.specs.declared.Registers.{Registers}
@@ -10,8 +11,8 @@ use Rattle.b67_word.specs.Word.{field}
 use Rattle.b67_segment.specs.declared.code.Segment.{Segment}
 use Rattle.b67_segment.specs.declared.code.Code.{Code}
 use Rattle.b67_store.specs.Store.{words_or, words_of, stack_at, row_words, count_limit}
-use Rattle.b67_events.specs.Events.{is_waiting}
-use Rattle.b67_events.specs.Once.{times}
+use Rattle.b67_events.specs.Events.{Event}
+use Rattle.b67_events.specs.Once.{times_in}
 use Rattle.b67_word.specs.declared.Place.{Place}
 use Rattle.b67_control.specs.Control.{as_descriptor}
 use Rattle.b67_table.specs.Chains.{place}
@@ -141,15 +142,14 @@ first_rows : AreRows first_image
 unfolding first_image
 first_rows = record { few = at_most 0 4194304 refl; room = at_most 0 1048576 refl; short = no_length; words = no_row; shallow = no_words }
 
-no_times : (p : ℕ) → times p [] ≤ 1
-no_times p = omega arith
-
-nobody_waits : (p : ℕ) → is_waiting p [] ≡ true → waits (numbered first_image.states p) ≡ true
-nobody_waits p e = cc
-
-first_events : AreEvents first_image
+first_events : AreEvents first_image.events first_image.states
 unfolding first_image
-first_events = record { apart = tt; once = record { once = no_times }; waiting = nobody_waits }
+first_events = record {
+  apart = tt;
+  once = record { waiting = λ p. All-nil (λ (e : Event). times_in p e.state.waiters ≤ 1); procuring = λ p. omega arith };
+  waiters = λ p at e. cc;
+  procurers = λ p at e. cc;
+}
 
 pub first_is_valid : (code : Code) → All (λ (s : Segment). length s.words ≤ 8192) code.segments → IsValid code first_image
 unfolding first_image

@@ -34,5 +34,6 @@ pub mod Entries
 pub mod Calls
 pub mod Making
 pub mod Begun
+pub mod Deeds
 pub mod AllValid
 pub mod Working

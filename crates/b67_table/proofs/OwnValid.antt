@@ -112,5 +112,5 @@ module _ (code : Code) (img : Image) (p : ℕ) (r : Registers) (v : IsValid code
     processes = λ q t l i. all_processes words s k q t (ℕ_discrete q p) l i;
     earlier = λ q t i. all_earlier s e q t (ℕ_discrete q p) i;
     rows = record { few = v.rows.few; room = v.rows.room; short = v.rows.short; words = v.rows.words; shallow = v.rows.shallow };
-    events = record { apart = v.events.apart; once = v.events.once; waiting = v.events.waiting };
+    events = v.events;
   }

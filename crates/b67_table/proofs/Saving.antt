@@ -176,7 +176,7 @@ module _ (code : Code) (img : Image) (v : IsValid code img) (x : Place) (old new
     processes = λ q r l i. process_kept q r (v.processes q r l i);
     earlier = v.earlier;
     rows = record { few = v.rows.few; room = v.rows.room; short = v.rows.short; words = v.rows.words; shallow = v.rows.shallow };
-    events = record { apart = v.events.apart; once = v.events.once; waiting = v.events.waiting };
+    events = v.events;
   }
 
 -- ---- rows
@@ -196,7 +196,7 @@ module _ (code : Code) (img : Image) (v : IsValid code img) where
     processes = λ q r l i. process_stays img (with_rows img rows) q r refl (v.processes q r l i);
     earlier = v.earlier;
     rows = a;
-    events = record { apart = v.events.apart; once = v.events.once; waiting = v.events.waiting };
+    events = v.events;
   }
 
   each_by : (Q : List Word → Type 0) (n k : ℕ) (o : Option Row) → Q (row_words_or o) → ((m : ℕ) → Q (row_words img.rows m)) → Dec (k ≡ n)

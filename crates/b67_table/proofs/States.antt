@@ -2,7 +2,9 @@
 use Rattle.std.proofs.Common.{◌≡◌, ◌≢◌, sym, ap, ◌∙◌, ℕ, zero, suc, Bool, true, false, List, [], ◌∷◌, ◌++◌, take, set, Option, Some}
 use Rattle.std.specs.Prelude.{slice_get}
 use Rattle.b67_list.specs.Numbered.{numbered, set_numbered}
-use Rattle.b67_events.specs.Events.{happened_at, available_at, waiters_at, procurers_at}
+use Rattle.b67_word.specs.declared.Place.{Place}
+use Rattle.b67_deeds.specs.Deeds.{Next, goes, waits, procures}
+use Rattle.b67_events.specs.Events.{deed_at}
 use Rattle.b67_table.specs.declared.ProcessState.{ProcessState}
 use Rattle.b67_table.specs.declared.ProcessState.TheVariants.{Able, WaitsFor, Procures, Ended}
 use Rattle.b67_table.specs.Image.{Image}
@@ -43,10 +45,11 @@ module _ (test : Option ProcessState → Bool) (passes : test (Some Able) ≡ tr
   other_set : (xs : List ProcessState) (p q : ℕ) (s : ProcessState) → p ≢ q → test (numbered xs q) ≡ true → test (numbered (set_numbered xs p s) q) ≡ true
   other_set xs p q s n h = ap test (get_numbered_other xs p q s (λ e. n (sym e))) ∙ h
 
-  other_waits : (goes : Bool) (xs : List ProcessState) (p q : ℕ) (s : ProcessState) → p ≢ q → test (numbered xs q) ≡ true
-      → test (numbered (waiting goes s p xs) q) ≡ true
-  other_waits true xs p q s n h = h
-  other_waits false xs p q s n h = other_set xs p q s n h
+  other_waits : (next : Next) (place : Place) (xs : List ProcessState) (p q : ℕ) → p ≢ q → test (numbered xs q) ≡ true
+      → test (numbered (waiting next place p xs) q) ≡ true
+  other_waits goes place xs p q n h = h
+  other_waits waits place xs p q n h = other_set xs p q (WaitsFor place) n h
+  other_waits procures place xs p q n h = other_set xs p q (Procures place) n h
 
   written_passes : (p q : ℕ) (w : Write) (img : Image) → p ≢ q → test (numbered img.states q) ≡ true → test (numbered (written p w img).states q) ≡ true
   written_passes p q (writes.save place w) img n h = h
@@ -58,11 +61,8 @@ module _ (test : Option ProcessState → Bool) (passes : test (Some Able) ≡ tr
   written_passes p q (writes.close_row m) img n h = h
   written_passes p q (writes.open_event place) img n h = h
   written_passes p q (writes.close_events stack at) img n h = h
-  written_passes p q (writes.wait place) img n h = other_waits (happened_at place img.events) img.states p q (WaitsFor place) n h
-  written_passes p q (writes.procure place) img n h = other_waits (available_at place img.events) img.states p q (Procures place) n h
-  written_passes p q (writes.cause place) img n h = able_all (waiters_at place img.events) img.states q h
-  written_passes p q (writes.reset place) img n h = h
-  written_passes p q (writes.liberate place) img n h = able_all (take 1 (procurers_at place img.events)) img.states q h
+  written_passes p q (writes.event_deed x place) img n h =
+      let d = deed_at x p place img.events in able_all d.frees (waiting d.next place p img.states) q (other_waits d.next place img.states p q n h)
   written_passes p q (writes.line bytes) img n h = h
   written_passes p q (writes.start r words) img n h = able_more img.states q h
   written_passes p q (writes.end_process stack) img n h = other_set img.states p q Ended n h

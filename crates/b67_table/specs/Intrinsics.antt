@@ -1,11 +1,14 @@
 -- The intrinsics: what each does where its procedure word is entered, with a mark at F and its arguments above it.
 use Rattle.std.specs.Prelude.{ℕ, ◌+◌, ◌-◌, ◌*◌, ◌&&◌, nat_lt, nat_le, Bool, if◌then◌else◌, ℤ, pos, negsuc, ◌+ℤ◌, List, [], ◌∷◌, Option, Some, None}
 use Rattle.b67_num.specs.declared.FaultKind.TheVariants.{CaseIndex}
-use Rattle.b67_word.specs.declared.Place.{Place}
 use Rattle.b67_word.specs.Word.{Word, truth}
 use Rattle.b67_control.specs.declared.Registers.{Registers}
 use Rattle.b67_control.specs.declared.Mscw.{Mscw}
 use Rattle.b67_control.specs.Control.{event_word}
+use Rattle.b67_deeds.specs.declared.EventAct.TheVariants as act
+use Rattle.b67_deeds.specs.declared.EventTest.{EventTest}
+use Rattle.b67_deeds.specs.declared.EventTest.TheVariants as test
+use Rattle.b67_deeds.specs.Deeds.{EventDeed, acts}
 use Rattle.b67_segment.specs.declared.code.Code.{Code}
 use Rattle.b67_table.specs.declared.Cell.{Cell}
 use Rattle.b67_ops.specs.declared.intrinsic.Intrinsic.{Intrinsic}
@@ -15,7 +18,7 @@ use Rattle.b67_table.specs.Limits.{end_of_code, most_arrays}
 use Rattle.b67_table.specs.Look.{Look, found, ◌>->◌, valid}
 use Rattle.b67_table.specs.Chains.{place}
 use Rattle.b67_table.specs.References.{cell_place, invalid}
-use Rattle.b67_table.specs.Program.{Test, answer, fault, loads, has_happened, ◌>>=◌, see, Change, open_event, wait, procure, cause, reset, liberate, line, Program}
+use Rattle.b67_table.specs.Program.{Test, answer, fault, loads, event_answer, ◌>>=◌, see, Change, open_event, event_deed, line, Program}
 use Rattle.b67_table.specs.Arrays.{Extents, one, two, extent, if_small, if_held, arrays_made}
 use Rattle.b67_table.specs.Arguments.{IntrinsicRow, no_such, Three, three, wholes, number_in, event_of, if_chained, finished_at}
 use Rattle.b67_table.specs.Lines.{line_for}
@@ -91,18 +94,19 @@ abbrev pub make_event : IntrinsicRow
 make_event code r next m [] = if_chained r m (answer (open_event (place r.stack r.f) (finished_at r m (event_word (record {}) ∷ []) next)))
 make_event code r next m (w ∷ words) = no_such
 
--- an action on the one event that is the argument
-abbrev pub on_event : (Place → Change → Change) → IntrinsicRow
-on_event act code r next m (w ∷ []) =
-    event_of r w >>= (λ (c : Cell). if_chained r m (answer (act (cell_place c) (finished_at r m [] next))))
-on_event act code r next m [] = no_such
-on_event act code r next m (w ∷ v ∷ words) = no_such
+-- a deed that is done with the one event that is the argument
+abbrev pub on_event : EventDeed → IntrinsicRow
+on_event x code r next m (w ∷ []) =
+    event_of r w >>= (λ (c : Cell). if_chained r m (answer (event_deed x (cell_place c) (finished_at r m [] next))))
+on_event x code r next m [] = no_such
+on_event x code r next m (w ∷ v ∷ words) = no_such
 
-abbrev pub tell_event : IntrinsicRow
-tell_event code r next m (w ∷ []) =
-    event_of r w >>= (λ (c : Cell). if_chained r m (has_happened (cell_place c) (λ (happened : Bool). answer (finished_at r m (truth happened ∷ []) next))))
-tell_event code r next m [] = no_such
-tell_event code r next m (w ∷ v ∷ words) = no_such
+-- what the one event that is the argument answers
+abbrev pub tell_event : EventTest → IntrinsicRow
+tell_event x code r next m (w ∷ []) =
+    event_of r w >>= (λ (c : Cell). if_chained r m (event_answer x (cell_place c) (λ (told : Bool). answer (finished_at r m (truth told ∷ []) next))))
+tell_event x code r next m [] = no_such
+tell_event x code r next m (w ∷ v ∷ words) = no_such
 
 -- ---- all of them
 
@@ -113,12 +117,12 @@ row_of_intrinsic names.Arrays = arrays
 row_of_intrinsic names.Event = make_event
 row_of_intrinsic names.Start = start_process
 row_of_intrinsic names.Write = write
-row_of_intrinsic names.Wait = on_event wait
-row_of_intrinsic names.Cause = on_event cause
-row_of_intrinsic names.Reset = on_event reset
-row_of_intrinsic names.Happened = tell_event
-row_of_intrinsic names.Procure = on_event procure
-row_of_intrinsic names.Liberate = on_event liberate
+row_of_intrinsic names.Wait = on_event (acts act.Wait)
+row_of_intrinsic names.Cause = on_event (acts act.Cause)
+row_of_intrinsic names.Reset = on_event (acts act.Reset)
+row_of_intrinsic names.Happened = tell_event test.Happened
+row_of_intrinsic names.Procure = on_event (acts act.Procure)
+row_of_intrinsic names.Liberate = on_event (acts act.Liberate)
 
 -- a number of which there is no intrinsic is no operand of the entry
 abbrev pub intrinsic_row : Option Intrinsic → IntrinsicRow

@@ -20,7 +20,9 @@ use Rattle.b67_table.specs.Limits.{end_of_code, most_cells}
 use Rattle.b67_table.specs.Look.{Look, found, stops, at, ◌>->◌, read_as}
 use Rattle.b67_table.specs.Chains.{place, linked, rebuilt, left_to}
 use Rattle.b67_table.specs.References.{invalid}
-use Rattle.b67_table.specs.Program.{answer, fault, loads, criticals, ◌>>=◌, see, Change, done, save, cut, push, registers, row_of, close_row, close_events, cause, end_process, Program}
+use Rattle.b67_deeds.specs.declared.EventAct.TheVariants as act
+use Rattle.b67_deeds.specs.Deeds.{acts}
+use Rattle.b67_table.specs.Program.{answer, fault, loads, criticals, ◌>>=◌, see, Change, done, save, cut, push, registers, row_of, close_row, close_events, event_deed, end_process, Program}
 use Rattle.b67_table.specs.Moves.{pushed}
 
 -- ---- entry
@@ -146,7 +148,7 @@ left r s f l =
 -- the base frame is left, and the process has ended
 abbrev pub caused_by : Option Place → Change → Change
 caused_by None next = next
-caused_by (Some task) next = cause task next
+caused_by (Some task) next = event_deed (acts act.Cause) task next
 
 abbrev pub leave_base : Registers → List Word → ℕ → Program
 leave_base r cells next =

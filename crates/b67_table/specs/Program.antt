@@ -6,6 +6,8 @@ use Rattle.b67_word.specs.declared.Place.{Place}
 use Rattle.b67_word.specs.Word.{Word}
 use Rattle.b67_control.specs.declared.Registers.{Registers}
 use Rattle.b67_store.specs.Store.{Row}
+use Rattle.b67_deeds.specs.declared.EventTest.{EventTest}
+use Rattle.b67_deeds.specs.Deeds.{EventDeed}
 use Rattle.b67_table.specs.declared.InterruptKind.{InterruptKind}
 use Rattle.b67_table.specs.Effect.{Effect, gives, faults, interrupts}
 use Rattle.b67_table.specs.Image.{Image}
@@ -58,8 +60,8 @@ counted more = ask questions.counted more
 abbrev pub is_event : {A : Type 0} → Place → (Bool → Test A) → Test A
 is_event place more = ask (questions.is_event place) more
 
-abbrev pub has_happened : {A : Type 0} → Place → (Bool → Test A) → Test A
-has_happened place more = ask (questions.has_happened place) more
+abbrev pub event_answer : {A : Type 0} → EventTest → Place → (Bool → Test A) → Test A
+event_answer x place more = ask (questions.event_answer x place) more
 
 abbrev pub criticals : {A : Type 0} → (List Place → Test A) → Test A
 criticals more = ask questions.criticals more
@@ -114,20 +116,8 @@ open_event place next = write (writes.open_event place) next
 abbrev pub close_events : ℕ → ℕ → Change → Change
 close_events stack at next = write (writes.close_events stack at) next
 
-abbrev pub wait : Place → Change → Change
-wait place next = write (writes.wait place) next
-
-abbrev pub procure : Place → Change → Change
-procure place next = write (writes.procure place) next
-
-abbrev pub cause : Place → Change → Change
-cause place next = write (writes.cause place) next
-
-abbrev pub reset : Place → Change → Change
-reset place next = write (writes.reset place) next
-
-abbrev pub liberate : Place → Change → Change
-liberate place next = write (writes.liberate place) next
+abbrev pub event_deed : EventDeed → Place → Change → Change
+event_deed x place next = write (writes.event_deed x place) next
 
 abbrev pub line : List ℕ → Change → Change
 line bytes next = write (writes.line bytes) next

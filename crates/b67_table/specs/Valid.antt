@@ -1,5 +1,6 @@
 -- Which images are valid, whatever code is run: what the first image has and every operator keeps, and what the machine rests on.
-use Rattle.std.specs.Prelude.{◌≡◌, ℕ, ◌+◌, ◌-◌, ◌<◌, ◌≤◌, ◌^◌, not, Bool, true, false, List, ◌∷◌, ◌++◌, length, replicate, All, map, Option, Some, None, is_some}
+use Rattle.std.specs.Prelude.{◌≡◌, ℕ, ◌+◌, ◌-◌, ◌<◌, ◌≤◌, ◌^◌, ◌==◌, not, Bool, true, false, List, ◌∷◌, ◌++◌, length, replicate, All, map, Option, Some, None, is_some}
+use Rattle.std.specs.List.{list_any}
 use Rattle.std.specs.Option.{ForSome}
 use Rattle.b67_list.specs.Numbered.{numbered}
 use Rattle.b67_num.specs.declared.FaultKind.{FaultKind}
@@ -14,7 +15,7 @@ use Rattle.b67_control.specs.Display.{levels}
 use Rattle.b67_segment.specs.declared.code.Segment.{Segment}
 use Rattle.b67_segment.specs.declared.code.Code.{Code}
 use Rattle.b67_store.specs.Store.{stack_at, words_of, word_at, row_words, counted_words, count_limit, row_limit, stack_limit}
-use Rattle.b67_events.specs.Events.{is_waiting}
+use Rattle.b67_events.specs.Events.{Event, waiters_at, procurers_at}
 use Rattle.b67_events.specs.Laws.{AreApart}
 use Rattle.b67_events.specs.Once.{EachOnce}
 use Rattle.b67_table.specs.declared.ProcessState.{ProcessState}
@@ -96,11 +97,12 @@ waits (Some Able) = false
 waits (Some Ended) = false
 waits None = false
 
-pub record AreEvents (img : Image) : Type 0 where
-  pub apart : AreApart img.events
-  pub once : EachOnce img.events
-  -- who stands in a list waits; who waits need not stand in one, since an event may be closed or opened anew
-  pub waiting : (p : ℕ) → is_waiting p img.events ≡ true → waits (numbered img.states p) ≡ true
+pub record AreEvents (es : List Event) (states : List ProcessState) : Type 0 where
+  pub apart : AreApart es
+  pub once : EachOnce es
+  -- who stands in a list of an event waits for it; who waits need not stand in one, since an event may be closed or opened anew
+  pub waiters : (p : ℕ) (at : Place) → list_any (λ q. p == q) (waiters_at at es) ≡ true → numbered states p ≡ Some (WaitsFor at)
+  pub procurers : (p : ℕ) (at : Place) → list_any (λ q. p == q) (procurers_at at es) ≡ true → numbered states p ≡ Some (Procures at)
 
 -- ---- images
 
@@ -118,7 +120,7 @@ pub record IsValid (code : Code) (img : Image) : Type 0 where
   -- the critical place of a process, also of one that has ended, lies in the stack of a process that was started before it
   pub earlier : (p : ℕ) (r : Registers) → numbered img.regs p ≡ Some r → ForSome r.critical (λ (c : Place). c.stack < p)
   pub rows : AreRows img
-  pub events : AreEvents img
+  pub events : AreEvents img.events img.states
 
 -- the first image of a code whose segments have at most 8,192 words is valid
 abbrev pub FirstIsValid : Type 0

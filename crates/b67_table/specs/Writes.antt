@@ -1,12 +1,12 @@
 -- What an operator may write into an image. No write can fail.
-use Rattle.std.specs.Prelude.{ℕ, ◌+◌, Bool, true, false, List, [], ◌∷◌, ◌++◌, take}
+use Rattle.std.specs.Prelude.{ℕ, ◌+◌, Bool, List, [], ◌∷◌, ◌++◌}
 use Rattle.b67_list.specs.Numbered.{set_numbered}
 use Rattle.b67_word.specs.declared.Place.{Place}
 use Rattle.b67_word.specs.Word.{Word}
 use Rattle.b67_control.specs.declared.Registers.{Registers}
 use Rattle.b67_store.specs.Store.{with_word, with_push, with_cut, opened_at, closed_at, with_row_word, zero_row}
-use Rattle.b67_events.specs.Events.{happened_at, available_at, waiters_at, procurers_at, opened, closed_from, waited, procured, caused, cleared, liberated}
-use Rattle.b67_events.specs.Events.{changed as with_event}
+use Rattle.b67_deeds.specs.Deeds.{EventDeed, Deed, Next, goes, waits, procures}
+use Rattle.b67_events.specs.Events.{opened, closed_from, deed_at, done_at}
 use Rattle.b67_table.specs.declared.ProcessState.{ProcessState}
 use Rattle.b67_table.specs.declared.ProcessState.TheVariants.{Able, WaitsFor, Procures, Ended}
 use Rattle.b67_table.specs.Image.{Image, with_stacks, with_rows, with_events, with_states, with_registers}
@@ -27,14 +27,8 @@ pub data Write : Type 0 where
   open_event : Place → Write
   -- the events of a stack at a displacement and above are closed
   close_events : ℕ → ℕ → Write
-  -- the process goes on, or it waits for the event at a place, or to procure it
-  wait : Place → Write
-  procure : Place → Write
-  -- an event happens, where one is open at the place, and those who wait for it are able
-  cause : Place → Write
-  reset : Place → Write
-  -- an event is free, or the first who waits to procure it has it and is able
-  liberate : Place → Write
+  -- what is done with the event at a place
+  event_deed : EventDeed → Place → Write
   -- a line of output
   line : List ℕ → Write
   -- the next process, with these registers, and a stack of these words under its number
@@ -46,10 +40,15 @@ abbrev pub able_again : List ℕ → List ProcessState → List ProcessState
 able_again [] states = states
 able_again (p ∷ ps) states = able_again ps (set_numbered states p Able)
 
--- the process waits in this state, where it does not go on
-abbrev pub waiting : Bool → ProcessState → ℕ → List ProcessState → List ProcessState
-waiting true state p states = states
-waiting false state p states = set_numbered states p state
+-- the process goes on, or it waits for the event at a place, or to procure it
+abbrev pub waiting : Next → Place → ℕ → List ProcessState → List ProcessState
+waiting goes place p states = states
+waiting waits place p states = set_numbered states p (WaitsFor place)
+waiting procures place p states = set_numbered states p (Procures place)
+
+-- the states of the processes when one has done this with the event at a place
+abbrev pub states_after : Deed → Place → ℕ → List ProcessState → List ProcessState
+states_after d place p states = able_again d.frees (waiting d.next place p states)
 
 -- what a write of a process makes of an image
 abbrev pub written : ℕ → Write → Image → Image
@@ -62,15 +61,8 @@ written p (write_row n at w) img = with_rows img (with_row_word img.rows n at w)
 written p (close_row n) img = with_rows img (closed_at img.rows n)
 written p (open_event place) img = with_events img (opened place img.events)
 written p (close_events stack at) img = with_events img (closed_from stack at img.events)
-written p (wait place) img =
-    with_states (with_events img (waited place p img.events)) (waiting (happened_at place img.events) (WaitsFor place) p img.states)
-written p (procure place) img =
-    with_states (with_events img (procured place p img.events)) (waiting (available_at place img.events) (Procures place) p img.states)
-written p (cause place) img =
-    with_states (with_events img (with_event place caused img.events)) (able_again (waiters_at place img.events) img.states)
-written p (reset place) img = with_events img (with_event place cleared img.events)
-written p (liberate place) img =
-    with_states (with_events img (liberated place img.events)) (able_again (take 1 (procurers_at place img.events)) img.states)
+written p (event_deed x place) img =
+    with_states (with_events img (done_at x p place img.events)) (states_after (deed_at x p place img.events) place p img.states)
 written p (line bytes) img = record img { output = img.output ++ bytes ∷ [] }
 written p (start r words) img = record img {
   stacks = opened_at img.stacks r.stack words;

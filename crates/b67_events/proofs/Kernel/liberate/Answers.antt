@@ -1,8 +1,9 @@
 use Rattle.std.proofs.Common.{◌∙◌, true, ap, sym, vec_capacity}
 use Rattle.std.specs.Prelude.{slice_get}
-use Rattle.b67_events.specs.Kept.{stands_in, with_available}
+use Rattle.b67_events.specs.Events.{procurers_at}
+use Rattle.b67_events.specs.Kept.{stands_in, events_of, with_available}
 use Rattle.b67_events.specs.declared.Queue.TheVariants.{Procurers}
-use Rattle.b67_events.proofs.Steps.{held, kept-first, kept-set, kept-wider, procurers-shown, liberated-served, liberated-freed}
+use Rattle.b67_events.proofs.Steps.{held, kept-first, kept-set, kept-wider, procurers-shown, liberated-served, liberated-freed, first-taken}
 use Rattle.b67_events.proofs.Kernel.liberate.Goals as goal
 
 pub invariant_of-self : goal.invariant_of-self
@@ -17,7 +18,8 @@ returns-in-Some-clause-answer c =
     let k = c.self.inside in
     let here = rw (← c.self.view_is) at c.requires in
     rw (← c.self.view_is)
-    (sym c.in-Some.is ∙ c.serve.ensures.first ∙ ap (λ ks. slice_get ks 0) (procurers-shown c.args.at k.events.entries k.waiting.items here))
+    (sym c.in-Some.is ∙ c.serve.ensures.first ∙ ap (λ ks. slice_get ks 0) (procurers-shown c.args.at k.events.entries k.waiting.items here)
+    ∙ first-taken (procurers_at c.args.at (events_of k.events.entries k.waiting.items)))
 
 pub returns-in-Some-clause-after : goal.returns-in-Some-clause-after
 returns-in-Some-clause-after c =
@@ -40,7 +42,8 @@ returns-clause-answer c =
     let k = c.self.inside in
     let here = rw (← c.self.view_is) at c.requires in
     rw (← c.self.view_is)
-    (sym c.in_default.is ∙ c.serve.ensures.first ∙ ap (λ ks. slice_get ks 0) (procurers-shown c.args.at k.events.entries k.waiting.items here))
+    (sym c.in_default.is ∙ c.serve.ensures.first ∙ ap (λ ks. slice_get ks 0) (procurers-shown c.args.at k.events.entries k.waiting.items here)
+    ∙ first-taken (procurers_at c.args.at (events_of k.events.entries k.waiting.items)))
 
 pub returns-clause-after : goal.returns-clause-after
 returns-clause-after c =

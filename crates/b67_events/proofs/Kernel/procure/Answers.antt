@@ -1,10 +1,11 @@
-use Rattle.std.proofs.Common.{◌≡◌, true, false, ap, sym, ◌∙◌, vec_capacity}
+use Rattle.std.proofs.Common.{◌≡◌, refl, true, false, ap, sym, ◌∙◌, vec_capacity}
+use Rattle.b67_deeds.specs.Deeds.{procures}
 use Rattle.b67_events.specs.Events.{available_at}
 use Rattle.b67_events.specs.Kept.{events_of, with_available}
 use Rattle.b67_events.specs.declared.Waiting.{Waiting}
 use Rattle.b67_events.specs.declared.Queue.TheVariants.{Procurers}
 use Rattle.b67_events.proofs.Shown.{available-shown}
-use Rattle.b67_events.proofs.Steps.{held, kept-set, kept-room, kept-push, kept-wider, procured-went, procured-waits, took-went, took-waits}
+use Rattle.b67_events.proofs.Steps.{held, kept-set, kept-room, kept-push, kept-wider, procure-goes, procure-waits, took-goes, took-waits}
 use Rattle.b67_events.proofs.Kernel.procure.Goals as goal
 
 went : (c : goal.After-set_available) → available_at c.args.at (events_of c.self.inside.events.entries c.self.inside.waiting.items) ≡ true
@@ -21,7 +22,7 @@ waits c =
 
 pub returns-then-is_available-clause-answer : goal.returns-then-is_available-clause-answer
 returns-then-is_available-clause-answer c =
-    rw (← c.self.view_is) (took-went (available_at c.args.at (events_of c.self.inside.events.entries c.self.inside.waiting.items)) (went c))
+    rw (← c.self.view_is) (took-goes (available_at c.args.at (events_of c.self.inside.events.entries c.self.inside.waiting.items)) procures (went c))
 
 pub invariant_of-self : goal.invariant_of-self
 invariant_of-self c =
@@ -33,7 +34,7 @@ pub returns-then-is_available-clause-after : goal.returns-then-is_available-clau
 returns-then-is_available-clause-after c =
     let k = c.self.inside in
     rw (← c.self.view_is, c.set_available.ensures)
-    (ap (λ es. held es k.processes) (procured-went c.args.at c.args.process k.events.entries k.waiting.items (went c)))
+    (ap (λ es. held es k.processes) (procure-goes c.args.at c.args.process k.events.entries k.waiting.items (went c)))
 
 pub enqueue-requires : goal.enqueue-requires
 enqueue-requires c =
@@ -54,10 +55,10 @@ invariant_of-self-2 c =
 
 pub returns-clause-answer : goal.returns-clause-answer
 returns-clause-answer c =
-    rw (← c.self.view_is) (took-waits (available_at c.args.at (events_of c.self.inside.events.entries c.self.inside.waiting.items)) (waits c))
+    rw (← c.self.view_is) (took-waits (available_at c.args.at (events_of c.self.inside.events.entries c.self.inside.waiting.items)) procures refl (waits c))
 
 pub returns-clause-after : goal.returns-clause-after
 returns-clause-after c =
     let k = c.self.inside in
     rw (← c.self.view_is, c.enqueue.ensures.items)
-    (ap (λ es. held es k.processes) (procured-waits c.args.at c.args.process k.events.entries k.waiting.items (waits c)))
+    (ap (λ es. held es k.processes) (procure-waits c.args.at c.args.process k.events.entries k.waiting.items (waits c)))

@@ -1,5 +1,6 @@
 use Rattle.std.proofs.Common.{refl, false, ap, vec_capacity}
-use Rattle.b67_events.specs.Events.{cleared}
+use Rattle.b67_deeds.specs.Events.{cleared}
+use Rattle.b67_events.specs.Events.{with_state}
 use Rattle.b67_events.specs.Kept.{with_happened}
 use Rattle.b67_events.proofs.Shown.{events-flags}
 use Rattle.b67_events.proofs.Steps.{held, kept-set}
@@ -15,4 +16,4 @@ pub returns : goal.returns
 returns c =
     let k = c.self.inside in
     rw (← c.self.view_is, c.set_happened.ensures)
-    (ap (λ es. held es k.processes) (events-flags c.args.at (with_happened false) cleared k.waiting.items (λ x. refl) k.events.entries))
+    (ap (λ es. held es k.processes) (events-flags c.args.at (with_happened false) (with_state cleared) k.waiting.items (λ x. refl) k.events.entries))

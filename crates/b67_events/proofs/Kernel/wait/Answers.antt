@@ -1,10 +1,11 @@
-use Rattle.std.proofs.Common.{◌≡◌, true, false, ap, sym, ◌∙◌, vec_capacity}
+use Rattle.std.proofs.Common.{◌≡◌, refl, true, false, ap, sym, ◌∙◌, vec_capacity}
+use Rattle.b67_deeds.specs.Deeds.{waits as waiting}
 use Rattle.b67_events.specs.Events.{happened_at}
 use Rattle.b67_events.specs.Kept.{events_of}
 use Rattle.b67_events.specs.declared.Waiting.{Waiting}
 use Rattle.b67_events.specs.declared.Queue.TheVariants.{Waiters}
 use Rattle.b67_events.proofs.Shown.{happened-shown}
-use Rattle.b67_events.proofs.Steps.{held, kept-room, kept-push, kept-wider, waited-went, waited-waits, took-went, took-waits}
+use Rattle.b67_events.proofs.Steps.{held, kept-room, kept-push, kept-wider, wait-goes, wait-waits, took-goes, took-waits}
 use Rattle.b67_events.proofs.Kernel.wait.Goals as goal
 
 went : (c : goal.Then-has_happened) → happened_at c.args.at (events_of c.self.inside.events.entries c.self.inside.waiting.items) ≡ true
@@ -21,12 +22,12 @@ waits c =
 
 pub returns-then-has_happened-clause-answer : goal.returns-then-has_happened-clause-answer
 returns-then-has_happened-clause-answer c =
-    rw (← c.self.view_is) (took-went (happened_at c.args.at (events_of c.self.inside.events.entries c.self.inside.waiting.items)) (went c))
+    rw (← c.self.view_is) (took-goes (happened_at c.args.at (events_of c.self.inside.events.entries c.self.inside.waiting.items)) waiting (went c))
 
 pub returns-then-has_happened-clause-after : goal.returns-then-has_happened-clause-after
 returns-then-has_happened-clause-after c =
     let k = c.self.inside in
-    rw (← c.self.view_is) (ap (λ es. held es k.processes) (waited-went c.args.at c.args.process (events_of k.events.entries k.waiting.items) (went c)))
+    rw (← c.self.view_is) (ap (λ es. held es k.processes) (wait-goes c.args.at c.args.process (events_of k.events.entries k.waiting.items) (went c)))
 
 pub enqueue-requires : goal.enqueue-requires
 enqueue-requires c =
@@ -47,10 +48,10 @@ invariant_of-self c =
 
 pub returns-clause-answer : goal.returns-clause-answer
 returns-clause-answer c =
-    rw (← c.self.view_is) (took-waits (happened_at c.args.at (events_of c.self.inside.events.entries c.self.inside.waiting.items)) (waits c))
+    rw (← c.self.view_is) (took-waits (happened_at c.args.at (events_of c.self.inside.events.entries c.self.inside.waiting.items)) waiting refl (waits c))
 
 pub returns-clause-after : goal.returns-clause-after
 returns-clause-after c =
     let k = c.self.inside in
     rw (← c.self.view_is, c.enqueue.ensures.items)
-    (ap (λ es. held es k.processes) (waited-waits c.args.at c.args.process k.events.entries k.waiting.items (waits c)))
+    (ap (λ es. held es k.processes) (wait-waits c.args.at c.args.process k.events.entries k.waiting.items (waits c)))
