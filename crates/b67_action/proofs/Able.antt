@@ -1,23 +1,26 @@
 -- Who is able, by the states before and after.
 use Rattle.std.specs.Prelude.{nat_lt, slice_get, if◌then◌else◌}
 use Rattle.std.specs.List.{list_any}
-use Rattle.std.proofs.Common.{◌≡◌, ◌≢◌, refl, ap, subst, ◌∙◌, ℕ, zero, suc, ◌+◌, ◌≤◌, ◌==◌, ◌||◌, Bool, true, false, cond, List, [], ◌∷◌, ◌++◌, length, take, Option, Some, None, inl, inr, arith}
+use Rattle.std.proofs.Common.{◌≡◌, ◌≢◌, refl, ap, subst, ◌∙◌, ℕ, zero, suc, ◌+◌, ◌≤◌, ◌==◌, ◌||◌, Bool, true, false, cond, List, [], ◌∷◌, ◌++◌, length, take, All, Option, Some, None, inl, inr, arith}
+use Rattle.std.proofs.lemmas.List.Elements.{All-head, All-tail}
 use Rattle.std.proofs.Math.Decide.{ℕ_discrete}
 use Rattle.std.proofs.lemmas.Bool.{or_cases, or_parts, eqb-true, eq-eqb, le-leb, leb-true}
 use Rattle.b67_list.specs.Numbered.{numbered, set_numbered}
 use Rattle.b67_word.specs.declared.Place.{Place}
 use Rattle.b67_segment.specs.declared.code.Code.{Code}
-use Rattle.b67_events.specs.Events.{Event, same_place, event_at, waiters_of, waiters_at, procurers_of, procurers_at, is_waiting}
-use Rattle.b67_events.specs.Once.{times_in, times as times_at_all, EachOnce}
+use Rattle.b67_deeds.specs.declared.EventAct.TheVariants as act
+use Rattle.b67_deeds.specs.Deeds.{EventDeed, acts, tests, Next, goes, waits as awaits, procures}
+use Rattle.b67_events.specs.Events.{Event, same_place, event_at, state_of, waiters_at, procurers_at, deed_at}
+use Rattle.b67_events.specs.Once.{times_in}
 use Rattle.b67_table.specs.declared.ProcessState.{ProcessState}
 use Rattle.b67_table.specs.declared.ProcessState.TheVariants.{Able, WaitsFor, Procures, Ended}
 use Rattle.b67_table.specs.Image.{Image, is_able}
 use Rattle.b67_table.specs.Writes.{able_again, waiting}
-use Rattle.b67_table.specs.Valid.{IsValid, waits}
+use Rattle.b67_table.specs.Valid.{IsValid, AreEvents, waits}
 use Rattle.b67_table.proofs.Stacks.{get_numbered_other}
 use Rattle.b67_table.proofs.Lists.{numbered_set}
 use Rattle.b67_table.proofs.States.{able_all}
-use Rattle.b67_table.proofs.EventKept.{not_both, length_states, same_state, live_of, within_of}
+use Rattle.b67_table.proofs.EventKept.{or_left, not_both, length_states, same_state, live_of, within_of}
 use Rattle.b67_table.proofs.Waking.{able_live}
 use Rattle.b67_action.specs.Able.{times, one_if, able_in, newly, AbleAfter}
 
@@ -37,46 +40,46 @@ in_some q (x ∷ xs) h = elim (or_cases (q == x) (list_any (λ y. q == y) xs) h)
   | inr e ↦ let rest = in_some q xs e in omega arith
 ]
 
-in_both : (q : ℕ) (xs ys : List ℕ) → times_in q (xs ++ ys) ≡ times_in q xs + times_in q ys
-in_both q [] ys = omega arith
-in_both q (x ∷ xs) ys = let rest = in_both q xs ys in omega arith
-
-counted_none : (q : ℕ) (es : List Event) → is_waiting q es ≡ false → times_at_all q es ≡ 0
-counted_none q [] h = refl
-counted_none q (x ∷ xs) h =
-    let parts = or_parts (list_any (λ y. q == y) (x.waiters ++ x.procurers)) (is_waiting q xs) h in
-    let here = in_none q (x.waiters ++ x.procurers) parts.0 in
-    let both = in_both q x.waiters x.procurers in
-    let rest = counted_none q xs parts.1 in
-    omega arith
-
-counted_waits : (q : ℕ) (es : List Event) (b : Bool) → is_waiting q es ≡ b → 1 ≤ times_at_all q es → is_waiting q es ≡ true
-counted_waits q es true e h = e
-counted_waits q es false e h = absurd (omega (arith, h, counted_none q es e))
-
--- a list of an event counts no process more often than all lists do
-pub waiters_few : (q : ℕ) (at : Place) (es : List Event) → times_in q (waiters_at at es) ≤ times_at_all q es
-waiters_few q at [] = omega arith
-waiters_few q at (x ∷ xs) = by (same_place x.place at) (waiters_few q at xs)
+-- each stands once in the list of those who wait for an event to happen
+pub waiters_once : (q : ℕ) (at : Place) (es : List Event) → All (λ e. times_in q e.state.waiters ≤ 1) es → times_in q (waiters_at at es) ≤ 1
+waiters_once q at [] h = omega arith
+waiters_once q at (x ∷ xs) h =
+    by (same_place x.place at) (All-head (λ (e : Event). times_in q e.state.waiters ≤ 1) x xs h)
+    (waiters_once q at xs (All-tail (λ (e : Event). times_in q e.state.waiters ≤ 1) x xs h))
   where
-    by : (b : Bool) → times_in q (waiters_at at xs) ≤ times_at_all q xs → times_in q (waiters_of (cond b (Some x) (event_at at xs))) ≤ times_at_all q (x ∷ xs)
-    by true more = omega arith
-    by false more = omega (arith, more)
+    by : (b : Bool) → times_in q x.state.waiters ≤ 1 → times_in q (waiters_at at xs) ≤ 1 → times_in q (state_of (cond b (Some x) (event_at at xs))).waiters ≤ 1
+    by true one more = one
+    by false one more = more
 
-procurers_few : (q : ℕ) (at : Place) (es : List Event) → times_in q (procurers_at at es) ≤ times_at_all q es
-procurers_few q at [] = omega arith
-procurers_few q at (x ∷ xs) = by (same_place x.place at) (procurers_few q at xs)
+first_once : (q : ℕ) (ps : List ℕ) → times_in q (take 1 ps) ≤ 1
+first_once q [] = omega arith
+first_once q (p ∷ ps) = by (q == p)
   where
-    by : (b : Bool) → times_in q (procurers_at at xs) ≤ times_at_all q xs → times_in q (procurers_of (cond b (Some x) (event_at at xs))) ≤ times_at_all q (x ∷ xs)
-    by true more = omega arith
-    by false more = omega (arith, more)
+    by : (b : Bool) → one_if b + 0 ≤ 1
+    by true = omega arith
+    by false = omega arith
 
-first_few : (q : ℕ) (ps : List ℕ) → times_in q (take 1 ps) ≤ times_in q ps
-first_few q [] = omega arith
-first_few q (p ∷ ps) = omega arith
+first_among : (q : ℕ) (ps : List ℕ) → list_any (λ x. q == x) (take 1 ps) ≡ true → list_any (λ x. q == x) ps ≡ true
+first_among q [] e = e
+first_among q (p ∷ ps) e = elim (or_cases (q == p) false e) [ inl j ↦ or_left (q == p) (list_any (λ x. q == x) ps) j | inr j ↦ absurd (not_both false j refl) ]
 
-pub first_procurer_few : (q : ℕ) (at : Place) (es : List Event) → times_in q (take 1 (procurers_at at es)) ≤ times_at_all q es
-first_procurer_few q at es = omega (arith, first_few q (procurers_at at es), procurers_few q at es)
+-- those who are released by a deed wait, and each is released once
+module _ (es : List Event) (xs : List ProcessState) (v : AreEvents es xs) (p q : ℕ) (at : Place) where
+  pub freed_wait : (x : EventDeed) → list_any (λ y. q == y) (deed_at x p at es).frees ≡ true → waits (numbered xs q) ≡ true
+  freed_wait (acts act.Cause) i = ap waits (v.waiters q at i)
+  freed_wait (acts act.Reset) i = cc
+  freed_wait (acts act.Wait) i = cc
+  freed_wait (acts act.Procure) i = cc
+  freed_wait (acts act.Liberate) i = ap waits (v.procurers q at (first_among q (procurers_at at es) i))
+  freed_wait (tests t) i = cc
+
+  pub freed_once : (x : EventDeed) → times_in q (deed_at x p at es).frees ≤ 1
+  freed_once (acts act.Cause) = waiters_once q at es (v.once.waiting q)
+  freed_once (acts act.Reset) = omega arith
+  freed_once (acts act.Wait) = omega arith
+  freed_once (acts act.Procure) = omega arith
+  freed_once (acts act.Liberate) = first_once q (procurers_at at es)
+  freed_once (tests t) = omega arith
 
 -- ---- states
 
@@ -86,6 +89,10 @@ waits_not_able (Some (Procures x)) e = refl
 waits_not_able (Some Able) e = cc
 waits_not_able (Some Ended) e = cc
 waits_not_able None e = cc
+
+-- nobody waits and is able
+pub able_waits : (o : Option ProcessState) → is_able o ≡ true → waits o ≡ true → ⊥
+able_waits o able w = not_both (is_able o) able (waits_not_able o w)
 
 made_able : (q : ℕ) (ws : List ℕ) (xs : List ProcessState) → 1 ≤ q → q ≤ length xs → list_any (λ x. q == x) ws ≡ true → is_able (numbered (able_again ws xs) q) ≡ true
 made_able q [] xs one within e = cc
@@ -98,38 +105,33 @@ made_able q (x ∷ ws) xs one within e = elim (or_cases (q == x) (list_any (λ y
     here h = subst (λ (m : ℕ). is_able (numbered (set_numbered xs m Able) q) ≡ true) h (ap is_able (numbered_set xs q Able one within))
 
 -- some who wait are made able, each once
-module _ (xs : List ProcessState) (es : List Event) (once : EachOnce es) (waiting_are : (q : ℕ) → is_waiting q es ≡ true → waits (numbered xs q) ≡ true) (ws : List ℕ)
-    (few : (q : ℕ) → times_in q ws ≤ times_at_all q es) where
-  waits_in : (q k : ℕ) → times_in q ws ≡ suc k → waits (numbered xs q) ≡ true
-  waits_in q k e = waiting_are q (counted_waits q es (is_waiting q es) refl (omega (arith, e, few q)))
-
+module _ (xs : List ProcessState) (ws : List ℕ) (waited : (q : ℕ) → list_any (λ x. q == x) ws ≡ true → waits (numbered xs q) ≡ true) (few : (q : ℕ) → times_in q ws ≤ 1) where
   pub woken_others : (q : ℕ) → one_if (is_able (numbered (able_again ws xs) q)) ≡ one_if (is_able (numbered xs q)) + times_in q ws
-  woken_others q = by_any (list_any (λ x. q == x) ws) refl (times_in q ws) refl
+  woken_others q = by_any (list_any (λ x. q == x) ws) refl
     where
-      by_any : (b : Bool) → list_any (λ x. q == x) ws ≡ b → (n : ℕ) → times_in q ws ≡ n
-          → one_if (is_able (numbered (able_again ws xs) q)) ≡ one_if (is_able (numbered xs q)) + times_in q ws
-      by_any false h n e =
+      by_any : (b : Bool) → list_any (λ x. q == x) ws ≡ b → one_if (is_able (numbered (able_again ws xs) q)) ≡ one_if (is_able (numbered xs q)) + times_in q ws
+      by_any false h =
           let same : one_if (is_able (numbered (able_again ws xs) q)) ≡ one_if (is_able (numbered xs q)) =
           ap (λ (o : Option ProcessState). one_if (is_able o)) (same_state ws xs q h) in
           omega (arith, same, in_none q ws h)
-      by_any true h zero e = absurd (omega (arith, e, in_some q ws h))
-      by_any true h (suc k) e =
-          let w = waits_in q k e in
+      by_any true h =
+          let w = waited q h in
           let within = within_of xs q (live_of (numbered xs q) w) in
           let now : one_if (is_able (numbered (able_again ws xs) q)) ≡ 1 = ap one_if (made_able q ws xs within.0 within.1 h) in
           let before : one_if (is_able (numbered xs q)) ≡ 0 = ap one_if (waits_not_able (numbered xs q) w) in
-          omega (arith, now, before, in_some q ws h, few q, once.once q)
+          omega (arith, now, before, in_some q ws h, few q)
 
   pub woken_own : (p : ℕ) → is_able (numbered xs p) ≡ true → times_in p ws ≡ 0
-  woken_own p able = by (times_in p ws) refl
+  woken_own p able = by (list_any (λ x. p == x) ws) refl
     where
-      by : (n : ℕ) → times_in p ws ≡ n → times_in p ws ≡ 0
-      by zero e = e
-      by (suc k) e = absurd (not_both (is_able (numbered xs p)) able (waits_not_able (numbered xs p) (waits_in p k e)))
+      by : (b : Bool) → list_any (λ x. p == x) ws ≡ b → times_in p ws ≡ 0
+      by false h = in_none p ws h
+      by true h = absurd (not_both (is_able (numbered xs p)) able (waits_not_able (numbered xs p) (waited p h)))
 
-pub other_waits : (goes : Bool) (xs : List ProcessState) (p q : ℕ) (s : ProcessState) → q ≢ p → numbered (waiting goes s p xs) q ≡ numbered xs q
-other_waits true xs p q s h = refl
-other_waits false xs p q s h = get_numbered_other xs p q s h
+pub other_waits : (next : Next) (at : Place) (xs : List ProcessState) (p q : ℕ) → q ≢ p → numbered (waiting next at p xs) q ≡ numbered xs q
+other_waits goes at xs p q h = refl
+other_waits awaits at xs p q h = get_numbered_other xs p q (WaitsFor at) h
+other_waits procures at xs p q h = get_numbered_other xs p q (Procures at) h
 
 -- ---- one state more
 
@@ -195,7 +197,7 @@ able_more code before after p v able s n =
     }
   where
     inside : (q : ℕ) → is_able (numbered before.states q) ≡ true → q ≢ before.started + 1
-    inside q a e = absurd (omega (arith, (within_of before.states q (able_live code before v q a (numbered before.states q) a)).1, v.states, e))
+    inside q a e = absurd (omega (arith, (within_of before.states q (able_live (numbered before.states q) a)).1, v.states, e))
 
     apart : (q : ℕ) → q ≢ before.started + 1 → times q ((before.started + 1) ∷ []) ≡ 0
     apart q h = in_none q ((before.started + 1) ∷ []) (none (q == before.started + 1) refl)

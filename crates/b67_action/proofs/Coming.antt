@@ -15,7 +15,8 @@ use Rattle.b67_table.specs.declared.InterruptKind.TheVariants.{BadCode as bad_co
 use Rattle.b67_table.specs.declared.ProcessState.{ProcessState}
 use Rattle.b67_table.specs.declared.ProcessState.TheVariants as states
 use Rattle.b67_table.specs.Effect.{Effect, gives, faults, interrupts}
-use Rattle.b67_events.specs.Events.{happened_at, available_at, waiters_at, procurers_at}
+use Rattle.b67_deeds.specs.Deeds.{Next, goes, waits as awaits, procures}
+use Rattle.b67_events.specs.Events.{deed_at}
 use Rattle.b67_store.specs.Store.{stack_limit}
 use Rattle.b67_table.specs.declared.Private.{Private as Part}
 use Rattle.b67_table.specs.Image.{Image, private_of, with_private, with_effect, is_able, is_live}
@@ -164,19 +165,14 @@ grows_by p (writes.write_row n at w) img = omega arith
 grows_by p (writes.close_row n) img = omega arith
 grows_by p (writes.open_event place) img = omega arith
 grows_by p (writes.close_events stack at) img = omega arith
-grows_by p (writes.wait place) img = by (happened_at place img.events)
+grows_by p (writes.event_deed x place) img =
+    let d = deed_at x p place img.events in
+    omega (arith, length_again d.frees (waiting d.next place p img.states), waiting_grows d.next)
   where
-    by : (b : Bool) → length img.states ≤ length (waiting b (states.WaitsFor place) p img.states)
-    by true = omega arith
-    by false = omega (arith, length_states img.states p (states.WaitsFor place))
-grows_by p (writes.procure place) img = by (available_at place img.events)
-  where
-    by : (b : Bool) → length img.states ≤ length (waiting b (states.Procures place) p img.states)
-    by true = omega arith
-    by false = omega (arith, length_states img.states p (states.Procures place))
-grows_by p (writes.cause place) img = omega (arith, length_again (waiters_at place img.events) img.states)
-grows_by p (writes.reset place) img = omega arith
-grows_by p (writes.liberate place) img = omega (arith, length_again (take 1 (procurers_at place img.events)) img.states)
+    waiting_grows : (next : Next) → length img.states ≤ length (waiting next place p img.states)
+    waiting_grows goes = omega arith
+    waiting_grows awaits = omega (arith, length_states img.states p (states.WaitsFor place))
+    waiting_grows procures = omega (arith, length_states img.states p (states.Procures place))
 grows_by p (writes.line bytes) img = omega arith
 grows_by p (writes.start r words) img = omega (arith, length-append img.states (states.Able ∷ []))
 grows_by p (writes.end_process stack) img = omega (arith, length_states img.states p states.Ended)

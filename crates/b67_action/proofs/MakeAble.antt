@@ -1,6 +1,8 @@
 -- Whom an operator makes able, row by row.
 use Rattle.std.proofs.Common.{◌≡◌, refl, sym, ap, subst, ◌∙◌, ℕ, ◌+◌, ◌≤◌, Bool, true, false, cond, List, [], ◌∷◌, take, Option, Some, None, Ok, arith}
-use Rattle.std.specs.Prelude.{nat_eq}
+use Rattle.std.specs.Prelude.{nat_eq, ◌==◌}
+use Rattle.std.specs.List.{list_any}
+use Rattle.std.proofs.Math.Decide.{ℕ_discrete}
 use Rattle.b67_list.specs.Numbered.{numbered, set_numbered}
 use Rattle.b67_word.specs.declared.Place.{Place}
 use Rattle.b67_word.specs.Word.{Word}
@@ -11,28 +13,31 @@ use Rattle.b67_ops.specs.declared.intrinsic.Intrinsic.{Intrinsic}
 use Rattle.b67_ops.specs.declared.intrinsic.Intrinsic.TheVariants as names
 use Rattle.b67_segment.specs.declared.code.Code.{Code}
 use Rattle.b67_store.specs.Store.{row_at, closed_at}
-use Rattle.b67_events.specs.Events.{Event, happened_at, available_at, waiters_at, procurers_at, closed_from}
-use Rattle.b67_events.specs.Once.{times_in, times as times_at_all}
+use Rattle.b67_deeds.specs.declared.EventAct.TheVariants as act
+use Rattle.b67_deeds.specs.declared.EventTest.TheVariants as test
+use Rattle.b67_deeds.specs.Deeds.{EventDeed, Deed, acts}
+use Rattle.b67_events.specs.Events.{Event, waiters_at, deed_at, closed_from}
+use Rattle.b67_events.specs.Once.{times_in}
 use Rattle.b67_table.specs.declared.Class.TheVariants.{Private}
 use Rattle.b67_table.specs.declared.InterruptKind.TheVariants.{BadCode as bad_code}
 use Rattle.b67_table.specs.declared.Private.{Private as Part}
 use Rattle.b67_table.specs.declared.ProcessState.{ProcessState}
-use Rattle.b67_table.specs.declared.ProcessState.TheVariants.{Ended, WaitsFor, Procures}
+use Rattle.b67_table.specs.declared.ProcessState.TheVariants.{Ended}
 use Rattle.b67_table.specs.Effect.{Effect, gives, faults, interrupts}
 use Rattle.b67_table.specs.Image.{Image, with_rows, with_private, with_effect, private_of, is_able}
 use Rattle.b67_table.specs.Names.{intrinsic_numbered}
 use Rattle.b67_table.specs.Outcome as outcomes
 use Rattle.b67_table.specs.Private.{frame, floor}
-use Rattle.b67_table.specs.Writes.{written, able_again, waiting}
+use Rattle.b67_table.specs.Writes.{written, able_again, waiting, states_after}
 use Rattle.b67_table.specs.Writes as writes
-use Rattle.b67_table.specs.Program.{Change, done, changed, answer, asked, effect_of, registers, close_events, end_process, wait, cause, reset, procure, liberate, start, Program}
+use Rattle.b67_table.specs.Program.{Change, done, changed, answer, asked, effect_of, registers, close_events, end_process, event_deed, start, Program}
 use Rattle.b67_table.specs.Linkage.{caused_by, leave_base, leave_other, entry}
 use Rattle.b67_table.specs.Arguments.{finished_at}
 use Rattle.b67_table.specs.Intrinsics.{row_of_intrinsic, intrinsic_row, intrinsic, on_event}
 use Rattle.b67_table.specs.Rows as table
 use Rattle.b67_table.specs.Rows.{row, private_part, action, exit, return_value, enter}
 use Rattle.b67_table.specs.Table.{table as table_gives, raw, by_row, by_operator, by_registers, operator_at, class_by, stack_length}
-use Rattle.b67_table.specs.Valid.{IsValid}
+use Rattle.b67_table.specs.Valid.{IsValid, waits}
 use Rattle.b67_table.proofs.Stacks.{get_numbered_other}
 use Rattle.b67_table.proofs.Keeping.{Gives}
 use Rattle.b67_table.proofs.Limit.{new_of}
@@ -52,7 +57,7 @@ use Rattle.b67_action.specs.Acting.{CallReleases, CalleeReleases, RowReleases, N
 use Rattle.b67_action.specs.Done.{Came, is_performed}
 use Rattle.b67_private.specs.Actions.{words_program}
 use Rattle.b67_action.specs.Rows.{Is}
-use Rattle.b67_action.proofs.Able.{waiters_few, first_procurer_few, woken_others, woken_own, other_waits, able_by, able_same, able_more}
+use Rattle.b67_action.proofs.Able.{waiters_once, freed_wait, freed_once, able_waits, woken_others, woken_own, other_waits, able_by, able_same, able_more}
 use Rattle.b67_action.proofs.Calling.{does_called}
 use Rattle.b67_letters.proofs.Calm.{Calm, calm_keeps, Each, each_asked, each_as, each_critical, arrays_have, entry_calm, other_calm, return_calm, go_to_calm, select_calm, arrays_row_calm, write_calm, event_calm, tell_calm, each_event, each_start}
 use Rattle.b67_action.proofs.CalmWords.{words_calm}
@@ -75,21 +80,32 @@ module _ (code : Code) (img : Image) (p : ℕ) (v : IsValid code img) (able : is
 
   -- ---- one write
 
-  -- the process waits, or it goes on
-  waits_able : (goes : Bool) (s : ProcessState) (after : Image) → after.states ≡ waiting goes s p img.states → after.started ≡ img.started → AbleAfter img after p []
-  waits_able goes s after e n =
-      able_by img after p [] (waiting goes s p img.states) e n
-      (λ q h. none_more (ap (λ (o : Option ProcessState). one_if (is_able o)) (other_waits goes img.states p q s h))) refl
-    where
-      none_more : {a b : ℕ} → a ≡ b → a ≡ b + 0
-      none_more e = omega (arith, e)
+  -- what is done with an event: the process waits, or it goes on, and those who are released are able
+  module _ (x : EventDeed) (at : Place) where
+    abbrev d : Deed
+    d = deed_at x p at img.events
 
-  -- those who wait are able
-  woken_able : (ws : List ℕ) → ((q : ℕ) → times_in q ws ≤ times_at_all q img.events) → (after : Image) → after.states ≡ able_again ws img.states → after.started ≡ img.started
-      → AbleAfter img after p ws
-  woken_able ws few after e n =
-      able_by img after p ws (able_again ws img.states) e n (λ q h. woken_others img.states img.events v.events.once v.events.waiting ws few q)
-      (woken_own img.states img.events v.events.once v.events.waiting ws few p able)
+    abbrev ys : List ProcessState
+    ys = waiting d.next at p img.states
+
+    waited : (q : ℕ) → list_any (λ y. q == y) d.frees ≡ true → waits (numbered img.states q) ≡ true
+    waited q i = freed_wait img.events img.states v.events p q at x i
+
+    once : (q : ℕ) → times_in q d.frees ≤ 1
+    once q = freed_once img.events img.states v.events p q at x
+
+    still : (q : ℕ) → list_any (λ y. q == y) d.frees ≡ true → waits (numbered ys q) ≡ true
+    still q i = by (ℕ_discrete q p)
+      where
+        by : Dec (q ≡ p) → waits (numbered ys q) ≡ true
+        by (yes h) = absurd (able_waits (numbered img.states p) able (subst (λ (m : ℕ). waits (numbered img.states m) ≡ true) h (waited q i)))
+        by (no h) = ap waits (other_waits d.next at img.states p q h) ∙ waited q i
+
+    deed_able : (after : Image) → after.states ≡ states_after d at p img.states → after.started ≡ img.started → AbleAfter img after p d.frees
+    deed_able after e n =
+        able_by img after p d.frees (able_again d.frees ys) e n
+        (λ q h. woken_others ys d.frees still once q ∙ ap (λ (o : Option ProcessState). one_if (is_able o) + times_in q d.frees) (other_waits d.next at img.states p q h))
+        (woken_own img.states d.frees waited once p able)
 
   module _ (r : Registers) (next : ℕ) where
     -- ---- the end of the process
@@ -101,18 +117,21 @@ module _ (code : Code) (img : Image) (p : ℕ) (v : IsValid code img) (able : is
     abbrev Then : List ℕ → Change → Type 0
     Then released c = (i : Image) → (i.states ≡ img.states) × (i.started ≡ img.started) × (i.events ≡ img.events) → AbleAfter img (changed p c i) p released
 
-    task_few : (o : Option Place) (q : ℕ) → times_in q (task_waiters o closed) ≤ times_at_all q closed
-    task_few None q = omega arith
-    task_few (Some task) q = waiters_few q task closed
+    task_wait : (o : Option Place) (q : ℕ) → list_any (λ y. q == y) (task_waiters o closed) ≡ true → waits (numbered img.states q) ≡ true
+    task_wait None q i = cc
+    task_wait (Some task) q i = ap waits ((close_events_valid code img v r.stack 0).events.waiters q task i)
+
+    task_once : (o : Option Place) (q : ℕ) → times_in q (task_waiters o closed) ≤ 1
+    task_once None q = omega arith
+    task_once (Some task) q = waiters_once q task closed ((close_events_valid code img v r.stack 0).events.once.waiting q)
 
     ended_able : (o : Option Place) (after : Image) → after.states ≡ set_numbered (able_again (task_waiters o closed) img.states) p Ended → after.started ≡ img.started
         → AbleAfter img after p (task_waiters o closed)
     ended_able o after e n =
-        let events = (close_events_valid code img v r.stack 0).events in
         able_by img after p (task_waiters o closed) (set_numbered (able_again (task_waiters o closed) img.states) p Ended) e n
         (λ q h. ap (λ (x : Option ProcessState). one_if (is_able x)) (get_numbered_other (able_again (task_waiters o closed) img.states) p q Ended h)
-        ∙ woken_others img.states closed events.once events.waiting (task_waiters o closed) (task_few o) q)
-        (woken_own img.states closed events.once events.waiting (task_waiters o closed) (task_few o) p able)
+        ∙ woken_others img.states (task_waiters o closed) (task_wait o) (task_once o) q)
+        (woken_own img.states (task_waiters o closed) (task_wait o) (task_once o) p able)
 
     ends_able : (o : Option Place) → Then (task_waiters o closed) (close_events r.stack 0 (registers (record r { place = next }) (caused_by o (end_process r.stack done))))
     ends_able None i k = ended_able None _ (ap (λ (xs : List ProcessState). set_numbered xs p Ended) k.0) k.1
@@ -140,37 +159,23 @@ module _ (code : Code) (img : Image) (p : ℕ) (v : IsValid code img) (able : is
       abbrev finish : Change
       finish = finished_at r m [] next
 
-      wait_able : (at : Place) → A [] (wait at finish)
-      wait_able at =
-          let e = calm_keeps p finish (written p (writes.wait at) img) tt in waits_able (happened_at at img.events) (WaitsFor at) _ e.0 e.1
-
-      procure_able : (at : Place) → A [] (procure at finish)
-      procure_able at =
-          let e = calm_keeps p finish (written p (writes.procure at) img) tt in waits_able (available_at at img.events) (Procures at) _ e.0 e.1
+      event_able : (x : EventDeed) (at : Place) → A (deed_at x p at img.events).frees (event_deed x at finish)
+      event_able x at =
+          let e = calm_keeps p finish (written p (writes.event_deed x at) img) tt in deed_able x at _ e.0 e.1
 
       start_able : (s : Registers) (ws : List Word) → A [] (start s ws finish)
       start_able s ws =
           let e = calm_keeps p finish (written p (writes.start s ws) img) tt in able_more code img _ p v able e.0 e.1
 
-      cause_able : (at : Place) → A (waiters_at at img.events) (cause at finish)
-      cause_able at =
-          let e = calm_keeps p finish (written p (writes.cause at) img) tt in
-          woken_able (waiters_at at img.events) (λ q. waiters_few q at img.events) _ e.0 e.1
+      event_is : (x : EventDeed) (ws : List Word) → on_event x code r next m ws ≡ event_tests r m ws (λ (at : Place). answer (event_deed x at finish))
+      event_is x [] = refl
+      event_is x (w ∷ []) = refl
+      event_is x (w ∷ u ∷ ws) = refl
 
-      liberate_able : (at : Place) → A (take 1 (procurers_at at img.events)) (liberate at finish)
-      liberate_able at =
-          let e = calm_keeps p finish (written p (writes.liberate at) img) tt in
-          woken_able (take 1 (procurers_at at img.events)) (λ q. first_procurer_few q at img.events) _ e.0 e.1
-
-      event_is : (act : Place → Change → Change) (ws : List Word) → on_event act code r next m ws ≡ event_tests r m ws (λ (at : Place). answer (act at finish))
-      event_is act [] = refl
-      event_is act (w ∷ []) = refl
-      event_is act (w ∷ u ∷ ws) = refl
-
-      on_one : (act : Place → Change → Change) (at : Place) (released : List ℕ) → Leads img (event_tests_in (Some r) m img.stacks) (Ok at) → A released (act at finish)
-          → Gives (A released) (asked img (on_event act code r next m (arguments img.stacks r)))
-      on_one act at released leads k =
-          subst (Gives (A released)) (sym (ap (asked img) (event_is act (arguments img.stacks r)) ∙ leads (λ (x : Place). answer (act x finish)))) k
+      on_one : (x : EventDeed) (at : Place) (released : List ℕ) → Leads img (event_tests_in (Some r) m img.stacks) (Ok at) → A released (event_deed x at finish)
+          → Gives (A released) (asked img (on_event x code r next m (arguments img.stacks r)))
+      on_one x at released leads k =
+          subst (Gives (A released)) (sym (ap (asked img) (event_is x (arguments img.stacks r)) ∙ leads (λ (y : Place). answer (event_deed x y finish)))) k
 
       plainly : (name : Intrinsic) (released : List ℕ) → released ≡ [] → Each (A []) (row_of_intrinsic name code r next m (arguments img.stacks r))
           → Gives (A released) (asked img (row_of_intrinsic name code r next m (arguments img.stacks r)))
@@ -188,12 +193,12 @@ module _ (code : Code) (img : Image) (p : ℕ) (v : IsValid code img) (able : is
       named_able names.Event released e = calmly names.Event released e (event_calm r next m code (arguments img.stacks r))
       named_able names.Start released e = plainly names.Start released e (each_start r next m (A []) start_able code (arguments img.stacks r))
       named_able names.Write released e = calmly names.Write released e (write_calm r next m code (arguments img.stacks r))
-      named_able names.Wait released e = plainly names.Wait released e (each_event r next m (A []) wait wait_able code (arguments img.stacks r))
-      named_able names.Cause released e = on_one cause e.0 released e.1 (subst (λ (l : List ℕ). A l (cause e.0 finish)) (sym e.2) (cause_able e.0))
-      named_able names.Reset released e = calmly names.Reset released e (each_event r next m Calm reset (λ at. tt) code (arguments img.stacks r))
-      named_able names.Happened released e = calmly names.Happened released e (tell_calm r next m code (arguments img.stacks r))
-      named_able names.Procure released e = plainly names.Procure released e (each_event r next m (A []) procure procure_able code (arguments img.stacks r))
-      named_able names.Liberate released e = on_one liberate e.0 released e.1 (subst (λ (l : List ℕ). A l (liberate e.0 finish)) (sym e.2) (liberate_able e.0))
+      named_able names.Wait released e = plainly names.Wait released e (each_event r next m (A []) (acts act.Wait) (event_able (acts act.Wait)) code (arguments img.stacks r))
+      named_able names.Cause released e = on_one (acts act.Cause) e.0 released e.1 (subst (λ (l : List ℕ). A l (event_deed (acts act.Cause) e.0 finish)) (sym e.2) (event_able (acts act.Cause) e.0))
+      named_able names.Reset released e = plainly names.Reset released e (each_event r next m (A []) (acts act.Reset) (event_able (acts act.Reset)) code (arguments img.stacks r))
+      named_able names.Happened released e = calmly names.Happened released e (tell_calm r next m test.Happened code (arguments img.stacks r))
+      named_able names.Procure released e = plainly names.Procure released e (each_event r next m (A []) (acts act.Procure) (event_able (acts act.Procure)) code (arguments img.stacks r))
+      named_able names.Liberate released e = on_one (acts act.Liberate) e.0 released e.1 (subst (λ (l : List ℕ). A l (event_deed (acts act.Liberate) e.0 finish)) (sym e.2) (event_able (acts act.Liberate) e.0))
 
       intrinsic_able : (o : Option Intrinsic) (released : List ℕ) → CallReleases o img (Some r) m [] released
           → Gives (A released) (asked img (intrinsic_row o code r next m (arguments img.stacks r)))
@@ -245,7 +250,7 @@ row_is : (code : Code) (img : Image) (p : ℕ) → IsValid code img → is_able 
     → operator_at code r ≡ Ok (op, next) → raw code img p ≡ by_row (row op r.place) code img p r next
 unfolding raw
 row_is code img p v able r has op next stands =
-    ap (λ (b : Bool). cond b (by_registers code img p (numbered img.regs p)) (interrupts bad_code)) (able_live code img v p able (numbered img.states p) able)
+    ap (λ (b : Bool). cond b (by_registers code img p (numbered img.regs p)) (interrupts bad_code)) (able_live (numbered img.states p) able)
     ∙ ap (by_registers code img p) has ∙ ap (by_operator code img p r) stands
 
 pub make_able : ActionsMakeAble

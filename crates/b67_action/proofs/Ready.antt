@@ -14,6 +14,7 @@ use Rattle.b67_table.specs.declared.ProcessState.{ProcessState}
 use Rattle.b67_table.specs.declared.ProcessState.TheVariants as states
 use Rattle.b67_table.specs.Image.{Image, is_able, is_live}
 use Rattle.b67_table.specs.Valid.{IsValid, waits, is_no_mother}
+use Rattle.b67_table.proofs.EventKept.{who_waits}
 use Rattle.b67_table.proofs.Lists.{numbered_within, numbered_from}
 use Rattle.b67_table.proofs.OwnValid.{process_stays}
 use Rattle.b67_linkage.proofs.Linked.{live_are_linked}
@@ -76,7 +77,7 @@ module _ (stacks : Stacks) (rows : Rows) (kernel : Events) (parts : Parts) (p : 
         (live_are_linked parts.code (image_of stacks rows kernel.events parts) p r v (live_of (numbered parts.states.items p) able) has);
     number = numbered_from parts.regs.items p r has;
     within = omega (arith, numbered_within parts.regs.items p r has, v.registers, v.most, room.waiting);
-    idle = not_true (is_waiting p kernel.events) (λ w. no_waiter (numbered parts.states.items p) able (v.events.waiting p w));
+    idle = not_true (is_waiting p kernel.events) (λ w. no_waiter (numbered parts.states.items p) able (who_waits kernel.events parts.states.items v.events p w));
     room = room.released;
     next = record { free = next_free; each = v.registers ∙ sym v.states; most = v.most };
   }
@@ -132,7 +133,7 @@ left_valid code old new v k few = subst (λ (z : Image). IsValid code z) (sym k.
     words = λ n. subst (λ (o : Option Row). All IsWord (row_words_or o)) (sym (k.rows n)) (v.rows.words n);
     shallow = λ n. subst (λ (o : Option Row). All (λ (w : Word). is_no_mother (as_descriptor w) ≡ true) (row_words_or o)) (sym (k.rows n)) (v.rows.shallow n);
   };
-  events = record { apart = v.events.apart; once = v.events.once; waiting = v.events.waiting };
+  events = v.events;
 })
 
 -- ---- the registers of an able process

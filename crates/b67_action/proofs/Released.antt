@@ -11,7 +11,10 @@ use Rattle.b67_ops.specs.declared.BadCode.{BadCode}
 use Rattle.b67_ops.specs.declared.intrinsic.Intrinsic.{Intrinsic}
 use Rattle.b67_ops.specs.declared.intrinsic.Intrinsic.TheVariants as names
 use Rattle.b67_segment.specs.declared.code.Code.{Code}
-use Rattle.b67_events.specs.Events.{Event, waiters_at, procurers_at, closed_from}
+use Rattle.b67_deeds.specs.declared.EventAct.TheVariants as act
+use Rattle.b67_deeds.specs.declared.EventTest.TheVariants as test
+use Rattle.b67_deeds.specs.Deeds.{EventDeed, acts}
+use Rattle.b67_events.specs.Events.{Event, waiters_at, deed_at, closed_from}
 use Rattle.b67_table.specs.declared.Class.TheVariants.{Private}
 use Rattle.b67_table.specs.Effect.{Effect, gives, faults, interrupts}
 use Rattle.b67_table.specs.Image.{Image, is_live}
@@ -32,7 +35,7 @@ use Rattle.b67_table.specs.Questions.{told}
 use Rattle.b67_table.specs.Questions as questions
 use Rattle.b67_table.specs.Writes.{written}
 use Rattle.b67_table.specs.Writes as writes
-use Rattle.b67_table.specs.Program.{Change, done, answer, asked, effect_of, registers, close_events, end_process, wait, cause, reset, procure, liberate, Program}
+use Rattle.b67_table.specs.Program.{Change, done, answer, asked, effect_of, registers, close_events, end_process, event_deed, Program}
 use Rattle.b67_table.specs.Linkage.{caused_by, leave_base, leave_other, entry}
 use Rattle.b67_table.specs.Arguments.{finished_at}
 use Rattle.b67_table.specs.Intrinsics.{row_of_intrinsic, intrinsic_row, intrinsic, on_event}
@@ -46,7 +49,7 @@ use Rattle.b67_operators.specs.Entries.{called as entered, called_by, enter_call
 use Rattle.b67_operators.specs.Leaves.{task_waiters, released as released_at}
 use Rattle.b67_reach.specs.Answers.{looked}
 use Rattle.b67_intrinsics.specs.Called.{arguments, event_tests, event_tests_in, Leads}
-use Rattle.b67_intrinsics.specs.Names.{Releases}
+use Rattle.b67_intrinsics.specs.Names.{Frees, Releases}
 use Rattle.b67_letters.specs.Releases.{change_releases, effect_releases, row_releases, fetched_releases, registers_releases, released_by, releases}
 use Rattle.b67_letters.proofs.Calm.{Calm, Each, each_asked, each_as, each_critical, arrays_have, entry_calm, other_calm, return_calm, go_to_calm, select_calm, arrays_row_calm, write_calm, event_calm, tell_calm, each_event, each_start}
 use Rattle.b67_letters.proofs.Looks.{then_seen}
@@ -112,15 +115,22 @@ module _ (code : Code) (img : Image) (p : ℕ) where
       finish_mute : Mute p finish
       finish_mute = calm_mute p finish tt
 
-      event_is : (act : Place → Change → Change) (ws : List Word) → on_event act code r next m ws ≡ event_tests r m ws (λ (x : Place). answer (act x finish))
-      event_is act [] = refl
-      event_is act (w ∷ []) = refl
-      event_is act (w ∷ u ∷ ws) = refl
+      event_is : (x : EventDeed) (ws : List Word) → on_event x code r next m ws ≡ event_tests r m ws (λ (at : Place). answer (event_deed x at finish))
+      event_is x [] = refl
+      event_is x (w ∷ []) = refl
+      event_is x (w ∷ u ∷ ws) = refl
 
-      on_one : (act : Place → Change → Change) (event : Place) (released : List ℕ) → Leads img (event_tests_in (Some r) m img.stacks) (Ok event) → B released (act event finish)
-          → Gives (B released) (asked img (on_event act code r next m (arguments img.stacks r)))
-      on_one act event released leads k =
-          subst (Gives (B released)) (sym (ap (asked img) (event_is act (arguments img.stacks r)) ∙ leads (λ (x : Place). answer (act x finish)))) k
+      on_one : (x : EventDeed) (event : Place) (released : List ℕ) → Leads img (event_tests_in (Some r) m img.stacks) (Ok event) → B released (event_deed x event finish)
+          → Gives (B released) (asked img (on_event x code r next m (arguments img.stacks r)))
+      on_one x event released leads k =
+          subst (Gives (B released)) (sym (ap (asked img) (event_is x (arguments img.stacks r)) ∙ leads (λ (at : Place). answer (event_deed x at finish)))) k
+
+      freed_are : (x : EventDeed) → ((at : Place) → (deed_at x p at img.events).frees ≡ (deed_at x 0 at img.events).frees) → (released : List ℕ)
+          → Frees x img (Some r) m released → Gives (B released) (asked img (on_event x code r next m (arguments img.stacks r)))
+      freed_are x whoever released e =
+          let ps = (deed_at x p e.0 img.events).frees in
+          on_one x e.0 released e.1
+          (ap (λ (rest : List ℕ). ps ++ rest) (finish_mute (written p (writes.event_deed x e.0) img)) ∙ append-nil ps ∙ whoever e.0 ∙ sym e.2)
 
       abbrev named : Intrinsic → Program
       named name = row_of_intrinsic name code r next m (arguments img.stacks r)
@@ -134,19 +144,14 @@ module _ (code : Code) (img : Image) (p : ℕ) where
           mutely (named names.Start) released e (each_start r next m (Mute p) (λ s ws i. finish_mute (written p (writes.start s ws) i)) code (arguments img.stacks r))
       named_releases names.Write released e = calmly (named names.Write) released e (write_calm r next m code (arguments img.stacks r))
       named_releases names.Wait released e =
-          mutely (named names.Wait) released e (each_event r next m (Mute p) wait (λ x i. finish_mute (written p (writes.wait x) i)) code (arguments img.stacks r))
-      named_releases names.Cause released e =
-          on_one cause e.0 released e.1
-          (ap (λ (ps : List ℕ). waiters_at e.0 img.events ++ ps) (finish_mute (written p (writes.cause e.0) img)) ∙ append-nil (waiters_at e.0 img.events) ∙ sym e.2)
+          mutely (named names.Wait) released e (each_event r next m (Mute p) (acts act.Wait) (λ x i. finish_mute (written p (writes.event_deed (acts act.Wait) x) i)) code (arguments img.stacks r))
+      named_releases names.Cause released e = freed_are (acts act.Cause) (λ at. refl) released e
       named_releases names.Reset released e =
-          mutely (named names.Reset) released e (each_event r next m (Mute p) reset (λ x i. finish_mute (written p (writes.reset x) i)) code (arguments img.stacks r))
-      named_releases names.Happened released e = calmly (named names.Happened) released e (tell_calm r next m code (arguments img.stacks r))
+          mutely (named names.Reset) released e (each_event r next m (Mute p) (acts act.Reset) (λ x i. finish_mute (written p (writes.event_deed (acts act.Reset) x) i)) code (arguments img.stacks r))
+      named_releases names.Happened released e = calmly (named names.Happened) released e (tell_calm r next m test.Happened code (arguments img.stacks r))
       named_releases names.Procure released e =
-          mutely (named names.Procure) released e (each_event r next m (Mute p) procure (λ x i. finish_mute (written p (writes.procure x) i)) code (arguments img.stacks r))
-      named_releases names.Liberate released e =
-          on_one liberate e.0 released e.1
-          (ap (λ (ps : List ℕ). take 1 (procurers_at e.0 img.events) ++ ps) (finish_mute (written p (writes.liberate e.0) img))
-          ∙ append-nil (take 1 (procurers_at e.0 img.events)) ∙ sym e.2)
+          mutely (named names.Procure) released e (each_event r next m (Mute p) (acts act.Procure) (λ x i. finish_mute (written p (writes.event_deed (acts act.Procure) x) i)) code (arguments img.stacks r))
+      named_releases names.Liberate released e = freed_are (acts act.Liberate) (λ at. refl) released e
 
       intrinsic_releases : (o : Option Intrinsic) (released : List ℕ) → CallReleases o img (Some r) m [] released
           → Gives (B released) (asked img (intrinsic_row o code r next m (arguments img.stacks r)))

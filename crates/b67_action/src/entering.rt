@@ -26,12 +26,12 @@ use b67_intrinsics::{
     wait, write,
 };
 use b67_operators::find_called;
-use b67_ops::{FIRST_INTRINSIC, Intrinsic};
+use b67_ops::{FIRST_INTRINSIC, INTRINSICS, Intrinsic};
 use b67_reach::{Parts, Registers, Stop, invalid};
 use b67_store::Core;
 
 // The intrinsics in the order of their numbers.
-const INTRINSICS: [Intrinsic; 12] = [
+const IN_ORDER: [Intrinsic; INTRINSICS] = [
     Intrinsic::GoTo,
     Intrinsic::Select,
     Intrinsic::Arrays,
@@ -54,8 +54,8 @@ fn intrinsic_numbered(number: u16) -> Option<Intrinsic>
         return None;
     }
     let index = usize::from(number - FIRST_INTRINSIC);
-    if index < INTRINSICS.len() {
-        Some(INTRINSICS[index])
+    if index < IN_ORDER.len() {
+        Some(IN_ORDER[index])
     } else {
         None
     }

@@ -1,6 +1,3 @@
-pub mod Waiting
-pub mod Releases
-pub mod Releasing
 pub mod Queues
 pub mod Turning
 pub mod Running

@@ -28,7 +28,7 @@ able_live (Some (Procures x)) e = cc
 able_live None e = cc
 
 pub valid_listed : (code : Code) (img : Image) → IsValid code img → IsListed img
-valid_listed code img v = record { events = v.events; states = v.states; some = v.some; most = v.most }
+valid_listed code img v = record { states = v.states; some = v.some; most = v.most }
 
 module _ (img : Image) (queue : List ℕ) (listed : IsListed img) (is : IsQueue img queue) where
   number : (q : ℕ) → 1 ≤ times q queue → (1 ≤ q) × (q ≤ most_processes)
@@ -51,9 +51,6 @@ module _ (img : Image) (queue : List ℕ) (listed : IsListed img) (is : IsQueue 
 -- ---- after a turn
 
 module _ (a b : Image) (p : ℕ) (others part : List ℕ) (is : IsQueue a (p ∷ others)) where
-  pub front_able : able_in a p ≡ true
-  front_able = let own = here p p refl in is_one (able_in a p) (omega (arith, is p, own))
-
   module _ (after : AbleAfter a b p part) where
     own_after : times p (others ++ joining a.started b p part) ≡ one_if (able_in b p)
     own_after =
@@ -77,7 +74,6 @@ module _ (a b : Image) (p : ℕ) (others part : List ℕ) (is : IsQueue a (p ∷
 first_listed : IsListed first_image
 unfolding first_image
 first_listed = record {
-  events = record { apart = tt; once = record { once = λ p. omega arith }; waiting = λ p e. cc };
   states = refl;
   some = omega arith;
   most = omega arith;

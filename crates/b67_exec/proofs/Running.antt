@@ -39,10 +39,10 @@ stops_here code n t why e = ap (go_on (λ (x : Turns). exec_from code n x) t) e
 front_stops : (code : Code) (t : Turns) (p : ℕ) (others : List ℕ) (why : Stopped) → t.queue ≡ p ∷ others → image_end t.image ≡ None
     → FrontStops code t.image (p ∷ others) why → turn code t ≡ stops why
 front_stops code t p others (stopped.Interrupt kind q) queue going s =
-    ap (turn_unless code t) going ∙ ap (turn_in code t) queue ∙ ap (turn_by t p others) s.1
+    ap (turn_unless code t) going ∙ ap (turn_in code t) queue ∙ ap (turn_by code t p others) s.1
     ∙ ap (λ (n : ℕ). stops (stopped.Interrupt kind n)) (sym s.0)
 front_stops code t p others (stopped.StackLimit q words) queue going s =
-    ap (turn_unless code t) going ∙ ap (turn_in code t) queue ∙ ap (turn_by t p others) s.2
+    ap (turn_unless code t) going ∙ ap (turn_in code t) queue ∙ ap (turn_by code t p others) s.2
     ∙ ap (λ (n : ℕ). stops (stopped.StackLimit p n)) (sym s.1) ∙ ap (λ (n : ℕ). stops (stopped.StackLimit n words)) (sym s.0)
 front_stops code t p others stopped.Finished queue going s = absurd s
 front_stops code t p others (stopped.Fault kind q) queue going s = absurd s

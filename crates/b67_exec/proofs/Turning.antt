@@ -1,44 +1,46 @@
 -- What a turn does, by what the operator came to.
 use Rattle.std.proofs.Common.{◌≡◌, refl, sym, ap, subst, ◌∙◌, ℕ, ◌+◌, ◌≤◌, Bool, false, List, ◌∷◌, ◌++◌, length, length-append, Option, Some, None, Ok, arith}
 use Rattle.std.proofs.Math.Decide.{ℕ_discrete}
+use Rattle.b67_list.specs.Numbered.{numbered}
 use Rattle.b67_segment.specs.declared.code.Code.{Code}
 use Rattle.b67_table.specs.declared.InterruptKind.{InterruptKind}
 use Rattle.b67_table.specs.Ending.{ImageEnd, image_end, failed}
 use Rattle.b67_table.specs.Image.{Image}
 use Rattle.b67_table.specs.Limits.{most_processes}
+use Rattle.b67_table.specs.Outcome.{Outcome}
 use Rattle.b67_table.specs.Table.{table, stack_length}
 use Rattle.b67_table.specs.Valid.{IsValid}
+use Rattle.b67_letters.specs.Releases.{registers_releases, released_by, releases}
 use Rattle.b67_intrinsics.specs.Called.{IsLeft}
 use Rattle.b67_action.specs.declared.done.Done.{Done}
 use Rattle.b67_action.specs.declared.done.Done.TheVariants.{Went, Waits, Ended, Fault, Interrupt, StackLimit, NoMemory}
 use Rattle.b67_action.specs.Done.{Came, is_performed}
 use Rattle.b67_machine.specs.Kept.{Kept, Counts, counted}
 use Rattle.b67_machine.specs.Reads.{machine_end, end_by}
-use Rattle.b67_machine.specs.Stepping.{image_after, operators_in, limit_of, lacks, Acts, Steps, StepsBy}
+use Rattle.b67_machine.specs.Stepping.{image_after, operators_in, limit_of, lacks, released_where, Acts, Steps, StepsBy}
 use Rattle.b67_joining.specs.Joining.{IsQueue, joining}
 use Rattle.b67_joining.proofs.Joining.{released_few}
 use Rattle.b67_exec.specs.declared.Stopped.{Stopped}
 use Rattle.b67_exec.specs.declared.Stopped.TheVariants as stopped
 use Rattle.b67_exec.specs.Exec.{told}
-use Rattle.b67_exec.specs.Turns.{Turns, turn, goes, turned, turn_by, turn_in, turn_unless, to_rear, released}
+use Rattle.b67_exec.specs.Turns.{Turns, turn, goes, turned, turn_by, turn_in, turn_unless, to_rear}
 use Rattle.b67_exec.specs.Turning.{IsListed, turns_at, TurnGoes, TurnStops, TurnLacks, Turned}
-use Rattle.b67_exec.proofs.Queues.{valid_listed, queue_few, front_able, queue_after}
-use Rattle.b67_exec.proofs.Releasing.{within_by, released_are}
+use Rattle.b67_exec.proofs.Queues.{valid_listed, queue_few, queue_after}
 
 -- ---- the definition, at an operator
 
 turn_is : (code : Code) (t : Turns) (p : ℕ) (others : List ℕ) → image_end t.image ≡ None → t.queue ≡ p ∷ others
-    → turn code t ≡ turn_by t p others (table code t.image p)
+    → turn code t ≡ turn_by code t p others (table code t.image p)
 turn_is code t p others e q = ap (turn_unless code t) e ∙ ap (turn_in code t) q
 
 goes_by : (code : Code) (t : Turns) (p : ℕ) (others : List ℕ) (done : Done) (acted new : Image) → operators_in done ≡ 1 → Came code t.image p done acted
-    → new ≡ image_after p done acted → turn_by t p others (table code t.image p) ≡ goes (turned t p others new)
-goes_by code t p others Went acted new one came is = ap (turn_by t p others) came.0 ∙ ap (λ (i : Image). goes (turned t p others i)) (sym is)
-goes_by code t p others Waits acted new one came is = ap (turn_by t p others) came.0 ∙ ap (λ (i : Image). goes (turned t p others i)) (sym is)
-goes_by code t p others Ended acted new one came is = ap (turn_by t p others) came.0 ∙ ap (λ (i : Image). goes (turned t p others i)) (sym is)
+    → new ≡ image_after p done acted → turn_by code t p others (table code t.image p) ≡ goes (turned code t p others new)
+goes_by code t p others Went acted new one came is = ap (turn_by code t p others) came.0 ∙ ap (λ (i : Image). goes (turned code t p others i)) (sym is)
+goes_by code t p others Waits acted new one came is = ap (turn_by code t p others) came.0 ∙ ap (λ (i : Image). goes (turned code t p others i)) (sym is)
+goes_by code t p others Ended acted new one came is = ap (turn_by code t p others) came.0 ∙ ap (λ (i : Image). goes (turned code t p others i)) (sym is)
 goes_by code t p others (Fault kind) acted new one came is =
-    ap (turn_by t p others) came.0 ∙ ap (λ (i : Image). goes (turned t p others (failed i p kind))) (sym came.1)
-    ∙ ap (λ (i : Image). goes (turned t p others i)) (sym is)
+    ap (turn_by code t p others) came.0 ∙ ap (λ (i : Image). goes (turned code t p others (failed i p kind))) (sym came.1)
+    ∙ ap (λ (i : Image). goes (turned code t p others i)) (sym is)
 goes_by code t p others (Interrupt kind) acted new one came is = absurd (omega (arith, one))
 goes_by code t p others StackLimit acted new one came is = absurd (omega (arith, one))
 goes_by code t p others NoMemory acted new one came is = absurd (omega (arith, one))
@@ -65,15 +67,25 @@ none_lacks NoMemory one = absurd (omega (arith, one))
 
 module _ (old new : Kept) (p : ℕ) (others : List ℕ) (done : Done) (acts : Acts old p done new) (one : operators_in done ≡ 1) (going : image_end old.image ≡ None)
     (is : IsQueue old.image (p ∷ others)) (listed : IsListed old.image) (valid : IsValid new.code new.image) where
-  released_is : released old.image new.image ≡ new.released
-  released_is =
-      released_are old.image new.image p new.released listed (front_able old.image new.image p others new.released is) (acts.able one)
-      (within_by old.code old.image p (is_performed done) new.released acts.released)
+  -- those whom the machine has released are those whom the table says
+  released_is : releases old.code old.image p ≡ new.released
+  released_is = by done one acts.came (acts.released)
+    where
+      by : (d : Done) → operators_in d ≡ 1 → Came old.code old.image p d acts.acted → new.released ≡ released_where (is_performed d) old.code old.image p
+          → releases old.code old.image p ≡ new.released
+      by Went o came e = sym e
+      by Waits o came e = sym e
+      by Ended o came e = sym e
+      by (Fault kind) o came e =
+          ap (λ (x : Outcome Image). released_by x (registers_releases old.code old.image p (numbered old.image.regs p))) came.0 ∙ sym e
+      by (Interrupt kind) o came e = absurd (omega (arith, o))
+      by StackLimit o came e = absurd (omega (arith, o))
+      by NoMemory o came e = absurd (omega (arith, o))
 
   abbrev pub rear : List ℕ
   rear = others ++ joining old.image.started new.image p new.released
 
-  rear_is : others ++ to_rear p old.image new.image ≡ rear
+  rear_is : others ++ to_rear old.code p old.image new.image ≡ rear
   rear_is = ap (λ (zs : List ℕ). others ++ joining old.image.started new.image p zs) released_is
 
   turns_are : (d : List ℕ) → turn old.code (turns_at old (p ∷ others) d) ≡ goes (turns_at new rear (p ∷ d))

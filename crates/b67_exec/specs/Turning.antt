@@ -3,7 +3,6 @@ use Rattle.std.specs.Prelude.{◌≡◌, ℕ, ◌≤◌, true, false, List, ◌�
 use Rattle.std.specs.declared.alloc.AllocError.{AllocError}
 use Rattle.b67_table.specs.Image.{Image}
 use Rattle.b67_table.specs.Limits.{most_processes}
-use Rattle.b67_table.specs.Valid.{AreEvents}
 use Rattle.b67_intrinsics.specs.Called.{IsLeft}
 use Rattle.b67_machine.specs.Kept.{Kept, Counts, counted}
 use Rattle.b67_joining.specs.Joining.{IsQueue}
@@ -11,9 +10,8 @@ use Rattle.b67_exec.specs.declared.Stopped.{Stopped}
 use Rattle.b67_exec.specs.Turns.{Turns, turn, goes}
 use Rattle.b67_exec.specs.Exec.{FrontStops, FrontMakes}
 
--- what a queue rests on: who waits for an event is in a state of waiting, and there is a process, and at most as many as a run may have
+-- what a queue rests on: there is a process, and at most as many as a run may have, each in a state
 pub record IsListed (img : Image) : Type 0 where
-  pub events : AreEvents img
   pub states : length img.states ≡ img.started
   pub some : 1 ≤ img.started
   pub most : img.started ≤ most_processes

@@ -1,31 +1,22 @@
 -- The run of a code by turns, for any code: a turn takes the process at the front of a queue and performs its next operator.
-use Rattle.std.specs.Prelude.{ℕ, zero, suc, ◌+◌, List, [], ◌∷◌, ◌++◌, filter, flat_map, Option, Some, None}
+use Rattle.std.specs.Prelude.{ℕ, zero, suc, ◌+◌, List, [], ◌∷◌, ◌++◌, Option, Some, None}
 use Rattle.b67_segment.specs.declared.code.Code.{Code}
-use Rattle.b67_events.specs.Events.{Event}
 use Rattle.b67_table.specs.Outcome.{Outcome, gives, faults, interrupts, limit}
 use Rattle.b67_table.specs.Image.{Image}
 use Rattle.b67_table.specs.Table.{table, stack_length}
 use Rattle.b67_table.specs.Ending.{ImageEnd, finished, faulted, all_waiting, image_end, failed}
 use Rattle.b67_table.specs.Beginning.{first_image}
-use Rattle.b67_action.specs.Able.{able_in, times}
+use Rattle.b67_letters.specs.Releases.{releases}
+use Rattle.b67_action.specs.Able.{times}
 use Rattle.b67_joining.specs.Joining.{joining}
 use Rattle.b67_exec.specs.declared.Stopped.{Stopped}
 use Rattle.b67_exec.specs.declared.Stopped.TheVariants as stopped
 
 -- ---- who goes to the rear of the queue
 
--- the processes that wait for events, in the order in which they stand in the events' lists
-abbrev pub waiting_in : List Event → List ℕ
-waiting_in events = flat_map (λ (e : Event). e.waiters ++ e.procurers) events
-
--- Those whom an operator has released: they waited before it, and are able after it. One operator releases those who wait for one event
--- only, so they stand in the order in which they came to it.
-abbrev pub released : Image → Image → List ℕ
-released old new = filter (able_in new) (waiting_in old.events)
-
 -- after an operator of a process the released, in their order, then the one that was started, then the process itself where it is able
-abbrev pub to_rear : ℕ → Image → Image → List ℕ
-to_rear p old new = joining old.started new p (released old new)
+abbrev pub to_rear : Code → ℕ → Image → Image → List ℕ
+to_rear code p old new = joining old.started new p (releases code old p)
 
 -- ---- turns
 
@@ -45,20 +36,20 @@ pub data Turn : Type 0 where
   stops : Stopped → Turn
 
 -- an operator of the front process has made this image, and is counted
-abbrev pub turned : Turns → ℕ → List ℕ → Image → Turns
-turned t p others new = record { image = new; queue = others ++ to_rear p t.image new; done = p ∷ t.done }
+abbrev pub turned : Code → Turns → ℕ → List ℕ → Image → Turns
+turned code t p others new = record { image = new; queue = others ++ to_rear code p t.image new; done = p ∷ t.done }
 
 -- the turn of the front process, by what the table gives; an operator that is at fault is counted, one that interrupts is not
-abbrev pub turn_by : Turns → ℕ → List ℕ → Outcome Image → Turn
-turn_by t p others (gives new) = goes (turned t p others new)
-turn_by t p others (faults kind) = goes (turned t p others (failed t.image p kind))
-turn_by t p others (interrupts kind) = stops (stopped.Interrupt kind p)
-turn_by t p others limit = stops (stopped.StackLimit p (stack_length p t.image))
+abbrev pub turn_by : Code → Turns → ℕ → List ℕ → Outcome Image → Turn
+turn_by code t p others (gives new) = goes (turned code t p others new)
+turn_by code t p others (faults kind) = goes (turned code t p others (failed t.image p kind))
+turn_by code t p others (interrupts kind) = stops (stopped.Interrupt kind p)
+turn_by code t p others limit = stops (stopped.StackLimit p (stack_length p t.image))
 
 -- nobody is in the queue where no process is able
 abbrev pub turn_in : Code → Turns → List ℕ → Turn
 turn_in code t [] = stops stopped.AllWaiting
-turn_in code t (p ∷ others) = turn_by t p others (table code t.image p)
+turn_in code t (p ∷ others) = turn_by code t p others (table code t.image p)
 
 abbrev pub stopped_by : ImageEnd → Stopped
 stopped_by finished = stopped.Finished

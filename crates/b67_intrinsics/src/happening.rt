@@ -1,12 +1,14 @@
 //! The intrinsics on one event: WAIT, CAUSE, RESET, HAPPENED, PROCURE and LIBERATE.
 
-ghost use Rattle.std.specs.Prelude.{take, ◌≡◌, ◌≤◌, OnOk, IfOk, IsSome, Some, IsTrue, IsFalse, vec_capacity, [], ◌∷◌, Ok};
+ghost use Rattle.std.specs.Prelude.{◌≡◌, ◌≤◌, OnOk, IfOk, IsSome, Some, IsTrue, IsFalse, vec_capacity, [], ◌∷◌, Ok};
 ghost use Rattle.b67_list.specs.Numbered.{numbered};
 ghost use Rattle.b67_control.specs.declared.Registers.{Registers};
-ghost use Rattle.b67_events.specs.Events.{is_open, is_waiting, waiters_at, procurers_at};
+ghost use Rattle.b67_deeds.specs.declared.EventAct.TheVariants as act;
+ghost use Rattle.b67_deeds.specs.declared.EventTest.TheVariants as test;
+ghost use Rattle.b67_deeds.specs.Deeds.{acts};
+ghost use Rattle.b67_events.specs.Events.{is_open, is_waiting, deed_at};
 ghost use Rattle.b67_table.specs.Image.{Image};
 ghost use Rattle.b67_table.specs.Intrinsics.{on_event, tell_event};
-ghost use Rattle.b67_table.specs.Program.{wait, cause, reset, procure, liberate};
 ghost use Rattle.b67_table.specs.Writes.{able_again};
 ghost use Rattle.b67_reach.specs.Images.{image_of};
 ghost use Rattle.b67_reach.specs.Answers.{Acts};
@@ -65,7 +67,7 @@ pub fn reset<C: Core>(
     next: u16,
 ) -> Result<(), Stop>
     requires { IsCalled (C.Core.stacks core.old) (numbered parts.old.regs.items process) }
-    ensures acts { Acts process (called_in (on_event reset) parts.old.code (numbered parts.old.regs.items process) next mark.now) (image_of (C.Core.stacks core.old) (C.Core.rows core.old) kernel.old.events parts.old) (image_of (C.Core.stacks core.new) (C.Core.rows core.new) kernel.new.events parts.new) result }
+    ensures acts { Acts process (called_in (on_event (acts act.Reset)) parts.old.code (numbered parts.old.regs.items process) next mark.now) (image_of (C.Core.stacks core.old) (C.Core.rows core.old) kernel.old.events parts.old) (image_of (C.Core.stacks core.new) (C.Core.rows core.new) kernel.new.events parts.new) result }
     ensures processes { kernel.new.room ≡ kernel.old.room }
     ensures code { parts.new.code ≡ parts.old.code }
     ensures woken { parts.new.woken ≡ parts.old.woken }
@@ -98,7 +100,7 @@ pub fn wait<C: Core>(
     requires called { IsCalled (C.Core.stacks core.old) (numbered parts.old.regs.items process) }
     requires process { (1 ≤ process) × (process ≤ kernel.old.room) }
     requires idle { IsFalse (is_waiting process kernel.old.events) }
-    ensures acts { Acts process (called_in (on_event wait) parts.old.code (numbered parts.old.regs.items process) next mark.now) (image_of (C.Core.stacks core.old) (C.Core.rows core.old) kernel.old.events parts.old) (image_of (C.Core.stacks core.new) (C.Core.rows core.new) kernel.new.events parts.new) result }
+    ensures acts { Acts process (called_in (on_event (acts act.Wait)) parts.old.code (numbered parts.old.regs.items process) next mark.now) (image_of (C.Core.stacks core.old) (C.Core.rows core.old) kernel.old.events parts.old) (image_of (C.Core.stacks core.new) (C.Core.rows core.new) kernel.new.events parts.new) result }
     ensures processes { kernel.new.room ≡ kernel.old.room }
     ensures code { parts.new.code ≡ parts.old.code }
     ensures woken { parts.new.woken ≡ parts.old.woken }
@@ -127,7 +129,7 @@ pub fn procure<C: Core>(
     requires called { IsCalled (C.Core.stacks core.old) (numbered parts.old.regs.items process) }
     requires process { (1 ≤ process) × (process ≤ kernel.old.room) }
     requires idle { IsFalse (is_waiting process kernel.old.events) }
-    ensures acts { Acts process (called_in (on_event procure) parts.old.code (numbered parts.old.regs.items process) next mark.now) (image_of (C.Core.stacks core.old) (C.Core.rows core.old) kernel.old.events parts.old) (image_of (C.Core.stacks core.new) (C.Core.rows core.new) kernel.new.events parts.new) result }
+    ensures acts { Acts process (called_in (on_event (acts act.Procure)) parts.old.code (numbered parts.old.regs.items process) next mark.now) (image_of (C.Core.stacks core.old) (C.Core.rows core.old) kernel.old.events parts.old) (image_of (C.Core.stacks core.new) (C.Core.rows core.new) kernel.new.events parts.new) result }
     ensures processes { kernel.new.room ≡ kernel.old.room }
     ensures code { parts.new.code ≡ parts.old.code }
     ensures woken { parts.new.woken ≡ parts.old.woken }
@@ -169,8 +171,8 @@ pub fn cause<C: Core>(
 ) -> Result<(), Stop>
     requires called { IsCalled (C.Core.stacks core.old) (numbered parts.old.regs.items process) }
     requires room { kernel.old.room ≤ vec_capacity parts.old.woken.processes }
-    ensures acts { Acts process (called_in (on_event cause) parts.old.code (numbered parts.old.regs.items process) next mark.now) (image_of (C.Core.stacks core.old) (C.Core.rows core.old) kernel.old.events parts.old) (image_of (C.Core.stacks core.new) (C.Core.rows core.new) kernel.new.events parts.new) result }
-    ensures woken { OnOk result ((at : Place) × Leads (image_of (C.Core.stacks core.old) (C.Core.rows core.old) kernel.old.events parts.old) (event_tests_in (numbered parts.old.regs.items process) mark.now (C.Core.stacks core.old)) (Ok at) × (parts.new.woken.processes.items ≡ waiters_at at kernel.old.events)) }
+    ensures acts { Acts process (called_in (on_event (acts act.Cause)) parts.old.code (numbered parts.old.regs.items process) next mark.now) (image_of (C.Core.stacks core.old) (C.Core.rows core.old) kernel.old.events parts.old) (image_of (C.Core.stacks core.new) (C.Core.rows core.new) kernel.new.events parts.new) result }
+    ensures woken { OnOk result ((at : Place) × Leads (image_of (C.Core.stacks core.old) (C.Core.rows core.old) kernel.old.events parts.old) (event_tests_in (numbered parts.old.regs.items process) mark.now (C.Core.stacks core.old)) (Ok at) × (parts.new.woken.processes.items ≡ (deed_at (acts act.Cause) process at kernel.old.events).frees)) }
     ensures capacity { vec_capacity parts.old.woken.processes ≤ vec_capacity parts.new.woken.processes }
     ensures processes { kernel.new.room ≡ kernel.old.room }
     ensures code { parts.new.code ≡ parts.old.code }
@@ -193,8 +195,8 @@ pub fn liberate<C: Core>(
 ) -> Result<(), Stop>
     requires called { IsCalled (C.Core.stacks core.old) (numbered parts.old.regs.items process) }
     requires room { 1 ≤ vec_capacity parts.old.woken.processes }
-    ensures acts { Acts process (called_in (on_event liberate) parts.old.code (numbered parts.old.regs.items process) next mark.now) (image_of (C.Core.stacks core.old) (C.Core.rows core.old) kernel.old.events parts.old) (image_of (C.Core.stacks core.new) (C.Core.rows core.new) kernel.new.events parts.new) result }
-    ensures woken { OnOk result ((at : Place) × Leads (image_of (C.Core.stacks core.old) (C.Core.rows core.old) kernel.old.events parts.old) (event_tests_in (numbered parts.old.regs.items process) mark.now (C.Core.stacks core.old)) (Ok at) × (parts.new.woken.processes.items ≡ take 1 (procurers_at at kernel.old.events))) }
+    ensures acts { Acts process (called_in (on_event (acts act.Liberate)) parts.old.code (numbered parts.old.regs.items process) next mark.now) (image_of (C.Core.stacks core.old) (C.Core.rows core.old) kernel.old.events parts.old) (image_of (C.Core.stacks core.new) (C.Core.rows core.new) kernel.new.events parts.new) result }
+    ensures woken { OnOk result ((at : Place) × Leads (image_of (C.Core.stacks core.old) (C.Core.rows core.old) kernel.old.events parts.old) (event_tests_in (numbered parts.old.regs.items process) mark.now (C.Core.stacks core.old)) (Ok at) × (parts.new.woken.processes.items ≡ (deed_at (acts act.Liberate) process at kernel.old.events).frees)) }
     ensures capacity { vec_capacity parts.old.woken.processes ≤ vec_capacity parts.new.woken.processes }
     ensures processes { kernel.new.room ≡ kernel.old.room }
     ensures code { parts.new.code ≡ parts.old.code }
@@ -234,7 +236,7 @@ pub fn happened<C: Core>(
     next: u16,
 ) -> Result<(), Stop>
     requires called { IsCalled (C.Core.stacks core.old) (numbered parts.old.regs.items process) }
-    ensures acts { Acts process (called_in tell_event parts.old.code (numbered parts.old.regs.items process) next mark.now) (image_of (C.Core.stacks core.old) (C.Core.rows core.old) kernel.now.events parts.old) (image_of (C.Core.stacks core.new) (C.Core.rows core.new) kernel.now.events parts.new) result }
+    ensures acts { Acts process (called_in (tell_event test.Happened) parts.old.code (numbered parts.old.regs.items process) next mark.now) (image_of (C.Core.stacks core.old) (C.Core.rows core.old) kernel.now.events parts.old) (image_of (C.Core.stacks core.new) (C.Core.rows core.new) kernel.now.events parts.new) result }
     ensures code { parts.new.code ≡ parts.old.code }
     ensures woken { parts.new.woken ≡ parts.old.woken }
 {

@@ -4,7 +4,7 @@ ghost use Rattle.b67_table.specs.Linkage.{base_control};
 ghost use Rattle.b67_table.specs.Beginning.{base_mark, system_stack, base_frame, intrinsic_pcw, first_registers};
 
 use b67_control::{Display, Mscw, Pcw, Rcw, Registers};
-use b67_ops::{Intrinsic, OUTER_LEVEL};
+use b67_ops::{INTRINSICS, Intrinsic, OUTER_LEVEL};
 use b67_word::{Place, Word};
 
 // The base mark of a stack, linked to the bottom of stack 0.
@@ -54,7 +54,7 @@ fn intrinsic_word(number: u16) -> Word
 }
 
 /// Stack 0: a mark, its control word, and the intrinsics at their numbers.
-pub fn system_words() -> [Word; 14]
+pub fn system_words() -> [Word; 2 + INTRINSICS]
     ensures { result ≡ system_stack }
 {
     [

@@ -16,3 +16,4 @@ pub mod Lacking
 pub mod Lending
 pub mod Differing
 pub mod Putting
+pub mod Copying

@@ -24,7 +24,6 @@ use b67_events::Kernel;
 use b67_num::FaultKind;
 use b67_reach::Parts;
 use b67_store::Core;
-use b67_table::Words;
 pub use entries::Entered;
 pub use entry::Performed;
 pub use reads::End;
@@ -50,8 +49,6 @@ pub struct Machine<C: Core> {
     counts: Vec<u64>,
     // The operators of segments, by segment and level.
     tables: Vec<Levels>,
-    // Words of a stack, on which private operators are performed.
-    words: Words,
     failure: Option<Failure>,
     // The process whose operator came to the stack limit, where that was the last that was tried.
     limit: Option<u32>,
@@ -68,7 +65,6 @@ impl<C: Core> Drop for Machine<C> {
             parts: _parts,
             counts: _counts,
             tables: _tables,
-            words: _words,
             failure: _,
             limit: _,
             lacked: _,

@@ -8,7 +8,7 @@ use b67_going::MOST_PROCESSES;
 use b67_load::load;
 use b67_segment::Code;
 use b67_store::Core;
-use b67_table::{Words, first_image_is_valid};
+use b67_table::first_image_is_valid;
 use std::alloc::{AllocError, Global};
 
 impl<C: Core> Machine<C> {
@@ -22,7 +22,6 @@ impl<C: Core> Machine<C> {
         ensures code { IfOk result (λ machine. machine.code ≡ code) }
     {
         first_image_is_valid();
-        let words = Words::new(alloc)?;
         let counts = vec![in alloc; 0; MOST_PROCESSES as usize]?;
         let mut core = core;
         let (kernel, parts) = load(alloc, &mut core, code)?;
@@ -32,7 +31,6 @@ impl<C: Core> Machine<C> {
             parts,
             counts,
             tables: Vec::new(alloc),
-            words,
             failure: None,
             limit: None,
             lacked: false,

@@ -1,6 +1,8 @@
 // Plain operators of a process, on the machine.
-ghost use Rattle.std.specs.Prelude.{◌≡◌, ◌+◌, ◌<◌, ◌≤◌, ◌^◌, None, false, true};
+ghost use Rattle.std.specs.Prelude.{◌≡◌, ◌+◌, ◌<◌, ◌≤◌, ◌^◌, None, false, length, take, true};
 ghost use Rattle.b67_list.specs.Numbered.{numbered};
+ghost use Rattle.b67_linkage.specs.Held.{IsLinked};
+ghost use Rattle.b67_store.specs.Store.{stack_limit, words_of};
 ghost use Rattle.b67_table.specs.Image.{is_able};
 ghost use Rattle.b67_table.specs.Table.{plain};
 ghost use Rattle.b67_table.specs.Valid.{IsValid};
@@ -9,10 +11,11 @@ ghost use Rattle.b67_machine.specs.Reads.{machine_end};
 ghost use Rattle.b67_machine.specs.Stepping.{Goes};
 
 use crate::Machine;
-use b67_action::take_words;
 use b67_intrinsics::registers;
 use b67_private::burst_in_place;
-use b67_store::Core;
+use b67_reach::Registers;
+use b67_store::{Core, MOST_STACK_WORDS};
+use b67_word::{Place, Word, operand};
 
 impl<C: Core> Machine<C> {
     /// Performs the plain operators of a process that come next, at most so many, and answers how many it performed. Fewer
@@ -31,15 +34,31 @@ impl<C: Core> Machine<C> {
 
     /// Tests that the next operator of a process is plain: it is private, and the operator table gives a new image. It is tried on a copy
     /// of the words of its stack.
-    pub fn is_plain(&mut self, process: u32) -> bool
-        requires able { is_able (numbered self.old.image.states process) ≡ true }
-        requires going { machine_end self.old ≡ None }
-        ensures value { result ≡ plain self.old.code self.old.image process }
-        ensures same { self.new ≡ self.old }
+    pub fn is_plain(&self, process: u32) -> bool
+        requires { is_able (numbered self.now.image.states process) ≡ true }
+        ensures { result ≡ plain self.now.code self.now.image process }
     {
         let mut regs = *registers(&self.parts.regs, process);
-        take_words(&self.core, &regs, 0, &mut self.words);
-        let room = self.words.room(0);
-        burst_in_place(&mut regs, room, &self.parts.code, None, 1) == 1
+        let mut room = [operand(0); MOST_STACK_WORDS];
+        copy_words(&self.core, &regs, &mut room);
+        burst_in_place(&mut regs, &mut room, &self.parts.code, None, 1) == 1
+    }
+}
+
+// The words of a process's stack are copied into a room, the bottom first.
+fn copy_words<C: Core>(core: &C, regs: &Registers, room: &mut [Word])
+    requires linked { IsLinked (C.Core.stacks core.now) (C.Core.rows core.now) regs.now }
+    requires room { length room.old ≡ stack_limit }
+    ensures words { take regs.now.s room.new ≡ words_of (C.Core.stacks core.now) regs.now.stack }
+    ensures size { length room.new ≡ stack_limit }
+{
+    let mut at = 0;
+    'copying: while at < regs.s {
+        let place = Place {
+            stack: regs.stack,
+            at: at as u16,
+        };
+        room[at as usize] = core.read(place).unwrap();
+        at += 1;
     }
 }

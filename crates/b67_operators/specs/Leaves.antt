@@ -6,7 +6,9 @@ use Rattle.b67_word.specs.declared.Place.{Place}
 use Rattle.b67_word.specs.Word.{Word}
 use Rattle.b67_control.specs.declared.Registers.{Registers}
 use Rattle.b67_store.specs.Store.{Stacks, Rows}
-use Rattle.b67_events.specs.Events.{Event, closed_from, waiters_at, caused, changed as with_event}
+use Rattle.b67_deeds.specs.declared.EventAct.TheVariants as act
+use Rattle.b67_deeds.specs.Deeds.{acts}
+use Rattle.b67_events.specs.Events.{Event, closed_from, waiters_at, done_at}
 use Rattle.b67_table.specs.declared.InterruptKind.{InterruptKind}
 use Rattle.b67_table.specs.declared.Leaving.{Leaving}
 use Rattle.b67_table.specs.Look.{Look, found, ◌>->◌}
@@ -78,7 +80,7 @@ HasLeftBase stacks rows all p next (Some r) = HasLeft (record (base_left (held s
 -- the events after a task's event is caused, where it is open, and the processes that this releases
 abbrev pub task_caused : Option Place → List Event → List Event
 task_caused None events = events
-task_caused (Some task) events = with_event task caused events
+task_caused (Some task) events = done_at (acts act.Cause) 0 task events
 
 abbrev pub task_waiters : Option Place → List Event → List ℕ
 task_waiters None events = []

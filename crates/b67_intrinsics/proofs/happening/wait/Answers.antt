@@ -1,39 +1,32 @@
-use Rattle.std.proofs.Common.{◌∙◌, [], ◌≡◌, refl, subst, sym, ap, Ok, List}
+use Rattle.std.proofs.Common.{refl, ap, ◌∙◌}
 use Rattle.b67_list.specs.Numbered.{numbered}
-use Rattle.b67_events.specs.Events.{Event, Events, happened_at}
+use Rattle.b67_deeds.specs.declared.EventAct.TheVariants as act
+use Rattle.b67_deeds.specs.Deeds.{acts}
+use Rattle.b67_events.specs.Events.{Events, happened_at}
 use Rattle.b67_events.specs.declared.Took.{Took}
-use Rattle.b67_table.specs.declared.ProcessState.{ProcessState}
 use Rattle.b67_table.specs.declared.ProcessState.TheVariants.{WaitsFor}
-use Rattle.b67_table.specs.Program.{wait}
 use Rattle.b67_table.specs.Writes as writes
 use Rattle.b67_table.specs.Writes.{written}
 use Rattle.b67_reach.specs.Images.{image_of}
-use Rattle.b67_reach.specs.Answers.{Acts}
-use Rattle.b67_intrinsics.specs.Called.{finished_in, ended, state_after}
-use Rattle.b67_intrinsics.proofs.Acting.{waiting_is, event_stops, event_goes}
+use Rattle.b67_intrinsics.specs.Called.{ended, state_after}
+use Rattle.b67_intrinsics.proofs.Acting.{waits_is, event_stops, event_ends}
 use Rattle.b67_intrinsics.proofs.happening.wait.Goals as goal
 
 pub returns-in_err-place-clause-acts : goal.returns-in_err-place-clause-acts
 returns-in_err-place-clause-acts g c =
     let img = image_of (g.C.Core.stacks c.args.core.now) (g.C.Core.rows c.args.core.now) c.args.kernel.now.events c.args.parts.now in
-    event_stops wait c.args.parts.now.code c.args.next c.args.mark.now c.args.process img
+    event_stops (acts act.Wait) c.args.parts.now.code c.args.next c.args.mark.now c.args.process img
     (numbered c.args.parts.now.regs.items c.args.process) c.in_err-place.field-0.0 c.from_residual.result (c.in_err-place.ensures.leads img refl refl) c.from_residual.ensures.1
 
 pub returns-clause-acts : goal.returns-clause-acts
 returns-clause-acts g c =
     let p = c.args.process in
+    let at = c.in_ok-place.place in
     let img = image_of (g.C.Core.stacks c.args.core.now) (g.C.Core.rows c.args.core.now) c.args.kernel.now.events c.args.parts.now in
-    let w = writes.wait c.in_ok-place.place in
-    let events = ap (λ (e : Events). e.events) c.wait-took.ensures.after in
-    let states : c.set_waiting.new.states.items ≡ (written p w img).states =
-    c.set_waiting.ensures ∙ ap (λ (t : Took). state_after t (WaitsFor c.in_ok-place.place) p c.args.parts.now.states.items) c.wait-took.ensures.answer
-    ∙ waiting_is (happened_at c.in_ok-place.place c.args.kernel.now.events) (WaitsFor c.in_ok-place.place) p c.args.parts.now.states.items in
-    let regs = numbered c.args.parts.now.regs.items p in
-    let q = c.end.ensures.acts (written p w img) refl refl refl in
-    event_goes wait c.args.parts.now.code c.args.next c.args.mark.now p img regs c.in_ok-place.place w
-    (record (ended (g.C.Core.stacks c.end.new.core) (g.C.Core.rows c.end.new.core) c.end.new.all.items img) { events = c.wait-took.new.self.events; states = c.set_waiting.new.states.items })
-    (λ x. refl) (c.in_ok-place.ensures.leads img refl refl)
-    (subst (λ (es : List Event). Acts p (finished_in regs c.args.mark.now [] c.args.next) (written p w img)
-    (record (ended (g.C.Core.stacks c.end.new.core) (g.C.Core.rows c.end.new.core) c.end.new.all.items img) { events = es; states = c.set_waiting.new.states.items }) (Ok tt)) (sym events)
-    (subst (λ (ss : List ProcessState). Acts p (finished_in regs c.args.mark.now [] c.args.next) (written p w img)
-    (record (ended (g.C.Core.stacks c.end.new.core) (g.C.Core.rows c.end.new.core) c.end.new.all.items img) { events = (written p w img).events; states = ss }) (Ok tt)) (sym states) q))
+    event_ends (acts act.Wait) c.args.parts.now.code c.args.next c.args.mark.now p img (numbered c.args.parts.now.regs.items p) at
+    (ended (g.C.Core.stacks c.end.new.core) (g.C.Core.rows c.end.new.core) c.end.new.all.items img) (c.in_ok-place.ensures.leads img refl refl)
+    c.wait-took.new.self.events (ap (λ (e : Events). e.events) c.wait-took.ensures.after)
+    c.set_waiting.new.states.items
+    (c.set_waiting.ensures ∙ ap (λ (t : Took). state_after t (WaitsFor at) p c.args.parts.now.states.items) c.wait-took.ensures.answer
+    ∙ waits_is (happened_at at c.args.kernel.now.events) at p c.args.parts.now.states.items)
+    (c.end.ensures.acts (written p (writes.event_deed (acts act.Wait) at) img) refl refl refl)

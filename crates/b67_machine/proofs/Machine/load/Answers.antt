@@ -31,7 +31,7 @@ invariant_of-result g c =
     let parts = c.in_ok-kernel.parts in
     let valid = loaded c.args.code stacks rows c.in_ok-kernel.kernel parts c.requires.segments c.in_ok-kernel.ensures.image c.in_ok-kernel.ensures.code in
     let items : c.in_ok-counts.counts.items ≡ replicate 256 0 = c.in_ok-counts.ensures.items_if_clones_equal (λ y h. h) in
-    (valid, c.in_ok-kernel.ensures.room, ap length items ∙ length-replicate {A = ℕ} 256 0, subst (AreTables parts.code) (sym c.new-2.ensures.items) (no_tables parts.code))
+    (valid, c.in_ok-kernel.ensures.room, ap length items ∙ length-replicate {A = ℕ} 256 0, subst (AreTables parts.code) (sym c.new.ensures.items) (no_tables parts.code))
 
 pub returns-clause-fresh : goal.returns-clause-fresh
 returns-clause-fresh g c =
