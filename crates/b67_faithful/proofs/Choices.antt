@@ -6,24 +6,28 @@ use Rattle.std.proofs.lemmas.List.{length-append}
 use Rattle.b67_list.specs.Numbered.{set_numbered}
 use Rattle.b67_num.specs.declared.FaultKind.{FaultKind}
 use Rattle.b67_num.specs.declared.FaultKind.TheVariants as fault
-use Rattle.algol_tree.specs.declared.tree.EventAct.{EventAct}
-use Rattle.algol_tree.specs.declared.tree.EventAct.TheVariants as act
+use Rattle.b67_deeds.specs.declared.EventTest.{EventTest}
+use Rattle.b67_deeds.specs.declared.EventTest.TheVariants as test
+use Rattle.b67_deeds.specs.Deeds as deeds
+use Rattle.b67_deeds.specs.Deeds.{EventDeed, Deed, Next, deed}
+use Rattle.b67_deeds.specs.declared.EventAct.TheVariants as act
 use Rattle.algol_tree.specs.declared.tree.Kind.{Kind}
 use Rattle.algol_tree.specs.declared.tree.Named.{Named}
 use Rattle.algol_tree.specs.Blocks.{Block, block_numbered}
 use Rattle.algol_tree.specs.Scopes.{Scopes, use_of}
 use Rattle.algol_meaning.specs.declared.TheConstants.{MOST_STARTED}
-use Rattle.algol_meaning.specs.Value.{Value, Bounds, ArrayCell, EventCell, Cell, simple, event, array, named, reference, Reference, whole_of}
+use Rattle.algol_meaning.specs.Value.{Value, Bounds, ArrayCell, Cell, simple, event, array, named, reference, Reference, whole_of}
+use Rattle.b67_deeds.specs.Events.{EventState}
 use Rattle.algol_meaning.specs.Rest.{Place, own, there, element_of, Answer, done}
 use Rattle.algol_meaning.specs.Settle.{block_of}
 use Rattle.algol_meaning.specs.World.{State, Process, Part, World, instance_at, with_instance, cell_at, followed, array_in, add_cells, set_able, set_all_able, process_at}
 use Rattle.algol_meaning.specs.Critical.{some_depends, some_depends_on_any, is_evaluation, own_instances}
-use Rattle.algol_meaning.specs.Events.{Released, event_at, set_event, released, caused, reset, liberated, liberated_by, caused_by_end}
+use Rattle.algol_meaning.specs.Events.{Released, event_at, change_event, released, caused_by_end}
 use Rattle.algol_meaning.specs.Instances.{leave, Cut, cut_at}
 use Rattle.algol_meaning.specs.Arrays.{subscript_place, new_arrays, has_wrong_size, has_no_room, bounds_of}
-use Rattle.algol_meaning.specs.Actions as actions
-use Rattle.algol_meaning.specs.Actions.{Action}
-use Rattle.algol_meaning.specs.Asks.{Ask, nothing, reads, reads_element, indexes, asks_happened, fails, enters, passes, resolves, reads_result, leaves, stores, selects, turns, goes_to, enters_block, starts, acts, writes, makes_arrays, makes_event, ask}
+use Rattle.b67_deeds.specs.declared.Letter.TheVariants as actions
+use Rattle.b67_deeds.specs.declared.Letter.{Letter}
+use Rattle.algol_meaning.specs.Asks.{Ask, nothing, reads, reads_element, indexes, fails, enters, passes, resolves, reads_result, leaves, stores, selects, turns, goes_to, enters_block, starts, event_deed, writes, makes_arrays, makes_event, ask}
 use Rattle.algol_meaning.specs.Choice.{Choice, choice, choice_in, choice_of, is_subscripted, nth_exists}
 use Rattle.algol_meaning.specs.Choice as choices
 use Rattle.b67_letters.specs.Releases.{started_between}
@@ -51,24 +55,21 @@ able_many : (w : World) (ps : List ℕ) → many (set_all_able w ps) ≡ many w
 able_many w [] = refl
 able_many w (p ∷ ps) = able_many (set_able w p) ps ∙ length_set_numbered w.processes p _
 
-released_many : (w : World) (r : Reference) (e : EventCell) (ps : List ℕ) → many ((released w r e ps).world) ≡ many w
-released_many w r e ps = able_many (set_event w r e) ps
+changed_many : (w : World) (r : Reference) (c : Option (EventState → EventState)) → many (change_event w r c) ≡ many w
+changed_many w r None = refl
+changed_many w r (Some change) = refl
 
-caused_many : (w : World) (r : Reference) → many ((caused w r).world) ≡ many w
-caused_many w r = released_many w r (record (event_at w r) { happened = true; waiters = [] }) ((event_at w r).waiters)
+released_many : (w : World) (r : Reference) (d : Deed) → many ((released w r d).world) ≡ many w
+released_many w r d = able_many (change_event w r d.change) d.frees ∙ changed_many w r d.change
 
-task_many : (w : World) (t : Option Reference) → many ((caused_by_end w t).world) ≡ many w
-task_many w None = refl
-task_many w (Some r) = caused_many w r
-
-liberated_many : (w : World) (r : Reference) (e : EventCell) (ps : List ℕ) → many ((liberated_by w r e ps).world) ≡ many w
-liberated_many w r e [] = refl
-liberated_many w r e (p ∷ ps) = length_set_numbered w.processes p _
+task_many : (w : World) (p : ℕ) (t : Option Reference) → many ((caused_by_end w p t).world) ≡ many w
+task_many w p None = refl
+task_many w p (Some r) = released_many w r (deed (deeds.acts act.Cause) p (event_at w r))
 
 -- ---- choices
 
 -- an action that may release others, also where its process has no task
-abbrev pub is_releasing : Action → Bool
+abbrev pub is_releasing : Letter → Bool
 is_releasing actions.Cause = true
 is_releasing actions.Liberate = true
 is_releasing _ = false
@@ -84,7 +85,7 @@ pub record StartsNext (w : World) (c : Choice) : Type 0 where
   pub more : length c.world.processes ≡ length w.processes + 1
 
 -- where this action ends a process, that has no task
-abbrev pub EndsIdle : Option Reference → Action → Type 0
+abbrev pub EndsIdle : Option Reference → Letter → Type 0
 EndsIdle task actions.End = task ≡ None
 EndsIdle task _ = Unit {0}
 
@@ -94,13 +95,13 @@ pub record ReleasesNone (task : Option Reference) (c : Choice) : Type 0 where
   pub calm : is_releasing c.action ≡ false
   pub idle : EndsIdle task c.action
 
--- the head asks for no start of a process, and for no action on an event
+-- the head asks for no start of a process, and for no statement on an event
 abbrev pub NoStart : Ask → Type 0
 NoStart (starts n gs task) = ⊥
 NoStart _ = Unit {0}
 
 abbrev pub NoEvent : Ask → Type 0
-NoEvent (acts x n) = ⊥
+NoEvent (event_deed (deeds.acts x) ns) = ⊥
 NoEvent _ = Unit {0}
 
 -- the head does not ask that the last part of a process that has a task be left
@@ -119,17 +120,17 @@ module _ (sc : Scopes) (w : World) (p : ℕ) (q : Process) (part : Part) (outer 
   fails_stays : (k : FaultKind) → Stays (choices.fails sc w p q part outer k)
   fails_stays k = record { none = refl; same = refl }
 
-  goes_stays : (action : Action) (after : World) (a : Answer) → many after ≡ many w → Stays (choices.goes sc w p q part outer action after a)
+  goes_stays : (action : Letter) (after : World) (a : Answer) → many after ≡ many w → Stays (choices.goes sc w p q part outer action after a)
   goes_stays action after a e = record { none = refl; same = set after _ e }
 
-  stops_stays : (action : Action) (after : World) (s : State) → many after ≡ many w → Stays (choices.stops sc w p q part outer action after s)
+  stops_stays : (action : Letter) (after : World) (s : State) → many after ≡ many w → Stays (choices.stops sc w p q part outer action after s)
   stops_stays action after s e = record { none = refl; same = set after _ e }
 
   opens_stays : (after : World) (inner : Part) → many after ≡ many w → Stays (choices.opens sc w p q part outer after inner)
   opens_stays after inner e = record { none = refl; same = set after _ e }
 
-  releasing_stays : (action : Action) (x : Released) → many x.world ≡ many w → Stays (choices.goes_releasing sc w p q part outer action x)
-  releasing_stays action x e = record { none = refl; same = set x.world _ e }
+  releasing_stays : (action : Letter) (x : Released) (a : Answer) → many x.world ≡ many w → Stays (choices.goes_releasing sc w p q part outer action x a)
+  releasing_stays action x a e = record { none = refl; same = set x.world _ e }
 
   by_bool : (b : Bool) (c d : Choice) → Stays c → Stays d → Stays (if b then c else d)
   by_bool true c d x y = x
@@ -167,7 +168,7 @@ module _ (sc : Scopes) (w : World) (p : ℕ) (q : Process) (part : Part) (outer 
   evaluated_stays after a (next ∷ parts) e = record { none = refl; same = set after _ e }
 
   over_stays : (a : Answer) (parts : List Part) → Stays (choices.left_or_ended sc w p q part outer a parts)
-  over_stays a [] = record { none = refl; same = set ((caused_by_end (leave w (part.instance ∷ [])) q.task).world) _ (task_many (leave w (part.instance ∷ [])) q.task) }
+  over_stays a [] = record { none = refl; same = set ((caused_by_end (leave w (part.instance ∷ [])) p q.task).world) _ (task_many (leave w (part.instance ∷ [])) p q.task) }
   over_stays a (next ∷ parts) = evaluated_stays (leave w (part.instance ∷ [])) a (next ∷ parts) refl
 
   left_stays : (a : Answer) → Stays (choices.left sc w p q part outer a)
@@ -187,18 +188,15 @@ module _ (sc : Scopes) (w : World) (p : ℕ) (q : Process) (part : Part) (outer 
   goes_to_stays : (n : Named) (i : ℕ) → Stays (choices.goes_to sc w p q part outer n i)
   goes_to_stays n i = by_bool ((instance_at w i).process == p) _ _ (gone_to_stays n i (cut_at [] (part ∷ outer) i)) (fails_stays fault.BadGoTo)
 
-  waited_stays : (r : Reference) (e : EventCell) → Stays (choices.waited sc w p q part outer r e)
-  waited_stays r e = by_bool e.happened _ _ (goes_stays actions.Wait w done refl) (stops_stays actions.Wait _ _ refl)
+  did_stays : (x : EventDeed) (r : Reference) (d : Deed) (n : Next) → Stays (choices.did sc w p q part outer x r d n)
+  did_stays x r d deeds.goes = releasing_stays (deeds.letter_of x) (released w r d) (choices.told sc w p q part outer d.answer) (released_many w r d)
+  did_stays x r d deeds.waits = stops_stays (deeds.letter_of x) (released w r d).world _ (released_many w r d)
+  did_stays x r d deeds.procures = stops_stays (deeds.letter_of x) (released w r d).world _ (released_many w r d)
 
-  procured_stays : (r : Reference) (e : EventCell) → Stays (choices.procured sc w p q part outer r e)
-  procured_stays r e = by_bool e.available _ _ (goes_stays actions.Procure _ done refl) (stops_stays actions.Procure _ _ refl)
-
-  acted_stays : (x : EventAct) (r : Reference) → Stays (choices.acted sc w p q part outer x r)
-  acted_stays act.Cause r = releasing_stays actions.Cause (caused w r) (caused_many w r)
-  acted_stays act.Reset r = releasing_stays actions.Reset (reset w r) refl
-  acted_stays act.Wait r = waited_stays r (event_at w r)
-  acted_stays act.Procure r = procured_stays r (event_at w r)
-  acted_stays act.Liberate r = releasing_stays actions.Liberate (liberated w r) (liberated_many w r (event_at w r) ((event_at w r).procurers))
+  does_stays : (x : EventDeed) (ns : List Named) → Stays (choices.does_with sc w p q part outer x ns)
+  does_stays x [] = record { none = refl; same = refl }
+  does_stays x (n ∷ ns) =
+      let r = followed w (choices.here sc w p q part outer n) in did_stays x r (deed x p (event_at w r)) ((deed x p (event_at w r)).next)
 
   arrays_stay : (kind : Kind) (ns : List Named) (bs : List Bounds) → Stays (choices.made_arrays sc w p q part outer kind ns bs)
   arrays_stay kind ns bs =
@@ -214,7 +212,6 @@ module _ (sc : Scopes) (w : World) (p : ℕ) (q : Process) (part : Part) (outer 
   stays (indexes n ks v) h =
       index_stays (followed w (choices.here sc w p q part outer n)) ks
       (subscript_place ((use_of sc n).sort) (array_in (cell_at w (followed w (choices.here sc w p q part outer n)))) ks (whole_of v))
-  stays (asks_happened n) h = record { none = refl; same = length_set_numbered w.processes p _ }
   stays (fails f) h = record { none = refl; same = refl }
   stays (enters n gs) h = record { none = refl; same = length_set_numbered w.processes p _ }
   stays (passes n) h = record { none = refl; same = length_set_numbered w.processes p _ }
@@ -227,7 +224,7 @@ module _ (sc : Scopes) (w : World) (p : ℕ) (q : Process) (part : Part) (outer 
   stays (goes_to n) h = goes_to_stays n (choices.home sc w p q part outer n)
   stays (enters_block b) h = record { none = refl; same = length_set_numbered w.processes p _ }
   stays (starts n gs task) h = absurd h
-  stays (acts x n) h = acted_stays x (followed w (choices.here sc w p q part outer n))
+  stays (event_deed x ns) h = does_stays x ns
   stays (writes phrases vs) h = record { none = refl; same = length_set_numbered w.processes p _ }
   stays (makes_arrays kind ns pairs vs) h = arrays_stay kind ns (bounds_of pairs vs)
   stays (makes_event n) h = record { none = refl; same = length_set_numbered w.processes p _ }
@@ -268,7 +265,6 @@ module _ (sc : Scopes) (w : World) (p : ℕ) (q : Process) (part : Part) (outer 
   told_by (reads n) = none_told _ (stays (reads n) tt)
   told_by (reads_element n ks v) = none_told _ (stays (reads_element n ks v) tt)
   told_by (indexes n ks v) = none_told _ (stays (indexes n ks v) tt)
-  told_by (asks_happened n) = none_told _ (stays (asks_happened n) tt)
   told_by (fails f) = none_told _ (stays (fails f) tt)
   told_by (enters n gs) = none_told _ (stays (enters n gs) tt)
   told_by (passes n) = none_told _ (stays (passes n) tt)
@@ -288,7 +284,7 @@ module _ (sc : Scopes) (w : World) (p : ℕ) (q : Process) (part : Part) (outer 
       by : (b : Bool) (c : Choice) → StartsNext w c → Told (if b then choices.fails sc w p q part outer fault.ProcessLimit else c)
       by true c s = none_told (choices.fails sc w p q part outer fault.ProcessLimit) (fails_stays fault.ProcessLimit)
       by false c s = next_told c s
-  told_by (acts x n) = none_told _ (stays (acts x n) tt)
+  told_by (event_deed x ns) = none_told _ (stays (event_deed x ns) tt)
   told_by (writes phrases vs) = none_told _ (stays (writes phrases vs) tt)
   told_by (makes_arrays kind ns pairs vs) = none_told _ (stays (makes_arrays kind ns pairs vs) tt)
   told_by (makes_event n) = none_told _ (stays (makes_event n) tt)
@@ -340,7 +336,7 @@ module _ (sc : Scopes) (w : World) (p : ℕ) (q : Process) (part : Part) (outer 
   frees_evaluated after a (next ∷ parts) = record { none = refl; calm = refl; idle = tt }
 
   frees_over : (a : Answer) (parts : List Part) → (parts ≡ [] → q.task ≡ None) → ReleasesNone q.task (choices.left_or_ended sc w p q part outer a parts)
-  frees_over a [] idle = record { none = ap (λ (t : Option Reference). (caused_by_end (leave w (part.instance ∷ [])) t).processes) (idle refl); calm = refl; idle = idle refl }
+  frees_over a [] idle = record { none = ap (λ (t : Option Reference). (caused_by_end (leave w (part.instance ∷ [])) p t).processes) (idle refl); calm = refl; idle = idle refl }
   frees_over a (next ∷ parts) idle = record { none = refl; calm = refl; idle = tt }
 
   frees_left : (a : Answer) → (outer ≡ [] → q.task ≡ None) → ReleasesNone q.task (choices.left sc w p q part outer a)
@@ -357,6 +353,10 @@ module _ (sc : Scopes) (w : World) (p : ℕ) (q : Process) (part : Part) (outer 
       frees_if (some_depends_on_any w.processes (own_instances cut.newer)) _ _ (frees_fails fault.CriticalBlockExit)
       (frees_gone (own_instances cut.newer) (block_numbered sc.blocks ((instance_at w i).block)) n cut.from)
 
+  frees_tested : (x : EventTest) (ns : List Named) → ReleasesNone q.task (choices.does_with sc w p q part outer (deeds.tests x) ns)
+  frees_tested x [] = record { none = refl; calm = refl; idle = tt }
+  frees_tested test.Happened (n ∷ ns) = record { none = refl; calm = refl; idle = tt }
+
   pub frees : (k : Ask) → NoEvent k → NoTask q.task outer k → ReleasesNone q.task (choice_of sc w p q part outer k)
   frees nothing h idle = record { none = refl; calm = refl; idle = tt }
   frees (reads n) h idle = frees_read (cell_at w (choices.here sc w p q part outer n))
@@ -366,7 +366,6 @@ module _ (sc : Scopes) (w : World) (p : ℕ) (q : Process) (part : Part) (outer 
   frees (indexes n ks v) h idle =
       frees_index (followed w (choices.here sc w p q part outer n)) ks
       (subscript_place ((use_of sc n).sort) (array_in (cell_at w (followed w (choices.here sc w p q part outer n)))) ks (whole_of v))
-  frees (asks_happened n) h idle = record { none = refl; calm = refl; idle = tt }
   frees (fails f) h idle = record { none = refl; calm = refl; idle = tt }
   frees (enters n gs) h idle = record { none = refl; calm = refl; idle = tt }
   frees (passes n) h idle = record { none = refl; calm = refl; idle = tt }
@@ -382,7 +381,8 @@ module _ (sc : Scopes) (w : World) (p : ℕ) (q : Process) (part : Part) (outer 
   frees (enters_block b) h idle = record { none = refl; calm = refl; idle = tt }
   frees (starts n gs task) h idle =
       frees_if (nat_lt MOST_STARTED (length w.processes)) _ _ (frees_fails fault.ProcessLimit) (record { none = refl; calm = refl; idle = tt })
-  frees (acts x n) h idle = absurd h
+  frees (event_deed (deeds.acts x) ns) h idle = absurd h
+  frees (event_deed (deeds.tests x) ns) h idle = frees_tested x ns
   frees (writes phrases vs) h idle = record { none = refl; calm = refl; idle = tt }
   frees (makes_arrays kind ns pairs vs) h idle =
       frees_if (has_wrong_size (bounds_of pairs vs)) _ _ (frees_fails fault.ArraySize)

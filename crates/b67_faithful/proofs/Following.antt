@@ -1,11 +1,12 @@
 -- A code whose images picture the worlds of a source follows it.
 use Rattle.std.proofs.Common.{append_assoc, inl, inr, ◌≡◌, ℕ, ◌+◌, List, [], ◌∷◌, ◌++◌, length, Option, Some, true, refl, sym, ap, ◌∙◌, subst}
+use Rattle.b67_letters.specs.Letters.{letter}
 use Rattle.std.specs.Prelude.{◌⊎◌, reverse}
 use Rattle.std.proofs.lemmas.List.{reverse-reverse}
 use Rattle.algol_tree.specs.Plain.{PProgram}
 use Rattle.algol_tree.specs.Scopes.{scopes_of}
 use Rattle.algol_meaning.specs.World.{World}
-use Rattle.algol_meaning.specs.Actions.{Action}
+use Rattle.b67_deeds.specs.declared.Letter.{Letter}
 use Rattle.algol_meaning.specs.Choice.{choice}
 use Rattle.algol_meaning.specs.Run.{start, run, Legal, may_go}
 use Rattle.b67_segment.specs.declared.code.Code.{Code}
@@ -18,8 +19,8 @@ use Rattle.b67_table.specs.Runs as runs
 use Rattle.b67_table.specs.Sound.{Sound}
 use Rattle.b67_faithful.specs.Agreement.{Agrees}
 use Rattle.b67_letters.specs.Releases.{releases, started_between, started_by, starts}
-use Rattle.b67_letters.specs.Entries.{all_released, all_started}
-use Rattle.b67_faithful.specs.Correspondence.{operator_action, operator_actions, action_in, released_in, started_in, source_actions, source_released, source_started}
+use Rattle.b67_letters.specs.Entries.{letters, all_released, all_started}
+use Rattle.b67_faithful.specs.Correspondence.{action_in, released_in, started_in, source_actions, source_released, source_started}
 use Rattle.b67_faithful.specs.Faithful.{ComesToLimit, Follows}
 use Rattle.b67_faithful.specs.Simulation.{Simulates, Acted, Comes, acts, stops}
 use Rattle.b67_faithful.proofs.Contradictions.{some_same}
@@ -87,12 +88,12 @@ module _ (tree : PProgram) (code : Code) (Pictures : World → Image → Type 0)
         acted = sim.act w e.quiet b p quiet (may_follow code w e.quiet (sim.shows w e.quiet quiet) p may) e.action;
       }
 
-  same_actions : {h counts : List ℕ} {img : Image} → (r : Runs code h counts img) → operator_actions r ≡ source_actions tree h
+  same_actions : {h counts : List ℕ} {img : Image} → (r : Runs code h counts img) → letters r ≡ source_actions tree h
   same_actions begin = refl
   same_actions (entry {h} {p = p} runs e) =
       let x = entering runs e in
-      let own : operator_action code e.quiet p ≡ action_in tree (run tree (reverse h)) p = x.acted.action ∙ sym (ap (λ (o : Option World). action_in tree o p) x.is) in
-      ap (λ (o : Option Action). o ∷ operator_actions runs) own ∙ ap (λ (xs : List (Option Action)). action_in tree (run tree (reverse h)) p ∷ xs) (same_actions runs)
+      let own : letter code e.quiet p ≡ action_in tree (run tree (reverse h)) p = x.acted.action ∙ sym (ap (λ (o : Option World). action_in tree o p) x.is) in
+      ap (λ (o : Option Letter). o ∷ letters runs) own ∙ ap (λ (xs : List (Option Letter)). action_in tree (run tree (reverse h)) p ∷ xs) (same_actions runs)
 
   same_released : {h counts : List ℕ} {img : Image} → (r : Runs code h counts img) → all_released r ≡ source_released tree h
   same_released begin = refl

@@ -13,8 +13,8 @@ use Rattle.b67_table.specs.Runs.{Plains, TableRun}
 use Rattle.b67_table.specs.Sound.{Sound}
 use Rattle.b67_listing.specs.Listings.{IsListable}
 use Rattle.b67_faithful.specs.Agreement.{Agrees}
-use Rattle.b67_letters.specs.Entries.{all_released, all_started}
-use Rattle.b67_faithful.specs.Correspondence.{operator_actions, source_actions, source_released, source_started}
+use Rattle.b67_letters.specs.Entries.{letters, all_released, all_started}
+use Rattle.b67_faithful.specs.Correspondence.{source_actions, source_released, source_started}
 use Rattle.b67_faithful.specs.Lines.{formats_for, lines_of}
 
 -- after entries of the schedule the process of the next one comes to the stack limit before its next action is done
@@ -45,9 +45,9 @@ pub record Follows (tree : PProgram) (code : Code) : Type 0 where
   pub sound : Sound code
   -- each run of the code has a legal schedule of the source, with its output, end and able processes, on stacks within their weights
   pub legal : (schedule tails : List ℕ) (image : Image) → TableRun code schedule tails image → Agrees tree code schedule image
-  -- the operator of each entry is the action of that entry in the source, releases whom that releases, in the same order, and starts whom
-  -- that starts
-  pub actions : (schedule tails : List ℕ) (image : Image) → (r : TableRun code schedule tails image) → operator_actions r.runs ≡ source_actions tree r.history
+  -- the operator of each entry has the letter of that entry's action in the source, releases whom that releases, in the same order, and starts
+  -- whom that starts
+  pub actions : (schedule tails : List ℕ) (image : Image) → (r : TableRun code schedule tails image) → letters r.runs ≡ source_actions tree r.history
   pub released : (schedule tails : List ℕ) (image : Image) → (r : TableRun code schedule tails image) → all_released r.runs ≡ source_released tree r.history
   pub started : (schedule tails : List ℕ) (image : Image) → (r : TableRun code schedule tails image) → all_started r.runs ≡ source_started tree r.history
   -- each legal schedule of the source has a run of the code, or comes to the stack limit

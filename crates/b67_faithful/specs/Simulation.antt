@@ -1,5 +1,6 @@
 -- What makes a code faithful to a source: images that picture worlds, from the first one on, through every operator.
 use Rattle.std.specs.Prelude.{◌≡◌, ℕ, ◌+◌, ◌≤◌, true, Some}
+use Rattle.b67_letters.specs.Letters.{letter}
 use Rattle.algol_tree.specs.Plain.{PProgram}
 use Rattle.algol_tree.specs.Scopes.{scopes_of}
 use Rattle.algol_meaning.specs.World.{World}
@@ -18,7 +19,6 @@ use Rattle.b67_table.specs.Touches.{IsPrivate}
 use Rattle.b67_table.specs.Sound.{Lives, OperatorTouches}
 use Rattle.b67_letters.specs.Releases.{releases}
 use Rattle.b67_faithful.specs.Agreement.{Shows, Fits}
-use Rattle.b67_faithful.specs.Correspondence.{operator_action}
 use Rattle.b67_faithful.specs.Faithful.{longest}
 
 -- So many plain operators of a process led to this image. They, with an action after them, are at most as many as the longest segment has
@@ -30,7 +30,7 @@ pub record AreFew (code : Code) (p n : ℕ) (quiet : Image) : Type 0 where
 module _ (tree : PProgram) (code : Code) (Pictures : World → Image → Type 0) where
   -- an action of a process of the code is that of the source, releases the same in the same order, and leads to an image of the world after it
   pub record Acted (w : World) (p : ℕ) (quiet after : Image) : Type 0 where
-    pub action : operator_action code quiet p ≡ Some ((choice (scopes_of tree) w p).action)
+    pub action : letter code quiet p ≡ Some ((choice (scopes_of tree) w p).action)
     pub released : releases code quiet p ≡ (choice (scopes_of tree) w p).released
     pub pictures : Pictures ((choice (scopes_of tree) w p).world) after
 

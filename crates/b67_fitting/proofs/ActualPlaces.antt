@@ -1,5 +1,7 @@
 -- An expression begins at its first token, and the actuals in it that have cells begin after that.
-use Rattle.std.proofs.Common.{◌≡◌, Bool, true, false, List, [], ◌∷◌, ◌++◌, refl, sym, ap, ◌∙◌, subst, if◌then◌else◌, Option}
+use Rattle.algol_tree.specs.declared.tree.Named.{Named}
+use Rattle.algol_tree.specs.declared.tree.EventName.{EventName}
+use Rattle.std.proofs.Common.{Some, None, ◌≡◌, Bool, true, false, List, [], ◌∷◌, ◌++◌, refl, sym, ap, ◌∙◌, subst, if◌then◌else◌, Option, map}
 use Rattle.std.proofs.lemmas.List.Concat.{flat_map-append}
 use Rattle.std.specs.List.{flat_map}
 use Rattle.algol_tree.specs.declared.token.Spot.{Spot}
@@ -8,8 +10,8 @@ use Rattle.algol_tree.specs.Blocks.{Block}
 use Rattle.algol_tree.specs.Cells.{Cell, cells_at, first_spot, has_cell}
 use Rattle.algol_tree.specs.Classes.{Formal}
 use Rattle.algol_tree.specs.Plain as tree
-use Rattle.algol_tree.specs.Plain.{PExpr, PExprs}
-use Rattle.algol_tree.specs.Sites.{Site, name_part, actual_part, wants_value, first_formal, other_formals, sites, inside_expr, inside_list, inside_actuals}
+use Rattle.algol_tree.specs.Plain.{name_alone, PExpr, PExprs}
+use Rattle.algol_tree.specs.Sites.{Site, name_part, actual_part, actual_part_by, wants_value, first_formal, other_formals, sites, inside_expr, inside_list, inside_actuals}
 use Rattle.algol_tree.specs.Surroundings.{Surroundings, formals_at}
 use Rattle.b67_fitting.proofs.ActualCells.{actual_cell}
 use Rattle.b67_fitting.proofs.Among.{Among, nothing, skip, keep, none_among, join}
@@ -22,7 +24,7 @@ others_of (tree.number z spot) = []
 others_of (tree.truth b spot) = []
 others_of (tree.variable (tree.subscripted n es)) = spots_of_exprs es
 others_of (tree.call (tree.called n es)) = spots_of_exprs es
-others_of (tree.tested test e spot) = e.name.spot ∷ []
+others_of (tree.tested x es spot) = map (λ (e : EventName). e.name.spot) es
 others_of (tree.paren e spot) = spots_of_expr e
 others_of (tree.plus e spot) = spots_of_expr e
 others_of (tree.neg e spot) = spots_of_expr e
@@ -35,7 +37,7 @@ begins (tree.number z spot) = refl
 begins (tree.truth b spot) = refl
 begins (tree.variable (tree.subscripted n es)) = refl
 begins (tree.call (tree.called n es)) = refl
-begins (tree.tested test e spot) = refl
+begins (tree.tested x es spot) = refl
 begins (tree.paren e spot) = refl
 begins (tree.plus e spot) = refl
 begins (tree.neg e spot) = refl
@@ -51,22 +53,15 @@ module _ (blocks : List Block) where
 
   -- the part of an actual has no cell
   pub no_part : (e : PExpr) (f : Option Formal) (a : Surroundings) → cells_at blocks (record { part = actual_part e f; around = a }) ≡ []
-  no_part (tree.variable (tree.subscripted n tree.none)) f a = by (wants_value f)
+  no_part e f a = by (name_alone e)
     where
-      by : (b : Bool) → cells_at blocks (record { part = name_part n b; around = a }) ≡ []
-      by true = refl
-      by false = refl
-  no_part (tree.variable (tree.subscripted n (tree.more e es))) f a = refl
-  no_part (tree.number z spot) f a = refl
-  no_part (tree.truth z spot) f a = refl
-  no_part (tree.call c) f a = refl
-  no_part (tree.tested test e spot) f a = refl
-  no_part (tree.paren e spot) f a = refl
-  no_part (tree.plus e spot) f a = refl
-  no_part (tree.neg e spot) f a = refl
-  no_part (tree.not e spot) f a = refl
-  no_part (tree.two op x y) f a = refl
-  no_part (tree.if c x y spot) f a = refl
+      named : (n : Named) (b : Bool) → cells_at blocks (record { part = name_part n b; around = a }) ≡ []
+      named n true = refl
+      named n false = refl
+
+      by : (o : Option Named) → cells_at blocks (record { part = actual_part_by o e f; around = a }) ≡ []
+      by None = refl
+      by (Some n) = named n (wants_value f)
 
   module _ (a : Surroundings) where
     -- with its own
@@ -80,7 +75,7 @@ module _ (blocks : List Block) where
       places_inside (tree.truth b spot) = nothing
       places_inside (tree.variable (tree.subscripted n es)) = in_list es
       places_inside (tree.call (tree.called n es)) = in_actuals es (formals_at a n)
-      places_inside (tree.tested test e spot) = none_among (e.name.spot ∷ [])
+      places_inside (tree.tested x es spot) = none_among (map (λ (e : EventName). e.name.spot) es)
       places_inside (tree.paren e spot) = whole e (places_inside e)
       places_inside (tree.plus e spot) = whole e (places_inside e)
       places_inside (tree.neg e spot) = whole e (places_inside e)

@@ -8,11 +8,11 @@ use Rattle.algol_tree.specs.declared.tree.Heading.{Heading}
 use Rattle.algol_tree.specs.declared.tree.Named.{Named}
 use Rattle.algol_tree.specs.Blocks.{of_statement, of_procedure, block_numbered, number_at}
 use Rattle.algol_tree.specs.Cells as cells
-use Rattle.algol_tree.specs.Cells.{Cell, cells_of, cells_at, has_cell, is_plain_variable}
+use Rattle.algol_tree.specs.Cells.{Cell, cells_of, cells_at, has_cell, is_simple_name}
 use Rattle.algol_tree.specs.Classes.{Class, Formal, is_simple}
 use Rattle.algol_tree.specs.Names.{if_so}
 use Rattle.algol_tree.specs.Plain as tree
-use Rattle.algol_tree.specs.Plain.{PExpr, PExprs, PPair, PStmt, PStmts, PDecls}
+use Rattle.algol_tree.specs.Plain.{name_alone, PExpr, PExprs, PPair, PStmt, PStmts, PDecls}
 use Rattle.algol_tree.specs.Scopes.{Scopes, Use, use_by, used, if_named, use_of}
 use Rattle.algol_tree.specs.Sites as parts
 use Rattle.algol_tree.specs.Sites.{Site, here, sites, first_formal, other_formals, actual_part, inside_expr, inside_list, inside_actuals, here_stmt, inside_stmt, sites_in_pairs, sites_in_stmts, sites_in_decls, has_decls}
@@ -122,8 +122,8 @@ module _ (sc : Scopes) (each : (k : ℕ) → k < length sc.blocks → AreParamet
     -- ---- one actual
 
     -- what is no name by itself has a cell
-    named : (e : PExpr) (f : Option Formal) → cells.is_by_name f ≡ true → is_plain_variable e a ≡ false → has_cell e f a ≡ true
-    named e f h p = ap (λ (b : Bool). b && not (is_plain_variable e a)) h ∙ ap not p
+    named : (e : PExpr) (f : Option Formal) → cells.is_by_name f ≡ true → is_simple_name (name_alone e) a ≡ false → has_cell e f a ≡ true
+    named e f h p = ap (λ (b : Bool). b && not (is_simple_name (name_alone e) a)) h ∙ ap not p
 
     is_own : (a.block == a.block) ≡ true
     is_own = grind (arith, nat_tests)
@@ -164,7 +164,7 @@ module _ (sc : Scopes) (each : (k : ℕ) → k < length sc.blocks → AreParamet
     one_few (by_name k) (tree.number z spot) f h g = omega (arith, has_one (tree.number z spot) f (named (tree.number z spot) f (h refl) refl))
     one_few (by_name k) (tree.truth z spot) f h g = omega (arith, has_one (tree.truth z spot) f (named (tree.truth z spot) f (h refl) refl))
     one_few (by_name k) (tree.call c) f h g = omega (arith, has_one (tree.call c) f (named (tree.call c) f (h refl) refl))
-    one_few (by_name k) (tree.tested test e spot) f h g = omega (arith, has_one (tree.tested test e spot) f (named (tree.tested test e spot) f (h refl) refl))
+    one_few (by_name k) (tree.tested x es spot) f h g = omega (arith, has_one (tree.tested x es spot) f (named (tree.tested x es spot) f (h refl) refl))
     one_few (by_name k) (tree.paren e spot) f h g = omega (arith, has_one (tree.paren e spot) f (named (tree.paren e spot) f (h refl) refl))
     one_few (by_name k) (tree.plus e spot) f h g = omega (arith, has_one (tree.plus e spot) f (named (tree.plus e spot) f (h refl) refl))
     one_few (by_name k) (tree.neg e spot) f h g = omega (arith, has_one (tree.neg e spot) f (named (tree.neg e spot) f (h refl) refl))
@@ -183,7 +183,7 @@ module _ (sc : Scopes) (each : (k : ℕ) → k < length sc.blocks → AreParamet
       few_expr (tree.truth z spot) g = omega arith
       few_expr (tree.variable (tree.subscripted n es)) g = few_list es g.1
       few_expr (tree.call (tree.called n es)) g = few_given (wants_of sc n) (formals_at a n) (call_named n (meant n (record { there = g.0.there; known = g.0.known }))) es g.1
-      few_expr (tree.tested test e spot) g = omega arith
+      few_expr (tree.tested x es spot) g = omega arith
       few_expr (tree.paren e spot) g = few_expr e g.1
       few_expr (tree.plus e spot) g = few_expr e g.1
       few_expr (tree.neg e spot) g = few_expr e g.1

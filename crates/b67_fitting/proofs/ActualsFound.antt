@@ -7,11 +7,11 @@ use Rattle.algol_tree.specs.declared.tree.Kind.{Kind}
 use Rattle.algol_tree.specs.declared.tree.Kind.TheVariants as types
 use Rattle.algol_tree.specs.declared.tree.Named.{Named}
 use Rattle.algol_tree.specs.Blocks.{Block, of_statement}
-use Rattle.algol_tree.specs.Cells.{Cell, is_plain_variable}
+use Rattle.algol_tree.specs.Cells.{Cell, is_simple_name}
 use Rattle.algol_tree.specs.Classes as class
 use Rattle.algol_tree.specs.Classes.{Class, is_simple}
 use Rattle.algol_tree.specs.Plain as tree
-use Rattle.algol_tree.specs.Plain.{PExpr, PExprs, PPair, PStmt, PStmts, PDecls}
+use Rattle.algol_tree.specs.Plain.{name_alone, PExpr, PExprs, PPair, PStmt, PStmts, PDecls}
 use Rattle.algol_tree.specs.Scopes.{Scopes, use_of}
 use Rattle.algol_tree.specs.Sites.{Part, Site, here, sites, actual_part, is_of_value, inside_expr, inside_list, inside_actuals, here_stmt, inside_stmt, inside_decl, sites_in_pairs, sites_in_stmts, sites_in_decls}
 use Rattle.algol_tree.specs.Sorts.{Declared, procedure_in, is_named_in, formals_of, class_in}
@@ -53,7 +53,7 @@ module _ (blocks : List Block) (sc : Scopes) where
     Tell xs = AllByRecursion SiteTells xs
 
     abbrev cell_if : Bool → PExpr → List Cell
-    cell_if named e = if named && not (is_plain_variable e a) then actual_cell a.block e ∷ [] else []
+    cell_if named e = if named && not (is_simple_name (name_alone e) a) then actual_cell a.block e ∷ [] else []
 
     -- what is given by name has a cell, unless it is a variable or a parameter by name
     own_by : (k m : Kind) (e : PExpr) → TypedExpr a m e → SiteTells (here e a) → cell_if true e ≡ cells_for a.block (own_actual sc (by_name k) e)
@@ -69,7 +69,7 @@ module _ (blocks : List Block) (sc : Scopes) where
     own_by k m (tree.number z spot) t g = refl
     own_by k m (tree.truth z spot) t g = refl
     own_by k m (tree.call c) t g = refl
-    own_by k m (tree.tested test e spot) t g = refl
+    own_by k m (tree.tested x es spot) t g = refl
     own_by k m (tree.paren e spot) t g = refl
     own_by k m (tree.plus e spot) t g = refl
     own_by k m (tree.neg e spot) t g = refl
@@ -126,7 +126,7 @@ module _ (blocks : List Block) (sc : Scopes) where
       acts_expr m (tree.variable (tree.subscripted n tree.none)) t g = refl
       acts_expr m (tree.variable (tree.subscripted n (tree.more e es))) t g = acts_line (tree.more e es) t.1 g.1
       acts_expr m (tree.call (tree.called n es)) t g = acts_call n es t.0 t.1 (acts_given t.0 t.0.params (specified t.0 t.2) es t.4 (inside_call n es t.0 t.1 g.1)) g.0.0
-      acts_expr m (tree.tested test e spot) t g = refl
+      acts_expr m (tree.tested x es spot) t g = refl
       acts_expr m (tree.paren e spot) t g = acts_expr m e t g.1
       acts_expr m (tree.plus e spot) t g = acts_expr types.Number e t.1 g.1
       acts_expr m (tree.neg e spot) t g = acts_expr types.Number e t.1 g.1

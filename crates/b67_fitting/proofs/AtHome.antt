@@ -1,14 +1,14 @@
 -- A label before a statement that is told to be in the list of its block stands there.
-use Rattle.std.proofs.Common.{◌≡◌, ◌⊎◌, inl, inr, ℕ, Bool, true, false, List, [], ◌∷◌, ◌++◌, Option, refl, sym, ap, ◌∙◌, subst}
+use Rattle.std.proofs.Common.{Some, None, ◌≡◌, ◌⊎◌, inl, inr, ℕ, Bool, true, false, List, [], ◌∷◌, ◌++◌, Option, refl, sym, ap, ◌∙◌, subst}
 use Rattle.std.specs.List.{AllByRecursion}
 use Rattle.algol_tree.specs.declared.token.Spot.{Spot}
 use Rattle.algol_tree.specs.declared.tree.Named.{Named}
 use Rattle.algol_tree.specs.Blocks.{Block, Begin, of_statement, of_procedure, procedure_block, stmts_of, blocks_of, blocks_in_decls, blocks_in_stmts, block_numbered, number_at}
 use Rattle.algol_tree.specs.Classes.{Formal}
 use Rattle.algol_tree.specs.Plain as tree
-use Rattle.algol_tree.specs.Plain.{PExpr, PExprs, PPair, PStmt, PStmts, PDecl, PDecls}
+use Rattle.algol_tree.specs.Plain.{name_alone, PExpr, PExprs, PPair, PStmt, PStmts, PDecl, PDecls}
 use Rattle.algol_tree.specs.Sites as parts
-use Rattle.algol_tree.specs.Sites.{Site, here, sites, wants_value, name_part, actual_part, first_formal, other_formals, inside_expr, inside_list, inside_actuals, sites_in_pairs, here_stmt, inside_stmt, sites_in_stmts, sites_in_decls, has_decls}
+use Rattle.algol_tree.specs.Sites.{Site, here, sites, wants_value, name_part, actual_part, actual_part_by, first_formal, other_formals, inside_expr, inside_list, inside_actuals, sites_in_pairs, here_stmt, inside_stmt, sites_in_stmts, sites_in_decls, has_decls}
 use Rattle.algol_tree.specs.Sorts.{Declared}
 use Rattle.algol_tree.specs.Surroundings.{Surroundings, formals_at, knowing, knowing_all, inside_begin, inside_procedure}
 use Rattle.b67_fitting.proofs.Lists.{each_front, each_back, each_both}
@@ -55,18 +55,11 @@ module _ (blocks : List Block) where
   of_bound a e = record { standing = λ m s h. absurd (let clash : parts.bound e ≡ parts.statement (tree.label m s) true = h in cc) }
 
   of_part : (a : Surroundings) (e : PExpr) (f : Option Formal) → AtHome (record { part = actual_part e f; around = a })
-  of_part a (tree.variable (tree.subscripted n tree.none)) f = of_name a n (wants_value f)
-  of_part a (tree.variable (tree.subscripted n (tree.more e es))) f = of_expr a (tree.variable (tree.subscripted n (tree.more e es)))
-  of_part a (tree.number z spot) f = of_expr a (tree.number z spot)
-  of_part a (tree.truth z spot) f = of_expr a (tree.truth z spot)
-  of_part a (tree.call c) f = of_expr a (tree.call c)
-  of_part a (tree.tested test e spot) f = of_expr a (tree.tested test e spot)
-  of_part a (tree.paren e spot) f = of_expr a (tree.paren e spot)
-  of_part a (tree.plus e spot) f = of_expr a (tree.plus e spot)
-  of_part a (tree.neg e spot) f = of_expr a (tree.neg e spot)
-  of_part a (tree.not e spot) f = of_expr a (tree.not e spot)
-  of_part a (tree.two op x y) f = of_expr a (tree.two op x y)
-  of_part a (tree.if c x y spot) f = of_expr a (tree.if c x y spot)
+  of_part a e f = by (name_alone e)
+    where
+      by : (o : Option Named) → AtHome (record { part = actual_part_by o e f; around = a })
+      by None = of_expr a e
+      by (Some n) = of_name a n (wants_value f)
 
   mutual
     in_expr : (a : Surroundings) (e : PExpr) → AllHome (inside_expr e a)
@@ -74,7 +67,7 @@ module _ (blocks : List Block) where
     in_expr a (tree.truth b spot) = tt
     in_expr a (tree.variable (tree.subscripted n es)) = in_list a es
     in_expr a (tree.call (tree.called n es)) = in_actuals a es (formals_at a n)
-    in_expr a (tree.tested test e spot) = tt
+    in_expr a (tree.tested x es spot) = tt
     in_expr a (tree.paren e spot) = (of_expr a e, in_expr a e)
     in_expr a (tree.plus e spot) = (of_expr a e, in_expr a e)
     in_expr a (tree.neg e spot) = (of_expr a e, in_expr a e)

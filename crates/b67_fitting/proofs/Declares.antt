@@ -1,4 +1,5 @@
 -- The parts of typed statements and declarations are listed.
+use Rattle.algol_tree.specs.declared.tree.EventName.{EventName}
 use Rattle.std.proofs.Common.{◌≡◌, ◌⊎◌, inl, inr, ℕ, ◌-◌, ℤ, Bool, true, false, List, [], ◌∷◌, ◌++◌, map, is_some, if◌then◌else◌, None, Some, Option, refl, sym, ap, ◌∙◌, subst, append-nil}
 use Rattle.std.proofs.lemmas.List.{map-append}
 use Rattle.std.specs.List.{flat_map, AllByRecursion}
@@ -51,6 +52,11 @@ abbrev pub begun : Spot → List Spot → PDecls → PStmts → Block
 begun spot outer ds ss = record { spot = spot; outer = outer; name = []; parameters = []; result = None; decls = ds; stmts = ss }
 
 -- ---- at one place
+
+-- the places of events are those of their names
+event_places : (es : List EventName) → spots_of_names (map (λ (e : EventName). e.name) es) ++ [] ≡ map (λ (e : EventName). e.name.spot) es
+event_places [] = refl
+event_places (e ∷ es) = ap (λ zs. e.name.spot ∷ zs) (event_places es)
 
 module _ (blocks : List Block) (k : ℕ) (b : Block) (a : Surroundings) (stands : Stands blocks b a) (here_is : a.block ≡ k) where
   fair_expr : (e : PExpr) → IsFair blocks (here e a)
@@ -159,7 +165,9 @@ module _ (blocks : List Block) (k : ℕ) (b : Block) (a : Surroundings) (stands 
         site k (here (tree.variable (tree.subscripted n (tree.more e es))) a) (fair_expr (tree.variable (tree.subscripted n (tree.more e es)))) (listed_line (tree.more e es) t.1)
     listed_expr m (tree.call (tree.called n es)) t =
         site k (here (tree.call (tree.called n es)) a) (fair_expr (tree.call (tree.called n es))) (listed_call n es t.0 t.1 (listed_actuals (formals_of t.0) es t.4))
-    listed_expr m (tree.tested test e spot) t = passed k spot (site k (here (tree.tested test e spot) a) (fair_expr (tree.tested test e spot)) (over k))
+    listed_expr m (tree.tested x es spot) t =
+        subst (λ (zs : List Spot). Listed blocks k (spot ∷ zs) [] [] (here (tree.tested x es spot) a ∷ [])) (event_places es)
+        (passed k spot (site k (here (tree.tested x es spot) a) (fair_expr (tree.tested x es spot)) (over k)))
     listed_expr m (tree.paren e spot) t = site k (here (tree.paren e spot) a) (fair_expr (tree.paren e spot)) (passed k spot (listed_expr m e t))
     listed_expr m (tree.plus e spot) t = site k (here (tree.plus e spot) a) (fair_expr (tree.plus e spot)) (passed k spot (listed_expr types.Number e t.1))
     listed_expr m (tree.neg e spot) t = site k (here (tree.neg e spot) a) (fair_expr (tree.neg e spot)) (passed k spot (listed_expr types.Number e t.1))

@@ -1,4 +1,5 @@
 -- Typed trees fit, where each name that they use has its couple, and each inner block keeps to the limits.
+use Rattle.algol_tree.specs.declared.tree.EventName.{EventName}
 use Rattle.std.proofs.Common.{arith, ◌≡◌, ◌⊎◌, inl, inr, ℕ, ◌+◌, ◌≤◌, ℤ, Bool, false, true, is_some, List, [], ◌∷◌, ◌++◌, map, length, slice_get, Option, Some, None, refl, sym, ap, ◌∙◌, subst, if◌then◌else◌}
 use Rattle.std.specs.List.{AllByRecursion}
 use Rattle.algol_tree.specs.declared.TheConstants as limits
@@ -38,7 +39,7 @@ use Rattle.b67_fitting.proofs.Listed as listing
 use Rattle.b67_fitting.proofs.Listed.{AllThere, reads_in, lefts_in, IsBlock, Listed, over, passed, turned, site, declared, both, block, procedure}
 use Rattle.b67_fitting.proofs.Lists.{each_front, each_back, each_both, map_none}
 use Rattle.b67_fitting.proofs.Stated.{IsResult, IsLeft, TypedStmt, TypedStmts, TypedDecls}
-use Rattle.b67_fitting.proofs.Typed.{IsOf, IsFunction, IsTasked, TypedExpr, TypedActual, TypedActuals, TypedLine, as_formal, actual_part_is}
+use Rattle.b67_fitting.proofs.Typed.{AreEventful, IsOf, IsFunction, IsTasked, TypedExpr, TypedActual, TypedActuals, TypedLine, as_formal, actual_part_is}
 use Rattle.b67_fitting.proofs.Wanting.{wanted_of, wanted_value, wanted_name, wanted_array, wanted_event}
 use Rattle.b67_fitting.proofs.Given.{wants_in}
 use Rattle.b67_fitting.proofs.Specified.{IsSpecified, as_value, as_name, as_array, as_event, AreSpecified, specified}
@@ -223,7 +224,7 @@ module _ (blocks : List Block) (sc : Scopes) (told : Told) where
     named_fits k (tree.number z spot) t g c = celled_fits k (tree.number z spot) refl c.0
     named_fits k (tree.truth z spot) t g c = celled_fits k (tree.truth z spot) refl c.0
     named_fits k (tree.call d) t g c = celled_fits k (tree.call d) refl c.0
-    named_fits k (tree.tested test e spot) t g c = celled_fits k (tree.tested test e spot) refl c.0
+    named_fits k (tree.tested x es spot) t g c = celled_fits k (tree.tested x es spot) refl c.0
     named_fits k (tree.paren e spot) t g c = celled_fits k (tree.paren e spot) refl c.0
     named_fits k (tree.plus e spot) t g c = celled_fits k (tree.plus e spot) refl c.0
     named_fits k (tree.neg e spot) t g c = celled_fits k (tree.neg e spot) refl c.0
@@ -267,6 +268,10 @@ module _ (blocks : List Block) (sc : Scopes) (told : Told) where
         subst (λ (cs : List Simple). Celled (actuals_given sc (map (λ (z : Simple). z.wanted) cs) es)) c.cells_are
         (subst (λ (k : ℕ). Celled (actuals_given sc (parameter_wants sc k) es)) callee x)
 
+    fits_events : (ns : List Named) → AllByRecursion (IsPlaced a) ns → AreEventful a ns → AllByRecursion (EventFits sc told level) ns
+    fits_events [] g t = tt
+    fits_events (n ∷ ns) g t = (g.0.evented level at t.0, fits_events ns g.1 t.1)
+
     mutual
       fits_expr : (k : Kind) (e : PExpr) → TypedExpr a k e → AllByRecursion SitePlaced (sites e a) → Celled (actuals_in sc e) → ExprFits sc told level a.block k e
       fits_expr k (tree.number z spot) t g x = t
@@ -278,7 +283,7 @@ module _ (blocks : List Block) (sc : Scopes) (told : Told) where
       fits_expr k (tree.call (tree.called n es)) t g x =
           let c = g.0.0.0.called t.0 level at t.1 in
           (c.callee, c.fits, fits_actuals_of n es t.0 c (fits_actuals t.0 t.0.params (specified t.0 t.2) es t.4 (inside_call n es t.0 t.1 g.1) (called_wants n es t.0 c x)), c.result_is ∙ t.3)
-      fits_expr k (tree.tested tree.happened e spot) t g x = (t.0, g.0.0.0.evented level at t.1)
+      fits_expr k (tree.tested z es spot) t g x = (t.0, fits_events (map (λ (e : EventName). e.name) es) g.0.0 t.1)
       fits_expr k (tree.paren e spot) t g x = fits_expr k e t g.1 x
       fits_expr k (tree.plus e spot) t g x = (t.0, fits_expr types.Number e t.1 g.1 x)
       fits_expr k (tree.neg e spot) t g x = (t.0, fits_expr types.Number e t.1 g.1 x)

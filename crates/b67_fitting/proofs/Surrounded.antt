@@ -1,6 +1,8 @@
 -- What is around each place of an accepted program, and what its names mean there: the names that are known there are those of the
 -- block of the place and of the blocks around it, each so many up as its depth says. On the left of an assignment the name of a procedure
 -- is its result, of the procedure's own block, which is one further in.
+use Rattle.algol_tree.proofs.Alone.{named_alone}
+use Rattle.algol_tree.specs.declared.tree.EventName.{EventName}
 use Rattle.std.proofs.Common.{arith, ◌≡◌, ℕ, ℤ, ◌+◌, ◌-◌, ◌<◌, ◌≤◌, ◌&&◌, not, Bool, true, false, List, [], ◌∷◌, ◌++◌, map, length, is_some, Option, Some, None, refl, sym, ap, ◌∙◌, subst, if◌then◌else◌, suc, slice_get}
 use Rattle.std.specs.List.{flat_map, AllByRecursion}
 use Rattle.algol_tree.specs.declared.token.Spot.{Spot}
@@ -13,9 +15,9 @@ use Rattle.algol_tree.specs.Classes as class
 use Rattle.algol_tree.specs.Classes.{Class, Formal}
 use Rattle.algol_tree.specs.Names.{if_so, places_if, unknown_names}
 use Rattle.algol_tree.specs.Plain as tree
-use Rattle.algol_tree.specs.Plain.{PExpr, PExprs, PDecl, PDecls}
+use Rattle.algol_tree.specs.Plain.{name_alone, PExpr, PExprs, PDecl, PDecls}
 use Rattle.algol_tree.specs.Scopes.{Scopes, Use, used, use_by, left_use, left_uses, uses_at, declared_in, use_of}
-use Rattle.algol_tree.specs.Sites.{Site, sites, here, here_stmt, first_formal, other_formals, wants_value, name_part, actual_part, inside_expr, inside_list, inside_actuals}
+use Rattle.algol_tree.specs.Sites.{Site, sites, here, here_stmt, first_formal, other_formals, wants_value, name_part, actual_part, actual_part_by, inside_expr, inside_list, inside_actuals}
 use Rattle.algol_tree.specs.Sorts as sort
 use Rattle.algol_tree.specs.Sorts.{Sort, same_name, Declared, look_up, declare, declared_parameters, is_named_in, sort_in, class_in}
 use Rattle.algol_tree.specs.Surroundings.{Surroundings, declared_as, class_of_declared, class_of, formals_at, announced, declare_procedure, knowing, knowing_all, inside_procedure}
@@ -232,18 +234,11 @@ name_good sc n false a g = record { there = g.there; known = g.known }
 
 -- the part of an actual is as its expression
 pub actual_good : (sc : Scopes) (e : PExpr) (f : Option Formal) (a : Surroundings) → IsGood sc (record { part = actual_part e f; around = a }) → IsGood sc (here e a)
-actual_good sc (tree.variable (tree.subscripted n tree.none)) f a g = name_good sc n (wants_value f) a g
-actual_good sc (tree.variable (tree.subscripted n (tree.more e es))) f a g = g
-actual_good sc (tree.number z spot) f a g = g
-actual_good sc (tree.truth z spot) f a g = g
-actual_good sc (tree.call c) f a g = g
-actual_good sc (tree.tested test e spot) f a g = g
-actual_good sc (tree.paren e spot) f a g = g
-actual_good sc (tree.plus e spot) f a g = g
-actual_good sc (tree.neg e spot) f a g = g
-actual_good sc (tree.not e spot) f a g = g
-actual_good sc (tree.two op x y) f a g = g
-actual_good sc (tree.if c x y spot) f a g = g
+actual_good sc e f a g = by (name_alone e) refl g
+  where
+    by : (o : Option Named) → name_alone e ≡ o → IsGood sc (record { part = actual_part_by o e f; around = a }) → IsGood sc (here e a)
+    by None h g = g
+    by (Some n) h g = subst (λ x. IsGood sc (here x a)) (sym (named_alone e n h)) (name_good sc n (wants_value f) a g)
 
 module _ (sc : Scopes) (j : ℕ) (outer : List Spot) (a : Surroundings) (r : IsAround sc.blocks j outer a) where
   abbrev pub the_use : Named → Declared → Use
@@ -330,13 +325,21 @@ module _ (sc : Scopes) (j : ℕ) (outer : List Spot) (a : Surroundings) (r : IsA
 
   -- what holds of each name that is known there holds of those of an expression
   module _ (P : Named → Type 0) (known : KnownAs P) where
+    names_known : (ns : List Named) → unknown ns ≡ [] → AllByRecursion (IsThere sc.uses) (flat_map (used a) ns) → AllByRecursion P ns
+    names_known [] k t = tt
+    names_known (n ∷ ns) k t =
+        let its = if_so (not (is_some (declared_as a n))) n.spot in (
+          known n (ap (λ xs. xs ++ []) (nil_front its (unknown ns) k)) (each_both (IsThere sc.uses) (used a n) [] (each_front (IsThere sc.uses) (used a n) (flat_map (used a) ns) t) tt),
+          names_known ns (nil_back its (unknown ns) k) (each_back (IsThere sc.uses) (used a n) (flat_map (used a) ns) t),
+        )
+
     mutual
       pub expr_known : (e : PExpr) → AreGood sc (sites e a) → InExpr P e
       expr_known (tree.number z spot) g = tt
       expr_known (tree.truth z spot) g = tt
       expr_known (tree.variable (tree.subscripted n es)) g = (known n g.0.known g.0.there, list_known es g.1)
       expr_known (tree.call (tree.called n es)) g = (known n g.0.known g.0.there, actuals_known es (formals_at a n) g.1)
-      expr_known (tree.tested test e spot) g = known e.name g.0.known g.0.there
+      expr_known (tree.tested x es spot) g = names_known (map (λ (e : EventName). e.name) es) g.0.known g.0.there
       expr_known (tree.paren e spot) g = expr_known e g.1
       expr_known (tree.plus e spot) g = expr_known e g.1
       expr_known (tree.neg e spot) g = expr_known e g.1

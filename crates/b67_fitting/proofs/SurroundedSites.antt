@@ -45,7 +45,7 @@ module _ (P : Surroundings → Type 0) (a : Surroundings) (p : P a) where
     in_expr (tree.truth b spot) = tt
     in_expr (tree.variable (tree.subscripted n es)) = in_list es
     in_expr (tree.call (tree.called n es)) = in_actuals es (formals_at a n)
-    in_expr (tree.tested test e spot) = tt
+    in_expr (tree.tested x es spot) = tt
     in_expr (tree.paren e spot) = (p, in_expr e)
     in_expr (tree.plus e spot) = (p, in_expr e)
     in_expr (tree.neg e spot) = (p, in_expr e)

@@ -1,5 +1,9 @@
 -- Expressions at which no rule is broken are of a kind, and so are the parts of them.
-use Rattle.std.proofs.Common.{arith, ◌≡◌, ◌⊎◌, inl, inr, not, Bool, true, is_some, List, [], ◌∷◌, ◌++◌, map, length, Option, Some, None, refl, ap, ◌∙◌, subst}
+use Rattle.algol_tree.proofs.Alone.{named_alone}
+use Rattle.std.specs.List.{AllByRecursion}
+use Rattle.algol_tree.specs.declared.tree.EventName.{EventName}
+use Rattle.std.specs.Prelude.{if◌then◌else◌}
+use Rattle.std.proofs.Common.{flat_map, sym, arith, ◌≡◌, ◌⊎◌, inl, inr, not, true, is_some, List, [], ◌∷◌, ◌++◌, map, length, Option, Some, None, refl, ap, ◌∙◌, subst}
 use Rattle.algol_tree.specs.declared.tree.Kind.{Kind}
 use Rattle.algol_tree.specs.declared.tree.Kind.TheVariants as types
 use Rattle.algol_tree.specs.declared.tree.Named.{Named}
@@ -7,12 +11,12 @@ use Rattle.algol_tree.specs.declared.tree.Heading.{Heading}
 use Rattle.algol_tree.specs.Blocks.{Block}
 use Rattle.algol_tree.specs.Checks.{wrong_actual}
 use Rattle.algol_tree.specs.Classes as class
-use Rattle.algol_tree.specs.Classes.{Class, Formal, is_array}
+use Rattle.algol_tree.specs.Classes.{is_task, is_event, Class, Formal, is_array}
 use Rattle.algol_tree.specs.Counted.{exprs_count, wrong_counts}
-use Rattle.algol_tree.specs.Names.{if_so}
+use Rattle.algol_tree.specs.Names.{places_if, if_so}
 use Rattle.algol_tree.specs.Plain as tree
-use Rattle.algol_tree.specs.Plain.{PExpr, PExprs}
-use Rattle.algol_tree.specs.Sites.{Part, expression, here, sites, is_of_value, wants_value, name_part, actual_part, inside_expr, inside_list, inside_actuals}
+use Rattle.algol_tree.specs.Plain.{name_alone, PExpr, PExprs}
+use Rattle.algol_tree.specs.Sites.{Part, expression, here, sites, is_of_value, wants_value, name_part, actual_part, actual_part_by, inside_expr, inside_list, inside_actuals}
 use Rattle.algol_tree.specs.Sorts.{is_named_in, class_in, formals_of}
 use Rattle.algol_tree.specs.Surroundings.{Surroundings, class_of, formals_of_class, declared_as}
 use Rattle.algol_tree.specs.Types.{given_by, taken_by, element_type, result_type, type_of}
@@ -29,22 +33,12 @@ abbrev pub as_formal : Heading → Named → Formal
 as_formal h n = record { class = class_in h.specs n.name; by_value = is_named_in h.values n.name }
 
 -- an actual of which a value is wanted is a part as an expression
-name_is : (n : Named) (b : Bool) → b ≡ true → name_part n b ≡ expression (tree.variable (tree.subscripted n tree.none))
-name_is n b e = ap (name_part n) e
-
 pub actual_part_is : (e : PExpr) (f : Option Formal) → wants_value f ≡ true → actual_part e f ≡ expression e
-actual_part_is (tree.variable (tree.subscripted n tree.none)) f h = name_is n (wants_value f) h
-actual_part_is (tree.variable (tree.subscripted n (tree.more e es))) f h = refl
-actual_part_is (tree.number z spot) f h = refl
-actual_part_is (tree.truth z spot) f h = refl
-actual_part_is (tree.call c) f h = refl
-actual_part_is (tree.tested test e spot) f h = refl
-actual_part_is (tree.paren e spot) f h = refl
-actual_part_is (tree.plus e spot) f h = refl
-actual_part_is (tree.neg e spot) f h = refl
-actual_part_is (tree.not e spot) f h = refl
-actual_part_is (tree.two op x y) f h = refl
-actual_part_is (tree.if c x y spot) f h = refl
+actual_part_is e f h = by (name_alone e) refl
+  where
+    by : (o : Option Named) → name_alone e ≡ o → actual_part_by o e f ≡ expression e
+    by None g = refl
+    by (Some n) g = ap (name_part n) h ∙ ap expression (sym (named_alone e n g))
 
 module _ (a : Surroundings) where
   abbrev pub IsOf : Kind → Named → Type 0
@@ -57,6 +51,10 @@ module _ (a : Surroundings) where
   -- the name of an array with elements of this kind and as many bounds as these subscripts
   abbrev pub HasElements : Kind → Named → PExprs → Type 0
   HasElements k n es = class_of a n ≡ class.array k (exprs_count es)
+
+  -- names of events and of tasks
+  abbrev pub AreEventful : List Named → Type 0
+  AreEventful ns = AllByRecursion (λ (n : Named). IsEventful (class_of a n)) ns
 
   abbrev mutual
     pub TypedExpr : Kind → PExpr → Type 0
@@ -72,7 +70,7 @@ module _ (a : Surroundings) where
     TypedExpr k (tree.if c x y spot) = TypedExpr types.Truth c × TypedExpr k x × TypedExpr k y
     TypedExpr k (tree.call (tree.called n es)) =
         (h : Heading) × (class_of a n ≡ class.procedure h) × HeadingSpecified h × (h.kind ≡ Some k) × TypedActuals (formals_of h) es
-    TypedExpr k (tree.tested test e spot) = (k ≡ types.Truth) × IsEventful (class_of a e.name)
+    TypedExpr k (tree.tested x es spot) = (k ≡ types.Truth) × AreEventful (map (λ (e : EventName). e.name) es)
 
     -- actuals of these parameters: of simple ones values, and names of arrays and of events
     pub TypedActuals : List Formal → PExprs → Type 0
@@ -128,6 +126,19 @@ module _ (blocks : List Block) (a : Surroundings) (plain : KnowsPlain a) where
       let r = array_of (class_of a n) n.spot (plain_first a plain n [] known) named in
       (r.0, subscripts_as_many (class_of a n) r.0 r.1 (exprs_count es) n.spot r.2 counted)
 
+  -- the events of a test
+  eventful : (es : List EventName) → places_if (λ (n : Named). not (is_some (declared_as a n))) (map (λ (e : EventName). e.name) es) ≡ [] →
+      flat_map (λ (e : EventName). if e.task then misnamed is_task (class_of a e.name) e.name.spot else misnamed is_event (class_of a e.name) e.name.spot) es ≡ [] →
+      AreEventful a (map (λ (e : EventName). e.name) es)
+  eventful [] k t = tt
+  eventful (e ∷ es) k t =
+      let more = places_if (λ (n : Named). not (is_some (declared_as a n))) (map (λ (e : EventName). e.name) es) in
+      let its = if e.task then misnamed is_task (class_of a e.name) e.name.spot else misnamed is_event (class_of a e.name) e.name.spot in
+      let others = flat_map (λ (e : EventName). if e.task then misnamed is_task (class_of a e.name) e.name.spot else misnamed is_event (class_of a e.name) e.name.spot) es in (
+        eventful_of e.task (class_of a e.name) e.name.spot (plain_first a plain e.name more k) (nil_front its others t),
+        eventful es (nil_back (if_so (not (is_some (declared_as a e.name))) e.name.spot) more k) (nil_back its others t),
+      )
+
   -- an actual of a simple parameter
   value_typed : (h : Heading) (n : Named) (k : Kind) → class_in h.specs n.name ≡ class.simple k → (e : PExpr) → (IsClean blocks (here e a) → HasKind a e) →
       IsClean blocks (record { part = actual_part e (Some (as_formal h n)); around = a }) → wrong_actual (Some (as_formal h n)) e a ≡ [] → TypedActual a (as_formal h n) e
@@ -168,11 +179,7 @@ module _ (blocks : List Block) (a : Surroundings) (plain : KnowsPlain a) where
           is = ap result_type f.class_is ∙ f.kind_is;
           typed = (h, f.class_is, f.built, f.kind_is, typed_actuals h h.params (specified h f.built) (tree.more e es) w many inside);
         }
-    typed (tree.tested test e spot) w c = record {
-      kind = types.Truth;
-      is = refl;
-      typed = (refl, eventful_of e.task (class_of a e.name) e.name.spot (plain_first a plain e.name [] c.0.known) c.0.typed);
-    }
+    typed (tree.tested x es spot) w c = record { kind = types.Truth; is = refl; typed = (refl, eventful es c.0.known c.0.typed) }
     typed (tree.paren e spot) w c =
         let h = typed e w c.1 in
         record { kind = h.kind; is = h.is; typed = h.typed }

@@ -1,5 +1,7 @@
 -- The uses of names in a program stand at places of its text, no two at one.
-use Rattle.std.proofs.Common.{arith, ◌≡◌, ℕ, ◌+◌, ◌-◌, ◌≤◌, Bool, true, false, List, [], ◌∷◌, ◌++◌, Option, Some, None, refl, ap}
+use Rattle.algol_tree.proofs.Alone.{named_alone}
+use Rattle.algol_tree.specs.declared.tree.EventName.{EventName}
+use Rattle.std.proofs.Common.{◌∙◌, sym, arith, ◌≡◌, ℕ, ◌+◌, ◌-◌, ◌≤◌, Bool, true, false, List, [], ◌∷◌, ◌++◌, Option, Some, None, refl, ap, map}
 use Rattle.std.specs.List.{flat_map}
 use Rattle.algol_tree.specs.declared.token.Spot.{Spot}
 use Rattle.algol_tree.specs.declared.tree.Named.{Named}
@@ -7,10 +9,10 @@ use Rattle.algol_tree.specs.Ascending.{spots_of_names, spots_of_expr, spots_of_e
 use Rattle.algol_tree.specs.Blocks.{Block, Begin, of_statement, of_procedure}
 use Rattle.algol_tree.specs.Classes.{Formal}
 use Rattle.algol_tree.specs.Plain as tree
-use Rattle.algol_tree.specs.Plain.{PExpr, PExprs, PPair, PStmt, PStmts, PDecls}
+use Rattle.algol_tree.specs.Plain.{name_alone, PExpr, PExprs, PPair, PStmt, PStmts, PDecls}
 use Rattle.algol_tree.specs.Scopes.{Use, used, use_by, left_use, left_uses, if_named, part_uses, uses_at}
 use Rattle.algol_tree.specs.Sites as site
-use Rattle.algol_tree.specs.Sites.{Site, sites, first_formal, other_formals, wants_value, name_part, actual_part, inside_expr, inside_list, inside_actuals, sites_in_pairs, here_stmt, inside_stmt, sites_in_stmts, sites_in_decls, has_decls}
+use Rattle.algol_tree.specs.Sites.{Site, sites, first_formal, other_formals, wants_value, name_part, actual_part, actual_part_by, inside_expr, inside_list, inside_actuals, sites_in_pairs, here_stmt, inside_stmt, sites_in_stmts, sites_in_decls, has_decls}
 use Rattle.algol_tree.specs.Sorts as sort
 use Rattle.algol_tree.specs.Sorts.{Sort, Declared}
 use Rattle.algol_tree.specs.Surroundings.{Surroundings, declared_as, formals_at, knowing, knowing_all, inside, inside_procedure}
@@ -34,18 +36,16 @@ name_uses n true a = refl
 name_uses n false a = refl
 
 actual_uses : (e : PExpr) (f : Option Formal) (a : Surroundings) → part_uses (actual_part e f) a ≡ part_uses (site.expression e) a
-actual_uses (tree.variable (tree.subscripted n tree.none)) f a = name_uses n (wants_value f) a
-actual_uses (tree.variable (tree.subscripted n (tree.more e es))) f a = refl
-actual_uses (tree.number z spot) f a = refl
-actual_uses (tree.truth z spot) f a = refl
-actual_uses (tree.call c) f a = refl
-actual_uses (tree.tested test e spot) f a = refl
-actual_uses (tree.paren e spot) f a = refl
-actual_uses (tree.plus e spot) f a = refl
-actual_uses (tree.neg e spot) f a = refl
-actual_uses (tree.not e spot) f a = refl
-actual_uses (tree.two op x y) f a = refl
-actual_uses (tree.if c x y spot) f a = refl
+actual_uses e f a = by (name_alone e) refl
+  where
+    by : (o : Option Named) → name_alone e ≡ o → part_uses (actual_part_by o e f) a ≡ part_uses (site.expression e) a
+    by None h = refl
+    by (Some n) h = name_uses n (wants_value f) a ∙ ap (λ x. part_uses (site.expression x) a) (sym (named_alone e n h))
+
+-- the places of events are those of their names
+spots_of_events : (es : List EventName) → spots_of_names (map (λ (e : EventName). e.name) es) ≡ map (λ (e : EventName). e.name.spot) es
+spots_of_events [] = refl
+spots_of_events (e ∷ es) = ap (λ xs. e.name.spot ∷ xs) (spots_of_events es)
 
 -- the place of a task's name is that of its use
 pub task_places : (task : Option Named) → spots_of_names (if_named task) ≡ spots_of_task task
@@ -91,7 +91,7 @@ module _ (s : Spot) where
       in_expr (tree.truth z spot) = omega arith
       in_expr (tree.variable (tree.subscripted n es)) = omega (arith, of_names a (n ∷ []), in_list es)
       in_expr (tree.call (tree.called n es)) = omega (arith, of_names a (n ∷ []), in_actuals es (formals_at a n))
-      in_expr (tree.tested test e spot) = omega (arith, of_names a (e.name ∷ []))
+      in_expr (tree.tested x es spot) = omega (arith, of_names a (map (λ (e : EventName). e.name) es), ap (places s) (spots_of_events es))
       in_expr (tree.paren e spot) = omega (arith, in_expr e)
       in_expr (tree.plus e spot) = omega (arith, in_expr e)
       in_expr (tree.neg e spot) = omega (arith, in_expr e)

@@ -10,7 +10,9 @@ use Rattle.b67_control.specs.Control.{as_event, event_word}
 use Rattle.b67_ops.specs.declared.Operator.{Operator}
 use Rattle.b67_segment.specs.declared.code.Code.{Code}
 use Rattle.b67_store.specs.Store.{words_of}
-use Rattle.b67_events.specs.Events.{is_open, happened_at}
+use Rattle.b67_deeds.specs.declared.EventTest.{EventTest}
+use Rattle.b67_deeds.specs.Deeds.{EventDeed, answers}
+use Rattle.b67_events.specs.Events.{is_open, state_at}
 use Rattle.b67_table.specs.declared.Cell.{Cell}
 use Rattle.b67_table.specs.declared.InterruptKind.TheVariants.{InvalidOperand}
 use Rattle.b67_table.specs.Image.{Image}
@@ -21,7 +23,7 @@ use Rattle.b67_table.specs.Look.{Look, found, ◌>->◌, valid}
 use Rattle.b67_table.specs.References.{cell_place, cell_of, reached}
 use Rattle.b67_table.specs.Writes.{written}
 use Rattle.b67_table.specs.Writes as writes
-use Rattle.b67_table.specs.Program.{Change, Program, answer, done, registers, cut, wait, procure, cause, reset, liberate, loads, fault}
+use Rattle.b67_table.specs.Program.{Change, Program, answer, done, registers, cut, event_deed, loads, fault}
 use Rattle.b67_table.specs.Arguments.{wholes_in, wholes, number_in, if_open, event_in, event_of, if_chained, finished_at, Three, three_in, three}
 use Rattle.b67_table.specs.Intrinsics.{case_in, case_place, gone_to_case, select, write, make_event, on_event, tell_event}
 use Rattle.b67_table.specs.Lines.{line_for}
@@ -127,34 +129,19 @@ module _ (img : Image) (op : Operator) (r : Registers) (p : ℕ) where
     make_event_kept [] = chained_kept m _ (refl, end_kept (event_word (record {}) ∷ []) next (written p (writes.open_event (place r.stack r.f)) img))
     make_event_kept (w ∷ words) = tt
 
-    pub tell_event_kept : (words : List Word) → Each IsArgument words → ProgramKeeps img op r p (tell_event code r next m words)
-    tell_event_kept [] i = tt
-    tell_event_kept (w ∷ []) i =
+    pub tell_event_kept : (x : EventTest) (words : List Word) → Each IsArgument words → ProgramKeeps img op r p (tell_event x code r next m words)
+    tell_event_kept x [] i = tt
+    tell_event_kept x (w ∷ []) i =
         test_then img op r (NamesCell img op r) E (event_of r w) _ (event_of_kept follows w i.0) (λ c k.
-        chained_kept m _ (inl (c, k, refl), end_kept (truth (happened_at (cell_place c) img.events) ∷ []) next img))
-    tell_event_kept (w ∷ v ∷ words) i = tt
+        chained_kept m _ (inl (c, k, refl), end_kept (truth (answers x (state_at (cell_place c) img.events)) ∷ []) next img))
+    tell_event_kept x (w ∷ v ∷ words) i = tt
 
-    on_event_kept : (act : Place → Change → Change) → ((c : Cell) → NamesCell img op r c → E (act (cell_place c) (finished_at r m [] next))) → (words : List Word)
-        → Each IsArgument words → ProgramKeeps img op r p (on_event act code r next m words)
-    on_event_kept act k [] i = tt
-    on_event_kept act k (w ∷ []) i =
-        test_then img op r (NamesCell img op r) E (event_of r w) _ (event_of_kept follows w i.0) (λ c j. chained_kept m (answer (act (cell_place c) (finished_at r m [] next))) (k c j))
-    on_event_kept act k (w ∷ v ∷ words) i = tt
-
-    pub wait_kept : (words : List Word) → Each IsArgument words → ProgramKeeps img op r p (on_event wait code r next m words)
-    wait_kept = on_event_kept wait (λ c j. (inl (c, j, refl), end_kept [] next (written p (writes.wait (cell_place c)) img)))
-
-    pub procure_kept : (words : List Word) → Each IsArgument words → ProgramKeeps img op r p (on_event procure code r next m words)
-    procure_kept = on_event_kept procure (λ c j. (inl (c, j, refl), end_kept [] next (written p (writes.procure (cell_place c)) img)))
-
-    pub cause_kept : (words : List Word) → Each IsArgument words → ProgramKeeps img op r p (on_event cause code r next m words)
-    cause_kept = on_event_kept cause (λ c j. (inl (c, j, refl), end_kept [] next (written p (writes.cause (cell_place c)) img)))
-
-    pub reset_kept : (words : List Word) → Each IsArgument words → ProgramKeeps img op r p (on_event reset code r next m words)
-    reset_kept = on_event_kept reset (λ c j. (inl (c, j, refl), end_kept [] next (written p (writes.reset (cell_place c)) img)))
-
-    pub liberate_kept : (words : List Word) → Each IsArgument words → ProgramKeeps img op r p (on_event liberate code r next m words)
-    liberate_kept = on_event_kept liberate (λ c j. (inl (c, j, refl), end_kept [] next (written p (writes.liberate (cell_place c)) img)))
+    pub on_event_kept : (x : EventDeed) (words : List Word) → Each IsArgument words → ProgramKeeps img op r p (on_event x code r next m words)
+    on_event_kept x [] i = tt
+    on_event_kept x (w ∷ []) i =
+        test_then img op r (NamesCell img op r) E (event_of r w) _ (event_of_kept follows w i.0) (λ c k.
+        chained_kept m (answer (event_deed x (cell_place c) (finished_at r m [] next))) (inl (c, k, refl), end_kept [] next (written p (writes.event_deed x (cell_place c)) img)))
+    on_event_kept x (w ∷ v ∷ words) i = tt
 
     -- ---- GO TO
 

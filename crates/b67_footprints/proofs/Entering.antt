@@ -14,6 +14,9 @@ use Rattle.b67_ops.specs.declared.intrinsic.Intrinsic.{Intrinsic}
 use Rattle.b67_ops.specs.declared.intrinsic.Intrinsic.TheVariants as names
 use Rattle.b67_segment.specs.declared.code.Code.{Code}
 use Rattle.b67_store.specs.Store.{words_of, word_at}
+use Rattle.b67_deeds.specs.declared.EventAct.TheVariants as act
+use Rattle.b67_deeds.specs.declared.EventTest.TheVariants as test
+use Rattle.b67_deeds.specs.Deeds.{acts}
 use Rattle.b67_table.specs.declared.Cell.{Cell}
 use Rattle.b67_table.specs.declared.InterruptKind.TheVariants.{InvalidOperand}
 use Rattle.b67_table.specs.Image.{Image}
@@ -33,7 +36,7 @@ use Rattle.b67_footprints.proofs.Lists.{Each, each_map, each_take, LiesFrom, eac
 use Rattle.b67_footprints.proofs.Going.{Any, LookKeeps, look_then, see_then, look_by, look_there}
 use Rattle.b67_footprints.proofs.References.{IsAt, own_at, IsReached, reached_kept, valid_kept}
 use Rattle.b67_footprints.proofs.Chains.{entering_kept}
-use Rattle.b67_footprints.proofs.Calls.{IsArgument, select_kept, write_kept, make_event_kept, tell_event_kept, wait_kept, procure_kept, cause_kept, reset_kept, liberate_kept, go_to_kept}
+use Rattle.b67_footprints.proofs.Calls.{IsArgument, select_kept, write_kept, make_event_kept, tell_event_kept, on_event_kept, go_to_kept}
 use Rattle.b67_footprints.proofs.Making.{arrays_kept}
 use Rattle.b67_footprints.proofs.Starting.{start_kept}
 
@@ -57,12 +60,12 @@ module _ (img : Image) (r : Registers) (p : ℕ) (code : Code) (next : ℕ) wher
   row_kept names.Event m words i = make_event_kept img op r p tt code next m words
   row_kept names.Start m words i = start_kept img op r p tt code next m words i
   row_kept names.Write m words i = write_kept img op r p tt code next m words
-  row_kept names.Wait m words i = wait_kept img op r p tt code next m words i
-  row_kept names.Cause m words i = cause_kept img op r p tt code next m words i
-  row_kept names.Reset m words i = reset_kept img op r p tt code next m words i
-  row_kept names.Happened m words i = tell_event_kept img op r p tt code next m words i
-  row_kept names.Procure m words i = procure_kept img op r p tt code next m words i
-  row_kept names.Liberate m words i = liberate_kept img op r p tt code next m words i
+  row_kept names.Wait m words i = on_event_kept img op r p tt code next m (acts act.Wait) words i
+  row_kept names.Cause m words i = on_event_kept img op r p tt code next m (acts act.Cause) words i
+  row_kept names.Reset m words i = on_event_kept img op r p tt code next m (acts act.Reset) words i
+  row_kept names.Happened m words i = tell_event_kept img op r p tt code next m test.Happened words i
+  row_kept names.Procure m words i = on_event_kept img op r p tt code next m (acts act.Procure) words i
+  row_kept names.Liberate m words i = on_event_kept img op r p tt code next m (acts act.Liberate) words i
 
   named_kept : (o : Option Intrinsic) (m : Mscw) (words : List Word) → Each (IsArgument img op r p) words → ProgramKeeps img op r p (intrinsic_row o code r next m words)
   named_kept None m words i = tt

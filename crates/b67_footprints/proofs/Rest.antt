@@ -1,9 +1,14 @@
 -- What an operator does not reach it leaves as it is.
-use Rattle.std.proofs.Common.{◌≡◌, ◌≢◌, ◌⊎◌, inl, inr, refl, sym, ap, subst, ◌∙◌, ℕ, zero, suc, ◌+◌, ◌≤◌, Bool, List, [], ◌∷◌, length, set, Option, Some, None, Result, Ok, cond, arith, length-append}
-use Rattle.std.specs.Prelude.{slice_get}
+use Rattle.std.proofs.Common.{◌≡◌, ◌≢◌, ◌⊎◌, inl, inr, refl, sym, ap, subst, ◌∙◌, ℕ, zero, suc, ◌+◌, ◌≤◌, Bool, List, [], ◌∷◌, length, set, Option, Some, None, Result, Ok, cond, arith, length-append, true, false}
+use Rattle.std.specs.Prelude.{slice_get, nat_le, if◌then◌else◌, ◌&&◌, ◌==◌}
+use Rattle.std.proofs.lemmas.Bool.Decides.{nat_tests}
 use Rattle.std.proofs.Math.Decide.{ℕ_discrete}
 use Rattle.std.proofs.lemmas.List.{length-set}
 use Rattle.b67_list.specs.Numbered.{numbered, set_numbered}
+use Rattle.b67_deeds.specs.Deeds.{Next, goes, waits, procures}
+use Rattle.b67_deeds.specs.Events.{EventState}
+use Rattle.b67_events.specs.Events.{Event, event_at, is_from, changed_by, with_state, deed_at}
+use Rattle.b67_events.proofs.EventLaws.{one_event}
 use Rattle.b67_word.specs.declared.Place.{Place}
 use Rattle.b67_word.specs.Word.{Word}
 use Rattle.b67_control.specs.declared.Registers.{Registers}
@@ -14,12 +19,14 @@ use Rattle.b67_store.specs.Store.{Stacks, words_or, words_of, word_at, with_word
 use Rattle.b67_store.proofs.StoreLaws.{opened_others, changed_others}
 use Rattle.b67_table.specs.declared.InterruptKind.TheVariants.{BadCode as bad_code}
 use Rattle.b67_table.specs.declared.Private.{Private}
+use Rattle.b67_table.specs.declared.ProcessState.{ProcessState}
+use Rattle.b67_table.specs.declared.ProcessState.TheVariants.{Able, Ended, WaitsFor, Procures}
 use Rattle.b67_table.specs.Effect.{Effect, gives, faults, interrupts}
 use Rattle.b67_table.specs.Private.{floor}
 use Rattle.b67_table.specs.Chains.{place}
 use Rattle.b67_table.specs.Image.{Image, private_of, with_private}
 use Rattle.b67_table.specs.Questions.{told}
-use Rattle.b67_table.specs.Writes.{Write, written}
+use Rattle.b67_table.specs.Writes.{Write, written, able_again, waiting, states_after}
 use Rattle.b67_table.specs.Writes as writes
 use Rattle.b67_table.specs.Program.{Change, done, look_up, write, Program, asked, changed, effect_of, does}
 use Rattle.b67_table.specs.Rows.{Row as OpRow, private_part, action, row}
@@ -29,7 +36,7 @@ use Rattle.b67_table.proofs.Keeping.{Gives}
 use Rattle.b67_table.proofs.Privacy.{part_keeps, put_by}
 use Rattle.b67_table.proofs.Saving.{get_set_other}
 use Rattle.b67_table.proofs.Stacks.{set_other, get_numbered_other, get_numbered_append}
-use Rattle.b67_footprints.specs.Reaching.{ReachesRow, free}
+use Rattle.b67_footprints.specs.Reaching.{ReachesRow, ReachesEvent, free}
 use Rattle.b67_footprints.specs.Keeping.{MayWrite, NamesOperand, ChangeKeeps, ProgramKeeps, RowKeeps}
 use Rattle.b67_footprints.specs.Laws.{LeavesTheRest, OperatorsLeaveTheRest}
 use Rattle.b67_footprints.proofs.Every.{operators_keep}
@@ -80,11 +87,7 @@ module _ (img : Image) (op : Operator) (r : Registers) (p : ℕ) where
     written_word (writes.close_row n) now k = refl
     written_word (writes.open_event y) now k = refl
     written_word (writes.close_events stack at) now k = refl
-    written_word (writes.wait y) now k = refl
-    written_word (writes.procure y) now k = refl
-    written_word (writes.cause y) now k = refl
-    written_word (writes.reset y) now k = refl
-    written_word (writes.liberate y) now k = refl
+    written_word (writes.event_deed d y) now k = refl
     written_word (writes.line bytes) now k = refl
     written_word (writes.start q words) now k =
         ap (λ (c : Option (List Word)). slice_get (words_or c) x.at) (opened_others now.stacks q.stack x.stack words (λ e. old (e ∙ k)))
@@ -111,11 +114,7 @@ module _ (img : Image) (op : Operator) (r : Registers) (p : ℕ) where
     written_row (writes.close_row m) now k = changed_others now.rows m n None (not_reached m k)
     written_row (writes.open_event y) now k = refl
     written_row (writes.close_events stack at) now k = refl
-    written_row (writes.wait y) now k = refl
-    written_row (writes.procure y) now k = refl
-    written_row (writes.cause y) now k = refl
-    written_row (writes.reset y) now k = refl
-    written_row (writes.liberate y) now k = refl
+    written_row (writes.event_deed d y) now k = refl
     written_row (writes.line bytes) now k = refl
     written_row (writes.start q words) now k = refl
     written_row (writes.end_process stack) now k = refl
@@ -124,6 +123,122 @@ module _ (img : Image) (op : Operator) (r : Registers) (p : ℕ) where
     changed_row done now k = refl
     changed_row (look_up q more) now k = changed_row (more (told now q)) now k.1
     changed_row (write w next) now k = changed_row next (written p w now) k.1 ∙ written_row w now k.0
+
+-- ---- events
+
+same_number : (m n : ℕ) → (m == n) ≡ true → m ≡ n
+same_number m n h = grind (arith, nat_tests)
+
+module _ (img : Image) (op : Operator) (r : Registers) (p : ℕ) (x : Place) (away : x.stack ≢ r.stack) (unreached : ReachesEvent img op r x → ⊥) where
+  not_there : (y : Place) → y.stack ≡ r.stack → x ≢ y
+  not_there y k e = away (ap (λ (z : Place). z.stack) e ∙ k)
+
+  not_here : (y : Place) → ReachesEvent img op r y → x ≢ y
+  not_here y k e = unreached (subst (ReachesEvent img op r) (sym e) k)
+
+  -- from another stack nothing is closed
+  away_from : (stack low : ℕ) → stack ≡ r.stack → is_from stack low x ≡ false
+  away_from stack low k = by (x.stack == stack) refl
+    where
+      by : (b : Bool) → (x.stack == stack) ≡ b → (b && nat_le low x.at) ≡ false
+      by true e = absurd (away (same_number x.stack stack e ∙ k))
+      by false e = refl
+
+  changed_event : (change : Option (EventState → EventState)) (y : Place) (es : List Event) → x ≢ y → event_at x (changed_by change y es) ≡ event_at x es
+  changed_event None y es other = refl
+  changed_event (Some change) y es other = one_event.elsewhere y x (with_state change) (λ e. refl) other es
+
+  written_event : (w : Write) (now : Image) → MayWrite img op r w → event_at x (written p w now).events ≡ event_at x now.events
+  written_event (writes.save y w) now k = refl
+  written_event (writes.cut stack n) now k = refl
+  written_event (writes.push stack w) now k = refl
+  written_event (writes.registers q) now k = refl
+  written_event (writes.open_row n count counted) now k = refl
+  written_event (writes.write_row n at w) now k = refl
+  written_event (writes.close_row n) now k = refl
+  written_event (writes.open_event y) now k = one_event.opened_elsewhere y x (not_there y k) now.events
+  written_event (writes.close_events stack at) now k =
+      one_event.closed_there stack at x now.events ∙ ap (λ (b : Bool). if b then None else event_at x now.events) (away_from stack at k)
+  written_event (writes.event_deed d y) now k = changed_event (deed_at d p y now.events).change y now.events (not_here y k)
+  written_event (writes.line bytes) now k = refl
+  written_event (writes.start q words) now k = refl
+  written_event (writes.end_process stack) now k = refl
+
+  pub changed_events : (c : Change) (now : Image) → ChangeKeeps img op r p c now → event_at x (changed p c now).events ≡ event_at x now.events
+  changed_events done now k = refl
+  changed_events (look_up q more) now k = changed_events (more (told now q)) now k.1
+  changed_events (write w next) now k = changed_events next (written p w now) k.1 ∙ written_event w now k.0
+
+-- ---- states
+
+length_states : (ss : List ProcessState) (q : ℕ) (s : ProcessState) → length (set_numbered ss q s) ≡ length ss
+length_states ss zero s = refl
+length_states ss (suc k) s = length-set ss k s
+
+module _ (p q : ℕ) (other : q ≢ p) where
+  -- as it was, or able; and its number is still among those that there have been
+  abbrev StaysOrAble : List ProcessState → List ProcessState → Type 0
+  StaysOrAble ss ts = ((numbered ts q ≡ numbered ss q) ⊎ (numbered ts q ≡ Some Able)) × (q ≤ length ts)
+
+  stays_then : (ss ts us : List ProcessState) → StaysOrAble ss ts → StaysOrAble ts us → StaysOrAble ss us
+  stays_then ss ts us (inl e, l) (inl f, m) = (inl (f ∙ e), m)
+  stays_then ss ts us (inr e, l) (inl f, m) = (inr (f ∙ e), m)
+  stays_then ss ts us (_, l) (inr f, m) = (inr f, m)
+
+  one_able : (k : ℕ) (ss : List ProcessState) → q ≤ length ss → StaysOrAble ss (set_numbered ss k Able)
+  one_able k ss h = by (ℕ_discrete q k)
+    where
+      there : (ss : List ProcessState) (k : ℕ) → k ≤ length ss → (numbered (set_numbered ss k Able) k ≡ numbered ss k) ⊎ (numbered (set_numbered ss k Able) k ≡ Some Able)
+      there ss zero l = inl refl
+      there [] (suc k) l = inl refl
+      there (x ∷ ss) (suc zero) l = inr refl
+      there (x ∷ ss) (suc (suc k)) l = there ss (suc k) (omega (arith, l))
+
+      by : Dec (q ≡ k) → StaysOrAble ss (set_numbered ss k Able)
+      by (yes e) =
+          (subst (λ (j : ℕ). (numbered (set_numbered ss j Able) q ≡ numbered ss q) ⊎ (numbered (set_numbered ss j Able) q ≡ Some Able)) e (there ss q h), omega (arith, h, length_states ss k Able))
+      by (no apart) = (inl (get_numbered_other ss k q Able apart), omega (arith, h, length_states ss k Able))
+
+  all_able : (ps : List ℕ) (ss : List ProcessState) → q ≤ length ss → StaysOrAble ss (able_again ps ss)
+  all_able [] ss h = (inl refl, h)
+  all_able (k ∷ ps) ss h =
+      let one = one_able k ss h in
+      stays_then ss (set_numbered ss k Able) (able_again ps (set_numbered ss k Able)) one (all_able ps (set_numbered ss k Able) one.1)
+
+module _ (p q : ℕ) (other : q ≢ p) where
+  waiting_stays : (n : Next) (y : Place) (ss : List ProcessState) → q ≤ length ss → StaysOrAble p q other ss (waiting n y p ss)
+  waiting_stays goes y ss h = (inl refl, h)
+  waiting_stays waits y ss h = (inl (get_numbered_other ss p q (WaitsFor y) other), omega (arith, h, length_states ss p (WaitsFor y)))
+  waiting_stays procures y ss h = (inl (get_numbered_other ss p q (Procures y) other), omega (arith, h, length_states ss p (Procures y)))
+
+  written_states : (w : Write) (now : Image) → q ≤ length now.states → StaysOrAble p q other now.states (written p w now).states
+  written_states (writes.save y w) now h = (inl refl, h)
+  written_states (writes.cut stack n) now h = (inl refl, h)
+  written_states (writes.push stack w) now h = (inl refl, h)
+  written_states (writes.registers r) now h = (inl refl, h)
+  written_states (writes.open_row n count counted) now h = (inl refl, h)
+  written_states (writes.write_row n at w) now h = (inl refl, h)
+  written_states (writes.close_row n) now h = (inl refl, h)
+  written_states (writes.open_event y) now h = (inl refl, h)
+  written_states (writes.close_events stack at) now h = (inl refl, h)
+  written_states (writes.event_deed d y) now h =
+      let done_so = deed_at d p y now.events in
+      let first = waiting_stays done_so.next y now.states h in
+      stays_then p q other now.states (waiting done_so.next y p now.states) (states_after done_so y p now.states) first
+      (all_able p q other done_so.frees (waiting done_so.next y p now.states) first.1)
+  written_states (writes.line bytes) now h = (inl refl, h)
+  written_states (writes.start r words) now h = (inl (get_numbered_append now.states (Able ∷ []) q h), omega (arith, h, length-append now.states (Able ∷ [])))
+  written_states (writes.end_process stack) now h = (inl (get_numbered_other now.states p q Ended other), omega (arith, h, length_states now.states p Ended))
+
+  changed_all : (c : Change) (now : Image) → q ≤ length now.states → StaysOrAble p q other now.states (changed p c now).states
+  changed_all done now h = (inl refl, h)
+  changed_all (look_up s more) now h = changed_all (more (told now s)) now h
+  changed_all (write w next) now h =
+      let k = written_states w now h in stays_then p q other now.states (written p w now).states (changed p next (written p w now)).states k (changed_all next (written p w now) k.1)
+
+  pub changed_states : (c : Change) (now : Image) → q ≤ length now.states →
+      (numbered (changed p c now).states q ≡ numbered now.states q) ⊎ (numbered (changed p c now).states q ≡ Some Able)
+  changed_states c now h = (changed_all c now h).0
 
 -- ---- registers
 
@@ -143,11 +258,7 @@ module _ (p q : ℕ) (other : q ≢ p) where
   written_registers (writes.close_row n) now h = (refl, h)
   written_registers (writes.open_event y) now h = (refl, h)
   written_registers (writes.close_events stack at) now h = (refl, h)
-  written_registers (writes.wait y) now h = (refl, h)
-  written_registers (writes.procure y) now h = (refl, h)
-  written_registers (writes.cause y) now h = (refl, h)
-  written_registers (writes.reset y) now h = (refl, h)
-  written_registers (writes.liberate y) now h = (refl, h)
+  written_registers (writes.event_deed d y) now h = (refl, h)
   written_registers (writes.line bytes) now h = (refl, h)
   written_registers (writes.start r words) now h = (get_numbered_append now.regs (r ∷ []) q h, omega (arith, h, length-append now.regs (r ∷ [])))
   written_registers (writes.end_process stack) now h = (refl, h)
@@ -165,7 +276,9 @@ module _ (img new : Image) (p : ℕ) (op : Operator) (r : Registers) where
   change_rest c k = record {
     words = λ x away old no_operand. changed_word img op r p x away old no_operand c img k;
     rows = λ n unreached. changed_row img op r p n unreached c img k;
+    events = λ x away unreached. changed_events img op r p x away unreached c img k;
     registers = λ q other h. changed_registers p q other c img h;
+    states = λ q other h. changed_states p q other c img h;
   }
 
   effect_rest : (e : Effect Change) → Gives (λ (change : Change). ChangeKeeps img op r p change img) e → effect_of p img e ≡ gives new → LeavesTheRest img new p op r
@@ -181,7 +294,9 @@ module _ (img new : Image) (p : ℕ) (op : Operator) (r : Registers) where
   private_rest base part own = record {
     words = λ x away old no_operand. ap (λ (o : Option (List Word)). slice_get (words_or o) x.at) (set_other img.stacks part.regs.stack x.stack _ (λ e. away (e ∙ own)));
     rows = λ n unreached. refl;
+    events = λ x away unreached. refl;
     registers = λ q other h. get_numbered_other img.regs p q part.regs other;
+    states = λ q other h. inl refl;
   }
 
 by_rows : (code : Code) (img new : Image) (p : ℕ) (op : Operator) (r : Registers) (next : ℕ) → operator_at code r ≡ Ok (op, next) → (w : OpRow) → row op r.place ≡ w

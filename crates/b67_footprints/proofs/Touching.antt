@@ -40,7 +40,7 @@ module _ (img : Image) (op : Operator) (r : Registers) (p : ℕ) (x : Place) whe
   reads_reached questions.free_row e k = absurd e
   reads_reached questions.counted e k = absurd e
   reads_reached (questions.is_event y) e k = absurd e
-  reads_reached (questions.has_happened y) e k = absurd e
+  reads_reached (questions.event_answer t y) e k = absurd e
   reads_reached questions.criticals e k = absurd e
   reads_reached (questions.critical n) e k = absurd e
   reads_reached questions.started e k = absurd e
@@ -59,11 +59,7 @@ module _ (img : Image) (op : Operator) (r : Registers) (p : ℕ) (x : Place) whe
   changes_reached (writes.close_row n) now e k = absurd e
   changes_reached (writes.open_event y) now e k = absurd e
   changes_reached (writes.close_events stack at) now e k = absurd e
-  changes_reached (writes.wait y) now e k = absurd e
-  changes_reached (writes.procure y) now e k = absurd e
-  changes_reached (writes.cause y) now e k = absurd e
-  changes_reached (writes.reset y) now e k = absurd e
-  changes_reached (writes.liberate y) now e k = absurd e
+  changes_reached (writes.event_deed d y) now e k = absurd e
   changes_reached (writes.line bytes) now e k = absurd e
   changes_reached (writes.start q words) now e k = inr (e ∙ k)
   changes_reached (writes.end_process stack) now e k = inl (own_word (e ∙ k))

@@ -1,12 +1,14 @@
 -- What holds of every operator of every code, in every image.
-use Rattle.std.specs.Prelude.{◌≡◌, ◌≢◌, ◌⊎◌, ℕ, ◌+◌, ◌≤◌, length, Ok}
+use Rattle.std.specs.Prelude.{◌≡◌, ◌≢◌, ◌⊎◌, ℕ, ◌+◌, ◌≤◌, length, Some, Ok}
 use Rattle.b67_list.specs.Numbered.{numbered}
 use Rattle.b67_word.specs.declared.Place.{Place}
 use Rattle.b67_control.specs.declared.Registers.{Registers}
 use Rattle.b67_ops.specs.declared.Operator.{Operator}
 use Rattle.b67_segment.specs.declared.code.Code.{Code}
 use Rattle.b67_store.specs.Store.{word_at, row_at}
+use Rattle.b67_events.specs.Events.{event_at}
 use Rattle.b67_table.specs.declared.Cell.{Cell}
+use Rattle.b67_table.specs.declared.ProcessState.TheVariants.{Able}
 use Rattle.b67_table.specs.declared.Class.TheVariants.{Action}
 use Rattle.b67_table.specs.Chains.{place}
 use Rattle.b67_table.specs.References.{cell_place}
@@ -18,7 +20,7 @@ use Rattle.b67_table.specs.Table.{raw, operator_at, class_at}
 use Rattle.b67_table.specs.Touches.{IsPrivate}
 use Rattle.b67_table.specs.Sound.{Lives, OperatorTouches}
 use Rattle.b67_table.specs.Valid.{IsValid}
-use Rattle.b67_footprints.specs.Reaching.{NamesCell, LeadsTo, Reaches, ReachesRow}
+use Rattle.b67_footprints.specs.Reaching.{NamesCell, LeadsTo, Reaches, ReachesRow, ReachesEvent}
 use Rattle.b67_footprints.specs.Keeping.{NamesOperand, RowKeeps}
 
 -- an operator asks and writes only what it may
@@ -68,11 +70,14 @@ PrivatePartsStay =
 -- ---- what is not reached
 
 -- All that an operator leaves as it is, beside its own stack and the stack of the process that it starts: words but, where it
--- stores, for operands in cells that it names, rows that it does not reach, and the registers of others.
+-- stores, for operands in cells that it names, rows and events that it does not reach, and the registers of others. Another
+-- process that has been started is in the state in which it was, or it is able.
 pub record LeavesTheRest (img new : Image) (p : ℕ) (op : Operator) (r : Registers) : Type 0 where
   pub words : (x : Place) → x.stack ≢ r.stack → x.stack ≢ img.started + 1 → (NamesOperand img op r x → ⊥) → word_at new.stacks x ≡ word_at img.stacks x
   pub rows : (n : ℕ) → (ReachesRow img op r n → ⊥) → row_at new.rows n ≡ row_at img.rows n
+  pub events : (x : Place) → x.stack ≢ r.stack → (ReachesEvent img op r x → ⊥) → event_at x new.events ≡ event_at x img.events
   pub registers : (q : ℕ) → q ≢ p → q ≤ length img.regs → numbered new.regs q ≡ numbered img.regs q
+  pub states : (q : ℕ) → q ≢ p → q ≤ length img.states → (numbered new.states q ≡ numbered img.states q) ⊎ (numbered new.states q ≡ Some Able)
 
 abbrev pub OperatorsLeaveTheRest : Type 0
 OperatorsLeaveTheRest =

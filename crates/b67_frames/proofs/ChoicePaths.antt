@@ -4,24 +4,26 @@ use Rattle.std.specs.Prelude.{if◌then◌else◌, ◌==◌, nat_lt}
 use Rattle.b67_list.specs.Numbered.{numbered, set_numbered}
 use Rattle.b67_num.specs.declared.FaultKind.TheVariants as fault
 use Rattle.b67_num.specs.Whole.{fault_of}
-use Rattle.algol_tree.specs.declared.tree.EventAct.{EventAct}
-use Rattle.algol_tree.specs.declared.tree.EventAct.TheVariants as act
+use Rattle.b67_deeds.specs.Deeds as deeds
+use Rattle.b67_deeds.specs.Deeds.{EventDeed, Deed, Next, deed}
+use Rattle.algol_standing.proofs.Listed.{changed_processes}
 use Rattle.algol_tree.specs.declared.tree.Named.{Named}
 use Rattle.algol_tree.specs.Blocks.{Block, block_numbered}
 use Rattle.algol_tree.specs.Scopes.{Scopes}
 use Rattle.algol_meaning.specs.declared.TheConstants.{MOST_STARTED}
-use Rattle.algol_meaning.specs.Value.{Value, whole_of, Reference, EventCell, ArrayCell, Cell, simple, event, array, named, reference}
+use Rattle.algol_meaning.specs.Value.{Value, whole_of, Reference, ArrayCell, Cell, simple, event, array, named, reference}
+use Rattle.b67_deeds.specs.Events.{EventState}
 use Rattle.algol_meaning.specs.World.{Instance, Part, Process, State, able, waits_for, procures, ended, World, instance_at, or_no_instance, cell_at, cells_with, followed, process_at, or_no_process, with_process, set_able, set_all_able}
 use Rattle.algol_meaning.specs.Critical.{is_evaluation, own_instances, some_depends, some_depends_on_any}
 use Rattle.algol_meaning.specs.Arrays.{has_wrong_size, has_no_room, bounds_of}
-use Rattle.algol_meaning.specs.Events.{event_at, set_event, released, caused, liberated_by, with_waiter, with_procurer, taken, caused_by_end}
+use Rattle.algol_meaning.specs.Events.{event_at, set_event, change_event, released, caused_by_end}
 use Rattle.algol_meaning.specs.Instances.{leave, Cut, cut_at}
 use Rattle.algol_meaning.specs.Rest as rests
 use Rattle.algol_meaning.specs.Rest.{Answer, done, entered}
 use Rattle.algol_meaning.specs.Statements.{items_from, settle_items}
 use Rattle.algol_meaning.specs.Asks as asks
 use Rattle.algol_meaning.specs.Asks.{Ask, ask, resume}
-use Rattle.algol_meaning.specs.Choice.{Choice, choice, choice_in, choice_of, is_subscripted, nth_exists, home, here, fails, read_of, resolved_of, indexed_at, element_read_at, stored, left, left_with, left_or_ended, gone, gone_to, goes_to, acted}
+use Rattle.algol_meaning.specs.Choice.{Choice, choice, choice_in, choice_of, is_subscripted, nth_exists, home, here, fails, read_of, resolved_of, indexed_at, element_read_at, stored, left, left_with, left_or_ended, gone, gone_to, goes_to, told, did, does_with}
 use Rattle.algol_standing.specs.Skeleton.{IsIn}
 use Rattle.algol_standing.specs.Worlds.{IsStanding, IsOnPath}
 use Rattle.algol_standing.proofs.Jumping.{cut_all}
@@ -67,7 +69,7 @@ left_are w is i y inside e = by_left ((leave_back w is i y e).2).left
     by_left (inr h) = absurd (h.0 inside)
 
 -- so they are where an event is set
-left_set : (v : World) (is : List ℕ) (r : Reference) (e : EventCell) → AreLeft v is → AreLeft (set_event v r e) is
+left_set : (v : World) (is : List ℕ) (r : Reference) (e : EventState) → AreLeft v is → AreLeft (set_event v r e) is
 left_set v is r e are i y inside f = by_number (numbered_cases v.instances r.instance i x y f)
   where
     x : Instance
@@ -146,14 +148,14 @@ module _ (sc : Scopes) (w : World) (p : ℕ) (q : Process) (part : Part) (outer 
   left_alike newer = subst (λ (xs : List Process). HaveAlike w.processes xs) (sym (leave_processes w newer)) (alike_self w.processes)
 
   -- the end of the process
-  ends_keep : (newer : List ℕ) (q' : Process) → q'.critical ≡ q.critical → own_instances (part ∷ outer) ≡ newer ++ own_instances q'.todo → (o : Option Reference) → Keeps (with_process (caused_by_end (leave w newer) o).world p q')
+  ends_keep : (newer : List ℕ) (q' : Process) → q'.critical ≡ q.critical → own_instances (part ∷ outer) ≡ newer ++ own_instances q'.todo → (o : Option Reference) → Keeps (with_process (caused_by_end (leave w newer) p o).world p q')
   ends_keep newer q' critical fewer None = leaves_keep (leave w newer) newer q' (left_alike newer) (left_are w newer) critical fewer
-  ends_keep newer q' critical fewer (Some r) = leaves_keep (caused v r).world newer q' (able_alike w (set_event v r e) ps (leave_processes w newer)) are critical fewer
+  ends_keep newer q' critical fewer (Some r) = leaves_keep (caused_by_end v p (Some r)).world newer q' (able_alike w (set_event v r e) ps (leave_processes w newer)) are critical fewer
     where
       v : World
       v = leave w newer
 
-      e : EventCell
+      e : EventState
       e = record (event_at v r) { happened = true; waiters = [] }
 
       ps : List ℕ
@@ -251,26 +253,27 @@ module _ (sc : Scopes) (w : World) (p : ℕ) (q : Process) (part : Part) (outer 
   stored_keeps (rests.there r) v = answers _ same_all done
   stored_keeps (rests.element_of r ks) v = answers _ same_all done
 
-  released_keeps : (r : Reference) (e : EventCell) (ps : List ℕ) → Keeps (with_process (released w r e ps).world p (record q { todo = record part { rest = resume sc part.rest done } ∷ outer }))
-  released_keeps r e ps = answers (released w r e ps).world (able_alike w (set_event w r e) ps refl) done
+  did_keeps : (x : EventDeed) (r : Reference) (d : Deed) (n : Next) → KeepsHere (did sc w p q part outer x r d n)
+  did_keeps x r d n = by n
+    where
+      alike : HaveAlike w.processes (released w r d).world.processes
+      alike = able_alike w (change_event w r d.change) d.frees (changed_processes w r d.change)
 
-  liberated_keeps : (r : Reference) (e : EventCell) (ps : List ℕ) → Keeps (with_process (liberated_by w r e ps).world p (record q { todo = record part { rest = resume sc part.rest done } ∷ outer }))
-  liberated_keeps r e [] = released_keeps r (record e { available = true }) []
-  liberated_keeps r e (k ∷ ps) = released_keeps r (record e { procurers = ps }) (k ∷ [])
+      by : (m : Next) → KeepsHere (did sc w p q part outer x r d m)
+      by deeds.goes = answers (released w r d).world alike (told sc w p q part outer d.answer)
+      by deeds.waits = waits (released w r d).world alike (waits_for r)
+      by deeds.procures = waits (released w r d).world alike (procures r)
 
-  acted_keeps : (x : EventAct) (r : Reference) → KeepsHere (acted sc w p q part outer x r)
-  acted_keeps act.Cause r = released_keeps r (record (event_at w r) { happened = true; waiters = [] }) ((event_at w r).waiters)
-  acted_keeps act.Reset r = released_keeps r (record (event_at w r) { happened = false }) []
-  acted_keeps act.Wait r = either ((event_at w r).happened) _ _ (answers w same_all done) (waits (with_waiter w r p) same_all (waits_for r))
-  acted_keeps act.Procure r = either ((event_at w r).available) _ _ (answers (taken w r) same_all done) (waits (with_procurer w r p) same_all (procures r))
-  acted_keeps act.Liberate r = liberated_keeps r (event_at w r) ((event_at w r).procurers)
+  does_keeps : (x : EventDeed) (ns : List Named) → KeepsHere (does_with sc w p q part outer x ns)
+  does_keeps x [] = none_moves w refl
+  does_keeps x (n ∷ ns) =
+      let r = followed w (here sc w p q part outer n) in did_keeps x r (deed x p (event_at w r)) ((deed x p (event_at w r)).next)
 
   choice_keeps : (x : Ask) → KeepsHere (choice_of sc w p q part outer x)
   choice_keeps asks.nothing = none_moves w refl
   choice_keeps (asks.reads n) = read_keeps (cell_at w (here sc w p q part outer n))
   choice_keeps (asks.reads_element n ks v) = element_keeps _ ks _
   choice_keeps (asks.indexes n ks v) = indexed_keeps _ ks _
-  choice_keeps (asks.asks_happened n) = answers w same_all _
   choice_keeps (asks.fails f) = none_moves (fails sc w p q part outer (fault_of f)).world refl
   choice_keeps (asks.enters n gs) = opens_so _ refl _
   choice_keeps (asks.passes n) = answers w same_all _
@@ -284,7 +287,7 @@ module _ (sc : Scopes) (w : World) (p : ℕ) (q : Process) (part : Part) (outer 
   choice_keeps (asks.enters_block b) = opens_so _ refl _
   choice_keeps (asks.starts n gs task) =
       either (nat_lt MOST_STARTED (length w.processes)) _ _ (none_moves (fails sc w p q part outer fault.ProcessLimit).world refl) (answers _ (alike_front w.processes _) done)
-  choice_keeps (asks.acts x n) = acted_keeps x (followed w (here sc w p q part outer n))
+  choice_keeps (asks.event_deed x ns) = does_keeps x ns
   choice_keeps (asks.writes phrases vs) = answers _ same_all done
   choice_keeps (asks.makes_arrays kind ns pairs vs) =
       either (has_wrong_size (bounds_of pairs vs)) _ _ (none_moves (fails sc w p q part outer fault.ArraySize).world refl)

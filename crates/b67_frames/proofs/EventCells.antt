@@ -6,7 +6,8 @@ use Rattle.algol_tree.specs.Blocks.{block_numbered}
 use Rattle.algol_tree.specs.Scopes.{Scopes}
 use Rattle.algol_tree.specs.Sorts.{same_name}
 use Rattle.algol_meaning.specs.Arrays.{size_of_cell, size_of_cells, size_unless, live_elements}
-use Rattle.algol_meaning.specs.Value.{EventCell, ArrayCell, Cell, event, array}
+use Rattle.algol_meaning.specs.Value.{ArrayCell, Cell, event, array}
+use Rattle.b67_deeds.specs.Events.{EventState}
 use Rattle.algol_meaning.specs.World.{NamedCell, Instance, World, instance_at, cell_in, cells_with, by_cell}
 use Rattle.algol_paths.specs.Arrays.{DeclaredArray, Made, an_array, an_event}
 use Rattle.b67_word.specs.Word.{Word}
@@ -87,14 +88,14 @@ module _ (sc : Scopes) (w w' : World) (lay lay' : Layout) (i : ℕ) (x y : Insta
 -- ---- an event more
 
 -- one has no elements and no rows
-pub event_has_none : (cells : List NamedCell) (name : List ℕ) (e : EventCell) →
+pub event_has_none : (cells : List NamedCell) (name : List ℕ) (e : EventState) →
     (size_of_cells (cells ++ record { name = name; cell = event e } ∷ []) ≡ size_of_cells cells) × (rows_of_cells (cells ++ record { name = name; cell = event e } ∷ []) ≡ rows_of_cells cells)
 event_has_none [] name e = (refl, refl)
 event_has_none (c ∷ cells) name e =
     let rest = event_has_none cells name e in (ap (λ (n : ℕ). size_of_cell c.cell + n) rest.0, ap (λ (n : ℕ). rows_of_cell c.cell + n) rest.1)
 
 -- an array among these cells and an event more is one of these
-pub array_in_front : (cells : List NamedCell) (name : List ℕ) (e : EventCell) (k : ℕ) (other : List ℕ) (c : ArrayCell) →
+pub array_in_front : (cells : List NamedCell) (name : List ℕ) (e : EventState) (k : ℕ) (other : List ℕ) (c : ArrayCell) →
     slice_get (cells ++ record { name = name; cell = event e } ∷ []) k ≡ Some (record { name = other; cell = array c }) → slice_get cells k ≡ Some (record { name = other; cell = array c })
 array_in_front [] name e zero other c is = absurd (let clash : event e ≡ array c = ap (λ (x : NamedCell). x.cell) (some_same is) in cc)
 array_in_front [] name e (suc k) other c is = none_some is
@@ -109,7 +110,7 @@ get_first (x ∷ xs) ys (suc k) low = get_first xs ys k (omega (arith, low))
 
 -- ---- an event changes
 
-module _ (name : List ℕ) (later : EventCell) where
+module _ (name : List ℕ) (later : EventState) where
   abbrev with_later : Bool → NamedCell → List NamedCell → List NamedCell
   with_later b c cells = if b then record c { cell = event later } ∷ cells else c ∷ cells_with cells name (event later)
 
@@ -117,7 +118,7 @@ module _ (name : List ℕ) (later : EventCell) where
   first_cell b c cells = if b then c.cell else cell_in cells name
 
   -- as many elements and rows
-  pub event_keeps_none : (cells : List NamedCell) (e : EventCell) → cell_in cells name ≡ event e →
+  pub event_keeps_none : (cells : List NamedCell) (e : EventState) → cell_in cells name ≡ event e →
       (size_of_cells (cells_with cells name (event later)) ≡ size_of_cells cells) × (rows_of_cells (cells_with cells name (event later)) ≡ rows_of_cells cells)
   event_keeps_none [] e is = (refl, refl)
   event_keeps_none (c ∷ cells) e is = by_name (event_keeps_none cells e) (same_name c.name name) refl is
@@ -151,12 +152,12 @@ module _ (name : List ℕ) (later : EventCell) where
       by_name rest false t zero is = ap (λ (b : Bool). slice_get (with_later b c cells) 0) (sym t) ∙ is
       by_name rest false t (suc k) is = rest k other a (ap (λ (b : Bool). slice_get (with_later b c cells) (suc k)) (sym t) ∙ is)
 
-  made_so_changes : (m : Made) (c : NamedCell) (a : Allotted) (w : Word) (e : EventCell) → IsMadeSo m c a w → c.cell ≡ event e → IsMadeSo m (record c { cell = event later }) a w
+  made_so_changes : (m : Made) (c : NamedCell) (a : Allotted) (w : Word) (e : EventState) → IsMadeSo m c a w → c.cell ≡ event e → IsMadeSo m (record c { cell = event later }) a w
   made_so_changes (an_array d) c a w e made is = absurd (let clash : array made.cell ≡ event e = sym made.is ∙ is in cc)
   made_so_changes (an_event n) c a w e made is = record { named = made.named; cell = later; is = refl; none = made.none; word_is = made.word_is }
 
   -- what is made keeps its words
-  pub made_changes : (ds : List Made) (cells : List NamedCell) (as' : List Allotted) (ws : List Word) (e : EventCell) → cell_in cells name ≡ event e → AreMade ds cells as' ws → AreMade ds (cells_with cells name (event later)) as' ws
+  pub made_changes : (ds : List Made) (cells : List NamedCell) (as' : List Allotted) (ws : List Word) (e : EventState) → cell_in cells name ≡ event e → AreMade ds cells as' ws → AreMade ds (cells_with cells name (event later)) as' ws
   made_changes [] [] [] [] e is made = made
   made_changes [] [] [] (w ∷ ws) e is made = absurd made
   made_changes [] [] (a ∷ as') ws e is made = absurd made
@@ -174,7 +175,7 @@ module _ (name : List ℕ) (later : EventCell) where
           subst (λ (b : Bool). AreMade (d ∷ ds) (with_later b c cells) (a ∷ as') (w ∷ ws)) (sym t) (made.0, rest (ap (λ (b : Bool). first_cell b c cells) (sym t) ∙ is))
 
 -- an instance keeps its arrays and its events
-pub keeps_event : (sc : Scopes) (w w' : World) (lay : Layout) (j : ℕ) (name : List ℕ) (e later : EventCell) → cell_in ((instance_at w j).cells) name ≡ event e →
+pub keeps_event : (sc : Scopes) (w w' : World) (lay : Layout) (j : ℕ) (name : List ℕ) (e later : EventState) → cell_in ((instance_at w j).cells) name ≡ event e →
     instance_at w' j ≡ record (instance_at w j) { cells = cells_with ((instance_at w j).cells) name (event later) } → KeepsArrays sc w w' lay lay j
 keeps_event sc w w' lay j name e later before same =
     record {
@@ -192,9 +193,9 @@ keeps_event sc w w' lay j name e later before same =
       rows = λ number a there. there;
     }
   where
-    by_either : (other : List ℕ) (f : EventCell) → cell_in ((instance_at w j).cells) other ≡ event f →
+    by_either : (other : List ℕ) (f : EventState) → cell_in ((instance_at w j).cells) other ≡ event f →
         ((cell_in (cells_with ((instance_at w j).cells) name (event later)) other ≡ event later) × (cell_in ((instance_at w j).cells) other ≡ cell_in ((instance_at w j).cells) name))
-        ⊎ (cell_in (cells_with ((instance_at w j).cells) name (event later)) other ≡ cell_in ((instance_at w j).cells) other) → (g : EventCell) × (cell_in ((instance_at w' j).cells) other ≡ event g)
+        ⊎ (cell_in (cells_with ((instance_at w j).cells) name (event later)) other ≡ cell_in ((instance_at w j).cells) other) → (g : EventState) × (cell_in ((instance_at w' j).cells) other ≡ event g)
     by_either other f is (inl h) = (later, ap (λ (x : Instance). cell_in x.cells other) same ∙ h.0)
     by_either other f is (inr h) = (f, ap (λ (x : Instance). cell_in x.cells other) same ∙ h ∙ is)
 

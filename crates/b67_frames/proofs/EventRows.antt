@@ -11,11 +11,11 @@ use Rattle.b67_control.specs.declared.Irw.{Irw}
 use Rattle.b67_control.specs.declared.Registers.{Registers}
 use Rattle.b67_control.specs.declared.Sirw.{Sirw}
 use Rattle.b67_control.specs.Control.{as_irw, as_sirw, event_word}
-use Rattle.b67_events.specs.Events.{Event as EventThere, is_open, happened_at, opened}
+use Rattle.b67_events.specs.Events.{Event as EventThere, is_open, state_at, opened, deed_at, done_at}
 use Rattle.b67_ops.specs.declared.Operator.TheVariants as ops
 use Rattle.b67_ops.specs.declared.PlainKind.TheVariants as kinds
 use Rattle.b67_ops.specs.declared.intrinsic.Intrinsic.{Intrinsic}
-use Rattle.b67_ops.specs.declared.intrinsic.Intrinsic.TheVariants.{Event, Happened}
+use Rattle.b67_ops.specs.declared.intrinsic.Intrinsic.TheVariants.{Event}
 use Rattle.b67_segment.specs.declared.code.Code.{Code}
 use Rattle.b67_store.specs.Store.{word_at, with_stack}
 use Rattle.b67_table.specs.declared.Cell.{Cell}
@@ -25,16 +25,19 @@ use Rattle.b67_table.specs.Arguments.{IntrinsicRow, if_open, event_in, event_of,
 use Rattle.b67_table.specs.Chains.{place}
 use Rattle.b67_table.specs.Effect.{Effect, gives}
 use Rattle.b67_table.specs.Image.{Image, with_stacks, with_registers, with_events}
-use Rattle.b67_table.specs.Intrinsics.{on_event, row_of_intrinsic}
+use Rattle.b67_table.specs.Intrinsics.{on_event, tell_event, row_of_intrinsic}
 use Rattle.b67_table.specs.Look.{Look, ◌>->◌, valid}
 use Rattle.b67_table.specs.Moves.{pushed}
 use Rattle.b67_table.specs.Private.{display_at}
-use Rattle.b67_table.specs.Program.{Change, Program, answer, asked, changed, effect_of, see, ◌>>=◌, write, done, registers, has_happened, is_event}
+use Rattle.b67_table.specs.Program.{Change, Program, answer, asked, changed, effect_of, see, ◌>>=◌, write, done, registers, event_answer, event_deed, is_event}
 use Rattle.b67_table.specs.References.{cell_place, cell_in, irw_or_sirw, reached, reached_in, one_sirw, no_second}
 use Rattle.b67_table.specs.Rows.{row, enter}
 use Rattle.b67_table.specs.Table.{raw, operator_at}
 use Rattle.b67_letters.specs.Releases.{change_releases, effect_releases, fetched_releases, registers_releases}
 use Rattle.b67_table.specs.Writes as writes
+use Rattle.b67_table.specs.Writes.{states_after}
+use Rattle.b67_deeds.specs.declared.EventTest.{EventTest}
+use Rattle.b67_deeds.specs.Deeds.{EventDeed, answers}
 use Rattle.b67_cores.specs.Cores.{Core, HasCore, stack_of, with_core}
 use Rattle.b67_rows.proofs.IntrinsicRows.{CallsIntrinsic, without_call, entered_asked, entered, chained_asked, chained_is, cut_words}
 use Rattle.b67_rows.proofs.Rows.{raw_is}
@@ -121,54 +124,63 @@ module _ (code : Code) (img : Image) (p : ℕ) (core : Core) (has : HasCore img 
     (name : Intrinsic) (word reference marked : Word) (below : List Word) (c : CallsIntrinsic img core name (word ∷ []) reference marked below)
     (cell : Cell) (reaches : FindsEvent img p core.registers word cell)
     (there_open : is_open (cell_place cell) img.events ≡ true) where
-  abbrev pub acted_on : (Place → Change → Change) → Change
-  acted_on act = act (cell_place cell) (finished_at core.registers c.m [] next)
+  abbrev pub acted_on : EventDeed → Change
+  acted_on x = event_deed x (cell_place cell) (finished_at core.registers c.m [] next)
 
   -- the mark and what lies above it give way, after what is done with the event
-  pub acted_asked : (act : Place → Change → Change) → row_of_intrinsic name ≡ on_event act → asked img (enter code core.registers next) ≡ gives (act (cell_place cell) (finished_at core.registers c.m [] next))
-  acted_asked act is =
+  pub acted_asked : (x : EventDeed) → row_of_intrinsic name ≡ on_event x →
+      asked img (enter code core.registers next) ≡ gives (event_deed x (cell_place cell) (finished_at core.registers c.m [] next))
+  acted_asked x is =
       entered_asked code img p core has next there name (word ∷ []) reference marked below c
       ∙ ap (λ (row : IntrinsicRow). asked img (row code core.registers next c.m (word ∷ []))) is
-      ∙ event_reached code img p core.registers word cell reaches (λ (d : Cell). if_chained core.registers c.m (answer (act (cell_place d) (finished_at core.registers c.m [] next)))) there_open
-      ∙ chained_asked code img p core has next there name (word ∷ []) reference marked below c (answer (acted_on act))
+      ∙ event_reached code img p core.registers word cell reaches
+      (λ (d : Cell). if_chained core.registers c.m (answer (event_deed x (cell_place d) (finished_at core.registers c.m [] next)))) there_open
+      ∙ chained_asked code img p core has next there name (word ∷ []) reference marked below c (answer (acted_on x))
 
-  event_acted : (act : Place → Change → Change) → row_of_intrinsic name ≡ on_event act → raw code img p ≡ gives (changed p (act (cell_place cell) (finished_at core.registers c.m [] next)) img)
+  event_acted : (x : EventDeed) → row_of_intrinsic name ≡ on_event x → raw code img p ≡ gives (changed p (acted_on x) img)
   unfolding row
-  event_acted act is = raw_is code img p core has (ops.Plain kinds.Entr) next there ∙ ap (effect_of p img) (acted_asked act is)
+  event_acted x is = raw_is code img p core has (ops.Plain kinds.Entr) next there ∙ ap (effect_of p img) (acted_asked x is)
 
   -- whom it releases
-  pub acted_releases : (act : Place → Change → Change) → row_of_intrinsic name ≡ on_event act →
-      registers_releases code img p (numbered img.regs p) ≡ change_releases p (act (cell_place cell) (finished_at core.registers c.m [] next)) img
+  pub acted_releases : (x : EventDeed) → row_of_intrinsic name ≡ on_event x →
+      registers_releases code img p (numbered img.regs p) ≡ change_releases p (event_deed x (cell_place cell) (finished_at core.registers c.m [] next)) img
   unfolding row
-  acted_releases act is =
+  acted_releases x is =
       ap (registers_releases code img p) has.registers
       ∙ ap (fetched_releases code img p core.registers) there
-      ∙ ap (effect_releases p img) (acted_asked act is)
+      ∙ ap (effect_releases p img) (acted_asked x is)
 
-  -- whether it has happened comes in their place
-  event_told : name ≡ Happened → raw code img p ≡ gives (changed p (finished_at core.registers c.m (words.truth (happened_at (cell_place cell) img.events) ∷ []) next) img)
-  event_told is =
+  -- what the event answers comes in their place
+  abbrev told_there : EventTest → Bool
+  told_there x = answers x (state_at (cell_place cell) img.events)
+
+  event_told : (x : EventTest) → row_of_intrinsic name ≡ tell_event x → raw code img p ≡ gives (changed p (finished_at core.registers c.m (words.truth (told_there x) ∷ []) next) img)
+  event_told x is =
       entered code img p core has next there name (word ∷ []) reference marked below c
-      ∙ ap (λ (n : Intrinsic). effect_of p img (asked img (row_of_intrinsic n code core.registers next c.m (word ∷ [])))) is
+      ∙ ap (λ (row : IntrinsicRow). effect_of p img (asked img (row code core.registers next c.m (word ∷ [])))) is
       ∙ ap (effect_of p img)
       (event_reached code img p core.registers word cell reaches
-      (λ (d : Cell). if_chained core.registers c.m (has_happened (cell_place d) (λ (happened : Bool). answer (finished_at core.registers c.m (words.truth happened ∷ []) next)))) there_open
+      (λ (d : Cell). if_chained core.registers c.m (event_answer x (cell_place d) (λ (told : Bool). answer (finished_at core.registers c.m (words.truth told ∷ []) next)))) there_open
       ∙ chained_asked code img p core has next there name (word ∷ []) reference marked below c
-      (has_happened (cell_place cell) (λ (happened : Bool). answer (finished_at core.registers c.m (words.truth happened ∷ []) next))))
+      (event_answer x (cell_place cell) (λ (told : Bool). answer (finished_at core.registers c.m (words.truth told ∷ []) next))))
 
   -- ---- the image after it
 
   abbrev r' : Registers
   r' = core.registers
 
+  abbrev pub events_then : EventDeed → List EventThere
+  events_then x = done_at x p (cell_place cell) img.events
+
+  abbrev pub states_then : EventDeed → List ProcessState
+  states_then x = states_after (deed_at x p (cell_place cell) img.events) (cell_place cell) p img.states
+
   -- what is done changes events and states only
-  pub acted_raw : (act : Place → Change → Change) → row_of_intrinsic name ≡ on_event act → (events : List EventThere) (states : List ProcessState) →
-      ((more : Change) → changed p (act (cell_place cell) more) img ≡ changed p more (record img { events = events; states = states })) →
-      raw code img p ≡ gives (record (with_core img p (without_call core below c.m.df next)) { events = events; states = states })
-  acted_raw act is events states does =
-      event_acted act is
-      ∙ ap (λ (i : Image). gives i) (does (finished_at core.registers c.m [] next))
-      ∙ ap (λ (ws : List Word). gives (record (with_registers (with_stacks img (with_stack img.stacks r'.stack ws)) p ((without_call core below c.m.df next).registers)) { events = events; states = states }))
+  pub acted_raw : (x : EventDeed) → row_of_intrinsic name ≡ on_event x →
+      raw code img p ≡ gives (record (with_core img p (without_call core below c.m.df next)) { events = events_then x; states = states_then x })
+  acted_raw x is =
+      event_acted x is
+      ∙ ap (λ (ws : List Word). gives (record (with_registers (with_stacks img (with_stack img.stacks r'.stack ws)) p ((without_call core below c.m.df next).registers)) { events = events_then x; states = states_then x }))
       (cut_words code img p core has next there name (word ∷ []) reference marked below c)
 
   -- the core with a truth value in place of the call
@@ -176,11 +188,11 @@ module _ (code : Code) (img : Image) (p : ℕ) (core : Core) (has : HasCore img 
   told_core happened =
       record core { words = words.truth happened ∷ below; registers = record core.registers { s = core.registers.f + 1; f = core.registers.f - c.m.df; place = next } }
 
-  pub told_raw : name ≡ Happened → raw code img p ≡ gives (with_core img p (told_core (happened_at (cell_place cell) img.events)))
-  told_raw is =
-      let happened : Bool = happened_at (cell_place cell) img.events in
-      event_told is
-      ∙ ap (λ (ws : List Word). gives (changed p (pushed r'.stack (words.truth happened ∷ []) (registers ((told_core happened).registers) done)) (with_stacks img (with_stack img.stacks r'.stack ws))))
+  pub told_raw : (x : EventTest) → row_of_intrinsic name ≡ tell_event x → raw code img p ≡ gives (with_core img p (told_core (answers x (state_at (cell_place cell) img.events))))
+  told_raw x is =
+      let told : Bool = told_there x in
+      event_told x is
+      ∙ ap (λ (ws : List Word). gives (changed p (pushed r'.stack (words.truth told ∷ []) (registers ((told_core told).registers) done)) (with_stacks img (with_stack img.stacks r'.stack ws))))
       (cut_words code img p core has next there name (word ∷ []) reference marked below c)
-      ∙ ap (λ (i : Image). gives i) (pushed_do p img r'.stack (stack_of core) has.stack (words.truth happened ∷ []) (core.below ++ reverse below) (registers ((told_core happened).registers) done))
-      ∙ ap (λ (ws : List Word). gives (with_registers (with_stacks img (with_stack img.stacks r'.stack ws)) p ((told_core happened).registers))) (sym (stack-over core.below (words.truth happened ∷ []) below))
+      ∙ ap (λ (i : Image). gives i) (pushed_do p img r'.stack (stack_of core) has.stack (words.truth told ∷ []) (core.below ++ reverse below) (registers ((told_core told).registers) done))
+      ∙ ap (λ (ws : List Word). gives (with_registers (with_stacks img (with_stack img.stacks r'.stack ws)) p ((told_core told).registers))) (sym (stack-over core.below (words.truth told ∷ []) below))

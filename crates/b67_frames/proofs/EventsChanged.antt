@@ -5,8 +5,9 @@ use Rattle.std.specs.Option.{option_map}
 use Rattle.b67_list.specs.Numbered.{numbered, set_numbered}
 use Rattle.algol_tree.specs.Blocks.{block_numbered}
 use Rattle.algol_tree.specs.Scopes.{Scopes}
-use Rattle.algol_meaning.specs.Events.{new_event}
-use Rattle.algol_meaning.specs.Value.{EventCell, event}
+use Rattle.b67_deeds.specs.Events.{fresh_state}
+use Rattle.algol_meaning.specs.Value.{event}
+use Rattle.b67_deeds.specs.Events.{EventState}
 use Rattle.algol_meaning.specs.World.{NamedCell, Instance, World}
 use Rattle.b67_word.specs.declared.Place.{Place}
 use Rattle.b67_events.specs.Events.{Event, event_at, changed, opened}
@@ -21,14 +22,14 @@ use Rattle.b67_frames.specs.Arrays.{Layout}
 use Rattle.b67_frames.specs.Events.{event_there, HasEvent, EventsAre}
 
 -- One instance changes: this event of it is one of the later world, and each other event was one before.
-module _ (sc : Scopes) (w w' : World) (lay lay' : Layout) (i number : ℕ) (later : EventCell) (there : Place) where
+module _ (sc : Scopes) (w w' : World) (lay lay' : Layout) (i number : ℕ) (later : EventState) (there : Place) where
   -- an event of the later world is that one, or another one that was before
-  pub data Came (j other : ℕ) (e : EventCell) (at : Place) : Type 0 where
+  pub data Came (j other : ℕ) (e : EventState) (at : Place) : Type 0 where
     this : i ≡ j → number ≡ other → later ≡ e → there ≡ at → Came j other e at
     before : HasEvent sc w lay j other e at → (i ≡ j → number ≡ other → ⊥) → Came j other e at
 
-  pub events_came : ((j other : ℕ) (e : EventCell) (at : Place) → HasEvent sc w' lay' j other e at → Came j other e at) → (events now : List Event) → event_at there now ≡ Some (event_there there later) →
-      ((j other : ℕ) (e : EventCell) (at : Place) → HasEvent sc w lay j other e at → (i ≡ j → number ≡ other → ⊥) → (at ≢ there) × (event_at at now ≡ event_at at events)) → EventsAre sc w lay events →
+  pub events_came : ((j other : ℕ) (e : EventState) (at : Place) → HasEvent sc w' lay' j other e at → Came j other e at) → (events now : List Event) → event_at there now ≡ Some (event_there there later) →
+      ((j other : ℕ) (e : EventState) (at : Place) → HasEvent sc w lay j other e at → (i ≡ j → number ≡ other → ⊥) → (at ≢ there) × (event_at at now ≡ event_at at events)) → EventsAre sc w lay events →
       EventsAre sc w' lay' now
   events_came origin events now here others are =
       record {
@@ -36,12 +37,12 @@ module _ (sc : Scopes) (w w' : World) (lay lay' : Layout) (i number : ℕ) (late
         apart = λ j k other more e f at h o. apart_by j k other more e f at (origin j other e at h) (origin k more f at o);
       }
     where
-      open_by : (j other : ℕ) (e : EventCell) (at : Place) → Came j other e at → event_at at now ≡ Some (event_there at e)
+      open_by : (j other : ℕ) (e : EventState) (at : Place) → Came j other e at → event_at at now ≡ Some (event_there at e)
       open_by j other e at (this same number_is cell_is place_is) =
-          ap (λ (x : Place). event_at x now) (sym place_is) ∙ here ∙ ap (λ (x : Place). Some (event_there x later)) place_is ∙ ap (λ (x : EventCell). Some (event_there at x)) cell_is
+          ap (λ (x : Place). event_at x now) (sym place_is) ∙ here ∙ ap (λ (x : Place). Some (event_there x later)) place_is ∙ ap (λ (x : EventState). Some (event_there at x)) cell_is
       open_by j other e at (before h apart) = (others j other e at h apart).1 ∙ are.are_open j other e at h
 
-      apart_by : (j k other more : ℕ) (e f : EventCell) (at : Place) → Came j other e at → Came k more f at → (j ≡ k) × (other ≡ more)
+      apart_by : (j k other more : ℕ) (e f : EventState) (at : Place) → Came j other e at → Came k more f at → (j ≡ k) × (other ≡ more)
       apart_by j k other more e f at (this same number_is cell_is place_is) (this same' number_is' cell_is' place_is') = (sym same ∙ same', sym number_is ∙ number_is')
       apart_by j k other more e f at (this same number_is cell_is place_is) (before o apart) = absurd ((others k more f at o apart).0 (sym place_is))
       apart_by j k other more e f at (before h apart) (this same number_is cell_is place_is) = absurd ((others j other e at h apart).0 (sym place_is))
@@ -51,19 +52,19 @@ module _ (sc : Scopes) (w w' : World) (lay lay' : Layout) (i number : ℕ) (late
 
 -- The instance has made so much before, and now an event, which its block declares; the event's cell lies at this place, where none lay.
 module _ (sc : Scopes) (w w' : World) (lay lay' : Layout) (i : ℕ) (x : Instance) (name : List ℕ) (number : ℕ) (is : numbered w.instances i ≡ Some x)
-    (now : w'.instances ≡ set_numbered w.instances i (record x { cells = x.cells ++ record { name = name; cell = event new_event } ∷ [] }))
+    (now : w'.instances ≡ set_numbered w.instances i (record x { cells = x.cells ++ record { name = name; cell = event fresh_state } ∷ [] }))
     (many : length x.cells ≡ length (simple_cells sc (block_numbered sc.blocks x.block)) + number) (places : (j : ℕ) (f : Place) → numbered lay'.places j ≡ Some f → numbered lay.places j ≡ Some f)
     (frame : Place) (laid : numbered lay.places i ≡ Some frame) where
   abbrev grown : Instance
-  grown = record x { cells = x.cells ++ record { name = name; cell = event new_event } ∷ [] }
+  grown = record x { cells = x.cells ++ record { name = name; cell = event fresh_state } ∷ [] }
 
   abbrev there : Place
   there = place frame.stack (frame.at + (made_base sc (block_numbered sc.blocks x.block) + number))
 
-  abbrev IsCome : (j other : ℕ) (e : EventCell) (at : Place) → Type 0
-  IsCome j other e at = Came sc w w' lay lay' i number new_event (place frame.stack (frame.at + (made_base sc (block_numbered sc.blocks x.block) + number))) j other e at
+  abbrev IsCome : (j other : ℕ) (e : EventState) (at : Place) → Type 0
+  IsCome j other e at = Came sc w w' lay lay' i number fresh_state (place frame.stack (frame.at + (made_base sc (block_numbered sc.blocks x.block) + number))) j other e at
 
-  module _ (j other : ℕ) (e : EventCell) (at : Place) (h : HasEvent sc w' lay' j other e at) where
+  module _ (j other : ℕ) (e : EventState) (at : Place) (h : HasEvent sc w' lay' j other e at) where
     set_there : numbered (set_numbered w.instances i grown) j ≡ Some h.instance
     set_there = ap (λ (xs : List Instance). numbered xs j) (sym now) ∙ h.is
 
@@ -74,7 +75,7 @@ module _ (sc : Scopes) (w w' : World) (lay lay' : Layout) (i : ℕ) (x : Instanc
       abbrev front : ℕ
       front = length (simple_cells sc (block_numbered sc.blocks x.block))
 
-      has_it : slice_get (x.cells ++ record { name = name; cell = event new_event } ∷ []) (front + other) ≡ Some (record { name = h.name; cell = event e })
+      has_it : slice_get (x.cells ++ record { name = name; cell = event fresh_state } ∷ []) (front + other) ≡ Some (record { name = h.name; cell = event e })
       has_it = ap (λ (z : Instance). slice_get z.cells (length (simple_cells sc (block_numbered sc.blocks z.block)) + other)) here ∙ h.has
 
       frame_is : frame ≡ h.frame
@@ -88,11 +89,11 @@ module _ (sc : Scopes) (w w' : World) (lay lay' : Layout) (i : ℕ) (x : Instanc
           ∙ ap (λ (b : ℕ). place h.frame.stack (h.frame.at + (made_base sc (block_numbered sc.blocks b) + other))) block_is
           ∙ sym h.at_is)
         where
-          cell_is : new_event ≡ e
+          cell_is : fresh_state ≡ e
           cell_is =
-              let lies : slice_get (x.cells ++ record { name = name; cell = event new_event } ∷ []) (front + other) ≡ Some (record { name = name; cell = event new_event }) =
-              get-seam x.cells (record { name = name; cell = event new_event }) [] (front + other) (omega (arith, many, number_is)) in
-              let cells_are : event new_event ≡ event e = ap (λ (c : NamedCell). c.cell) (some_same (sym lies ∙ has_it)) in
+              let lies : slice_get (x.cells ++ record { name = name; cell = event fresh_state } ∷ []) (front + other) ≡ Some (record { name = name; cell = event fresh_state }) =
+              get-seam x.cells (record { name = name; cell = event fresh_state }) [] (front + other) (omega (arith, many, number_is)) in
+              let cells_are : event fresh_state ≡ event e = ap (λ (c : NamedCell). c.cell) (some_same (sym lies ∙ has_it)) in
               cc
 
       old : (number ≡ other → ⊥) → IsCome j other e at
@@ -122,15 +123,15 @@ module _ (sc : Scopes) (w w' : World) (lay lay' : Layout) (i : ℕ) (x : Instanc
               most =
                   omega (
                     arith,
-                    get_below (x.cells ++ record { name = name; cell = event new_event } ∷ []) (front + other) (record { name = h.name; cell = event e }) has_it,
-                    long x.cells (record { name = name; cell = event new_event }),
+                    get_below (x.cells ++ record { name = name; cell = event fresh_state } ∷ []) (front + other) (record { name = h.name; cell = event e }) has_it,
+                    long x.cells (record { name = name; cell = event fresh_state }),
                   )
 
               by_number : (number ≤ other) ⊎ (other < number) → front + other < length x.cells
               by_number (inl high) = absurd (apart (omega (arith, high, most, many)))
               by_number (inr small) = omega (arith, small, many)
 
-          in_front : (cells : List NamedCell) (k : ℕ) → k < length cells → slice_get (cells ++ record { name = name; cell = event new_event } ∷ []) k ≡ Some (record { name = h.name; cell = event e }) →
+          in_front : (cells : List NamedCell) (k : ℕ) → k < length cells → slice_get (cells ++ record { name = name; cell = event fresh_state } ∷ []) k ≡ Some (record { name = h.name; cell = event e }) →
               slice_get cells k ≡ Some (record { name = h.name; cell = event e })
           in_front [] k low e = absurd (omega (arith, low))
           in_front (c ∷ cells) zero low e = e
@@ -161,26 +162,26 @@ module _ (sc : Scopes) (w w' : World) (lay lay' : Layout) (i : ℕ) (x : Instanc
 
   -- it is open there, and is fresh
   pub events_made : (events : List Event) →
-      ((j other : ℕ) (e : EventCell) (at : Place) → HasEvent sc w lay j other e at → at ≢ place frame.stack (frame.at + (made_base sc (block_numbered sc.blocks x.block) + number))) → EventsAre sc w lay events →
+      ((j other : ℕ) (e : EventState) (at : Place) → HasEvent sc w lay j other e at → at ≢ place frame.stack (frame.at + (made_base sc (block_numbered sc.blocks x.block) + number))) → EventsAre sc w lay events →
       EventsAre sc w' lay' (opened (place frame.stack (frame.at + (made_base sc (block_numbered sc.blocks x.block) + number))) events)
   events_made events none_there are =
-      events_came sc w w' lay lay' i number new_event there made_origin events (opened there events) (one_event.opened_here there events)
+      events_came sc w w' lay lay' i number fresh_state there made_origin events (opened there events) (one_event.opened_here there events)
       (λ j other e at h apart. (none_there j other e at h, one_event.opened_elsewhere there at (none_there j other e at h) events)) are
 
 -- ---- another event
 
 -- This event of an instance becomes another one, and each other one of that was there.
-module _ (sc : Scopes) (w w' : World) (lay : Layout) (i : ℕ) (x y : Instance) (number : ℕ) (e later : EventCell) (there : Place) (has : HasEvent sc w lay i number e there) (is : numbered w.instances i ≡ Some x)
+module _ (sc : Scopes) (w w' : World) (lay : Layout) (i : ℕ) (x y : Instance) (number : ℕ) (e later : EventState) (there : Place) (has : HasEvent sc w lay i number e there) (is : numbered w.instances i ≡ Some x)
     (now : w'.instances ≡ set_numbered w.instances i y) (left : y.left ≡ x.left) (block : y.block ≡ x.block)
     (this_is : (c : NamedCell) → slice_get y.cells (length (simple_cells sc (block_numbered sc.blocks x.block)) + number) ≡ Some c → c.cell ≡ event later)
     (others_are : (k : ℕ) → k ≢ length (simple_cells sc (block_numbered sc.blocks x.block)) + number → slice_get y.cells k ≡ slice_get x.cells k) where
   abbrev front_at : ℕ
   front_at = length (simple_cells sc (block_numbered sc.blocks x.block))
 
-  abbrev IsChanged : (j other : ℕ) (f : EventCell) (at : Place) → Type 0
+  abbrev IsChanged : (j other : ℕ) (f : EventState) (at : Place) → Type 0
   IsChanged j other f at = Came sc w w' lay lay i number later there j other f at
 
-  module _ (j other : ℕ) (f : EventCell) (at : Place) (h : HasEvent sc w' lay j other f at) where
+  module _ (j other : ℕ) (f : EventState) (at : Place) (h : HasEvent sc w' lay j other f at) where
     changed_there : numbered (set_numbered w.instances i y) j ≡ Some h.instance
     changed_there = ap (λ (xs : List Instance). numbered xs j) (sym now) ∙ h.is
 

@@ -5,7 +5,8 @@ use Rattle.b67_list.specs.Numbered.{numbered, set_numbered}
 use Rattle.algol_tree.specs.Blocks.{block_numbered}
 use Rattle.algol_tree.specs.Scopes.{Scopes}
 use Rattle.algol_tree.specs.Sorts.{same_name}
-use Rattle.algol_meaning.specs.Value.{EventCell, Cell, event}
+use Rattle.algol_meaning.specs.Value.{Cell, event}
+use Rattle.b67_deeds.specs.Events.{EventState}
 use Rattle.algol_meaning.specs.World.{NamedCell, Instance, World, cells_with}
 use Rattle.b67_word.specs.declared.Place.{Place}
 use Rattle.b67_events.specs.Events.{Event, event_at, is_from, closed_from}
@@ -21,8 +22,8 @@ use Rattle.b67_frames.specs.Events.{HasEvent, EventsAre}
 -- ---- events that are the same
 
 -- each event of the later world was one before, and is open as it was
-pub events_by : (sc : Scopes) (w w' : World) (lay lay' : Layout) → ((i number : ℕ) (e : EventCell) (at : Place) → HasEvent sc w' lay' i number e at → HasEvent sc w lay i number e at) → (events later : List Event) →
-    ((i number : ℕ) (e : EventCell) (at : Place) → HasEvent sc w' lay' i number e at → event_at at later ≡ event_at at events) → EventsAre sc w lay events → EventsAre sc w' lay' later
+pub events_by : (sc : Scopes) (w w' : World) (lay lay' : Layout) → ((i number : ℕ) (e : EventState) (at : Place) → HasEvent sc w' lay' i number e at → HasEvent sc w lay i number e at) → (events later : List Event) →
+    ((i number : ℕ) (e : EventState) (at : Place) → HasEvent sc w' lay' i number e at → event_at at later ≡ event_at at events) → EventsAre sc w lay events → EventsAre sc w' lay' later
 events_by sc w w' lay lay' before events later same are =
     record {
       are_open = λ i number e at h. same i number e at h ∙ are.are_open i number e at (before i number e at h);
@@ -56,12 +57,12 @@ abbrev with_other : Bool → NamedCell → List NamedCell → List ℕ → Cell 
 with_other b c cells name new = if b then record c { cell = new } ∷ cells else c ∷ cells_with cells name new
 
 -- what is an event among the cells was one before
-pub event_before : (cells : List NamedCell) (name : List ℕ) (new : Cell) → IsNoEvent new → (k : ℕ) (other : List ℕ) (e : EventCell) → slice_get (cells_with cells name new) k ≡ Some (record { name = other; cell = event e }) →
+pub event_before : (cells : List NamedCell) (name : List ℕ) (new : Cell) → IsNoEvent new → (k : ℕ) (other : List ℕ) (e : EventState) → slice_get (cells_with cells name new) k ≡ Some (record { name = other; cell = event e }) →
     slice_get cells k ≡ Some (record { name = other; cell = event e })
 event_before [] name new none k other e is = is
 event_before (c ∷ cells) name new none k other e is = by_name (event_before cells name new none) (same_name c.name name) refl k is
   where
-    by_name : ((k : ℕ) (other : List ℕ) (e : EventCell) → slice_get (cells_with cells name new) k ≡ Some (record { name = other; cell = event e }) → slice_get cells k ≡ Some (record { name = other; cell = event e })) →
+    by_name : ((k : ℕ) (other : List ℕ) (e : EventState) → slice_get (cells_with cells name new) k ≡ Some (record { name = other; cell = event e }) → slice_get cells k ≡ Some (record { name = other; cell = event e })) →
         (b : Bool) → same_name c.name name ≡ b → (k : ℕ) → slice_get (with_other (same_name c.name name) c cells name new) k ≡ Some (record { name = other; cell = event e }) → slice_get (c ∷ cells) k ≡ Some (record { name = other; cell = event e })
     by_name rest true t zero is =
         let here : record c { cell = new } ≡ record { name = other; cell = event e } = some_same (ap (λ (b : Bool). slice_get (with_other b c cells name new) 0) (sym t) ∙ is) in
@@ -81,7 +82,7 @@ no_event_there (x ∷ cells) zero c none is = subst (λ (y : NamedCell). IsNoEve
 no_event_there (x ∷ cells) (suc k) c none is = no_event_there cells k c none.1 is
 
 -- an event among these cells and more that have none is one of these
-pub event_in_front : (cells more : List NamedCell) → HaveNoEvent more → (k : ℕ) (other : List ℕ) (e : EventCell) → slice_get (cells ++ more) k ≡ Some (record { name = other; cell = event e }) →
+pub event_in_front : (cells more : List NamedCell) → HaveNoEvent more → (k : ℕ) (other : List ℕ) (e : EventState) → slice_get (cells ++ more) k ≡ Some (record { name = other; cell = event e }) →
     slice_get cells k ≡ Some (record { name = other; cell = event e })
 event_in_front [] more none k other e is = absurd (no_event_there more k (record { name = other; cell = event e }) none is)
 event_in_front (c ∷ cells) more none zero other e is = is
@@ -89,9 +90,9 @@ event_in_front (c ∷ cells) more none (suc k) other e is = event_in_front cells
 
 -- One instance changes: it stays one of its block, and each event among its cells was there before.
 module _ (sc : Scopes) (w w' : World) (lay lay' : Layout) (i : ℕ) (x y : Instance) (there : numbered w.instances i ≡ Some x) (changed : w'.instances ≡ set_numbered w.instances i y) (left : y.left ≡ x.left) (block : y.block ≡ x.block)
-    (was : (k : ℕ) (name : List ℕ) (e : EventCell) → slice_get y.cells k ≡ Some (record { name = name; cell = event e }) → slice_get x.cells k ≡ Some (record { name = name; cell = event e }))
+    (was : (k : ℕ) (name : List ℕ) (e : EventState) → slice_get y.cells k ≡ Some (record { name = name; cell = event e }) → slice_get x.cells k ≡ Some (record { name = name; cell = event e }))
     (places : (j : ℕ) (f : Place) → numbered lay'.places j ≡ Some f → numbered lay.places j ≡ Some f) where
-  event_was : (j number : ℕ) (e : EventCell) (at : Place) → HasEvent sc w' lay' j number e at → HasEvent sc w lay j number e at
+  event_was : (j number : ℕ) (e : EventState) (at : Place) → HasEvent sc w' lay' j number e at → HasEvent sc w lay j number e at
   event_was j number e at h = by_number (same_or_not i j)
     where
       set_there : numbered (set_numbered w.instances i y) j ≡ Some h.instance
@@ -138,7 +139,7 @@ module _ (sc : Scopes) (w w' : World) (lay lay' : Layout) (i : ℕ) (x y : Insta
 
 module _ (sc : Scopes) (w w' : World) (lay lay' : Layout) (x : Instance) (one_more : w'.instances ≡ w.instances ++ x ∷ []) (fresh : length x.cells ≡ length (simple_cells sc (block_numbered sc.blocks x.block)))
     (places : (j : ℕ) (f : Place) → j ≢ length w.instances + 1 → numbered lay'.places j ≡ Some f → numbered lay.places j ≡ Some f) where
-  event_was_there : (j number : ℕ) (e : EventCell) (at : Place) → HasEvent sc w' lay' j number e at → HasEvent sc w lay j number e at
+  event_was_there : (j number : ℕ) (e : EventState) (at : Place) → HasEvent sc w' lay' j number e at → HasEvent sc w lay j number e at
   event_was_there j number e at h = by_number (same_or_not j (length w.instances + 1))
     where
       -- it has simple cells only
@@ -170,7 +171,7 @@ module _ (sc : Scopes) (w w' : World) (lay lay' : Layout) (x : Instance) (one_mo
 -- ---- an instance that is left
 
 module _ (sc : Scopes) (w w' : World) (lay : Layout) (i : ℕ) (x y : Instance) (there : numbered w.instances i ≡ Some x) (gone : y.left ≡ true) (changed : w'.instances ≡ set_numbered w.instances i y) where
-  left_before : (j number : ℕ) (e : EventCell) (at : Place) → HasEvent sc w' lay j number e at → HasEvent sc w lay j number e at × (i ≢ j)
+  left_before : (j number : ℕ) (e : EventState) (at : Place) → HasEvent sc w' lay j number e at → HasEvent sc w lay j number e at × (i ≢ j)
   left_before j number e at h = by_number (same_or_not i j)
     where
       set_there : numbered (set_numbered w.instances i y) j ≡ Some h.instance
@@ -196,7 +197,7 @@ module _ (sc : Scopes) (w w' : World) (lay : Layout) (i : ℕ) (x y : Instance) 
       )
 
   -- where all that lies from there on in that stack is of this instance
-  pub events_left : (stack low : ℕ) (events : List Event) → ((j number : ℕ) (e : EventCell) (at : Place) → i ≢ j → HasEvent sc w lay j number e at → is_from stack low at ≡ false) → EventsAre sc w lay events →
+  pub events_left : (stack low : ℕ) (events : List Event) → ((j number : ℕ) (e : EventState) (at : Place) → i ≢ j → HasEvent sc w lay j number e at → is_from stack low at ≡ false) → EventsAre sc w lay events →
       EventsAre sc w' lay (closed_from stack low events)
   events_left stack low events others are =
       events_by sc w w' lay lay (λ j number e at h. (left_before j number e at h).0) events (closed_from stack low events)

@@ -6,7 +6,8 @@ use Rattle.b67_list.specs.Numbered.{numbered}
 use Rattle.algol_tree.specs.Blocks.{block_numbered}
 use Rattle.algol_tree.specs.Plain.{PProgram}
 use Rattle.algol_tree.specs.Scopes.{Scopes, scopes_of}
-use Rattle.algol_meaning.specs.Value.{EventCell, event}
+use Rattle.algol_meaning.specs.Value.{event}
+use Rattle.b67_deeds.specs.Events.{EventState}
 use Rattle.algol_meaning.specs.World.{Instance, Part, World}
 use Rattle.algol_standing.specs.Worlds.{IsOwn}
 use Rattle.b67_word.specs.declared.Place.{Place}
@@ -54,7 +55,7 @@ module _ (tree : PProgram) (code : Code) (texts : Texts) (w : World) (lay : Layo
   sc = scopes_of tree
 
   -- in the frame of the instance
-  pub event_in_frame : (parts : List Part) (j : ℕ) (words : List Word) (l : Lies tree code texts w lay p parts j words) (number : ℕ) (e : EventCell) (at : Place) → HasEvent (scopes_of tree) w lay j number e at →
+  pub event_in_frame : (parts : List Part) (j : ℕ) (words : List Word) (l : Lies tree code texts w lay p parts j words) (number : ℕ) (e : EventState) (at : Place) → HasEvent (scopes_of tree) w lay j number e at →
       (at.stack ≡ p) × (at.at < length words)
   event_in_frame parts j words l number e at h = (
     ap (λ (x : Place). x.stack) h.at_is ∙ ap (λ (x : Place). x.stack) frame_is,
@@ -97,7 +98,7 @@ module _ (tree : PProgram) (code : Code) (texts : Texts) (w : World) (lay : Layo
 
   -- It is not among what lies from some place of this stack on, where the instance is one of these parts' own that lie below there.
   pub event_outside : (parts : List Part) (lower : List Word) (mark control : Word) (wanted : Yields) → Around tree code texts w lay p parts lower mark control wanted → (j : ℕ) → IsOwn parts j ⊎ IsElsewhere lay p j →
-      (number : ℕ) (e : EventCell) (at : Place) → HasEvent (scopes_of tree) w lay j number e at → is_from p (length lower) at ≡ false
+      (number : ℕ) (e : EventState) (at : Place) → HasEvent (scopes_of tree) w lay j number e at → is_from p (length lower) at ≡ false
   event_outside parts lower mark control wanted a j (inl own) number e at h =
       below (at.stack == p) (length lower) at.at (event_in_frame parts j lower (lies_around tree code texts w lay p parts lower mark control wanted a j own) number e at h).1
   event_outside parts lower mark control wanted a j (inr elsewhere) number e at h =

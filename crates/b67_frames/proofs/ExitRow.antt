@@ -1,11 +1,13 @@
 -- EXIT of a base frame.
+use Rattle.b67_deeds.specs.declared.EventAct.TheVariants as event_act
+use Rattle.b67_deeds.specs.Deeds.{acts}
 use Rattle.std.proofs.Common.{◌≡◌, refl, ap, ◌∙◌, ℕ, ◌+◌, List, [], ◌∷◌, ◌++◌, length, take, drop, Option, Some, None, Bool, false, Ok}
 use Rattle.std.specs.Prelude.{if◌then◌else◌, nat_eq, reverse}
 use Rattle.b67_list.specs.Numbered.{set_numbered}
 use Rattle.algol_meaning.specs.Value.{Cell, simple, event, array, named, reference}
 use Rattle.algol_meaning.specs.World.{NamedCell}
-use Rattle.algol_meaning.specs.Actions as act
-use Rattle.algol_meaning.specs.Actions.{Action}
+use Rattle.b67_deeds.specs.declared.Letter.TheVariants as act
+use Rattle.b67_deeds.specs.declared.Letter.{Letter}
 use Rattle.b67_word.specs.declared.Place.{Place}
 use Rattle.b67_word.specs.Word.{Word}
 use Rattle.b67_control.specs.declared.Pcw.{Pcw}
@@ -24,7 +26,7 @@ use Rattle.b67_table.specs.Outcome as outcomes
 use Rattle.b67_table.specs.Image.{Image, with_rows}
 use Rattle.b67_table.specs.Linkage.{closed_by, array_closed, arrays_closed, caused_by, frame_left, is_critical, leave_base, leave_other}
 use Rattle.b67_table.specs.Private.{frame}
-use Rattle.b67_table.specs.Program.{Program, Change, done, cause, changed, does, effect_of, asked, answer, fault, registers, end_process, close_events}
+use Rattle.b67_table.specs.Program.{Program, Change, done, event_deed, changed, does, effect_of, asked, answer, fault, registers, end_process, close_events}
 use Rattle.b67_table.specs.Questions.{live_criticals}
 use Rattle.b67_num.specs.declared.FaultKind.TheVariants.{CriticalBlockExit}
 use Rattle.b67_table.specs.Rows.{row, exit}
@@ -33,8 +35,7 @@ use Rattle.b67_templates.specs.Cells as wants
 use Rattle.b67_templates.specs.Cells.{Simple, Wanted}
 use Rattle.b67_cores.specs.Stretches.{control_words}
 use Rattle.b67_cores.specs.Cores.{Core, HasCore}
-use Rattle.b67_letters.specs.Letters.{left_letter}
-use Rattle.b67_faithful.specs.Correspondence.{action_of, operator_action}
+use Rattle.b67_letters.specs.Letters.{left_letter, letter}
 use Rattle.b67_rows.proofs.Rows.{raw_is, words_are, action_is}
 use Rattle.b67_rows.proofs.StackWords.{take-seam}
 use Rattle.b67_rows.proofs.Words.{value_tag, no_descriptor, pcw_describes_nothing}
@@ -146,14 +147,14 @@ module _ (code : Code) (img : Image) (p : ℕ) (core : Core) (has : HasCore img 
   exit_raw idle = exit_ends ∙ ap (λ (t : Option Place). gives (changed p (close_events r.stack 0 (registers left (caused_by t (end_process r.stack done)))) (with_rows img rows))) idle
 
   -- with one
-  pub exit_causes : (task : Place) → core.registers.task ≡ Some task → raw code img p ≡ gives (changed p (close_events r.stack 0 (registers left (cause task (end_process r.stack done)))) (with_rows img rows))
+  pub exit_causes : (task : Place) → core.registers.task ≡ Some task → raw code img p ≡ gives (changed p (close_events r.stack 0 (registers left (event_deed (acts event_act.Cause) task (end_process r.stack done)))) (with_rows img rows))
   exit_causes task tasked = exit_ends ∙ ap (λ (t : Option Place). gives (changed p (close_events r.stack 0 (registers left (caused_by t (end_process r.stack done)))) (with_rows img rows))) tasked
 
   pub exit_class : class_at (ops.Plain kinds.Exit) r.place ≡ classes.Action
   unfolding class_at row
   exit_class = refl
 
-  pub exit_action : (after : Image) → table code img p ≡ outcomes.gives after → operator_action code img p ≡ Some act.End
+  pub exit_action : (after : Image) → table code img p ≡ outcomes.gives after → letter code img p ≡ Some act.End
   exit_action after t =
       action_is code img p core has (ops.Plain kinds.Exit) next at (outcomes.gives after) t
-      ∙ ap (λ (f : ℕ). Some (action_of (left_letter f))) base
+      ∙ ap (λ (f : ℕ). Some ((left_letter f))) base

@@ -1,9 +1,10 @@
 -- What the rest of an expression asks for, and that it stays one over each answer.
+use Rattle.b67_deeds.specs.Deeds as deeds
 use Rattle.std.proofs.Common.{◌≡◌, refl, []}
 use Rattle.algol_tree.specs.Scopes.{Scopes}
-use Rattle.algol_meaning.specs.Rest.{Hole, read, element, index, happens, broken, enter, inside, subscript, argument, left, right, negated, inverted, condition, Half, val, busy, Actuals, pass, in_value, Aim, resolve, place_index, inside_place, place_subscript, HalfPlace, at, aims, Rest, giving, giving_place, evaluating, locating, Answer, done, cell, entered}
+use Rattle.algol_meaning.specs.Rest.{Hole, read, element, index, tests, broken, enter, inside, subscript, argument, left, right, negated, inverted, condition, Half, val, busy, Actuals, pass, in_value, Aim, resolve, place_index, inside_place, place_subscript, HalfPlace, at, aims, Rest, giving, giving_place, evaluating, locating, Answer, done, cell, entered}
 use Rattle.algol_meaning.specs.Settle.{put, put_place}
-use Rattle.algol_meaning.specs.Asks.{Ask, reads_result, leaves, stores, selects, turns, goes_to, enters_block, starts, acts, writes, makes_arrays, makes_event, ask_hole, ask_actuals, ask_aim, ask, evaluated_of, located_of, resume}
+use Rattle.algol_meaning.specs.Asks.{Ask, reads_result, leaves, stores, selects, turns, goes_to, enters_block, starts, event_deed, writes, makes_arrays, makes_event, ask_hole, ask_actuals, ask_aim, ask, evaluated_of, located_of, resume}
 use Rattle.algol_paths.specs.Arrays.{all_to_make}
 use Rattle.b67_frames.specs.Lent.{IsOfExpression}
 
@@ -19,7 +20,7 @@ IsExpressionAsk turns = ⊥
 IsExpressionAsk (goes_to n) = ⊥
 IsExpressionAsk (enters_block b) = ⊥
 IsExpressionAsk (starts n gs task) = ⊥
-IsExpressionAsk (acts act n) = ⊥
+IsExpressionAsk (event_deed (deeds.acts x) ns) = ⊥
 IsExpressionAsk (writes phrases vs) = ⊥
 IsExpressionAsk (makes_arrays kind ns pairs vs) = ⊥
 IsExpressionAsk (makes_event n) = ⊥
@@ -30,7 +31,7 @@ mutual
   hole_asks (read n) = tt
   hole_asks (element n ks i) = tt
   hole_asks (index n ks i e es) = tt
-  hole_asks (happens n) = tt
+  hole_asks (tests x ns) = tt
   hole_asks (broken op v w fault) = tt
   hole_asks (enter n gs) = tt
   hole_asks inside = tt

@@ -8,7 +8,8 @@ use Rattle.algol_tree.specs.Plain.{PExpr}
 use Rattle.algol_tree.specs.Blocks.{block_numbered}
 use Rattle.algol_tree.specs.Scopes.{Scopes, use_of}
 use Rattle.algol_tree.specs.Sorts.{same_name}
-use Rattle.algol_meaning.specs.Value.{Value, Reference, EventCell, Bounds, ArrayCell, NameCell, Cell, simple, event, array, named, reference}
+use Rattle.algol_meaning.specs.Value.{Value, Reference, Bounds, ArrayCell, NameCell, Cell, simple, event, array, named, reference}
+use Rattle.b67_deeds.specs.Events.{EventState}
 use Rattle.algol_meaning.specs.World.{NamedCell, Instance, World, instance_at, or_no_instance, ancestor, cell_in, cells_with, by_cell, followed}
 use Rattle.algol_meaning.specs.Critical.{referred_in}
 use Rattle.algol_paths.specs.Arrays.{DeclaredArray, Shape}
@@ -83,7 +84,7 @@ module _ (sc : Scopes) (w w' : World) (lay lay' : Layout) where
     pub block : (instance_at w' j).block ≡ (instance_at w j).block
     pub parent : (instance_at w' j).parent ≡ (instance_at w j).parent
     pub arrays : (name : List ℕ) (cell : ArrayCell) → cell_in ((instance_at w j).cells) name ≡ array cell → KeepsArray j name cell
-    pub events : (name : List ℕ) (e : EventCell) → cell_in ((instance_at w j).cells) name ≡ event e → (later : EventCell) × (cell_in ((instance_at w' j).cells) name ≡ event later)
+    pub events : (name : List ℕ) (e : EventState) → cell_in ((instance_at w j).cells) name ≡ event e → (later : EventState) × (cell_in ((instance_at w' j).cells) name ≡ event later)
     pub leads : (name : List ℕ) (r : Reference) → by_cell (cell_in ((instance_at w' j).cells) name) r ≡ by_cell (cell_in ((instance_at w j).cells) name) r
     pub rows : (number : ℕ) (a : Allotted) → slice_get (lay.rows j) number ≡ Some a → slice_get (lay'.rows j) number ≡ Some a
 
@@ -144,7 +145,7 @@ module _ (sc : Scopes) (w w' : World) (lay lay' : Layout) where
     pub event_lasts : (r : Reference) (word : Word) → LeadsToEvent sc w lay Stand r word → LeadsToEvent sc w' lay' Stand' r word
     event_lasts r word h =
         let k : KeepsArrays r.instance = remain.keeps r.instance h.own in
-        let still : (later : EventCell) × (cell_in ((instance_at w' r.instance).cells) r.name ≡ event later) = k.events r.name h.made.cell h.made.is in
+        let still : (later : EventState) × (cell_in ((instance_at w' r.instance).cells) r.name ≡ event later) = k.events r.name h.made.cell h.made.is in
         record {
           own = remain.stays r.instance h.own;
           made = record {

@@ -2,7 +2,8 @@
 use Rattle.std.proofs.Common.{◌≡◌, refl, sym, ap, ◌∙◌, subst, ℕ, zero, suc, ◌+◌, ◌<◌, ◌≤◌, List, [], ◌∷◌, ◌++◌, length, Some, None, Bool, true, false, arith}
 use Rattle.std.specs.Prelude.{if◌then◌else◌, slice_get, slice_set, map}
 use Rattle.algol_tree.specs.Sorts.{same_name}
-use Rattle.algol_meaning.specs.Value.{EventCell, Bounds, ArrayCell, Cell, simple, event, array, named, reference}
+use Rattle.algol_meaning.specs.Value.{Bounds, ArrayCell, Cell, simple, event, array, named, reference}
+use Rattle.b67_deeds.specs.Events.{EventState}
 use Rattle.algol_meaning.specs.Arrays.{elements_of}
 use Rattle.algol_meaning.specs.World.{NamedCell, cell_in, cells_with}
 use Rattle.algol_paths.specs.Arrays.{DeclaredArray, Made, an_array, lows_of, an_event}
@@ -95,7 +96,7 @@ past_values ss cells ws more name a are is = past_other ss cells ws more name (a
     no_array o (reference b) w holds e = cc
 
 -- .. an event
-pub past_events : (ss : List Simple) (cells : List NamedCell) (ws : List Word) (more : List NamedCell) (name : List ℕ) (a : EventCell) → CellsAre ss cells ws →
+pub past_events : (ss : List Simple) (cells : List NamedCell) (ws : List Word) (more : List NamedCell) (name : List ℕ) (a : EventState) → CellsAre ss cells ws →
     cell_in (cells ++ more) name ≡ event a → IsPast cells name
 past_events ss cells ws more name a are is = past_other ss cells ws more name (event a) no_event are is
   where

@@ -3,7 +3,8 @@ use Rattle.std.proofs.Common.{◌≡◌, sym, ap, ◌∙◌, ℕ, ◌+◌, ◌<�
 use Rattle.std.specs.Prelude.{slice_get, slice_set}
 use Rattle.algol_tree.specs.Blocks.{block_numbered}
 use Rattle.algol_tree.specs.Scopes.{Scopes}
-use Rattle.algol_meaning.specs.Value.{EventCell, Cell, event}
+use Rattle.algol_meaning.specs.Value.{Cell, event}
+use Rattle.b67_deeds.specs.Events.{EventState}
 use Rattle.algol_meaning.specs.World.{NamedCell, Instance, World, instance_at, or_no_instance, cell_in, cells_with}
 use Rattle.algol_paths.specs.Arrays.{Made, an_event}
 use Rattle.b67_word.specs.Word.{Word}
@@ -21,7 +22,7 @@ use Rattle.b67_frames.proofs.Zeros.{cells_length}
 module _ (sc : Scopes) (w : World) (lay : Layout) where
   -- an event that it has made, by its number among what its block declares
   pub record OwnEvent (i : ℕ) (x : Instance) (own : OwnCells sc w lay i x) (name : List ℕ) (number : ℕ) : Type 0 where
-    pub cell : EventCell
+    pub cell : EventState
     pub lies : slice_get own.descriptors number ≡ Some (event_word (record {}))
     pub there : slice_get own.arrays number ≡ Some (record { name = name; cell = event cell })
     pub changed : (c : Cell) → cells_with own.arrays name c ≡ slice_set own.arrays number (record { name = name; cell = c })

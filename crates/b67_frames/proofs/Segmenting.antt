@@ -1,6 +1,6 @@
 -- The arrays and the statements of the program's outer block, and those of each procedure, need no more words than four for each token of
 -- their segment. So the code of each actual has room, also where it stands in an inner block.
-use Rattle.std.proofs.Common.{◌≡◌, ◌⊎◌, inl, inr, refl, sym, ap, ◌∙◌, subst, ℕ, zero, suc, ◌+◌, ◌*◌, ◌<◌, ◌≤◌, Bool, true, false, List, [], ◌∷◌, ◌++◌, length, take, filter, Option, Some, arith, add-one, append-nil}
+use Rattle.std.proofs.Common.{None, ◌≡◌, ◌⊎◌, inl, inr, refl, sym, ap, ◌∙◌, subst, ℕ, zero, suc, ◌+◌, ◌*◌, ◌<◌, ◌≤◌, Bool, true, false, List, [], ◌∷◌, ◌++◌, length, take, filter, Option, Some, arith, add-one, append-nil}
 use Rattle.std.specs.Prelude.{if◌then◌else◌, not, slice_get}
 use Rattle.std.specs.List.{flat_map}
 use Rattle.std.proofs.lemmas.Grind.{flat_map-append}
@@ -14,9 +14,9 @@ use Rattle.algol_tree.specs.Classes.{Formal}
 use Rattle.algol_tree.specs.Counts.{heading_tokens, stmt_tokens}
 use Rattle.algol_tree.specs.Names.{Segment, segments_of_part}
 use Rattle.algol_tree.specs.Plain as tree
-use Rattle.algol_tree.specs.Plain.{PExpr, PExprs, PPair, PStmt, PStmts, PDecls, PProgram}
+use Rattle.algol_tree.specs.Plain.{name_alone, PExpr, PExprs, PPair, PStmt, PStmts, PDecls, PProgram}
 use Rattle.algol_tree.specs.Scopes.{scopes_of}
-use Rattle.algol_tree.specs.Sites.{Site, name_part, wants_value, actual_part, first_formal, other_formals, inside_expr, inside_list, inside_actuals, sites, sites_in_pairs, here_stmt, has_decls, inside_stmt, sites_in_stmts, sites_in_decls}
+use Rattle.algol_tree.specs.Sites.{Site, name_part, wants_value, actual_part, actual_part_by, first_formal, other_formals, inside_expr, inside_list, inside_actuals, sites, sites_in_pairs, here_stmt, has_decls, inside_stmt, sites_in_stmts, sites_in_decls}
 use Rattle.algol_tree.specs.Sorts.{Declared}
 use Rattle.algol_tree.specs.Surroundings.{Surroundings, outermost, formals_at, knowing, knowing_all, inside, inside_procedure}
 use Rattle.algol_paths.specs.Segments.{is_procedure, procedures_before, segment_among, tokens_or_none, segment_tokens}
@@ -80,23 +80,16 @@ back bs xs ys h e =
 
 -- ---- no segment begins in an expression
 
-name_none : (n : Named) (b : Bool) → segments_of_part (name_part n b) ≡ []
-name_none n true = refl
-name_none n false = refl
-
 actual_none : (e : PExpr) (f : Option Formal) → segments_of_part (actual_part e f) ≡ []
-actual_none (tree.number z spot) f = refl
-actual_none (tree.truth b spot) f = refl
-actual_none (tree.variable (tree.subscripted n tree.none)) f = name_none n (wants_value f)
-actual_none (tree.variable (tree.subscripted n (tree.more e es))) f = refl
-actual_none (tree.call c) f = refl
-actual_none (tree.tested test e spot) f = refl
-actual_none (tree.paren e spot) f = refl
-actual_none (tree.plus e spot) f = refl
-actual_none (tree.neg e spot) f = refl
-actual_none (tree.not e spot) f = refl
-actual_none (tree.two op x y) f = refl
-actual_none (tree.if c x y spot) f = refl
+actual_none e f = by (name_alone e)
+  where
+    named : (n : Named) (b : Bool) → segments_of_part (name_part n b) ≡ []
+    named n true = refl
+    named n false = refl
+
+    by : (o : Option Named) → segments_of_part (actual_part_by o e f) ≡ []
+    by None = refl
+    by (Some n) = named n (wants_value f)
 
 mutual
   expr_none : (e : PExpr) (a : Surroundings) → segs (inside_expr e a) ≡ []
@@ -104,7 +97,7 @@ mutual
   expr_none (tree.truth b spot) a = refl
   expr_none (tree.variable (tree.subscripted n es)) a = list_none es a
   expr_none (tree.call (tree.called n es)) a = actuals_none es (formals_at a n) a
-  expr_none (tree.tested test e spot) a = refl
+  expr_none (tree.tested x es spot) a = refl
   expr_none (tree.paren e spot) a = expr_none e a
   expr_none (tree.plus e spot) a = expr_none e a
   expr_none (tree.neg e spot) a = expr_none e a

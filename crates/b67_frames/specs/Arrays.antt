@@ -8,7 +8,8 @@ use Rattle.algol_tree.specs.Blocks.{block_numbered}
 use Rattle.algol_tree.specs.Scopes.{Scopes, use_of}
 use Rattle.algol_meaning.specs.declared.TheConstants.{MOST_ELEMENTS}
 use Rattle.algol_meaning.specs.Value as meant
-use Rattle.algol_meaning.specs.Value.{Value, Reference, EventCell, Bounds, ArrayCell, Cell, event, array, reference}
+use Rattle.algol_meaning.specs.Value.{Value, Reference, Bounds, ArrayCell, Cell, event, array, reference}
+use Rattle.b67_deeds.specs.Events.{EventState}
 use Rattle.algol_meaning.specs.Arrays.{size_of, elements_of, size_of_cells, size_unless, live_elements}
 use Rattle.algol_meaning.specs.World.{NamedCell, Instance, World, instance_at, ancestor, cell_in, followed}
 use Rattle.algol_paths.specs.Arrays.{DeclaredArray, Made, an_array, an_event, Shape, shape_of, lows_of}
@@ -81,7 +82,7 @@ pub record IsMade (declared : DeclaredArray) (c : NamedCell) (a : Allotted) (w :
 -- the cell of an event that is declared so: it has no rows, and the word of an event
 pub record IsEventMade (name : List ℕ) (c : NamedCell) (a : Allotted) (w : Word) : Type 0 where
   pub named : c.name ≡ name
-  pub cell : EventCell
+  pub cell : EventState
   pub is : c.cell ≡ event cell
   pub none : a ≡ record { mother = None; parts = [] }
   pub word_is : w ≡ event_word (record {})
@@ -227,7 +228,7 @@ module _ (sc : Scopes) (w : World) (lay : Layout) where
   pub record IsEventOf (i : ℕ) (name : List ℕ) : Type 0 where
     pub number : ℕ
     pub found : made_from 0 (made_of (block_numbered sc.blocks ((instance_at w i).block)).decls) name ≡ Some (record { number = number; made = an_event name })
-    pub cell : EventCell
+    pub cell : EventState
     pub is : cell_in ((instance_at w i).cells) name ≡ event cell
 
   -- the reference leads to the cell of an event; this is its word, wherever it is read

@@ -1,27 +1,29 @@
--- CAUSE, RESET, WAIT, PROCURE and LIBERATE: what is done with an event, who waits then, and who is released.
-use Rattle.std.proofs.Common.{◌≡◌, ◌≢◌, inl, inr, refl, sym, ap, ◌∙◌, subst, ℕ, ◌≤◌, List, [], ◌∷◌, ◌++◌, length, Option, Some, None, Bool, true, false, Ok, arith, append-nil}
-use Rattle.std.specs.Prelude.{if◌then◌else◌, take, drop}
+-- A statement on an event: what is done with it, who waits then, and who is released. One lemma for all of them, by the table of deeds.
+use Rattle.std.proofs.Common.{◌≡◌, ◌≢◌, ◌⊎◌, inl, inr, refl, sym, ap, ◌∙◌, subst, ℕ, ◌≤◌, List, [], ◌∷◌, ◌++◌, length, Option, Some, None, Bool, true, false, Ok, arith, append-nil}
 use Rattle.b67_list.specs.Numbered.{numbered, set_numbered}
-use Rattle.algol_tree.specs.declared.tree.EventAct.{EventAct}
-use Rattle.algol_tree.specs.declared.tree.EventAct.TheVariants as acts
+use Rattle.b67_deeds.specs.declared.EventAct.{EventAct}
 use Rattle.algol_tree.specs.declared.tree.Named.{Named}
 use Rattle.algol_tree.specs.Plain.{PProgram}
 use Rattle.algol_tree.specs.Scopes.{Scopes, scopes_of}
-use Rattle.algol_meaning.specs.Actions as actions
-use Rattle.algol_meaning.specs.Actions.{Action}
+use Rattle.b67_deeds.specs.Deeds as deeds
+use Rattle.b67_deeds.specs.Deeds.{Deed, Next, deed}
+use Rattle.b67_deeds.specs.Listed.{IsListed}
+use Rattle.b67_deeds.proofs.Lists.{waiting_frees_nobody}
+use Rattle.b67_deeds.specs.declared.Letter.{Letter}
 use Rattle.algol_meaning.specs.Asks as asked_for
 use Rattle.algol_meaning.specs.Asks.{Ask, ask, resume}
-use Rattle.algol_meaning.specs.Choice.{Choice, choice, choice_of, goes, goes_releasing, stops, acted}
-use Rattle.algol_meaning.specs.Events.{event_at, set_event, released, liberated_by}
+use Rattle.algol_meaning.specs.Choice.{Choice, choice, choice_of, goes, does, did}
+use Rattle.algol_meaning.specs.Events.{event_at, set_event}
 use Rattle.algol_meaning.specs.Rest.{Answer, done}
-use Rattle.algol_meaning.specs.Value.{Reference, EventCell, event}
+use Rattle.algol_meaning.specs.Value.{Reference, event}
+use Rattle.b67_deeds.specs.Events.{EventState}
 use Rattle.algol_meaning.specs.World.{Process, Part, State, waits_for, procures, is_able, lives, World, event_in, cell_at, cells_with, followed, process_at, with_process, set_all_able}
 use Rattle.algol_paths.specs.Laws.{RestsKeepToTheirText, AllIsMadeInOrder}
-use Rattle.algol_standing.specs.Worlds.{IsStanding, IsListed, AreListed}
+use Rattle.algol_standing.specs.Worlds.{IsStanding, AreListed}
+use Rattle.algol_standing.proofs.Awaiting.{awaits_lives}
 use Rattle.b67_word.specs.declared.Place.{Place}
-use Rattle.b67_events.specs.Events.{Event, is_open, changed as with_event, happens, happened_at, avails, available_at, waiters_of, waiters_at, procurers_of, procurers_at, joined, caused, cleared, taken, queued, served, freed, passed_on}
+use Rattle.b67_events.specs.Events.{is_open, changed as with_event, with_state, changed_by}
 use Rattle.b67_events.specs.Events as kernel
-use Rattle.b67_events.specs.Laws.{StaysInPlace}
 use Rattle.b67_ops.specs.declared.Operator.TheVariants as ops
 use Rattle.b67_ops.specs.declared.PlainKind.TheVariants as kinds
 use Rattle.b67_ops.specs.declared.intrinsic.Intrinsic.{Intrinsic}
@@ -33,22 +35,21 @@ use Rattle.b67_table.specs.declared.ProcessState.{ProcessState}
 use Rattle.b67_table.specs.declared.ProcessState.TheVariants.{WaitsFor, Procures}
 use Rattle.b67_table.specs.Effect as effects
 use Rattle.b67_table.specs.Image.{Image}
-use Rattle.b67_table.specs.Intrinsics.{on_event, row_of_intrinsic}
+use Rattle.b67_table.proofs.Deeds.{deed_rows}
 use Rattle.b67_table.specs.Outcome as outcomes
 use Rattle.b67_table.specs.Outcome.{Outcome}
-use Rattle.b67_table.specs.Program.{Change, changed, wait, procure, cause, reset, liberate}
 use Rattle.b67_table.specs.References.{cell_place}
 use Rattle.b67_table.specs.Table.{table, raw, plain, operator_at}
-use Rattle.b67_table.specs.Writes.{able_again, waiting}
-use Rattle.b67_templates.specs.Events.{intrinsic_for}
+use Rattle.b67_table.specs.Writes.{able_again, states_after}
+use Rattle.b67_ops.specs.Intrinsics.{intrinsic_of}
 use Rattle.b67_templates.specs.Programs.{Texts}
 use Rattle.b67_standing.specs.Stepping.{Slot}
 use Rattle.b67_standing.specs.Standing.{ActionAt, Acted, ComesTo}
 use Rattle.b67_cores.specs.Cores.{Core, size, with_core}
 use Rattle.b67_cores.specs.Stretches.{CoreAt, FragmentsArePerformed}
-use Rattle.b67_letters.specs.Letters.{letter_of}
-use Rattle.b67_letters.specs.Releases.{change_releases, registers_releases, released_by, releases}
-use Rattle.b67_faithful.specs.Correspondence.{as_action}
+use Rattle.b67_letters.specs.Letters.{letter}
+use Rattle.b67_letters.proofs.Deeds.{deed_letters}
+use Rattle.b67_letters.specs.Releases.{registers_releases, released_by, releases}
 use Rattle.b67_faithful.proofs.Choices.{length_set_numbered}
 use Rattle.b67_faithful.proofs.Contradictions.{true_false}
 use Rattle.b67_templates.specs.Nested.{AreNested}
@@ -74,6 +75,7 @@ use Rattle.b67_scenes.proofs.StoringFrames.{stored_world}
 use Rattle.b67_scenes.proofs.Staying.{text_in, level_in, context_in, most_in}
 use Rattle.b67_pictures.specs.Acting.{MayAct, Does, gave}
 use Rattle.b67_pictures.proofs.Alone.{IsAfter, after_choice, after_states, freed_states, freed_instances}
+use Rattle.b67_pictures.proofs.Deeds.{acts_tell_nothing, unchanged_goes, freed_listed, waiting_not_able}
 use Rattle.b67_pictures.proofs.AskingEvents.{OnEvent, on_event as on_event_there, open_as, is_open_there, world_has}
 use Rattle.b67_pictures.proofs.EventChanging.{instance_there, event_world, event_pictured}
 use Rattle.b67_pictures.proofs.InFrame.{does_in_frame}
@@ -81,10 +83,10 @@ use Rattle.b67_pictures.proofs.InFrame.{does_in_frame}
 -- an event that a process acts on, whatever it does with it
 module _ (tree : PProgram) (code : Code) (texts : Texts) (nested : AreNested (scopes_of tree)) (fragments : FragmentsArePerformed) (keeps : RestsKeepToTheirText) (order : AllIsMadeInOrder)
     (w : World) (lay : Layout) (img : Image) (p : ℕ) (q : Process) (part : Part) (outer : List Part) (bound : ℕ) (core : Core) (s : Scene tree code texts w lay img p q part outer bound core)
-    (able_is : lives q.state ≡ true) (able_p : StateIs q.state (numbered img.states p)) (x : EventAct) (n : Named) (asks : ask part.rest ≡ asked_for.acts x n)
-    (a : ActionAt (scopes_of tree) (context_in tree code texts w part s.stands.frame.gives) (text_in tree texts w part) (level_in tree w part) (most_in tree w part) (asked_for.acts x n) s.stands.pc s.stands.slots)
+    (able_is : lives q.state ≡ true) (able_p : StateIs q.state (numbered img.states p)) (x : EventAct) (n : Named) (asks : ask part.rest ≡ asked_for.event_deed (deeds.acts x) (n ∷ []))
+    (a : ActionAt (scopes_of tree) (context_in tree code texts w part s.stands.frame.gives) (text_in tree texts w part) (level_in tree w part) (most_in tree w part) (asked_for.event_deed (deeds.acts x) (n ∷ [])) s.stands.pc s.stands.slots)
     (answered : (r : Answer) (at : ℕ) (after : List Slot) →
-    Acted (scopes_of tree) (context_in tree code texts w part s.stands.frame.gives) (text_in tree texts w part) (level_in tree w part) (most_in tree w part) (asked_for.acts x n) s.stands.pc s.stands.slots a r at after →
+    Acted (scopes_of tree) (context_in tree code texts w part s.stands.frame.gives) (text_in tree texts w part) (level_in tree w part) (most_in tree w part) (asked_for.event_deed (deeds.acts x) (n ∷ [])) s.stands.pc s.stands.slots a r at after →
     ComesTo (scopes_of tree) (context_in tree code texts w part s.stands.frame.gives) (text_in tree texts w part) (level_in tree w part) (most_in tree w part) (resume (scopes_of tree) part.rest r) at after) where
   abbrev sc : Scopes
   sc = scopes_of tree
@@ -96,7 +98,7 @@ module _ (tree : PProgram) (code : Code) (texts : Texts) (nested : AreNested (sc
   text = text_in tree texts w part
 
   abbrev name : Intrinsic
-  name = intrinsic_for x
+  name = intrinsic_of (deeds.acts x)
 
   abbrev next : ℕ
   next = a.0
@@ -119,7 +121,7 @@ module _ (tree : PProgram) (code : Code) (texts : Texts) (nested : AreNested (sc
   IsOn = OnEvent tree code texts nested w lay img p q part outer bound core s name n (ap array_asked asks) next below a.2
 
   module _ (o : IsOn) where
-    abbrev e : EventCell
+    abbrev e : EventState
     e = o.home.found.cell
 
     abbrev cell : MachineCell
@@ -157,38 +159,60 @@ module _ (tree : PProgram) (code : Code) (texts : Texts) (nested : AreNested (sc
     comes : ComesTo sc (context_in tree code texts w part s.stands.frame.gives) text level (most_in tree w part) (resume sc part.rest done) next below
     comes = answered done next below (refl, refl)
 
-    chosen_as : choice sc w p ≡ acted sc w p q part outer x r
-    chosen_as = choice_is sc w p q part outer s.at s.todo ∙ ap (λ (k : Ask). choice_of sc w p q part outer k) asks
+    -- ---- the deed
+
+    abbrev d : Deed
+    d = deed (deeds.acts x) p e
+
+    chosen_as : choice sc w p ≡ did sc w p q part outer (deeds.acts x) r d d.next
+    chosen_as =
+        choice_is sc w p q part outer s.at s.todo
+        ∙ ap (λ (k : Ask). choice_of sc w p q part outer k) asks
+        ∙ ap (λ (z : EventState). does sc w p q part outer (deeds.acts x) r (deed (deeds.acts x) p z)) event_is
+
+    state_there_is : kernel.state_at at img.events ≡ e
+    state_there_is = ap kernel.state_of has_there
+
+    abbrev with_deed : Deed → Image
+    with_deed z = record (with_core img p new) { events = changed_by z.change at img.events; states = states_after z at p img.states }
+
+    row : raw code img p ≡ effects.gives (with_deed d)
+    row =
+        acted_raw code img p core s.has next there name o.word o.call.reference o.call.marked o.call.others o.call.calls cell (o.home.reaches o.word o.reads) there_open (deeds.acts x)
+        (deed_rows (deeds.acts x))
+        ∙ ap (λ (z : EventState). effects.gives (with_deed (deed (deeds.acts x) p z))) state_there_is
+
+    letter_is : (after : Image) → table code img p ≡ outcomes.gives after → letter code img p ≡ Some (deeds.letter_of (deeds.acts x))
+    letter_is after t =
+        action_is code img p core s.has (ops.Plain kinds.Entr) next there (outcomes.gives after) t ∙ o.call.action
+        ∙ ap (λ (l : Letter). Some l) (deed_letters (deeds.acts x))
 
     abbrev gone_on : State → Process
     gone_on state = record q { todo = record part { rest = resume sc part.rest done } ∷ outer; state = state }
 
-    -- ---- whom it releases
-
-    frees_so : (act : (Place → Change → Change)) → row_of_intrinsic name ≡ on_event act → (after : Image) → table code img p ≡ outcomes.gives after → (c : Choice) → choice sc w p ≡ c →
-        ((more : Change) → ((i : Image) → change_releases p more i ≡ []) → change_releases p (act at more) img ≡ c.released) → releases code img p ≡ (choice sc w p).released
-    frees_so act is after table_is c chosen frees =
+    -- whom it releases
+    frees_so : (after : Image) → table code img p ≡ outcomes.gives after → releases code img p ≡ d.frees
+    frees_so after table_is =
         ap (λ (t : Outcome Image). released_by t (registers_releases code img p (numbered img.regs p))) table_is
-        ∙ acted_releases code img p core s.has next there name o.word o.call.reference o.call.marked o.call.others o.call.calls cell (o.home.reaches o.word o.reads) there_open act is
-        ∙ frees _ (λ i. refl)
-        ∙ sym (ap (λ (y : Choice). y.released) chosen)
+        ∙ acted_releases code img p core s.has next there name o.word o.call.reference o.call.marked o.call.others o.call.calls cell (o.home.reaches o.word o.reads) there_open
+        (deeds.acts x) (deed_rows (deeds.acts x))
+        ∙ append-nil ((deed (deeds.acts x) p (kernel.state_at at img.events)).frees)
+        ∙ ap (λ (z : EventState). (deed (deeds.acts x) p z).frees) state_there_is
 
     -- ---- an event that changes
 
     -- these processes are released, and the process itself comes to this state
-    module _ (act : Place → Change → Change) (act_is : row_of_intrinsic name ≡ on_event act) (action : Action) (letters : as_action (Some (letter_of name)) ≡ Some action) (later : EventCell) (change : Event → Event) (stays : StaysInPlace change)
-        (becomes : change (event_there at e) ≡ event_there at later) (state : State) (lives_now : lives state ≡ true) (states : List ProcessState) (many_states : length states ≡ length img.states) (state_is : StateIs state (numbered states p))
-        (states_are : (m : ℕ) → m ≢ p → numbered states m ≡ numbered img.states m) (ps : List ℕ)
-        (row_does : (more : Change) → changed p (act at more) img ≡ changed p more (record img { events = with_event at change img.events; states = able_again ps states }))
-        (chosen : choice sc w p ≡ record { action = action; world = with_process (set_all_able (set_event w r later) ps) p (gone_on state); released = ps; started = None })
-        (alive : (k : ℕ) → IsListed ps k → LivesIn w k) (apart : is_able ((process_at w p).state) ≡ true → IsListed ps p → ⊥) (freed_now : (more : Change) → ((i : Image) → change_releases p more i ≡ []) → change_releases p (act at more) img ≡ ps) where
-      abbrev after : Image
-      after = record (with_core img p new) { events = with_event at change img.events; states = able_again ps states }
+    module _ (change : EventState → EventState) (state : State) (lives_now : lives state ≡ true) (states : List ProcessState) (many_states : length states ≡ length img.states)
+        (state_is : StateIs state (numbered states p)) (states_are : (m : ℕ) → m ≢ p → numbered states m ≡ numbered img.states m) (ps : List ℕ)
+        (row_is : raw code img p ≡ effects.gives (record (with_core img p new) { events = with_event at (with_state change) img.events; states = able_again ps states }))
+        (world : (choice sc w p).world ≡ with_process (set_all_able (set_event w r (change e)) ps) p (gone_on state))
+        (action : (choice sc w p).action ≡ deeds.letter_of (deeds.acts x)) (released_is : (choice sc w p).released ≡ d.frees)
+        (alive : (k : ℕ) → IsListed ps k → LivesIn w k) (apart : is_able ((process_at w p).state) ≡ true → IsListed ps p → ⊥) where
+      abbrev later : EventState
+      later = change e
 
-      row_is : raw code img p ≡ effects.gives after
-      row_is =
-          acted_raw code img p core s.has next there name o.word o.call.reference o.call.marked o.call.others o.call.calls cell (o.home.reaches o.word o.reads) there_open act act_is
-          (with_event at change img.events) (able_again ps states) row_does
+      abbrev after : Image
+      after = record (with_core img p new) { events = with_event at (with_state change) img.events; states = able_again ps states }
 
       table_is : table code img p ≡ outcomes.gives after
       table_is = gives_within code img after p new.registers row_is (registers_now img p core new s.has refl) (omega (arith, above.is.top, smaller))
@@ -205,7 +229,7 @@ module _ (tree : PProgram) (code : Code) (texts : Texts) (nested : AreNested (sc
       -- what the choice leaves of the world, and so before the others are released
       after_all : MayAct sc w p → IsAfter sc w (with_process (set_all_able (set_event w r later) ps) p (gone_on state)) p
       after_all may =
-          after_choice sc w (with_process (set_all_able (set_event w r later) ps) p (gone_on state)) p q (facts_of sc w s.ok) may s.at (ap (λ (c : Choice). c.world) chosen)
+          after_choice sc w (with_process (set_all_able (set_event w r later) ps) p (gone_on state)) p q (facts_of sc w s.ok) may s.at world
 
       after_before : MayAct sc w p → IsAfter sc w before p
       after_before may =
@@ -213,10 +237,10 @@ module _ (tree : PProgram) (code : Code) (texts : Texts) (nested : AreNested (sc
           (subst (λ (u : World). IsAfter sc w u p) (sym (freed_beside ps (set_event w r later) p (gone_on state) (apart may.able))) (after_all may))
           (sym (freed_instances ps before)) (freed_states ps before (alive_before (apart may.able)))
 
-      before_is : MayAct sc w p → PicturesBy tree code texts before lay (record (with_core img p new) { events = with_event at change img.events; states = states })
+      before_is : MayAct sc w p → PicturesBy tree code texts before lay (record (with_core img p new) { events = with_event at (with_state change) img.events; states = states })
       before_is may =
-          subst (λ (u : World). PicturesBy tree code texts (with_process u p (gone_on state)) lay (record (with_core img p new) { events = with_event at change img.events; states = states })) (sym world_is)
-          (event_pictured tree code texts nested fragments keeps order w lay img p q part outer bound core s able_is (unmade part.rest (ap makes asks)) r o.home.lies o.home.number o.home.found later change stays becomes state lives_now states
+          subst (λ (u : World). PicturesBy tree code texts (with_process u p (gone_on state)) lay (record (with_core img p new) { events = with_event at (with_state change) img.events; states = states })) (sym world_is)
+          (event_pictured tree code texts nested fragments keeps order w lay img p q part outer bound core s able_is (unmade part.rest (ap makes asks)) r o.home.lies o.home.number o.home.found later (with_state change) (λ z. refl) refl state lives_now states
           many_states state_is states_are o.call.others o.call.calls.m.df next below o.call.few above comes smaller
           (subst (λ (u : World). IsAfter sc w (with_process u p (gone_on state)) p) world_is (after_before may)))
         where
@@ -227,40 +251,32 @@ module _ (tree : PProgram) (code : Code) (texts : Texts) (nested : AreNested (sc
       pictured : MayAct sc w p → PicturesBy tree code texts (with_process (set_all_able (set_event w r later) ps) p (gone_on state)) lay after
       pictured may =
           subst (λ (u : World). PicturesBy tree code texts u lay after) (freed_beside ps (set_event w r later) p (gone_on state) (apart may.able))
-          (all_freed tree code texts lay ps before (record (with_core img p new) { events = with_event at change img.events; states = states }) (after_before may).climb.facts (before_is may)
+          (all_freed tree code texts lay ps before (record (with_core img p new) { events = with_event at (with_state change) img.events; states = states }) (after_before may).climb.facts (before_is may)
           (alive_before (apart may.able)))
 
       event_acts : IsActed
       event_acts =
           record {
-            does = gave after not_plain table_is
-                (action_is code img p core s.has (ops.Plain kinds.Entr) next there (outcomes.gives after) table_is ∙ ap as_action o.call.action ∙ letters ∙ ap (λ (c : Choice). Some c.action) (sym chosen))
-                (λ may. subst (λ (c : Choice). Pictures tree code texts c.world after) (sym chosen) (lay, pictured may));
-            frees = frees_so act act_is after table_is (record { action = action; world = with_process (set_all_able (set_event w r later) ps) p (gone_on state); released = ps; started = None }) chosen freed_now;
+            does = gave after not_plain table_is (letter_is after table_is ∙ ap (λ (l : Letter). Some l) (sym action))
+                (λ may. subst (λ (u : World). Pictures tree code texts u after) (sym world) (lay, pictured may));
+            frees = frees_so after table_is ∙ sym released_is;
           }
 
     -- ---- nothing changes
 
-    module _ (act : Place → Change → Change) (act_is : row_of_intrinsic name ≡ on_event act) (action : Action) (letters : as_action (Some (letter_of name)) ≡ Some action)
-        (row_does : (more : Change) → changed p (act at more) img ≡ changed p more (record img { events = img.events; states = img.states })) (chosen : choice sc w p ≡ goes sc w p q part outer action w done)
-        (freed_now : (more : Change) → ((i : Image) → change_releases p more i ≡ []) → change_releases p (act at more) img ≡ []) where
-      abbrev same_after : Image
-      same_after = record (with_core img p new) { output = w.output }
+    abbrev same_after : Image
+    same_after = record (with_core img p new) { output = w.output }
 
-      same_row : raw code img p ≡ effects.gives same_after
-      same_row =
-          acted_raw code img p core s.has next there name o.word o.call.reference o.call.marked o.call.others o.call.calls cell (o.home.reaches o.word o.reads) there_open act act_is img.events img.states row_does
-          ∙ ap (λ (y : List (List ℕ)). effects.gives (record (with_core img p new) { output = y })) s.by.output
-
-      same_acts : IsActed
-      same_acts =
-          record {
-            does = does_in_frame tree code texts fragments keeps order w lay img p q part outer bound core s able_is able_p (unmade part.rest (ap makes asks)) done tt w.output new refl (record { is = refl }) s.stands.held s.stands.held_are next below above
-                o.call.few comes action not_plain same_row chosen
-                (λ t. action_is code img p core s.has (ops.Plain kinds.Entr) next there (outcomes.gives same_after) t ∙ ap as_action o.call.action ∙ letters);
-            frees = frees_so act act_is same_after (gives_within code img same_after p new.registers same_row (registers_now img p core new s.has refl) (omega (arith, above.is.top, smaller)))
-                (goes sc w p q part outer action w done) chosen freed_now;
-          }
+    same_acts : raw code img p ≡ effects.gives (record (with_core img p new) { events = img.events; states = img.states }) →
+        choice sc w p ≡ goes sc w p q part outer (deeds.letter_of (deeds.acts x)) w done → d.frees ≡ [] → IsActed
+    same_acts row_is chosen none =
+        let same_row : raw code img p ≡ effects.gives same_after = row_is ∙ ap (λ (y : List (List ℕ)). effects.gives (record (with_core img p new) { output = y })) s.by.output in
+        record {
+          does = does_in_frame tree code texts fragments keeps order w lay img p q part outer bound core s able_is able_p (unmade part.rest (ap makes asks)) done tt w.output new refl (record { is = refl }) s.stands.held s.stands.held_are next below above
+              o.call.few comes (deeds.letter_of (deeds.acts x)) not_plain same_row chosen (λ t. letter_is same_after t);
+          frees = frees_so same_after (gives_within code img same_after p new.registers same_row (registers_now img p core new s.has refl) (omega (arith, above.is.top, smaller))) ∙ none
+              ∙ sym (ap (λ (c : Choice). c.released) chosen);
+        }
 
     -- ---- who stands in the lists
 
@@ -270,30 +286,18 @@ module _ (tree : PProgram) (code : Code) (texts : Texts) (nested : AreNested (sc
     listed : AreListed w r e
     listed = s.ok.sound.listed r e standing means
 
-    -- who waits is not able
-    waiter_apart : is_able ((process_at w p).state) ≡ true → IsListed e.waiters p → ⊥
-    waiter_apart able_now is = true_false able_now (ap is_able (listed.waiters p is))
+    -- who is freed waited for the event
+    waited : (k : ℕ) → IsListed d.frees k → (is_able ((process_at w k).state) ≡ false) × LivesIn w k
+    waited k n = by (freed_listed x p e k n)
+      where
+        by : IsListed e.waiters k ⊎ IsListed e.procurers k → (is_able ((process_at w k).state) ≡ false) × LivesIn w k
+        by (inl m) =
+            let its = listed.waiters k m in
+            (waiting_not_able ((process_at w k).state) r its, lives_waiting w k ((process_at w k).state) refl (awaits_lives ((process_at w k).state) r its))
+        by (inr m) = let its = listed.procurers k m in (ap is_able its, lives_waiting w k (procures r) its refl)
 
-    procurer_apart : is_able ((process_at w p).state) ≡ true → IsListed e.procurers p → ⊥
-    procurer_apart able_now is = true_false able_now (ap is_able (listed.procurers p is))
-
-    happened_there : happened_at at img.events ≡ e.happened
-    happened_there = ap happens has_there
-
-    available_there : available_at at img.events ≡ e.available
-    available_there = ap avails has_there
-
-    waiters_there : waiters_at at img.events ≡ e.waiters
-    waiters_there = ap waiters_of has_there
-
-    procurers_there : procurers_at at img.events ≡ e.procurers
-    procurers_there = ap procurers_of has_there
-
-    abbrev none_listed : (k : ℕ) → IsListed [] k → LivesIn w k
-    none_listed k is = absurd is
-
-    abbrev none_apart : is_able ((process_at w p).state) ≡ true → IsListed [] p → ⊥
-    none_apart able_now is = is
+    apart_all : is_able ((process_at w p).state) ≡ true → IsListed d.frees p → ⊥
+    apart_all able_now n = true_false able_now (waited p n).0
 
     -- its own state is another one
     abbrev own_state : ProcessState → List ProcessState
@@ -302,102 +306,66 @@ module _ (tree : PProgram) (code : Code) (texts : Texts) (nested : AreNested (sc
     own_there : (state : ProcessState) → numbered (own_state state) p ≡ Some state
     own_there state = let old = state_there (numbered img.states p) s.has.live in numbered_set img.states p old.0 state old.1
 
-    -- ---- the choices
+    own_only : (state : ProcessState) (m : ℕ) → m ≢ p → numbered (own_state state) m ≡ numbered img.states m
+    own_only state m other = numbered_other img.states p m state (λ same. other (sym same))
 
-    abbrev wait_choice : Bool → Choice
-    wait_choice b = if b then (goes sc w p q part outer actions.Wait w done) else (stops sc w p q part outer actions.Wait (set_event w r (record e { waiters = e.waiters ++ p ∷ [] })) (waits_for r))
+    -- ---- by how the event changes and what becomes of the process
 
-    chosen_wait : x ≡ acts.Wait → choice sc w p ≡ wait_choice e.happened
-    chosen_wait is =
-        chosen_as
-        ∙ ap (λ (z : EventAct). acted sc w p q part outer z r) is
-        ∙ ap (λ (z : EventCell). if z.happened then (goes sc w p q part outer actions.Wait w done) else (stops sc w p q part outer actions.Wait (set_event w r (record z { waiters = z.waiters ++ p ∷ [] })) (waits_for r))) event_is
+    abbrev of_parts : Option (EventState → EventState) → Next → List ℕ → Deed
+    of_parts c m fs = record { change = c; next = m; answer = None; frees = fs }
 
-    abbrev procure_choice : Bool → Choice
-    procure_choice b =
-        if b then (goes sc w p q part outer actions.Procure (set_event w r (record e { available = false })) done) else (stops sc w p q part outer actions.Procure (set_event w r (record e { procurers = e.procurers ++ p ∷ [] })) (procures r))
+    d_is : d ≡ of_parts d.change d.next d.frees
+    d_is = ap (λ (b : Option Bool). record { change = d.change; next = d.next; answer = b; frees = d.frees }) (acts_tell_nothing x p e)
 
-    chosen_procure : x ≡ acts.Procure → choice sc w p ≡ procure_choice e.available
-    chosen_procure is =
-        chosen_as
-        ∙ ap (λ (z : EventAct). acted sc w p q part outer z r) is
-        ∙ ap (λ (z : EventCell). if z.available then (goes sc w p q part outer actions.Procure (set_event w r (record z { available = false })) done)
-        else (stops sc w p q part outer actions.Procure (set_event w r (record z { procurers = z.procurers ++ p ∷ [] })) (procures r))) event_is
+    module _ (c : Option (EventState → EventState)) (m : Next) (fs : List ℕ) (parts : d ≡ of_parts c m fs) where
+      row_parts : raw code img p ≡ effects.gives (with_deed (of_parts c m fs))
+      row_parts = row ∙ ap (λ (z : Deed). effects.gives (with_deed z)) parts
 
-    abbrev liberate_choice : List ℕ → Choice
-    liberate_choice zs = goes_releasing sc w p q part outer actions.Liberate (liberated_by w r e zs)
+      chosen_parts : choice sc w p ≡ did sc w p q part outer (deeds.acts x) r (of_parts c m fs) m
+      chosen_parts = chosen_as ∙ ap (λ (z : Deed). did sc w p q part outer (deeds.acts x) r z z.next) parts
 
-    chosen_liberate : x ≡ acts.Liberate → choice sc w p ≡ liberate_choice e.procurers
-    chosen_liberate is =
-        chosen_as
-        ∙ ap (λ (z : EventAct). acted sc w p q part outer z r) is
-        ∙ ap (λ (z : EventCell). goes_releasing sc w p q part outer actions.Liberate (liberated_by w r z z.procurers)) event_is
+      frees_are : d.frees ≡ fs
+      frees_are = ap (λ (z : Deed). z.frees) parts
 
-    -- ---- by what is done
+      alive_parts : (k : ℕ) → IsListed fs k → LivesIn w k
+      alive_parts k n = (waited k (subst (λ (ys : List ℕ). IsListed ys k) (sym frees_are) n)).1
 
-    -- it goes on where the event has happened, else it waits
-    waits : (b : Bool) → e.happened ≡ b → x ≡ acts.Wait → IsActed
-    waits true happens_now is =
-        same_acts wait (ap (λ (z : EventAct). row_of_intrinsic (intrinsic_for z)) is) actions.Wait (ap (λ (z : EventAct). as_action (Some (letter_of (intrinsic_for z)))) is)
-        (λ more. ap (λ (b : Bool). changed p more (record img { events = if b then img.events else with_event at (joined p) img.events; states = waiting b (WaitsFor at) p img.states })) (happened_there ∙ happens_now))
-        (chosen_wait is ∙ ap wait_choice happens_now) (λ more quiet. quiet _)
-    waits false happens_not is =
-        event_acts wait (ap (λ (z : EventAct). row_of_intrinsic (intrinsic_for z)) is) actions.Wait (ap (λ (z : EventAct). as_action (Some (letter_of (intrinsic_for z)))) is)
-        (record e { waiters = e.waiters ++ p ∷ [] }) (joined p) (λ z. refl) refl (waits_for r) refl (own_state (WaitsFor at)) (length_set_numbered img.states p (WaitsFor at))
-        (subst (λ (y : Option ProcessState). StateIs (waits_for r) y) (sym (own_there (WaitsFor at))) tt) (λ m other. numbered_other img.states p m (WaitsFor at) (λ same. other (sym same))) []
-        (λ more. ap (λ (b : Bool). changed p more (record img { events = if b then img.events else with_event at (joined p) img.events; states = waiting b (WaitsFor at) p img.states })) (happened_there ∙ happens_not))
-        (chosen_wait is ∙ ap wait_choice happens_not) none_listed none_apart (λ more quiet. quiet _)
+      apart_parts : is_able ((process_at w p).state) ≡ true → IsListed fs p → ⊥
+      apart_parts able_now n = apart_all able_now (subst (λ (ys : List ℕ). IsListed ys p) (sym frees_are) n)
 
-    -- it takes the event where that is available, else it waits to procure it
-    tries : (b : Bool) → e.available ≡ b → x ≡ acts.Procure → IsActed
-    tries true there_is is =
-        event_acts procure (ap (λ (z : EventAct). row_of_intrinsic (intrinsic_for z)) is) actions.Procure (ap (λ (z : EventAct). as_action (Some (letter_of (intrinsic_for z)))) is)
-        (record e { available = false }) taken (λ z. refl) refl q.state able_is img.states refl able_p (λ m other. refl) []
-        (λ more. ap (λ (b : Bool). changed p more (record img { events = if b then with_event at taken img.events else with_event at (queued p) img.events; states = waiting b (Procures at) p img.states })) (available_there ∙ there_is))
-        (chosen_procure is ∙ ap procure_choice there_is) none_listed none_apart (λ more quiet. quiet _)
-    tries false none_is is =
-        event_acts procure (ap (λ (z : EventAct). row_of_intrinsic (intrinsic_for z)) is) actions.Procure (ap (λ (z : EventAct). as_action (Some (letter_of (intrinsic_for z)))) is)
-        (record e { procurers = e.procurers ++ p ∷ [] }) (queued p) (λ z. refl) refl (procures r) refl (own_state (Procures at)) (length_set_numbered img.states p (Procures at))
-        (subst (λ (y : Option ProcessState). StateIs (procures r) y) (sym (own_there (Procures at))) tt) (λ m other. numbered_other img.states p m (Procures at) (λ same. other (sym same))) []
-        (λ more. ap (λ (b : Bool). changed p more (record img { events = if b then with_event at taken img.events else with_event at (queued p) img.events; states = waiting b (Procures at) p img.states })) (available_there ∙ none_is))
-        (chosen_procure is ∙ ap procure_choice none_is) none_listed none_apart (λ more quiet. quiet _)
+      nobody : (m ≡ deeds.goes → ⊥) → d.frees ≡ []
+      nobody other = waiting_frees_nobody (deeds.acts x) p e (λ f. other (sym (ap (λ (z : Deed). z.next) parts) ∙ f))
 
-    -- the event is free, or the first who waits to procure it has it
-    frees_one : (ws : List ℕ) → e.procurers ≡ ws → x ≡ acts.Liberate → IsActed
-    frees_one [] nobody is =
-        event_acts liberate (ap (λ (z : EventAct). row_of_intrinsic (intrinsic_for z)) is) actions.Liberate (ap (λ (z : EventAct). as_action (Some (letter_of (intrinsic_for z)))) is)
-        (record e { available = true }) freed (λ z. refl) refl q.state able_is img.states refl able_p (λ m other. refl) []
-        (λ more. ap (λ (zs : List ℕ). changed p more (record img { events = with_event at (passed_on zs) img.events; states = able_again (take 1 zs) img.states })) (procurers_there ∙ nobody))
-        (chosen_liberate is ∙ ap liberate_choice nobody) none_listed none_apart
-        (λ more quiet. ap (λ (zs : List ℕ). take 1 (procurers_at at img.events) ++ zs) (quiet _) ∙ append-nil (take 1 (procurers_at at img.events)) ∙ ap (λ (zs : List ℕ). take 1 zs) (procurers_there ∙ nobody))
-    frees_one (m ∷ ms) first is =
-        event_acts liberate (ap (λ (z : EventAct). row_of_intrinsic (intrinsic_for z)) is) actions.Liberate (ap (λ (z : EventAct). as_action (Some (letter_of (intrinsic_for z)))) is)
-        (record e { procurers = ms }) served (λ z. refl) (ap (λ (zs : List ℕ). event_there at (record e { procurers = drop 1 zs })) first) q.state able_is img.states refl able_p (λ k other. refl) (m ∷ [])
-        (λ more. ap (λ (zs : List ℕ). changed p more (record img { events = with_event at (passed_on zs) img.events; states = able_again (take 1 zs) img.states })) (procurers_there ∙ first))
-        (chosen_liberate is ∙ ap liberate_choice first) (λ k only. lives_waiting w k (procures r) (listed.procurers k (in_list k only)) refl) (λ able_now only. procurer_apart able_now (in_list p only))
-        (λ more quiet. ap (λ (zs : List ℕ). take 1 (procurers_at at img.events) ++ zs) (quiet _) ∙ append-nil (take 1 (procurers_at at img.events)) ∙ ap (λ (zs : List ℕ). take 1 zs) (procurers_there ∙ first))
-      where
-        in_list : (k : ℕ) → IsListed (m ∷ []) k → IsListed e.procurers k
-        in_list k (inl same) = subst (λ (zs : List ℕ). IsListed zs k) (sym first) (inl same)
-        in_list k (inr none) = absurd none
+    by_parts : (c : Option (EventState → EventState)) (m : Next) (fs : List ℕ) → d ≡ of_parts c m fs → IsActed
+    by_parts None m fs parts =
+        let same = unchanged_goes x p e (ap (λ (z : Deed). z.change) parts) in
+        let plain_parts : d ≡ of_parts None deeds.goes [] =
+        parts ∙ ap (λ (k : Next). of_parts None k fs) (sym (ap (λ (z : Deed). z.next) parts) ∙ same.0)
+        ∙ ap (λ (ys : List ℕ). of_parts None deeds.goes ys) (sym (ap (λ (z : Deed). z.frees) parts) ∙ same.1) in
+        same_acts (row_parts None deeds.goes [] plain_parts) (chosen_parts None deeds.goes [] plain_parts) same.1
+    by_parts (Some change) deeds.goes fs parts =
+        let chosen = chosen_parts (Some change) deeds.goes fs parts in
+        event_acts change q.state able_is img.states refl able_p (λ k other. refl) fs (row_parts (Some change) deeds.goes fs parts)
+        (ap (λ (k : Choice). k.world) chosen ∙ ap (λ (z : EventState). with_process (set_all_able (set_event w r (change z)) fs) p (gone_on q.state)) event_is)
+        (ap (λ (k : Choice). k.action) chosen) (ap (λ (k : Choice). k.released) chosen ∙ sym (frees_are (Some change) deeds.goes fs parts))
+        (alive_parts (Some change) deeds.goes fs parts) (apart_parts (Some change) deeds.goes fs parts)
+    by_parts (Some change) deeds.waits fs parts =
+        let chosen = chosen_parts (Some change) deeds.waits fs parts in
+        event_acts change (waits_for r) refl (own_state (WaitsFor at)) (length_set_numbered img.states p (WaitsFor at))
+        (subst (λ (y : Option ProcessState). StateIs (waits_for r) y) (sym (own_there (WaitsFor at))) tt) (own_only (WaitsFor at)) fs (row_parts (Some change) deeds.waits fs parts)
+        (ap (λ (k : Choice). k.world) chosen ∙ ap (λ (z : EventState). with_process (set_all_able (set_event w r (change z)) fs) p (gone_on (waits_for r))) event_is)
+        (ap (λ (k : Choice). k.action) chosen) (ap (λ (k : Choice). k.released) chosen ∙ sym (nobody (Some change) deeds.waits fs parts (λ f. cc)))
+        (alive_parts (Some change) deeds.waits fs parts) (apart_parts (Some change) deeds.waits fs parts)
+    by_parts (Some change) deeds.procures fs parts =
+        let chosen = chosen_parts (Some change) deeds.procures fs parts in
+        event_acts change (procures r) refl (own_state (Procures at)) (length_set_numbered img.states p (Procures at))
+        (subst (λ (y : Option ProcessState). StateIs (procures r) y) (sym (own_there (Procures at))) tt) (own_only (Procures at)) fs (row_parts (Some change) deeds.procures fs parts)
+        (ap (λ (k : Choice). k.world) chosen ∙ ap (λ (z : EventState). with_process (set_all_able (set_event w r (change z)) fs) p (gone_on (procures r))) event_is)
+        (ap (λ (k : Choice). k.action) chosen) (ap (λ (k : Choice). k.released) chosen ∙ sym (nobody (Some change) deeds.procures fs parts (λ f. cc)))
+        (alive_parts (Some change) deeds.procures fs parts) (apart_parts (Some change) deeds.procures fs parts)
 
-    by_act : (y : EventAct) → x ≡ y → IsActed
-    by_act acts.Cause is = event_acts cause (ap (λ (z : EventAct). row_of_intrinsic (intrinsic_for z)) is) actions.Cause (ap (λ (z : EventAct). as_action (Some (letter_of (intrinsic_for z)))) is)
-        (record e { happened = true; waiters = [] }) caused (λ z. refl) refl q.state able_is img.states refl able_p (λ m other. refl) e.waiters
-        (λ more. ap (λ (ws : List ℕ). changed p more (record img { events = with_event at caused img.events; states = able_again ws img.states })) waiters_there)
-        (chosen_as
-        ∙ ap (λ (z : EventAct). acted sc w p q part outer z r) is
-        ∙ ap (λ (z : EventCell). goes_releasing sc w p q part outer actions.Cause (released w r (record z { happened = true; waiters = [] }) z.waiters)) event_is)
-        (λ k stands. lives_waiting w k (waits_for r) (listed.waiters k stands) refl) waiter_apart
-        (λ more quiet. ap (λ (zs : List ℕ). waiters_at at img.events ++ zs) (quiet _) ∙ append-nil (waiters_at at img.events) ∙ waiters_there)
-    by_act acts.Reset is = event_acts reset (ap (λ (z : EventAct). row_of_intrinsic (intrinsic_for z)) is) actions.Reset (ap (λ (z : EventAct). as_action (Some (letter_of (intrinsic_for z)))) is)
-        (record e { happened = false }) cleared (λ z. refl) refl q.state able_is img.states refl able_p (λ m other. refl) [] (λ more. refl)
-        (chosen_as
-        ∙ ap (λ (z : EventAct). acted sc w p q part outer z r) is
-        ∙ ap (λ (z : EventCell). goes_releasing sc w p q part outer actions.Reset (released w r (record z { happened = false }) [])) event_is) none_listed none_apart (λ more quiet. quiet _)
-    by_act acts.Wait is = waits e.happened refl is
-    by_act acts.Procure is = tries e.available refl is
-    by_act acts.Liberate is = frees_one e.procurers refl is
+    acts_so : IsActed
+    acts_so = by_parts d.change d.next d.frees d_is
 
   pub acting_event : IsActed
-  acting_event = by_act (on_event_there tree code texts nested w lay img p q part outer bound core s name n (ap array_asked asks) next below a.2) x refl
+  acting_event = acts_so (on_event_there tree code texts nested w lay img p q part outer bound core s name n (ap array_asked asks) next below a.2)

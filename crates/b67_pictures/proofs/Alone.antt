@@ -1,4 +1,5 @@
 -- An action of a process leaves the other processes alone.
+use Rattle.b67_deeds.specs.Listed.{IsListed}
 use Rattle.std.proofs.Common.{◌≡◌, ◌≢◌, inl, inr, refl, sym, ap, ◌∙◌, subst, ℕ, zero, suc, ◌+◌, ◌≤◌, List, [], ◌∷◌, Some, None, Bool, true, false}
 use Rattle.std.specs.Prelude.{◌&&◌, ◌||◌, slice_get, slice_set, map}
 use Rattle.b67_list.specs.Numbered.{numbered, set_numbered}
@@ -10,7 +11,7 @@ use Rattle.algol_meaning.specs.World.{Instance, Part, Process, State, able, live
 use Rattle.algol_meaning.specs.Critical.{is_this, some_depends, own_instances}
 use Rattle.algol_meaning.specs.Choice.{choice}
 use Rattle.algol_standing.specs.Skeleton.{Stack, Skeleton, IsIn, Stands, OnPath}
-use Rattle.algol_standing.specs.Worlds.{IsListed, referred_in_cells, held_by, IsAmong, IsStanding, IsOnPath, home_of, stack_of, skeleton}
+use Rattle.algol_standing.specs.Worlds.{referred_in_cells, held_by, IsAmong, IsStanding, IsOnPath, home_of, stack_of, skeleton}
 use Rattle.algol_standing.specs.Lows.{LeadsLow, PartLow, WorldLow, IsLow}
 use Rattle.b67_word.specs.declared.Place.{Place}
 use Rattle.b67_ops.specs.declared.TheConstants.{OUTER_LEVEL}

@@ -13,7 +13,7 @@ use Rattle.algol_meaning.specs.Value.{Value, Bounds}
 use Rattle.algol_meaning.specs.Arrays.{new_arrays, has_wrong_size, has_no_room, bounds_of}
 use Rattle.algol_meaning.specs.Rest.{Answer, done}
 use Rattle.algol_meaning.specs.World.{Instance, Process, Part, lives, World, or_no_instance, with_instance, with_process, add_cells, NamedCell}
-use Rattle.algol_meaning.specs.Actions.{MakeArrays}
+use Rattle.b67_deeds.specs.declared.Letter.TheVariants.{MakeArrays}
 use Rattle.algol_meaning.specs.Asks.{Ask, makes_arrays, ask, resume}
 use Rattle.algol_meaning.specs.Choice.{Choice, choice, choice_of, goes, fails}
 use Rattle.algol_paths.specs.Laws.{RestsKeepToTheirText, AllIsMadeInOrder}

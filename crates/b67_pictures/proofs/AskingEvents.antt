@@ -1,12 +1,18 @@
 -- HAPPENED: whether an event has happened, as a truth value.
+use Rattle.b67_deeds.specs.declared.EventTest.{EventTest}
+use Rattle.b67_deeds.specs.declared.Letter.{Letter}
+use Rattle.b67_deeds.specs.Deeds as deeds
+use Rattle.b67_deeds.specs.Deeds.{answers}
+use Rattle.b67_ops.specs.Intrinsics.{intrinsic_of}
+use Rattle.b67_table.proofs.Deeds.{deed_rows}
+use Rattle.b67_letters.proofs.Deeds.{deed_letters}
 use Rattle.std.proofs.Common.{◌≡◌, refl, sym, ap, ◌∙◌, ℕ, ◌≤◌, List, [], ◌∷◌, length, Option, Some, Bool, true, Ok, arith}
 use Rattle.std.specs.Prelude.{is_some}
 use Rattle.b67_list.specs.Numbered.{numbered}
 use Rattle.algol_tree.specs.declared.tree.Named.{Named}
 use Rattle.algol_tree.specs.Plain.{PProgram}
 use Rattle.algol_tree.specs.Scopes.{Scopes, scopes_of}
-use Rattle.algol_meaning.specs.Actions.{Happened as happened_action}
-use Rattle.algol_meaning.specs.Asks.{Ask, asks_happened, ask, resume}
+use Rattle.algol_meaning.specs.Asks.{Ask, event_deed, ask, resume}
 use Rattle.algol_meaning.specs.Choice.{choice_of, goes}
 use Rattle.algol_meaning.specs.Rest.{Answer, value}
 use Rattle.algol_meaning.specs.Value.{truth, Reference, Cell, event}
@@ -14,13 +20,12 @@ use Rattle.algol_meaning.specs.World.{Instance, Process, Part, lives, World, ins
 use Rattle.algol_paths.specs.Laws.{RestsKeepToTheirText, AllIsMadeInOrder}
 use Rattle.b67_word.specs.Word.{Word}
 use Rattle.b67_control.specs.Control.{as_irw}
-use Rattle.b67_events.specs.Events.{Event, is_open, happens, happened_at}
+use Rattle.b67_events.specs.Events.{Event, is_open}
 use Rattle.b67_events.specs.Events as kernel
 use Rattle.b67_events.proofs.EventLaws.{one_event}
 use Rattle.b67_ops.specs.declared.Operator.TheVariants as ops
 use Rattle.b67_ops.specs.declared.PlainKind.TheVariants as kinds
 use Rattle.b67_ops.specs.declared.intrinsic.Intrinsic.{Intrinsic}
-use Rattle.b67_ops.specs.declared.intrinsic.Intrinsic.TheVariants.{Happened}
 use Rattle.b67_segment.specs.Operators.{Placed}
 use Rattle.b67_segment.specs.declared.code.Code.{Code}
 use Rattle.b67_table.specs.declared.Cell.{Cell as MachineCell}
@@ -36,7 +41,6 @@ use Rattle.b67_standing.specs.Standing.{ActionAt, Acted, ComesTo, ActsAt}
 use Rattle.b67_cores.specs.Cores.{Core, with_core}
 use Rattle.b67_cores.specs.Stretches.{CoreAt, FragmentsArePerformed}
 use Rattle.b67_cores.proofs.Bits.{truth_is_truth}
-use Rattle.b67_faithful.specs.Correspondence.{as_action}
 use Rattle.b67_templates.specs.Nested.{AreNested}
 use Rattle.b67_rows.proofs.AskedElements.{array_asked}
 use Rattle.b67_rows.proofs.IntrinsicRows.{without_call, enter_class}
@@ -117,10 +121,10 @@ module _ (tree : PProgram) (code : Code) (texts : Texts) (nested : AreNested (sc
 
 module _ (tree : PProgram) (code : Code) (texts : Texts) (nested : AreNested (scopes_of tree)) (fragments : FragmentsArePerformed) (keeps : RestsKeepToTheirText) (order : AllIsMadeInOrder)
     (w : World) (lay : Layout) (img : Image) (p : ℕ) (q : Process) (part : Part) (outer : List Part) (bound : ℕ) (core : Core) (s : Scene tree code texts w lay img p q part outer bound core)
-    (able_is : lives q.state ≡ true) (able_p : StateIs q.state (numbered img.states p)) (n : Named) (asks : ask part.rest ≡ asks_happened n)
-    (a : ActionAt (scopes_of tree) (context_in tree code texts w part s.stands.frame.gives) (text_in tree texts w part) (level_in tree w part) (most_in tree w part) (asks_happened n) s.stands.pc s.stands.slots)
+    (able_is : lives q.state ≡ true) (able_p : StateIs q.state (numbered img.states p)) (x : EventTest) (n : Named) (asks : ask part.rest ≡ event_deed (deeds.tests x) (n ∷ []))
+    (a : ActionAt (scopes_of tree) (context_in tree code texts w part s.stands.frame.gives) (text_in tree texts w part) (level_in tree w part) (most_in tree w part) (event_deed (deeds.tests x) (n ∷ [])) s.stands.pc s.stands.slots)
     (answered : (r : Answer) (at : ℕ) (after : List Slot) →
-    Acted (scopes_of tree) (context_in tree code texts w part s.stands.frame.gives) (text_in tree texts w part) (level_in tree w part) (most_in tree w part) (asks_happened n) s.stands.pc s.stands.slots a r at after →
+    Acted (scopes_of tree) (context_in tree code texts w part s.stands.frame.gives) (text_in tree texts w part) (level_in tree w part) (most_in tree w part) (event_deed (deeds.tests x) (n ∷ [])) s.stands.pc s.stands.slots a r at after →
     ComesTo (scopes_of tree) (context_in tree code texts w part s.stands.frame.gives) (text_in tree texts w part) (level_in tree w part) (most_in tree w part) (resume (scopes_of tree) part.rest r) at after) where
   abbrev scopes : Scopes
   scopes = scopes_of tree
@@ -130,6 +134,9 @@ module _ (tree : PProgram) (code : Code) (texts : Texts) (nested : AreNested (sc
 
   abbrev text : List Placed
   text = text_in tree texts w part
+
+  abbrev name : Intrinsic
+  name = intrinsic_of (deeds.tests x)
 
   abbrev next : ℕ
   next = a.0
@@ -141,24 +148,24 @@ module _ (tree : PProgram) (code : Code) (texts : Texts) (nested : AreNested (sc
   there = operator_there scopes s.stands.held code text level s.stands.pc s.stands.slots core (ops.Plain kinds.Entr) next s.stands.there a.2.stands
 
   abbrev IsOn : Type 0
-  IsOn = OnEvent tree code texts nested w lay img p q part outer bound core s Happened n (ap array_asked asks) next below a.2
+  IsOn = OnEvent tree code texts nested w lay img p q part outer bound core s name n (ap array_asked asks) next below a.2
 
   module _ (o : IsOn) where
     abbrev told : Bool
-    told = o.home.found.cell.happened
+    told = answers x o.home.found.cell
 
     abbrev cell : MachineCell
     cell = cell_there tree code texts nested w lay img p q part outer bound core s o.home.lies o.home.number
 
     abbrev new_of : Bool → Core
-    new_of b = told_core code img p core s.has next there Happened o.word o.call.reference o.call.marked o.call.others o.call.calls cell (o.home.reaches o.word o.reads)
-        (is_open_there tree code texts nested w lay img p q part outer bound core s Happened n (ap array_asked asks) next below a.2 o) b
+    new_of b = told_core code img p core s.has next there name o.word o.call.reference o.call.marked o.call.others o.call.calls cell (o.home.reaches o.word o.reads)
+        (is_open_there tree code texts nested w lay img p q part outer bound core s name n (ap array_asked asks) next below a.2 o) b
 
     abbrev new : Core
     new = new_of told
 
-    happened_there : happened_at (cell_place cell) img.events ≡ told
-    happened_there = ap happens (open_as tree code texts nested w lay img p q part outer bound core s Happened n (ap array_asked asks) next below a.2 o)
+    answer_there : answers x (kernel.state_at (cell_place cell) img.events) ≡ told
+    answer_there = ap (λ (z : Option Event). answers x (kernel.state_of z)) (open_as tree code texts nested w lay img p q part outer bound core s name n (ap array_asked asks) next below a.2 o)
 
     above : CoreAt scopes s.stands.held code text level next below (without_call core o.call.others o.call.calls.m.df next)
     above = o.call.after_at next
@@ -182,17 +189,18 @@ module _ (tree : PProgram) (code : Code) (texts : Texts) (nested : AreNested (sc
     telling_does : Does tree code texts w img p
     telling_does =
         does_in_frame tree code texts fragments keeps order w lay img p q part outer bound core s able_is able_p (unmade part.rest (ap makes asks)) (value (truth told)) tt w.output new refl (record { is = refl })
-        s.stands.held s.stands.held_are next (operand (truth told) ∷ below) core_at few (answered (value (truth told)) next (operand (truth told) ∷ below) (refl, refl, tt)) happened_action
-        (action_not_plain code img p core s.has (ops.Plain kinds.Entr) next there (enter_class code img p core s.has next there Happened (o.word ∷ []) o.call.reference o.call.marked o.call.others o.call.calls))
-        (told_raw code img p core s.has next there Happened o.word o.call.reference o.call.marked o.call.others o.call.calls cell (o.home.reaches o.word o.reads)
-        (is_open_there tree code texts nested w lay img p q part outer bound core s Happened n (ap array_asked asks) next below a.2 o) refl
-        ∙ ap (λ (b : Bool). effects.gives (with_core img p (new_of b))) happened_there
+        s.stands.held s.stands.held_are next (operand (truth told) ∷ below) core_at few (answered (value (truth told)) next (operand (truth told) ∷ below) (refl, refl, tt)) (deeds.letter_of (deeds.tests x))
+        (action_not_plain code img p core s.has (ops.Plain kinds.Entr) next there (enter_class code img p core s.has next there name (o.word ∷ []) o.call.reference o.call.marked o.call.others o.call.calls))
+        (told_raw code img p core s.has next there name o.word o.call.reference o.call.marked o.call.others o.call.calls cell (o.home.reaches o.word o.reads)
+        (is_open_there tree code texts nested w lay img p q part outer bound core s name n (ap array_asked asks) next below a.2 o) x (deed_rows (deeds.tests x))
+        ∙ ap (λ (b : Bool). effects.gives (with_core img p (new_of b))) answer_there
         ∙ ap (λ (x : List (List ℕ)). effects.gives (record (with_core img p new) { output = x })) s.by.output)
         (choice_is scopes w p q part outer s.at s.todo
         ∙ ap (λ (k : Ask). choice_of scopes w p q part outer k) asks
-        ∙ ap (λ (c : Cell). goes scopes w p q part outer happened_action w (value (truth ((event_in c).happened))))
-        (world_has tree code texts nested w lay img p q part outer bound core s Happened n (ap array_asked asks) next below a.2 o))
-        (λ t. action_is code img p core s.has (ops.Plain kinds.Entr) next there (outcomes.gives (record (with_core img p new) { output = w.output })) t ∙ ap as_action o.call.action)
+        ∙ ap (λ (c : Cell). goes scopes w p q part outer (deeds.letter_of (deeds.tests x)) w (value (truth (answers x (event_in c)))))
+        (world_has tree code texts nested w lay img p q part outer bound core s name n (ap array_asked asks) next below a.2 o))
+        (λ t. action_is code img p core s.has (ops.Plain kinds.Entr) next there (outcomes.gives (record (with_core img p new) { output = w.output })) t ∙ o.call.action
+        ∙ ap (λ (l : Letter). Some l) (deed_letters (deeds.tests x)))
 
   pub telling : Does tree code texts w img p
-  telling = telling_does (on_event tree code texts nested w lay img p q part outer bound core s Happened n (ap array_asked asks) next below a.2)
+  telling = telling_does (on_event tree code texts nested w lay img p q part outer bound core s name n (ap array_asked asks) next below a.2)

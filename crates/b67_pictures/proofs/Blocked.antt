@@ -8,7 +8,7 @@ use Rattle.algol_tree.specs.Plain.{PProgram}
 use Rattle.algol_tree.specs.Scopes.{Scopes, scopes_of}
 use Rattle.algol_meaning.specs.Rest.{Answer, done}
 use Rattle.algol_meaning.specs.World.{Process, Part, World}
-use Rattle.algol_meaning.specs.Actions.{Fault}
+use Rattle.b67_deeds.specs.declared.Letter.TheVariants.{Fault}
 use Rattle.algol_meaning.specs.Asks.{Ask, leaves, ask}
 use Rattle.algol_meaning.specs.Critical.{some_depends, is_evaluation}
 use Rattle.algol_meaning.specs.Choice.{Choice, choice, choice_of, left_with, left_or_ended, fails}

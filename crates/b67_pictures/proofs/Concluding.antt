@@ -18,7 +18,7 @@ use Rattle.b67_pictures.specs.Programs.{NestedProgramsAreFaithful}
 use Rattle.b67_pictures.proofs.ArraysMaking.{making_done}
 use Rattle.b67_pictures.proofs.TouchingApart.{processes_apart}
 use Rattle.b67_pictures.proofs.ElementActions.{element_read_done, index_done, element_store_done, passing_done}
-use Rattle.b67_pictures.proofs.EventActions.{event_made_done, event_told_done, event_acted_done, event_freed_done}
+use Rattle.b67_pictures.proofs.EventActions.{event_made_done, event_deed_done, event_freed_done}
 use Rattle.b67_pictures.proofs.Joining.{ArraysAreDone, EventsAreDone, ProcessesAreDone, nested_programs_follow}
 use Rattle.b67_pictures.proofs.StartPicture.{process_started}
 
@@ -38,8 +38,7 @@ events_done : (tree : PProgram) (code : Code) (texts : Texts) → AreNested (sco
 events_done tree code texts nested =
     record {
       making = event_made_done tree code texts nested fragments_are_performed rests_keep_to_their_text all_is_made_in_order cells_are_made;
-      telling = event_told_done tree code texts nested fragments_are_performed rests_keep_to_their_text all_is_made_in_order;
-      acting = event_acted_done tree code texts nested fragments_are_performed rests_keep_to_their_text all_is_made_in_order;
+      acting = event_deed_done tree code texts nested fragments_are_performed rests_keep_to_their_text all_is_made_in_order;
       freeing = event_freed_done tree code texts nested fragments_are_performed rests_keep_to_their_text all_is_made_in_order;
     }
 

@@ -1,9 +1,9 @@
 -- A process that stands at its action does it: by what its head asks for.
+use Rattle.b67_deeds.specs.Deeds.{EventDeed}
 use Rattle.std.proofs.Common.{◌≡◌, refl, ap, ℕ, zero, suc, ◌+◌, ◌<◌, ◌≤◌, ◌^◌, List, [], ◌∷◌, length, Option, Some, Bool, true, false, arith}
 use Rattle.std.specs.Prelude.{if◌then◌else◌}
 use Rattle.b67_list.specs.Numbered.{numbered}
 use Rattle.algol_tree.specs.declared.TheConstants.{MOST_BLOCK_CELLS, MOST_LEVEL}
-use Rattle.algol_tree.specs.declared.tree.EventAct.{EventAct}
 use Rattle.algol_tree.specs.declared.tree.Kind.{Kind}
 use Rattle.algol_tree.specs.declared.tree.Named.{Named}
 use Rattle.algol_tree.specs.declared.tree.PhraseText.{PhraseText}
@@ -15,7 +15,7 @@ use Rattle.algol_tree.specs.Sorts.{same_name}
 use Rattle.algol_meaning.specs.Value.{Value, Reference}
 use Rattle.algol_meaning.specs.Rest.{Place, own, there, element_of, Given, Answer, done, value, cell, place, entered}
 use Rattle.algol_meaning.specs.World.{Instance, Process, Part, lives, World, or_no_instance}
-use Rattle.algol_meaning.specs.Asks.{Ask, nothing, reads, reads_element, indexes, asks_happened, fails, enters, passes, resolves, reads_result, leaves, stores, selects, turns, goes_to, enters_block, starts, acts, writes, makes_arrays, makes_event, ask, resume}
+use Rattle.algol_meaning.specs.Asks.{Ask, nothing, reads, reads_element, indexes, fails, enters, passes, resolves, reads_result, leaves, stores, selects, turns, goes_to, enters_block, starts, writes, makes_arrays, makes_event, ask, resume, event_deed}
 use Rattle.algol_paths.specs.Laws.{RestsKeepToTheirText, AllIsMadeInOrder}
 use Rattle.b67_ops.specs.declared.Couple.{Couple}
 use Rattle.b67_segment.specs.declared.code.Code.{Code}
@@ -106,8 +106,7 @@ module _ (tree : PProgram) (code : Code) (texts : Texts) where
     pub passing : (n : Named) → IsDone (passes n)
     pub making : (kind : Kind) (ns : List Named) (pairs : List PPair) (vs : List Value) → IsDone (makes_arrays kind ns pairs vs)
     pub making_event : (n : Named) → IsDone (makes_event n)
-    pub telling : (n : Named) → IsDone (asks_happened n)
-    pub acting : (x : EventAct) (n : Named) → IsDone (acts x n)
+    pub acting : (x : EventDeed) (ns : List Named) → IsDone (event_deed x ns)
     pub leaving : IsDone (leaves done)
     pub returning : (v : Value) → IsDone (leaves (value v))
     pub placing : (x : Place) → IsDone (leaves (place x))
@@ -164,7 +163,6 @@ module _ (tree : PProgram) (code : Code) (texts : Texts) where
     by_ask nothing e a answered waits returns = absurd a
     by_ask (reads_element n ks v) e a answered waits returns = others.reading n ks v w lay img p q part outer bound core s able_is able_p e a answered waits returns
     by_ask (indexes n ks v) e a answered waits returns = others.indexing n ks v w lay img p q part outer bound core s able_is able_p e a answered waits returns
-    by_ask (asks_happened n) e a answered waits returns = others.telling n w lay img p q part outer bound core s able_is able_p e a answered waits returns
     by_ask (enters n gs) e a answered waits returns = others.calling n gs w lay img p q part outer bound core s able_is able_p e a answered waits returns
     by_ask (passes n) e a answered waits returns = others.passing n w lay img p q part outer bound core s able_is able_p e a answered waits returns
     by_ask (resolves n) e a answered waits returns =
@@ -174,7 +172,7 @@ module _ (tree : PProgram) (code : Code) (texts : Texts) where
         reading_result tree code texts lies.nested fragments keeps order w lay img p q part outer bound core s able_is able_p name e a answered
     by_ask (goes_to n) e a answered waits returns = others.going n w lay img p q part outer bound core s able_is able_p e a answered waits returns
     by_ask (starts n gs task) e a answered waits returns = others.starting n gs task w lay img p q part outer bound core s able_is able_p e a answered waits returns
-    by_ask (acts x n) e a answered waits returns = others.acting x n w lay img p q part outer bound core s able_is able_p e a answered waits returns
+    by_ask (event_deed x ns) e a answered waits returns = others.acting x ns w lay img p q part outer bound core s able_is able_p e a answered waits returns
     by_ask (makes_arrays kind ns pairs vs) e a answered waits returns = others.making kind ns pairs vs w lay img p q part outer bound core s able_is able_p e a answered waits returns
     by_ask (makes_event n) e a answered waits returns = others.making_event n w lay img p q part outer bound core s able_is able_p e a answered waits returns
 

@@ -10,7 +10,7 @@ use Rattle.algol_meaning.specs.Value.{Value, whole_of, Reference, Cell}
 use Rattle.algol_meaning.specs.Arrays.{subscript_place, element_at}
 use Rattle.algol_meaning.specs.Rest.{Answer, value}
 use Rattle.algol_meaning.specs.World.{Process, Part, lives, World, cell_at, followed, array_in}
-use Rattle.algol_meaning.specs.Actions.{ElementRead, Fault}
+use Rattle.b67_deeds.specs.declared.Letter.TheVariants.{ElementRead, Fault}
 use Rattle.algol_meaning.specs.Asks.{Ask, reads_element, ask, resume}
 use Rattle.algol_meaning.specs.Choice.{Choice, choice, choice_of, element_read, element_read_at, here}
 use Rattle.algol_paths.specs.Laws.{RestsKeepToTheirText, AllIsMadeInOrder}

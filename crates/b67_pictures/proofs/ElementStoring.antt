@@ -10,7 +10,7 @@ use Rattle.algol_meaning.specs.Value.{Value, Reference, ArrayCell, Cell, array}
 use Rattle.algol_meaning.specs.Arrays.{with_element, flat}
 use Rattle.algol_meaning.specs.Rest.{Answer, done, element_of}
 use Rattle.algol_meaning.specs.World.{NamedCell, Instance, Process, Part, lives, World, instance_at, or_no_instance, with_instance, with_process, set_cell, cell_in, cells_with, array_in}
-use Rattle.algol_meaning.specs.Actions.{ElementStore}
+use Rattle.b67_deeds.specs.declared.Letter.TheVariants.{ElementStore}
 use Rattle.algol_meaning.specs.Asks.{Ask, stores, ask, resume}
 use Rattle.algol_meaning.specs.Choice.{Choice, choice, choice_of, goes}
 use Rattle.algol_paths.specs.Arrays.{Made}
@@ -36,9 +36,8 @@ use Rattle.b67_standing.specs.Standing.{ActionAt, Acted, ComesTo}
 use Rattle.b67_cores.specs.Cores.{Core, size, HasCore, IsCore, with_core}
 use Rattle.b67_cores.specs.Slots.{ValueIs, newest, SlotsAre}
 use Rattle.b67_cores.specs.Stretches.{CoreAt, FragmentsArePerformed}
-use Rattle.b67_letters.specs.declared.Letter.TheVariants as letters
+use Rattle.b67_deeds.specs.declared.Letter.TheVariants as letters
 use Rattle.b67_letters.specs.Letters.{told_by, element_or_not, stored_letter, operator_letter}
-use Rattle.b67_faithful.specs.Correspondence.{as_action}
 use Rattle.b67_rows.proofs.Cored.{registers_now}
 use Rattle.b67_rows.proofs.IndexRows.{without_two, two_seen, stored_gives, stored_raw, stored_class}
 use Rattle.b67_frames.specs.Arrays.{Layout, AreMade, HoldElements, ArraysAre, IsElement}
@@ -292,7 +291,7 @@ module _ (tree : PProgram) (code : Code) (texts : Texts) (fragments : FragmentsA
         let is : table code img p ≡ outcomes.gives after =
         gives_within code img after p new.registers raw_is (registers_now img' p core new has' refl) (omega (arith, smaller, is_new.top)) in
         gave after (action_not_plain code img p core s.has (ops.Plain kinds.Stod) next there (stored_class core.registers.place)) is
-        (action_is code img p core s.has (ops.Plain kinds.Stod) next there (outcomes.gives after) is ∙ ap as_action stored_here ∙ ap (λ (c : Choice). Some c.action) (sym chosen))
+        (action_is code img p core s.has (ops.Plain kinds.Stod) next there (outcomes.gives after) is ∙ stored_here ∙ ap (λ (c : Choice). Some c.action) (sym chosen))
         (λ may. (lay, subst (λ (c : Choice). PicturesBy tree code texts c.world lay after) (sym chosen) (pictured may)))
 
   pub element_storing : Does tree code texts w img p

@@ -10,7 +10,8 @@ use Rattle.b67_ops.specs.declared.Operator.TheVariants as ops
 use Rattle.b67_ops.specs.declared.PlainKind.TheVariants as kinds
 use Rattle.b67_segment.specs.declared.code.Code.{Code}
 use Rattle.b67_store.specs.Store.{Rows, words_of}
-use Rattle.b67_events.specs.Events.{Event, closed_from, waiters_at, caused, changed as with_event}
+use Rattle.b67_deeds.specs.Events.{caused}
+use Rattle.b67_events.specs.Events.{Event, closed_from, waiters_at, changed as with_event, with_state}
 use Rattle.b67_table.specs.Effect.{gives}
 use Rattle.b67_table.specs.Image.{Image, with_rows}
 use Rattle.b67_table.specs.Linkage.{arrays_closed, caused_by, frame_left, is_critical, leave_base, leave_other}
@@ -44,7 +45,7 @@ module _ (code : Code) (img : Image) (p : ℕ) (core : Core) (has : HasCore img 
   abbrev pub caused_at : Image
   caused_at =
       record (ended_at img rows p (record core.registers { place = next })) {
-        events = with_event task caused (closed_from core.registers.stack 0 img.events);
+        events = with_event task (with_state caused) (closed_from core.registers.stack 0 img.events);
         states = set_numbered (able_again (waiters_at task (closed_from core.registers.stack 0 img.events)) img.states) p Ended;
       }
 

@@ -7,7 +7,7 @@ use Rattle.algol_tree.specs.Scopes.{Scopes, scopes_of}
 use Rattle.algol_meaning.specs.Value.{Reference}
 use Rattle.algol_meaning.specs.Rest.{done}
 use Rattle.algol_meaning.specs.World.{Instance, Process, Part, ended, World, instance_at, with_instance, with_process}
-use Rattle.algol_meaning.specs.Actions.{End}
+use Rattle.b67_deeds.specs.declared.Letter.TheVariants.{End}
 use Rattle.algol_meaning.specs.Asks.{Ask, leaves, ask}
 use Rattle.algol_meaning.specs.Critical.{some_depends, is_evaluation}
 use Rattle.algol_meaning.specs.Events.{caused_by_end}
@@ -136,7 +136,7 @@ module _ (tree : PProgram) (code : Code) (texts : Texts) (closing : FramesClose)
 
   module _ (asks : ask part.rest ≡ leaves done) where
     -- where no process depends on the instance, its task's event is caused
-    pub chosen_by : some_depends w.processes part.instance ≡ false → choice (scopes_of tree) w p ≡ ended_releasing (scopes_of tree) w p q part [] (caused_by_end (leave w (part.instance ∷ [])) q.task)
+    pub chosen_by : some_depends w.processes part.instance ≡ false → choice (scopes_of tree) w p ≡ ended_releasing (scopes_of tree) w p q part [] (caused_by_end (leave w (part.instance ∷ [])) p q.task)
     chosen_by free =
         choice_is sc w p q part [] s.at s.todo
         ∙ ap (λ (k : Ask). choice_of sc w p q part [] k) asks
@@ -222,7 +222,7 @@ module _ (tree : PProgram) (code : Code) (texts : Texts) (closing : FramesClose)
 
       module _ (free : some_depends w.processes part.instance ≡ false) (without_task : q.task ≡ None) where
         chosen : choice sc w p ≡ record { action = End; world = w'; released = []; started = None }
-        chosen = chosen_by free ∙ ap (λ (t : Option Reference). ended_releasing sc w p q part [] (caused_by_end (leave w (i ∷ [])) t)) without_task
+        chosen = chosen_by free ∙ ap (λ (t : Option Reference). ended_releasing sc w p q part [] (caused_by_end (leave w (i ∷ [])) p t)) without_task
 
         pictured : IsLater → PicturesBy tree code texts w' lay after
         pictured after_it =

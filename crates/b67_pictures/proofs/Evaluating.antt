@@ -47,7 +47,6 @@ use Rattle.b67_standing.specs.Standing.{ActionAt, Entered, Gives, pushed, select
 use Rattle.b67_cores.specs.Cores.{Core}
 use Rattle.b67_cores.specs.Slots.{newest}
 use Rattle.b67_cores.specs.Stretches.{FragmentsArePerformed}
-use Rattle.b67_faithful.specs.Correspondence.{as_action}
 use Rattle.b67_faithful.specs.Faithful.{IsShort}
 use Rattle.b67_templates.specs.Nested.{LiesNested}
 use Rattle.b67_rows.proofs.AccidentalRow.{value_entered_raw, value_entered_letter, place_entered_raw, place_entered_letter}
@@ -243,7 +242,7 @@ module _ (tree : PProgram) (code : Code) (texts : Texts) (nested : LiesNested tr
         (value_entered_raw code img p core s.has a.2.0 a.1 valc_there first second cell_shown x value_reached c read refl _ row)
         (choice_is (scopes_of tree) w p q part outer s.at s.todo ∙ ap (λ (k : Ask). choice_of (scopes_of tree) w p q part outer k) asks ∙ ap (λ (k : Cell). read_of (scopes_of tree) w p q part outer k) h.cell_is)
         (λ t. action_is code img p core s.has (ops.Valc a.2.0) a.1 valc_there _ t
-        ∙ ap as_action (value_entered_letter code img p core s.has a.2.0 a.1 valc_there first second cell_shown x value_reached c read refl _ row))
+        ∙ (value_entered_letter code img p core s.has a.2.0 a.1 valc_there first second cell_shown x value_reached c read refl _ row))
 
   -- EVAL, of an actual that is subscripted
 
@@ -307,4 +306,4 @@ module _ (tree : PProgram) (code : Code) (texts : Texts) (nested : LiesNested tr
         (λ (b : Bool). if b then opens (scopes_of tree) w p q part outer w (record { instance = h.a.instance; purpose = name_place; rest = located_of (settle_actual_place (scopes_of tree) h.a.actual) })
         else fails (scopes_of tree) w p q part outer NotAVariable) is)
         (λ t. action_is code img p core s.has (ops.Plain kinds.Eval) a.1 eval_there _ t
-        ∙ ap as_action (place_entered_letter code img p core s.has a.1 eval_there finds.top.word finds.top.words_below finds.top.is first second name_on_top x place_reached c read has_a_place _ row))
+        ∙ (place_entered_letter code img p core s.has a.1 eval_there finds.top.word finds.top.words_below finds.top.is first second name_on_top x place_reached c read has_a_place _ row))

@@ -1,5 +1,6 @@
 -- An evaluation is entered: a part that evaluates an actual has a frame without cells above the words of the part around, which waits. No instance is made.
 use Rattle.std.proofs.Common.{◌≡◌, ◌⊎◌, inl, inr, refl, sym, ap, ◌∙◌, subst, ℕ, zero, suc, ◌+◌, ◌-◌, ◌*◌, ◌≤◌, ◌<◌, List, [], ◌∷◌, length, Some, Bool, true, false, arith, None}
+use Rattle.b67_letters.specs.Letters.{letter}
 use Rattle.std.specs.Prelude.{if◌then◌else◌, slice_get}
 use Rattle.b67_list.specs.Numbered.{numbered}
 use Rattle.algol_tree.specs.declared.tree.Kind.{Kind}
@@ -8,7 +9,7 @@ use Rattle.algol_tree.specs.Cells.{level_of}
 use Rattle.algol_tree.specs.Plain as forms
 use Rattle.algol_tree.specs.Plain.{PExpr, PProgram}
 use Rattle.algol_tree.specs.Scopes.{Scopes, scopes_of}
-use Rattle.algol_meaning.specs.Actions.{Enter}
+use Rattle.b67_deeds.specs.declared.Letter.TheVariants.{Enter}
 use Rattle.algol_meaning.specs.Asks.{nothing, ask, resume}
 use Rattle.algol_meaning.specs.Choice.{Choice, choice}
 use Rattle.algol_meaning.specs.Critical.{is_evaluation}
@@ -45,7 +46,6 @@ use Rattle.b67_cores.specs.Cores.{Core, size, IsCore, HasCore, with_core}
 use Rattle.b67_cores.specs.Slots.{newest, SlotsAre}
 use Rattle.b67_cores.specs.Stretches.{CoreAt, FragmentsArePerformed}
 use Rattle.b67_cores.proofs.Moving.{slots_length}
-use Rattle.b67_faithful.specs.Correspondence.{operator_action}
 use Rattle.b67_faithful.specs.Faithful.{IsShort}
 use Rattle.b67_faithful.specs.Weight.{tokens_around, part_weight, weight, parts_weight}
 use Rattle.b67_templates.specs.Nested.{LiesNested}
@@ -487,7 +487,7 @@ module _ (tree : PProgram) (code : Code) (texts : Texts) (nested : LiesNested tr
 
     -- where the operator enters the code of the actual, and the choice is the entry, the operator does it
     pub entering_evaluation : plain code img p ≡ false → raw code img p ≡ effects.gives (with_core img p new) → choice sc w p ≡ record { action = Enter; world = w'; released = []; started = None } →
-        (table code img p ≡ outcomes.gives (with_core img p new) → operator_action code img p ≡ Some Enter) → Does tree code texts w img p
+        (table code img p ≡ outcomes.gives (with_core img p new) → letter code img p ≡ Some Enter) → Does tree code texts w img p
     entering_evaluation not_plain raw_is chosen acts = by_size (most_or_more new.registers.s stack_limit)
       where
         by_size : (new.registers.s ≤ stack_limit) ⊎ (stack_limit < new.registers.s) → Does tree code texts w img p

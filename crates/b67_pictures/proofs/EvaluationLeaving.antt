@@ -1,16 +1,18 @@
 -- The frame of an evaluation is left: no instance is left, no row is closed, and the part around goes on with the value, or with the place.
 use Rattle.std.proofs.Common.{◌≡◌, ◌≢◌, inl, inr, refl, sym, ap, ◌∙◌, subst, ℕ, zero, suc, List, [], ◌∷◌, length, Option, Some, None, Bool, true, false, Ok, arith, ◌⊎◌, ◌++◌}
+use Rattle.b67_letters.specs.Letters.{letter}
 use Rattle.std.specs.Prelude.{if◌then◌else◌, is_some, ◌||◌, ◌==◌, reverse}
 use Rattle.b67_list.specs.Numbered.{numbered}
 use Rattle.b67_num.specs.declared.FaultKind.TheVariants as fault
 use Rattle.algol_tree.specs.declared.tree.Kind.{Kind}
 use Rattle.algol_tree.specs.Plain.{PProgram}
 use Rattle.algol_tree.specs.Scopes.{Scopes, scopes_of}
-use Rattle.algol_meaning.specs.Value.{Value, EventCell}
+use Rattle.algol_meaning.specs.Value.{Value}
+use Rattle.b67_deeds.specs.Events.{EventState}
 use Rattle.algol_meaning.specs.Rest as rests
 use Rattle.algol_meaning.specs.Rest.{Answer, value}
 use Rattle.algol_meaning.specs.World.{Process, Part, lives, World, with_process, instance_at, ancestor}
-use Rattle.algol_meaning.specs.Actions.{Leave}
+use Rattle.b67_deeds.specs.declared.Letter.TheVariants.{Leave}
 use Rattle.algol_meaning.specs.Asks.{Ask, leaves, ask}
 use Rattle.algol_meaning.specs.Choice.{Choice, choice, choice_of, left_with, left_or_ended, fails}
 use Rattle.algol_meaning.specs.Critical.{some_depends}
@@ -48,7 +50,6 @@ use Rattle.b67_standing.specs.Standing.{ActionAt, Gives}
 use Rattle.b67_cores.specs.Cores.{Core, IsCore, HasCore, with_core}
 use Rattle.b67_cores.specs.Slots.{Known}
 use Rattle.b67_cores.specs.Stretches.{FragmentsArePerformed}
-use Rattle.b67_faithful.specs.Correspondence.{operator_action}
 use Rattle.b67_faithful.proofs.Contradictions.{true_false}
 use Rattle.b67_templates.specs.Nested.{AreNested}
 use Rattle.b67_rows.proofs.Cored.{has_now, others_have, system_stays}
@@ -229,7 +230,7 @@ module _ (tree : PProgram) (code : Code) (texts : Texts) (stand : HaveTexts tree
           ∙ ap (λ (t : Bool). if t then None else event_at at img.events) (outside j number e at (before j number e at h)))
           s.by.events
         where
-          before : (j number : ℕ) (e : EventCell) (at : Place) → HasEvent sc w' lay j number e at → HasEvent sc w lay j number e at
+          before : (j number : ℕ) (e : EventState) (at : Place) → HasEvent sc w' lay j number e at → HasEvent sc w lay j number e at
           before j number e at h =
               record {
                 instance = h.instance;
@@ -251,7 +252,7 @@ module _ (tree : PProgram) (code : Code) (texts : Texts) (stand : HaveTexts tree
           in_outer j (inl own) = inl (without j own)
           in_outer j (inr elsewhere) = inr elsewhere
 
-          outside : (j number : ℕ) (e : EventCell) (at : Place) → HasEvent sc w lay j number e at → is_from core.registers.stack (length (s.around.0.below ++ reverse s.around.0.words)) at ≡ false
+          outside : (j number : ℕ) (e : EventState) (at : Place) → HasEvent sc w lay j number e at → is_from core.registers.stack (length (s.around.0.below ++ reverse s.around.0.words)) at ≡ false
           outside j number e at h =
               ap (λ (n : ℕ). is_from n (length (s.around.0.below ++ reverse s.around.0.words)) at) s.has.own
               ∙ ap (λ (ws : List Word). is_from p (length ws) at) (sym s.around.0.lower_is)
@@ -273,7 +274,7 @@ module _ (tree : PProgram) (code : Code) (texts : Texts) (stand : HaveTexts tree
           else left_or_ended sc w p q part (next ∷ parts) r (next ∷ parts)) lent.evaluates
 
       -- an operator that leaves the frame with that does it
-      leaving_evaluation : ask part.rest ≡ leaves r → raw code img p ≡ gives now → plain code img p ≡ false → (table code img p ≡ outcomes.gives now → operator_action code img p ≡ Some Leave) → Does tree code texts w img p
+      leaving_evaluation : ask part.rest ≡ leaves r → raw code img p ≡ gives now → plain code img p ≡ false → (table code img p ≡ outcomes.gives now → letter code img p ≡ Some Leave) → Does tree code texts w img p
       leaving_evaluation asks raw_is not_plain acts =
           gave now not_plain table_is (acts table_is ∙ ap (λ (c : Choice). Some c.action) (sym (chosen asks)))
           (λ may. subst (λ (c : Choice). Pictures tree code texts c.world now) (sym (chosen asks)) (lay, pictured (after_choice sc w w' p q facts may s.at (ap (λ (c : Choice). c.world) (chosen asks)))))

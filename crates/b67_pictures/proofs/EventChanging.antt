@@ -5,7 +5,8 @@ use Rattle.algol_tree.specs.Plain.{PProgram}
 use Rattle.algol_tree.specs.Scopes.{Scopes, scopes_of}
 use Rattle.algol_meaning.specs.Events.{set_event}
 use Rattle.algol_meaning.specs.Rest.{done}
-use Rattle.algol_meaning.specs.Value.{Reference, EventCell, event}
+use Rattle.algol_meaning.specs.Value.{Reference, event}
+use Rattle.b67_deeds.specs.Events.{EventState}
 use Rattle.algol_meaning.specs.World as meant
 use Rattle.algol_meaning.specs.World.{NamedCell, Instance, Process, Part, State, lives, World, instance_at, or_no_instance, with_instance, with_process, cells_with}
 use Rattle.algol_meaning.specs.Asks.{resume}
@@ -66,7 +67,7 @@ module _ (tree : PProgram) (code : Code) (texts : Texts) (w : World) (lay : Layo
   instance_there = ap (numbered w.instances) (sym l.found.lies.instance_is) ∙ l.found.lies.owned.framed.is
 
   -- the world with another event there
-  pub event_world : (later : EventCell) → set_event w r later ≡ stored_world w r.instance l.found.lies.owned.framed.instance instance_there (cells_with l.found.lies.owned.framed.instance.cells r.name (event later))
+  pub event_world : (later : EventState) → set_event w r later ≡ stored_world w r.instance l.found.lies.owned.framed.instance instance_there (cells_with l.found.lies.owned.framed.instance.cells r.name (event later))
   event_world later = ap (λ (z : Instance). with_instance w r.instance (record z { cells = cells_with z.cells r.name (event later) })) (ap or_no_instance instance_there)
 
 -- The event with this number of an instance whose frame is seen becomes another one; the process comes to this state, with these words above
@@ -75,7 +76,7 @@ module _ (tree : PProgram) (code : Code) (texts : Texts) (nested : AreNested (sc
     (p : ℕ) (q : Process) (part : Part) (outer : List Part) (bound : ℕ) (core : Core) (s : Scene tree code texts w lay img p q part outer bound core) (able_is : lives q.state ≡ true) (unmade : all_left_to_make part.rest ≡ all_to_make part.rest)
     (r : Reference) (l : Seen tree code texts w lay img p q part outer bound core s r.instance) (number : ℕ)
     (found : OwnEvent (scopes_of tree) w lay l.found.lies.part.instance l.found.lies.owned.framed.instance (own_there tree code texts nested w lay img p q part outer bound core s l) r.name number)
-    (later : EventCell) (change : Event → Event) (stays : StaysInPlace change)
+    (later : EventState) (change : Event → Event) (stays : StaysInPlace change)
     (becomes : change (event_there (cell_place (cell_there tree code texts nested w lay img p q part outer bound core s l number)) found.cell)
     ≡ event_there (cell_place (cell_there tree code texts nested w lay img p q part outer bound core s l number)) later)
     (state : State) (lives_now : lives state ≡ true) (states : List ProcessState) (many_states : length states ≡ length img.states) (state_is : StateIs state (numbered states p)) (states_are : (m : ℕ) → m ≢ p → numbered states m ≡ numbered img.states m)

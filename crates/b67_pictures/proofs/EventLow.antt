@@ -4,14 +4,15 @@ use Rattle.std.specs.Prelude.{if◌then◌else◌}
 use Rattle.b67_list.specs.Numbered.{numbered}
 use Rattle.algol_tree.specs.Scopes.{Scopes}
 use Rattle.algol_tree.specs.Sorts.{same_name}
-use Rattle.algol_meaning.specs.Value.{Cell, EventCell, event}
+use Rattle.algol_meaning.specs.Value.{Cell, event}
+use Rattle.b67_deeds.specs.Events.{EventState}
 use Rattle.algol_meaning.specs.World.{NamedCell, Instance, World, instance_at, cell_in, cells_with}
 use Rattle.algol_standing.specs.Lows.{CellLow, CellsLow, InstanceLow, WorldLow, IsLow}
 use Rattle.b67_faithful.proofs.Contradictions.{some_same}
 use Rattle.b67_rows.proofs.Numbers.{same_or_not}
 use Rattle.b67_scenes.proofs.StoringFrames.{changed, stored_world, changed_at, others_at, same_of}
 
-cells_low : (sc : Scopes) (b i : ℕ) (cells : List NamedCell) (name : List ℕ) (e : EventCell) → CellsLow sc b i cells → CellsLow sc b i (cells_with cells name (event e))
+cells_low : (sc : Scopes) (b i : ℕ) (cells : List NamedCell) (name : List ℕ) (e : EventState) → CellsLow sc b i cells → CellsLow sc b i (cells_with cells name (event e))
 cells_low sc b i [] name e low = low
 cells_low sc b i (c ∷ cells) name e low = by_name (same_name c.name name) (cells_low sc b i cells name e low.1)
   where
@@ -19,7 +20,7 @@ cells_low sc b i (c ∷ cells) name e low = by_name (same_name c.name name) (cel
     by_name true later = (tt, low.1)
     by_name false later = (low.0, later)
 
-cells_were_low : (sc : Scopes) (b i : ℕ) (cells : List NamedCell) (name : List ℕ) (e old : EventCell) → cell_in cells name ≡ event old → CellsLow sc b i (cells_with cells name (event e)) → CellsLow sc b i cells
+cells_were_low : (sc : Scopes) (b i : ℕ) (cells : List NamedCell) (name : List ℕ) (e old : EventState) → cell_in cells name ≡ event old → CellsLow sc b i (cells_with cells name (event e)) → CellsLow sc b i cells
 cells_were_low sc b i [] name e old is low = low
 cells_were_low sc b i (c ∷ cells) name e old is low = by_name (same_name c.name name) is low (cells_were_low sc b i cells name e old)
   where
@@ -46,7 +47,7 @@ module _ (sc : Scopes) (w w' : World) (processes : w'.processes ≡ w.processes)
           subst (λ (v : Instance). InstanceLow sc b i v) same (record { childless = λ e. before.childless (sym parent ∙ e); cells = cells before.cells })
       by_number k z is stands (inr apart) = l.instances k z (sym (others k apart) ∙ is) stands
 
-module _ (sc : Scopes) (w : World) (j : ℕ) (x : Instance) (at : numbered w.instances j ≡ Some x) (name : List ℕ) (old e : EventCell) (is : cell_in x.cells name ≡ event old) where
+module _ (sc : Scopes) (w : World) (j : ℕ) (x : Instance) (at : numbered w.instances j ≡ Some x) (name : List ℕ) (old e : EventState) (is : cell_in x.cells name ≡ event old) where
   abbrev cells' : List NamedCell
   cells' = cells_with x.cells name (event e)
 

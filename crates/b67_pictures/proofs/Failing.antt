@@ -7,7 +7,7 @@ use Rattle.algol_tree.specs.Scopes.{scopes_of}
 use Rattle.algol_meaning.specs.Value.{Value}
 use Rattle.algol_meaning.specs.Operators.{result_of}
 use Rattle.algol_meaning.specs.World.{Process, Part, World}
-use Rattle.algol_meaning.specs.Actions.{Fault}
+use Rattle.b67_deeds.specs.declared.Letter.TheVariants.{Fault}
 use Rattle.algol_meaning.specs.Asks.{Ask, fails, ask}
 use Rattle.algol_meaning.specs.Choice.{Choice, choice, choice_of}
 use Rattle.b67_num.specs.declared.NumFault.{NumFault}

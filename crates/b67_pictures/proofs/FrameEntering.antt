@@ -16,7 +16,7 @@ use Rattle.algol_meaning.specs.Instances as instances
 use Rattle.algol_meaning.specs.Instances.{fresh_cells}
 use Rattle.algol_meaning.specs.Value.{Cell}
 use Rattle.algol_meaning.specs.Statements.{settle_items, items_of}
-use Rattle.algol_meaning.specs.Actions.{Enter}
+use Rattle.b67_deeds.specs.declared.Letter.TheVariants.{Enter}
 use Rattle.algol_meaning.specs.Asks.{nothing, ask, resume}
 use Rattle.algol_meaning.specs.Choice.{Choice, choice}
 use Rattle.algol_paths.specs.Arrays.{all_to_make, all_left_to_make}

@@ -1,5 +1,6 @@
 -- The frame of a block or of a procedure is left: it goes, and the part around goes on, with what is given.
 use Rattle.std.proofs.Common.{◌≡◌, ◌≢◌, refl, sym, ap, ◌∙◌, subst, ℕ, ◌<◌, List, [], ◌∷◌, length, Option, Some, None, Bool, false, arith, true, ◌⊎◌, inl, inr, ◌++◌}
+use Rattle.b67_letters.specs.Letters.{letter}
 use Rattle.std.specs.Prelude.{if◌then◌else◌, reverse}
 use Rattle.b67_list.specs.Numbered.{numbered}
 use Rattle.b67_num.specs.declared.FaultKind.TheVariants as fault
@@ -8,7 +9,7 @@ use Rattle.algol_tree.specs.Scopes.{Scopes, scopes_of}
 use Rattle.algol_meaning.specs.Rest.{Answer}
 use Rattle.algol_meaning.specs.World.{Process, Part, lives, World, instance_at}
 use Rattle.algol_meaning.specs.Instances.{leave}
-use Rattle.algol_meaning.specs.Actions.{Leave}
+use Rattle.b67_deeds.specs.declared.Letter.TheVariants.{Leave}
 use Rattle.algol_meaning.specs.Asks.{Ask, leaves, ask}
 use Rattle.algol_meaning.specs.Choice.{Choice, choice, choice_of, left_with, left_or_ended, fails}
 use Rattle.algol_meaning.specs.Critical.{some_depends, is_evaluation}
@@ -28,7 +29,6 @@ use Rattle.b67_templates.specs.Programs.{Texts}
 use Rattle.b67_standing.specs.Standing.{Gives}
 use Rattle.b67_cores.specs.Cores.{Core, IsCore, HasCore, with_core}
 use Rattle.b67_cores.specs.Stretches.{FragmentsArePerformed}
-use Rattle.b67_faithful.specs.Correspondence.{operator_action}
 use Rattle.b67_faithful.proofs.Contradictions.{some_same}
 use Rattle.b67_faithful.proofs.Choices.{length_set_numbered}
 use Rattle.b67_rows.proofs.Cored.{has_now, others_have, system_stays}
@@ -206,7 +206,7 @@ module _ (tree : PProgram) (code : Code) (texts : Texts) (stand : HaveTexts tree
           ∙ ap (λ (t : Bool). if t then fails sc w p q part (next ∷ parts) fault.CriticalBlockExit else left_or_ended sc w p q part (next ∷ parts) r (next ∷ parts)) free
 
       -- an operator that leaves the frame with that does it, where no process depends on the instance
-      pub leaving_frame : some_depends w.processes i ≡ false → ask part.rest ≡ leaves r → raw code img p ≡ gives now → plain code img p ≡ false → (table code img p ≡ outcomes.gives now → operator_action code img p ≡ Some Leave) → Does tree code texts w img p
+      pub leaving_frame : some_depends w.processes i ≡ false → ask part.rest ≡ leaves r → raw code img p ≡ gives now → plain code img p ≡ false → (table code img p ≡ outcomes.gives now → letter code img p ≡ Some Leave) → Does tree code texts w img p
       leaving_frame free asks raw_is not_plain acts =
           gave now not_plain table_is (acts table_is ∙ ap (λ (c : Choice). Some c.action) (sym (chosen free asks)))
           (λ may. subst (λ (c : Choice). Pictures tree code texts c.world now) (sym (chosen free asks))

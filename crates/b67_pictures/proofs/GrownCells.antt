@@ -3,7 +3,8 @@ use Rattle.std.proofs.Common.{◌≡◌, refl, sym, ap, ◌∙◌, subst, ℕ, z
 use Rattle.std.specs.Prelude.{if◌then◌else◌, slice_get}
 use Rattle.algol_tree.specs.Scopes.{Scopes}
 use Rattle.algol_tree.specs.Sorts.{same_name}
-use Rattle.algol_meaning.specs.Value.{Reference, Cell, ArrayCell, EventCell, reference, array, event}
+use Rattle.algol_meaning.specs.Value.{Reference, Cell, ArrayCell, reference, array, event}
+use Rattle.b67_deeds.specs.Events.{EventState}
 use Rattle.algol_meaning.specs.World.{NamedCell, World, instance_at, cell_in, by_cell}
 use Rattle.algol_paths.specs.Arrays.{Made, an_array, an_event}
 use Rattle.b67_word.specs.Word.{Word}
@@ -35,7 +36,7 @@ array_front (c ∷ cells) more name a is = by_name (same_name c.name name) is (a
     by_name true here later = here
     by_name false further later = later further
 
-event_front : (cells more : List NamedCell) (name : List ℕ) (e : EventCell) → cell_in cells name ≡ event e → cell_in (cells ++ more) name ≡ event e
+event_front : (cells more : List NamedCell) (name : List ℕ) (e : EventState) → cell_in cells name ≡ event e → cell_in (cells ++ more) name ≡ event e
 event_front [] more name e is = cc
 event_front (c ∷ cells) more name e is = by_name (same_name c.name name) is (event_front cells more name e)
   where

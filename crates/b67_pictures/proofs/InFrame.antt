@@ -1,11 +1,12 @@
 -- Actions that change nothing but what lies above the cells of the process's own frame, and the output.
 use Rattle.std.proofs.Common.{◌≡◌, ◌≢◌, ◌⊎◌, inl, inr, refl, sym, ap, ◌∙◌, subst, ℕ, ◌+◌, ◌<◌, ◌≤◌, List, [], ◌∷◌, length, Some, None, false, arith, true}
+use Rattle.b67_letters.specs.Letters.{letter}
 use Rattle.b67_list.specs.Numbered.{numbered}
 use Rattle.algol_tree.specs.Plain.{PProgram}
 use Rattle.algol_tree.specs.Scopes.{scopes_of}
 use Rattle.algol_meaning.specs.Rest.{Answer}
 use Rattle.algol_meaning.specs.World.{Process, Part, lives, World, instance_at, with_process}
-use Rattle.algol_meaning.specs.Actions.{Action}
+use Rattle.b67_deeds.specs.declared.Letter.{Letter}
 use Rattle.algol_meaning.specs.Asks.{resume}
 use Rattle.algol_meaning.specs.Choice.{Choice, choice}
 use Rattle.algol_paths.specs.Arrays.{all_to_make, all_left_to_make}
@@ -23,7 +24,6 @@ use Rattle.b67_table.specs.Effect as effects
 use Rattle.b67_table.specs.Outcome as outcomes
 use Rattle.b67_table.specs.Private.{frame}
 use Rattle.b67_table.specs.Table.{table, raw, plain}
-use Rattle.b67_faithful.specs.Correspondence.{operator_action}
 use Rattle.b67_faithful.specs.Weight.{weight}
 use Rattle.b67_standing.specs.Stepping.{Slot}
 use Rattle.b67_standing.specs.Standing.{ComesTo}
@@ -183,8 +183,8 @@ module _ (tree : PProgram) (code : Code) (texts : Texts) (fragments : FragmentsA
           light = light';
         }))
 
-  pub does_in_frame : (action : Action) → plain code img p ≡ false → raw code img p ≡ effects.gives after → choice (scopes_of tree) w p ≡ record { action = action; world = w'; released = []; started = None } →
-      (table code img p ≡ outcomes.gives after → operator_action code img p ≡ Some action) → Does tree code texts w img p
+  pub does_in_frame : (action : Letter) → plain code img p ≡ false → raw code img p ≡ effects.gives after → choice (scopes_of tree) w p ≡ record { action = action; world = w'; released = []; started = None } →
+      (table code img p ≡ outcomes.gives after → letter code img p ≡ Some action) → Does tree code texts w img p
   does_in_frame action not_plain raw_is chosen acts = by_size (most_or_more new.registers.s stack_limit)
     where
       after_so : MayAct (scopes_of tree) w p → IsAfter (scopes_of tree) w w' p

@@ -11,7 +11,7 @@ use Rattle.algol_meaning.specs.Value.{Value, number, whole_of, Reference, Cell}
 use Rattle.algol_meaning.specs.Arrays.{size_of, subscript_place}
 use Rattle.algol_meaning.specs.Rest.{Answer, place, element_of}
 use Rattle.algol_meaning.specs.World.{Process, Part, lives, World, followed, array_in}
-use Rattle.algol_meaning.specs.Actions.{Index, Fault}
+use Rattle.b67_deeds.specs.declared.Letter.TheVariants.{Index, Fault}
 use Rattle.algol_meaning.specs.Asks.{Ask, indexes, ask, resume}
 use Rattle.algol_meaning.specs.Choice.{Choice, choice, choice_of, indexed, indexed_at, here}
 use Rattle.algol_paths.specs.Laws.{RestsKeepToTheirText, AllIsMadeInOrder}
@@ -37,7 +37,6 @@ use Rattle.b67_table.specs.Outcome as outcomes
 use Rattle.b67_table.specs.Private.{frame}
 use Rattle.b67_table.specs.Table.{table, raw, operator_at, class_at}
 use Rattle.b67_letters.specs.Letters.{letter_by, operator_letter}
-use Rattle.b67_faithful.specs.Correspondence.{as_action}
 use Rattle.b67_standing.specs.Stepping.{Held, row, element, Slot, operand, reference, intrinsic, control, descriptor, mark}
 use Rattle.b67_standing.specs.Standing.{ActionAt, Acted, ComesTo, ElementIndexAt, RowIndexAt, of_row, of_element}
 use Rattle.b67_cores.specs.Cores.{Core, with_core}
@@ -124,7 +123,7 @@ module _ (tree : PProgram) (code : Code) (texts : Texts) (nested : AreNested (sc
         (k : ℕ) (e : subscript_place ((use_of sc n).sort) h.cell ks z ≡ Some k) (held : Held) (word : Word) (held_is : HeldIs sc w lay (IsInReach w (part ∷ outer)) part.instance held word)
         (comes : ComesTo sc (context_in tree code texts w part s.stands.frame.gives) text level (most_in tree w part) (resume sc part.rest (place (element_of home (ks ++ k ∷ [])))) next (descriptor held ∷ below))
         (class_is : class_at op core.registers.place ≡ classes.Action) (raw_is : raw code img p ≡ effects.gives (with_core img p (with_one core word f.words next)))
-        (acts : (after : Image) → as_action (letter_by (outcomes.gives after) (operator_letter op img core.registers)) ≡ Some Index) where
+        (acts : (after : Image) → (letter_by (outcomes.gives after) (operator_letter op img core.registers)) ≡ Some Index) where
       abbrev new : Core
       new = with_one core word f.words next
 

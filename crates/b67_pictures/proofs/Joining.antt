@@ -1,7 +1,7 @@
 -- A code in which a program stands whose blocks lie in one another, and which is short and can be listed, is faithful to it.
+use Rattle.b67_deeds.specs.Deeds.{EventDeed}
 use Rattle.std.proofs.Common.{sym, ◌∙◌, ℕ, ◌≤◌, List, [], ◌∷◌, length, Option, None}
 use Rattle.std.specs.Prelude.{All}
-use Rattle.algol_tree.specs.declared.tree.EventAct.{EventAct}
 use Rattle.algol_tree.specs.declared.tree.Kind.{Kind}
 use Rattle.algol_tree.specs.declared.tree.Named.{Named}
 use Rattle.algol_tree.specs.Blocks.{block_numbered}
@@ -11,7 +11,7 @@ use Rattle.algol_tree.specs.Scopes.{scopes_of}
 use Rattle.algol_meaning.specs.Value.{Value, Reference}
 use Rattle.algol_meaning.specs.Rest.{Place, element_of, Given, done, value, place, cell, entered}
 use Rattle.algol_meaning.specs.World.{World, instance_at}
-use Rattle.algol_meaning.specs.Asks.{reads_element, indexes, asks_happened, leaves, enters, passes, stores, goes_to, enters_block, starts, acts, makes_arrays, makes_event}
+use Rattle.algol_meaning.specs.Asks.{reads_element, indexes, leaves, enters, passes, stores, goes_to, enters_block, starts, makes_arrays, makes_event, event_deed}
 use Rattle.algol_paths.specs.Laws.{RestsKeepToTheirText, AllIsMadeInOrder, JumpsKeepToTheirText}
 use Rattle.algol_calls.specs.Texts.{HasTexts}
 use Rattle.algol_standing.specs.Worlds.{IsWhole}
@@ -72,8 +72,7 @@ pub record ArraysAreDone (tree : PProgram) (code : Code) (texts : Texts) : Type 
 -- what is done with events: one is made, told or acted on, and whom an operator releases that acts on one
 pub record EventsAreDone (tree : PProgram) (code : Code) (texts : Texts) : Type 0 where
   pub making : (n : Named) → IsDone tree code texts (makes_event n)
-  pub telling : (n : Named) → IsDone tree code texts (asks_happened n)
-  pub acting : (x : EventAct) (n : Named) → IsDone tree code texts (acts x n)
+  pub acting : (x : EventDeed) (ns : List Named) → IsDone tree code texts (event_deed x ns)
   pub freeing : AreFreed tree code texts
 
 -- what is done with processes: one is started
@@ -152,7 +151,6 @@ module _ (keeps : RestsKeepToTheirText) (order : AllIsMadeInOrder) (jumps_keep :
         passing = arrays.passing;
         making = arrays.making;
         making_event = events.making;
-        telling = events.telling;
         acting = events.acting;
         leaving = leaves_done;
         returning = gives_back;

@@ -8,7 +8,7 @@ use Rattle.algol_tree.specs.Blocks.{block_numbered}
 use Rattle.algol_tree.specs.Cells.{level_of}
 use Rattle.algol_tree.specs.Plain.{PProgram}
 use Rattle.algol_tree.specs.Scopes.{Scopes, scopes_of, use_of}
-use Rattle.algol_meaning.specs.Actions as act
+use Rattle.b67_deeds.specs.declared.Letter.TheVariants as act
 use Rattle.algol_meaning.specs.Asks.{Ask, goes_to, ask}
 use Rattle.algol_meaning.specs.Choice.{Choice, choice, choice_of, gone, gone_to, fails}
 use Rattle.algol_meaning.specs.Critical.{some_depends_on_any, is_evaluation, own_instances}
@@ -45,7 +45,6 @@ use Rattle.b67_standing.specs.Laws.{JumpsStand}
 use Rattle.b67_standing.specs.Standing.{ActionAt, AreNumbers, ComesTo}
 use Rattle.b67_cores.specs.Cores.{Core, size, IsCore, HasCore, with_core, stack_of}
 use Rattle.b67_cores.specs.Stretches.{CoreAt, FragmentsArePerformed}
-use Rattle.b67_faithful.specs.Correspondence.{as_action}
 use Rattle.b67_faithful.specs.Weight.{weight}
 use Rattle.b67_templates.specs.Names.{HasNames}
 use Rattle.b67_templates.specs.Nested.{LiesNested}
@@ -505,7 +504,7 @@ module _ (tree : PProgram) (code : Code) (texts : Texts) (lies : LiesNested tree
       gave now
       (action_not_plain code img p core s.has (ops.Plain kinds.Entr) a.0 enters (enter_class code img p core s.has a.0 enters GoTo c.arguments c.reference c.marked c.others c.calls))
       table_is
-      (action_is code img p core s.has (ops.Plain kinds.Entr) a.0 enters (outcomes.gives now) table_is ∙ ap as_action c.action ∙ ap (λ (k : Choice). Some k.action) (sym chosen_so))
+      (action_is code img p core s.has (ops.Plain kinds.Entr) a.0 enters (outcomes.gives now) table_is ∙ c.action ∙ ap (λ (k : Choice). Some k.action) (sym chosen_so))
       (λ may. subst (λ (k : Choice). Pictures tree code texts k.world now) (sym chosen_so) (lay, pictured (after_choice sc w w' p q facts may s.at (ap (λ (k : Choice). k.world) chosen_so))))
     where
       chosen_so : choice sc w p ≡ record { action = act.GoTo; world = w'; released = []; started = None }

@@ -1,3 +1,4 @@
+pub mod Deeds
 pub mod Alone
 pub mod InFrame
 pub mod StoreElsewhereRow

@@ -9,7 +9,7 @@ use Rattle.algol_tree.specs.Scopes.{Scopes, scopes_of}
 use Rattle.algol_meaning.specs.Critical.{is_evaluation}
 use Rattle.algol_meaning.specs.Rest.{done}
 use Rattle.algol_meaning.specs.World.{NamedCell, Process, Part, lives, World, instance_at, or_no_instance, Instance}
-use Rattle.algol_meaning.specs.Actions.{Action}
+use Rattle.b67_deeds.specs.declared.Letter.{Letter}
 use Rattle.algol_meaning.specs.Asks.{resume}
 use Rattle.algol_meaning.specs.Choice.{Choice, choice}
 use Rattle.algol_paths.specs.Arrays.{Made, all_to_make, all_left_to_make}
@@ -44,7 +44,6 @@ use Rattle.b67_standing.specs.Standing.{ComesTo}
 use Rattle.b67_cores.specs.Cores.{Core, size, IsCore, HasCore, with_core}
 use Rattle.b67_cores.specs.Slots.{Known, SlotsAre}
 use Rattle.b67_cores.specs.Stretches.{CoreAt, FragmentsArePerformed, IsAt, Becomes, CellsAreMade}
-use Rattle.b67_faithful.specs.Correspondence.{as_action}
 use Rattle.b67_faithful.specs.Weight.{weight}
 use Rattle.b67_faithful.proofs.Choices.{length_set_numbered}
 use Rattle.b67_templates.specs.Nested.{AreNested}
@@ -280,7 +279,7 @@ module _ (tree : PProgram) (code : Code) (texts : Texts) (nested : AreNested (sc
         })
 
   -- where the rows and events are those of the world after it, an operator that leaves that does it
-  module _ (arrays_now : ArraysAre (scopes_of tree) w' lay' rows) (events_now : EventsAre (scopes_of tree) w' lay' events) (action : Action) (acts : as_action (Some (letter_of name)) ≡ Some action)
+  module _ (arrays_now : ArraysAre (scopes_of tree) w' lay' rows) (events_now : EventsAre (scopes_of tree) w' lay' events) (action : Letter) (acts : (Some (letter_of name)) ≡ Some action)
       (raw_is : raw code img p ≡ effects.gives (with_core (record img { rows = rows; events = events }) p (with_descriptors core descriptors c.calls.m.df made)))
       (chosen : choice (scopes_of tree) w p ≡ record { action = action; world = w'; released = []; started = None }) where
     making_it : IsMaking w part.instance
@@ -321,7 +320,7 @@ module _ (tree : PProgram) (code : Code) (texts : Texts) (nested : AreNested (sc
         by_size (inl small) =
             let table_is : table code img p ≡ outcomes.gives after = gives_within code img after p new.registers raw_is has_here.registers small in
             gave after not_plain table_is
-            (action_is code img p core s.has (ops.Plain kinds.Entr) made there (outcomes.gives after) table_is ∙ ap as_action c.action ∙ acts ∙ ap (λ (o : Choice). Some o.action) (sym chosen))
+            (action_is code img p core s.has (ops.Plain kinds.Entr) made there (outcomes.gives after) table_is ∙ c.action ∙ acts ∙ ap (λ (o : Choice). Some o.action) (sym chosen))
             (λ may. subst (λ (o : Choice). Pictures tree code texts o.world after) (sym chosen) (lay', pictured may (omega (arith, small, new_core.top))))
         by_size (inr long) =
             stopped not_plain (limit_beyond code img after p new.registers raw_is has_here.registers long) (omega (arith, long, new_core.top, words_many, some_room, s.room, s.light))

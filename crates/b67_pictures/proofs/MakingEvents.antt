@@ -6,13 +6,14 @@ use Rattle.algol_tree.specs.declared.tree.Named.{Named}
 use Rattle.algol_tree.specs.Blocks.{Block, block_numbered}
 use Rattle.algol_tree.specs.Plain.{PProgram}
 use Rattle.algol_tree.specs.Scopes.{Scopes, scopes_of}
-use Rattle.algol_meaning.specs.Actions.{MakeEvent}
+use Rattle.b67_deeds.specs.declared.Letter.TheVariants.{MakeEvent}
 use Rattle.algol_meaning.specs.Asks.{Ask, makes_event, ask, resume}
 use Rattle.algol_meaning.specs.Choice.{choice, choice_of}
 use Rattle.algol_meaning.specs.Critical.{is_evaluation}
-use Rattle.algol_meaning.specs.Events.{new_event}
+use Rattle.b67_deeds.specs.Events.{fresh_state}
 use Rattle.algol_meaning.specs.Rest.{Answer, done}
-use Rattle.algol_meaning.specs.Value.{EventCell, ArrayCell, event, array}
+use Rattle.algol_meaning.specs.Value.{ArrayCell, event, array}
+use Rattle.b67_deeds.specs.Events.{EventState}
 use Rattle.algol_meaning.specs.World.{NamedCell, Instance, Process, Part, lives, World, or_no_instance, with_instance, with_process}
 use Rattle.algol_paths.specs.Arrays.{Made, an_event, all_to_make, all_left_to_make}
 use Rattle.algol_paths.specs.Laws.{RestsKeepToTheirText, AllIsMadeInOrder}
@@ -82,14 +83,14 @@ module _ (tree : PProgram) (code : Code) (texts : Texts) (nested : AreNested (sc
   made_first = makes_event_first part.rest n asks
 
   abbrev one : NamedCell
-  one = record { name = n.name; cell = event new_event }
+  one = record { name = n.name; cell = event fresh_state }
 
   -- an event has no rows
   abbrev none_allotted : Allotted
   none_allotted = record { mother = None; parts = [] }
 
   added : AreMade ms (one ∷ []) (none_allotted ∷ []) (event_word (record {}) ∷ [])
-  added = (record { named = refl; cell = new_event; is = refl; none = refl; word_is = refl }, tt)
+  added = (record { named = refl; cell = fresh_state; is = refl; none = refl; word_is = refl }, tt)
 
   there : operator_at code core.registers ≡ Ok (ops.Plain kinds.Entr, a.1.made)
   there = operator_there sc s.stands.held code (text_in tree texts w part) (level_in tree w part) s.stands.pc s.stands.slots core (ops.Plain kinds.Entr) a.1.made s.stands.there a.1.stands
@@ -152,13 +153,13 @@ module _ (tree : PProgram) (code : Code) (texts : Texts) (nested : AreNested (sc
 
   arrays_now : ArraysAre sc w' lay' img.rows
   arrays_now =
-      arrays_still sc w w' lay lay' i x (record x { cells = x.cells ++ one ∷ [] }) framed.is refl refl refl (event_has_none x.cells n.name new_event).0 (event_has_none x.cells n.name new_event).1 was
+      arrays_still sc w w' lay lay' i x (record x { cells = x.cells ++ one ∷ [] }) framed.is refl refl refl (event_has_none x.cells n.name fresh_state).0 (event_has_none x.cells n.name fresh_state).1 was
       (λ j other. frames.rows_elsewhere tree code texts nested keeps order w lay img p q part outer bound core s owns ms made_first (one ∷ []) (none_allotted ∷ []) (event_word (record {}) ∷ []) added j (λ same. other (sym same))) img.rows s.by.arrays
     where
       was : (k : ℕ) (name : List ℕ) (c : ArrayCell) (al : Allotted) → slice_get (x.cells ++ one ∷ []) (length (simple_cells sc b) + k) ≡ Some (record { name = name; cell = array c }) → slice_get (lay'.rows i) k ≡ Some al →
           (slice_get x.cells (length (simple_cells sc b) + k) ≡ Some (record { name = name; cell = array c })) × (slice_get (lay.rows i) k ≡ Some al)
       was k name c al lies allots =
-          let in_front = array_in_front x.cells n.name new_event (length (simple_cells sc b) + k) name c lies in
+          let in_front = array_in_front x.cells n.name fresh_state (length (simple_cells sc b) + k) name c lies in
           let low = get_below x.cells (length (simple_cells sc b) + k) (record { name = name; cell = array c }) in_front in (
             in_front,
             sym (get_first (lay.rows i) (none_allotted ∷ []) k (omega (arith, low, many, rows_many)))
@@ -186,7 +187,7 @@ module _ (tree : PProgram) (code : Code) (texts : Texts) (nested : AreNested (sc
       ))
 
   -- all others lie below, or in other stacks
-  below_here : (j other : ℕ) (e : EventCell) (at : Place) → HasEvent sc w lay j other e at → at ≢ here
+  below_here : (j other : ℕ) (e : EventState) (at : Place) → HasEvent sc w lay j other e at → at ≢ here
   below_here j other e at h = by_place (held_of tree code texts w lay img s.by s.ok p q s.at j h.instance h.is h.stands)
     where
       high : length s.stands.frame.lower + (made_base sc b + number) ≡ length core.below

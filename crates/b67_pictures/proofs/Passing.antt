@@ -13,7 +13,7 @@ use Rattle.b67_control.specs.declared.Sirw.{Sirw}
 use Rattle.b67_store.specs.Store.{word_at}
 use Rattle.algol_meaning.specs.Rest.{Answer, cell}
 use Rattle.algol_meaning.specs.World.{Process, Part, lives, World, instance_at, cell_at}
-use Rattle.algol_meaning.specs.Actions.{Pass}
+use Rattle.b67_deeds.specs.declared.Letter.TheVariants.{Pass}
 use Rattle.algol_meaning.specs.Asks.{Ask, passes, ask, resume}
 use Rattle.algol_meaning.specs.Choice.{choice_of, goes}
 use Rattle.algol_paths.specs.Arrays.{Shape}

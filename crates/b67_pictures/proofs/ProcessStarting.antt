@@ -50,7 +50,6 @@ use Rattle.b67_standing.specs.Stepping.{Slot}
 use Rattle.b67_standing.specs.Standing.{ActionAt, Acted, ComesTo, StartsAt, given_slots, start_begun}
 use Rattle.b67_cores.specs.Cores.{Core, size, HasCore, with_core}
 use Rattle.b67_cores.specs.Stretches.{FragmentsArePerformed}
-use Rattle.b67_faithful.specs.Correspondence.{as_action}
 use Rattle.b67_faithful.proofs.Choices.{length_set_numbered}
 use Rattle.b67_frames.specs.Arrays.{Layout}
 use Rattle.b67_frames.specs.Frames.{CellsAre}
@@ -312,7 +311,7 @@ module _ (tree : PProgram) (code : Code) (texts : Texts) (fragments : FragmentsA
     begun_done room b =
         counted_gave after
         (action_not_plain code img p core s.has (ops.Plain kinds.Entr) next there (enter_class code img p core s.has next there Start arguments e.reference e.marked e.others e.calls)) table_is
-        (action_is code img p core s.has (ops.Plain kinds.Entr) next there (outcomes.gives after) table_is ∙ ap as_action e.action ∙ ap (λ (c : Choice). Some c.action) (sym chosen))
+        (action_is code img p core s.has (ops.Plain kinds.Entr) next there (outcomes.gives after) table_is ∙ e.action ∙ ap (λ (c : Choice). Some c.action) (sym chosen))
         (λ may counted. subst (λ (v : World). Pictures tree code texts v after) (sym same) (lay', pictured room counted b (after_choice sc w world_after p q facts may s.at same)))
       where
         table_is : table code img p ≡ outcomes.gives after

@@ -7,7 +7,7 @@ use Rattle.algol_tree.specs.Scopes.{Scopes, scopes_of}
 use Rattle.algol_meaning.specs.Value.{Value, Cell}
 use Rattle.algol_meaning.specs.Rest.{Answer, value}
 use Rattle.algol_meaning.specs.World.{Process, Part, lives, World, instance_at, cell_at, value_in}
-use Rattle.algol_meaning.specs.Actions.{Read}
+use Rattle.b67_deeds.specs.declared.Letter.TheVariants.{Read}
 use Rattle.algol_meaning.specs.Asks.{Ask, reads, ask, resume}
 use Rattle.algol_meaning.specs.Choice.{choice_of, read_of, goes}
 use Rattle.algol_paths.specs.Blocks.{IsSeen, IsSeenAround, IsInner}
@@ -31,7 +31,6 @@ use Rattle.b67_standing.specs.Stepping.{Slot, operand}
 use Rattle.b67_standing.specs.Standing.{ActionAt, Acted, ComesTo}
 use Rattle.b67_cores.specs.Cores.{Core, IsCore, with_core}
 use Rattle.b67_cores.specs.Stretches.{CoreAt, FragmentsArePerformed}
-use Rattle.b67_faithful.specs.Correspondence.{as_action}
 use Rattle.b67_rows.proofs.Asked.{reads_seen}
 use Rattle.b67_rows.proofs.Rows.{action_not_plain, action_is}
 use Rattle.b67_frames.specs.Arrays.{Layout, named_from}
@@ -110,7 +109,7 @@ module _ (tree : PProgram) (code : Code) (texts : Texts) (fragments : FragmentsA
           ∙ ap (λ (k : Ask). choice_of sc w p q part outer k) asks
           ∙ reads_so)
           (λ t. action_is code img p core s.has (ops.Valc a.2.0) a.1 there (outcomes.gives (record (with_core img p new) { output = w.output })) t
-          ∙ ap as_action (value_read_letter code img p core s.has a.2.0 a.1 there from to shown x reaches (no_pcw x tag)))
+          ∙ (value_read_letter code img p core s.has a.2.0 a.1 there from to shown x reaches (no_pcw x tag)))
 
     -- ---- a variable
 

@@ -12,7 +12,7 @@ use Rattle.algol_tree.specs.Scopes.{Scopes, scopes_of}
 use Rattle.algol_meaning.specs.Value.{Cell, simple}
 use Rattle.algol_meaning.specs.Rest.{Answer, value}
 use Rattle.algol_meaning.specs.World.{NamedCell, Instance, Process, Part, lives, World, instance_at, or_no_instance, cell_at, cell_in, value_in}
-use Rattle.algol_meaning.specs.Actions.{Read}
+use Rattle.b67_deeds.specs.declared.Letter.TheVariants.{Read}
 use Rattle.algol_meaning.specs.Asks.{Ask, reads_result, ask, resume}
 use Rattle.algol_meaning.specs.Choice.{choice_of, goes}
 use Rattle.algol_paths.specs.Laws.{RestsKeepToTheirText, AllIsMadeInOrder}
@@ -38,7 +38,6 @@ use Rattle.b67_standing.specs.Stepping.{Slot, operand}
 use Rattle.b67_standing.specs.Standing.{ActionAt, Acted, ComesTo}
 use Rattle.b67_cores.specs.Cores.{Core, IsCore, with_core}
 use Rattle.b67_cores.specs.Stretches.{CoreAt, FragmentsArePerformed}
-use Rattle.b67_faithful.specs.Correspondence.{as_action}
 use Rattle.b67_rows.proofs.Rows.{action_not_plain, action_is}
 use Rattle.b67_rows.proofs.StackWords.{get-front, get-behind}
 use Rattle.b67_rows.proofs.Yielding.{result_given}
@@ -214,7 +213,7 @@ module _ (tree : PProgram) (code : Code) (texts : Texts) (nested : AreNested (sc
           ∙ ap (λ (k : Ask). choice_of sc w p q part outer k) asks
           ∙ ap (λ (x : Cell). goes sc w p q part outer Read w (value (value_in x))) cell_is)
           (λ t. action_is code img p core s.has (ops.Valc at.couple) next there (outcomes.gives (record (with_core img p new) { output = w.output })) t
-          ∙ ap as_action (reads_value code img p core s.has at.couple next there (place p base) shown c.word lies tag (no_sirw c.word tag) (no_pcw c.word tag)))
+          ∙ (reads_value code img p core s.has at.couple next there (place p base) shown c.word lies tag (no_sirw c.word tag) (no_pcw c.word tag)))
 
   pub reading_result : Does tree code texts w img p
   reading_result = result_read c (held c)

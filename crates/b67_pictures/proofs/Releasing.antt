@@ -4,7 +4,8 @@ use Rattle.b67_list.specs.Numbered.{numbered}
 use Rattle.b67_num.specs.declared.FaultKind.{FaultKind}
 use Rattle.algol_tree.specs.Plain.{PProgram}
 use Rattle.algol_tree.specs.Scopes.{scopes_of}
-use Rattle.algol_meaning.specs.Actions.{Action, End}
+use Rattle.b67_deeds.specs.declared.Letter.{Letter}
+use Rattle.b67_deeds.specs.declared.Letter.TheVariants.{End}
 use Rattle.algol_meaning.specs.Choice.{choice}
 use Rattle.algol_meaning.specs.Value.{Reference}
 use Rattle.algol_meaning.specs.World.{World}
@@ -14,13 +15,12 @@ use Rattle.b67_templates.specs.Programs.{Texts}
 use Rattle.b67_table.specs.Image.{Image}
 use Rattle.b67_table.specs.Outcome.{Outcome, faults, limit}
 use Rattle.b67_table.specs.Table.{table}
-use Rattle.b67_letters.specs.declared.Letter.{Letter}
-use Rattle.b67_letters.specs.declared.Letter.TheVariants as letters
+use Rattle.b67_deeds.specs.declared.Letter.{Letter}
+use Rattle.b67_deeds.specs.declared.Letter.TheVariants as letters
 use Rattle.b67_letters.specs.Letters.{letter}
 use Rattle.b67_letters.specs.Releases.{registers_releases, released_by, releases}
 use Rattle.b67_letters.specs.Laws.{may_release}
 use Rattle.b67_letters.proofs.Mute.{few_operators_release}
-use Rattle.b67_faithful.specs.Correspondence.{action_of, as_action, operator_action}
 use Rattle.b67_faithful.proofs.Choices.{is_releasing, EndsIdle, ReleasesNone}
 use Rattle.b67_faithful.proofs.Contradictions.{some_same}
 use Rattle.b67_pictures.specs.Acting.{Does, gave, failed_by, counted_gave, stopped}
@@ -30,7 +30,7 @@ abbrev pub IsReleased : PProgram → Code → World → Image → ℕ → Type 0
 IsReleased tree code w img p = (table code img p ≡ limit → ⊥) → releases code img p ≡ (choice (scopes_of tree) w p).released
 
 -- an action that is none on an event
-harmless : (l : Letter) → is_releasing (action_of l) ≡ false → (may_release l ≡ false) ⊎ (l ≡ letters.End)
+harmless : (l : Letter) → is_releasing l ≡ false → (may_release l ≡ false) ⊎ (l ≡ letters.End)
 harmless letters.Read e = inl refl
 harmless letters.Index e = inl refl
 harmless letters.ElementRead e = inl refl
@@ -56,15 +56,15 @@ harmless letters.Happened e = inl refl
 harmless letters.Procure e = inl refl
 harmless letters.Liberate e = cc
 
-released_none : (code : Code) (img : Image) (p : ℕ) (r : Registers) → numbered img.regs p ≡ Some r → (x : Action) → (x ≡ End → r.task ≡ None) → operator_action code img p ≡ Some x → is_releasing x ≡ false
+released_none : (code : Code) (img : Image) (p : ℕ) (r : Registers) → numbered img.regs p ≡ Some r → (x : Letter) → (x ≡ End → r.task ≡ None) → letter code img p ≡ Some x → is_releasing x ≡ false
     → releases code img p ≡ []
 released_none code img p r has x idle is calm = by_letter (letter code img p) refl is
   where
-    by_kind : (l : Letter) → letter code img p ≡ Some l → action_of l ≡ x → (may_release l ≡ false) ⊎ (l ≡ letters.End) → releases code img p ≡ []
+    by_kind : (l : Letter) → letter code img p ≡ Some l → l ≡ x → (may_release l ≡ false) ⊎ (l ≡ letters.End) → releases code img p ≡ []
     by_kind l e same (inl never) = few_operators_release.others code img p l e never
-    by_kind l e same (inr ends) = few_operators_release.ends code img p r (e ∙ ap (λ (k : Letter). Some k) ends) has (idle (sym same ∙ ap action_of ends))
+    by_kind l e same (inr ends) = few_operators_release.ends code img p r (e ∙ ap (λ (k : Letter). Some k) ends) has (idle (sym same ∙ ends))
 
-    by_letter : (o : Option Letter) → letter code img p ≡ o → as_action o ≡ Some x → releases code img p ≡ []
+    by_letter : (o : Option Letter) → letter code img p ≡ o → o ≡ Some x → releases code img p ≡ []
     by_letter None e a = cc
     by_letter (Some l) e a = by_kind l e (some_same a) (harmless l (ap is_releasing (some_same a) ∙ calm))
 

@@ -11,7 +11,7 @@ use Rattle.algol_meaning.specs.Value.{Cell}
 use Rattle.algol_meaning.specs.Rest as rests
 use Rattle.algol_meaning.specs.Rest.{Answer, place as given_place}
 use Rattle.algol_meaning.specs.World.{Process, Part, lives, name_place, World, instance_at}
-use Rattle.algol_meaning.specs.Actions.{Resolve, Fault}
+use Rattle.b67_deeds.specs.declared.Letter.TheVariants.{Resolve, Fault}
 use Rattle.algol_meaning.specs.Asks.{Ask, resolves, ask, resume, located_of}
 use Rattle.algol_meaning.specs.Settle.{settle_actual_place}
 use Rattle.algol_meaning.specs.Choice.{Choice, choice, choice_of, resolved_of, is_subscripted, opens, fails}
@@ -45,7 +45,6 @@ use Rattle.b67_standing.specs.Standing.{ActionAt, Acted, ComesTo, ResolvesAt}
 use Rattle.b67_cores.specs.Cores.{Core, with_core}
 use Rattle.b67_cores.specs.Slots.{Known, newest}
 use Rattle.b67_cores.specs.Stretches.{CoreAt, FragmentsArePerformed}
-use Rattle.b67_faithful.specs.Correspondence.{as_action}
 use Rattle.b67_templates.specs.Nested.{AreNested}
 use Rattle.b67_rows.proofs.AskedElements.{array_asked, array_seen}
 use Rattle.b67_rows.proofs.PlaceRow.{place_reached_class, place_left_raw, place_left_letter, no_place_raw}
@@ -205,7 +204,7 @@ module _ (tree : PProgram) (code : Code) (texts : Texts) (nested : AreNested (sc
         ∙ ap (λ (k : Ask). choice_of sc w p q part outer k) asks
         ∙ ap (λ (c : Cell). resolved_of sc w p q part outer n c) h.cell_is)
         (λ t. action_is code img p core s.has (ops.Plain kinds.Eval) next there (outcomes.gives (record (with_core img p new) { output = w.output })) t
-        ∙ ap as_action (place_left_letter code img p core s.has next there f.top.word f.top.words_below f.top.is from to named v.word reaches (no_pcw v.word tag)))
+        ∙ (place_left_letter code img p core s.has next there f.top.word f.top.words_below f.top.is from to named v.word reaches (no_pcw v.word tag)))
 
   -- ---- of an actual
 

@@ -14,7 +14,7 @@ use Rattle.algol_tree.specs.Scopes.{Scopes, scopes_of}
 use Rattle.algol_meaning.specs.Rest.{Answer, done}
 use Rattle.algol_meaning.specs.Value.{Value, number, truth, whole_of}
 use Rattle.algol_meaning.specs.World.{Process, Part, lives, World}
-use Rattle.algol_meaning.specs.Actions as act
+use Rattle.b67_deeds.specs.declared.Letter.TheVariants as act
 use Rattle.algol_meaning.specs.Asks.{Ask, selects, ask, resume}
 use Rattle.algol_meaning.specs.Choice.{Choice, choice, choice_of, nth_exists, goes, fails}
 use Rattle.b67_ops.specs.declared.Operator.{Operator}
@@ -43,7 +43,6 @@ use Rattle.b67_standing.specs.Standing.{AreNumbers, ActionAt, Acted, ComesTo}
 use Rattle.b67_cores.specs.Cores.{Core, with_core}
 use Rattle.b67_cores.specs.Stretches.{FragmentsArePerformed}
 use Rattle.algol_paths.specs.Laws.{RestsKeepToTheirText, AllIsMadeInOrder}
-use Rattle.b67_faithful.specs.Correspondence.{as_action}
 use Rattle.b67_rows.proofs.Rows.{action_not_plain, action_is, fault_not_plain}
 use Rattle.b67_rows.proofs.IntrinsicRows.{without_call, enter_class, select_raw, select_faults}
 use Rattle.b67_rows.proofs.Unmade.{makes, unmade}
@@ -180,7 +179,7 @@ module _ (tree : PProgram) (code : Code) (texts : Texts) (fragments : FragmentsA
         (choice_is sc w p q part outer s.at s.todo
         ∙ ap (λ (k : Ask). choice_of sc w p q part outer k) asks
         ∙ ap (λ (b : Bool). if b then (goes sc w p q part outer act.Select w done) else fails sc w p q part outer CaseIndex) exists)
-        (λ t. action_is code img p core s.has (ops.Plain kinds.Entr) a.0 there (outcomes.gives (record (with_core img p (new i)) { output = w.output })) t ∙ ap as_action c.action)
+        (λ t. action_is code img p core s.has (ops.Plain kinds.Entr) a.0 there (outcomes.gives (record (with_core img p (new i)) { output = w.output })) t ∙ c.action)
 
     goes_nowhere : nth_exists (whole_of v) ss ≡ false → case_in (whole_of v) (pos (stmts_count ss)) ≡ None → Does tree code texts w img p
     goes_nowhere exists inside =

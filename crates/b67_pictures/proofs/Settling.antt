@@ -1,11 +1,12 @@
 -- Where a process stands at its action, its operator is that action, and releases whom that releases.
+use Rattle.b67_deeds.specs.Deeds as deeds
 use Rattle.std.proofs.Common.{◌≡◌, refl, sym, ◌∙◌, subst, ℕ, List, [], ◌∷◌, Option, Some, None, true}
 use Rattle.b67_list.specs.Numbered.{numbered}
-use Rattle.algol_tree.specs.declared.tree.EventAct.{EventAct}
+use Rattle.b67_deeds.specs.declared.EventAct.{EventAct}
 use Rattle.algol_tree.specs.declared.tree.Named.{Named}
 use Rattle.algol_tree.specs.Plain.{PProgram}
 use Rattle.algol_tree.specs.Scopes.{scopes_of}
-use Rattle.algol_meaning.specs.Asks.{Ask, nothing, reads, reads_element, indexes, asks_happened, fails, enters, passes, resolves, reads_result, leaves, stores, selects, turns, goes_to, enters_block, starts, acts, writes, makes_arrays, makes_event, ask, resume}
+use Rattle.algol_meaning.specs.Asks.{Ask, nothing, reads, reads_element, indexes, fails, enters, passes, resolves, reads_result, leaves, stores, selects, turns, goes_to, enters_block, starts, writes, makes_arrays, makes_event, ask, resume, event_deed}
 use Rattle.algol_meaning.specs.Choice.{Choice, choice, choice_of}
 use Rattle.algol_meaning.specs.Rest.{Answer}
 use Rattle.algol_meaning.specs.Value.{Reference}
@@ -36,12 +37,12 @@ use Rattle.b67_pictures.proofs.Releasing.{IsReleased, none_released}
 
 -- the head asks for an action on an event, that the part be left, or for none of both
 data IsOfEvent (task : Option Reference) (outer : List Part) (k : Ask) : Type 0 where
-  of_event : (x : EventAct) (n : Named) → k ≡ acts x n → IsOfEvent task outer k
+  of_event : (x : EventAct) (ns : List Named) → k ≡ event_deed (deeds.acts x) ns → IsOfEvent task outer k
   of_leaving : (r : Answer) → k ≡ leaves r → IsOfEvent task outer k
   of_none : NoEvent k → NoTask task outer k → IsOfEvent task outer k
 
 event_or_not : (task : Option Reference) (outer : List Part) (k : Ask) → IsOfEvent task outer k
-event_or_not task outer (acts x n) = of_event x n refl
+event_or_not task outer (event_deed (deeds.acts x) ns) = of_event x ns refl
 event_or_not task outer (reads n) = of_none tt tt
 event_or_not task outer (fails f) = of_none tt tt
 event_or_not task outer (stores x v) = of_none tt tt
@@ -52,7 +53,7 @@ event_or_not task outer (leaves r) = of_leaving r refl
 event_or_not task outer nothing = of_none tt tt
 event_or_not task outer (reads_element n ks v) = of_none tt tt
 event_or_not task outer (indexes n ks v) = of_none tt tt
-event_or_not task outer (asks_happened n) = of_none tt tt
+event_or_not task outer (event_deed (deeds.tests x) ns) = of_none tt tt
 event_or_not task outer (enters n gs) = of_none tt tt
 event_or_not task outer (passes n) = of_none tt tt
 event_or_not task outer (resolves n) = of_none tt tt
@@ -66,11 +67,11 @@ event_or_not task outer (makes_event n) = of_none tt tt
 -- each operator of an action on an event releases whom that releases
 abbrev pub AreFreed : PProgram → Code → Texts → Type 0
 AreFreed tree code texts =
-    (x : EventAct) (n : Named) (w : World) (lay : Layout) (img : Image) (p : ℕ) (q : Process) (part : Part) (outer : List Part) (bound : ℕ) (core : Core) (s : Scene tree code texts w lay img p q part outer bound core) →
-    lives q.state ≡ true → StateIs q.state (numbered img.states p) → ask part.rest ≡ acts x n →
-    (a : ActionAt (scopes_of tree) (context_in tree code texts w part s.stands.frame.gives) (text_in tree texts w part) (level_in tree w part) (most_in tree w part) (acts x n) s.stands.pc s.stands.slots) →
+    (x : EventAct) (ns : List Named) (w : World) (lay : Layout) (img : Image) (p : ℕ) (q : Process) (part : Part) (outer : List Part) (bound : ℕ) (core : Core) (s : Scene tree code texts w lay img p q part outer bound core) →
+    lives q.state ≡ true → StateIs q.state (numbered img.states p) → ask part.rest ≡ event_deed (deeds.acts x) ns →
+    (a : ActionAt (scopes_of tree) (context_in tree code texts w part s.stands.frame.gives) (text_in tree texts w part) (level_in tree w part) (most_in tree w part) (event_deed (deeds.acts x) ns) s.stands.pc s.stands.slots) →
     ((r : Answer) (at : ℕ) (left : List Slot) →
-    Acted (scopes_of tree) (context_in tree code texts w part s.stands.frame.gives) (text_in tree texts w part) (level_in tree w part) (most_in tree w part) (acts x n) s.stands.pc s.stands.slots a r at left →
+    Acted (scopes_of tree) (context_in tree code texts w part s.stands.frame.gives) (text_in tree texts w part) (level_in tree w part) (most_in tree w part) (event_deed (deeds.acts x) ns) s.stands.pc s.stands.slots a r at left →
     ComesTo (scopes_of tree) (context_in tree code texts w part s.stands.frame.gives) (text_in tree texts w part) (level_in tree w part) (most_in tree w part) (resume (scopes_of tree) part.rest r) at left) →
     releases code img p ≡ (choice (scopes_of tree) w p).released
 
@@ -114,8 +115,8 @@ module _ (tree : PProgram) (code : Code) (texts : Texts) (lies : LiesNested tree
   done_there = scene_does tree code texts lies actuals fragments keeps order rests others w lay img p q part outer bound core s able_is able_p
 
   by_ask : (k : Ask) → ask part.rest ≡ k → IsOfEvent q.task outer k → IsThere k
-  by_ask k e (of_event x n is) =
-      subst IsThere (sym is) (λ a answered no_limit. freed x n w lay img p q part outer bound core s able_is able_p (e ∙ is) a answered)
+  by_ask k e (of_event x ns is) =
+      subst IsThere (sym is) (λ a answered no_limit. freed x ns w lay img p q part outer bound core s able_is able_p (e ∙ is) a answered)
   by_ask k e (of_leaving r is) = subst IsThere (sym is) (λ a answered. leaving_frees tree code texts w lay img p q part bound core done_there ends able_is outer s r (e ∙ is) a)
   by_ask k e (of_none calm idle) = λ a answered. calmly tree code texts w lay img p q part bound core done_there outer s k e calm idle
 

@@ -1,7 +1,7 @@
 -- Who starts a process has nothing to make.
 use Rattle.std.proofs.Common.{◌≡◌, refl, List, [], ◌∷◌, Option}
 use Rattle.algol_tree.specs.declared.tree.Named.{Named}
-use Rattle.algol_meaning.specs.Rest.{Given, valued, passed, refers, names, Hole, read, element, index, happens, broken, enter, inside, subscript, argument, left, right, negated, inverted, condition, Actuals, pass, in_value, Rest, arrays, event, bounding}
+use Rattle.algol_meaning.specs.Rest.{Given, valued, passed, refers, names, Hole, read, element, index, tests, broken, enter, inside, subscript, argument, left, right, negated, inverted, condition, Actuals, pass, in_value, Rest, arrays, event, bounding}
 use Rattle.algol_meaning.specs.Asks.{starts, ask, ask_hole, ask_actuals}
 use Rattle.algol_paths.specs.Arrays.{all_to_make}
 use Rattle.algol_paths.specs.Texts.{InGivens}
@@ -13,7 +13,7 @@ mutual
   hole_starts n gs task (read m) e = cc
   hole_starts n gs task (element m ks i) e = cc
   hole_starts n gs task (index m ks i x es) e = cc
-  hole_starts n gs task (happens m) e = cc
+  hole_starts n gs task (tests x ns) e = cc
   hole_starts n gs task (broken op v w fault) e = cc
   hole_starts n gs task (enter m hs) e = cc
   hole_starts n gs task inside e = cc

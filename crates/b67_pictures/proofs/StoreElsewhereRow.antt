@@ -22,7 +22,7 @@ use Rattle.b67_table.specs.Private.{floor}
 use Rattle.b67_table.specs.References.{Two, cell_of, cell_place, reached_in, named, from_top, operand_in, invalid}
 use Rattle.b67_table.specs.Rows.{row, store, store_by, stored}
 use Rattle.b67_table.specs.Table.{raw, operator_at, class_at}
-use Rattle.b67_letters.specs.declared.Letter.TheVariants.{Store, ElementStore}
+use Rattle.b67_deeds.specs.declared.Letter.TheVariants.{Store, ElementStore}
 use Rattle.b67_letters.specs.Letters.{told_by, element_or_not, stored_letter, operator_letter}
 use Rattle.b67_cores.specs.Cores.{Core, HasCore, with_core}
 use Rattle.b67_rows.proofs.Cored.{stack_other}

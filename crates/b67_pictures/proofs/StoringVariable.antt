@@ -10,7 +10,7 @@ use Rattle.algol_meaning.specs.Value.{Value, Reference, simple}
 use Rattle.algol_meaning.specs.Rest as meant
 use Rattle.algol_meaning.specs.Rest.{done}
 use Rattle.algol_meaning.specs.World.{NamedCell, Instance, Process, Part, lives, World, or_no_instance, with_instance, with_process, cell_in, cells_with, set_cell}
-use Rattle.algol_meaning.specs.Actions.{Store}
+use Rattle.b67_deeds.specs.declared.Letter.TheVariants.{Store}
 use Rattle.algol_meaning.specs.Asks.{Ask, stores, ask, resume}
 use Rattle.algol_meaning.specs.Choice.{Choice, choice, choice_of, goes}
 use Rattle.algol_paths.specs.Arrays.{Made}
@@ -37,7 +37,6 @@ use Rattle.b67_standing.specs.Standing.{ComesTo}
 use Rattle.b67_cores.specs.Cores.{Core, size, IsCore, HasCore, with_core}
 use Rattle.b67_cores.specs.Slots.{ValueIs, newest, SlotsAre}
 use Rattle.b67_cores.specs.Stretches.{CoreAt, FragmentsArePerformed}
-use Rattle.b67_faithful.specs.Correspondence.{as_action}
 use Rattle.b67_rows.proofs.Cored.{registers_now}
 use Rattle.b67_rows.proofs.IndexRows.{without_two}
 use Rattle.b67_rows.proofs.Numbers.{same_or_not, get_below}
@@ -247,7 +246,7 @@ module _ (tree : PProgram) (code : Code) (texts : Texts) (fragments : FragmentsA
         (store_class code img p core s.has next there x y h.word words top (2 + h.number) high own_names plain_word below_lies (value_tag v x x_is) tag))
         is
         (action_is code img p core s.has (ops.Plain kinds.Stod) next there (outcomes.gives (with_core img p stored_core)) is
-        ∙ ap as_action (stores_variable code img p core s.has next there x y h.word words top (2 + h.number) high own_names plain_word below_lies (value_tag v x x_is) tag)
+        ∙ (stores_variable code img p core s.has next there x y h.word words top (2 + h.number) high own_names plain_word below_lies (value_tag v x x_is) tag)
         ∙ ap (λ (c : Choice). Some c.action) (sym chosen))
         (λ may. (lay, subst (λ (c : Choice). PicturesBy tree code texts c.world lay (with_core img p stored_core)) (sym chosen) (pictured may)))
 
@@ -280,7 +279,7 @@ module _ (tree : PProgram) (code : Code) (texts : Texts) (fragments : FragmentsA
         (store_elsewhere_class code img p core s.has next there x y h.word words top (place f.number high) (2 + h.number) names plain_word apart h.word_lies (value_tag v x x_is) tag))
         is
         (action_is code img p core s.has (ops.Plain kinds.Stod) next there (outcomes.gives (with_core with_it p new)) is
-        ∙ ap as_action (stores_elsewhere code img p core s.has next there x y h.word words top (place f.number high) (2 + h.number) names plain_word apart h.word_lies (value_tag v x x_is) tag)
+        ∙ (stores_elsewhere code img p core s.has next there x y h.word words top (place f.number high) (2 + h.number) names plain_word apart h.word_lies (value_tag v x x_is) tag)
         ∙ ap (λ (c : Choice). Some c.action) (sym chosen))
         (λ may. (lay, subst (λ (c : Choice). PicturesBy tree code texts c.world lay (with_core with_it p new)) (sym chosen) (pictured_there may)))
 

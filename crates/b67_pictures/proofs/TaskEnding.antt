@@ -1,25 +1,29 @@
 -- The end of a process that has a task: its last part is left, the event of its task is caused, and who waits for that is able again.
+use Rattle.algol_standing.proofs.Awaiting.{awaits_lives}
+use Rattle.b67_pictures.proofs.Deeds.{waiting_not_able}
+use Rattle.b67_deeds.specs.Listed.{IsListed}
 use Rattle.std.proofs.Common.{◌≡◌, ◌≢◌, ◌⊎◌, inl, inr, refl, sym, ap, ◌∙◌, subst, ℕ, ◌+◌, List, [], ◌∷◌, zero, suc, length, Option, Some, None, true, false, arith}
 use Rattle.std.specs.Prelude.{slice_get, slice_set}
 use Rattle.b67_list.specs.Numbered.{numbered, set_numbered}
 use Rattle.algol_tree.specs.Blocks.{block_numbered}
 use Rattle.algol_tree.specs.Plain.{PProgram}
 use Rattle.algol_tree.specs.Scopes.{Scopes, scopes_of}
-use Rattle.algol_meaning.specs.Actions.{End}
+use Rattle.b67_deeds.specs.declared.Letter.TheVariants.{End}
 use Rattle.algol_meaning.specs.Asks.{leaves, ask}
 use Rattle.algol_meaning.specs.Choice.{Choice, choice, ended_releasing}
 use Rattle.algol_meaning.specs.Critical.{some_depends, is_evaluation}
 use Rattle.algol_meaning.specs.Events.{event_at, set_event, released, caused_by_end}
 use Rattle.algol_meaning.specs.Instances.{leave}
 use Rattle.algol_meaning.specs.Rest.{done}
-use Rattle.algol_meaning.specs.Value.{Reference, EventCell, event}
+use Rattle.algol_meaning.specs.Value.{Reference, event}
+use Rattle.b67_deeds.specs.Events.{EventState, caused}
 use Rattle.algol_meaning.specs.World.{NamedCell, Instance, Process, Part, waits_for, is_able, lives, World, instance_at, or_no_instance, process_at, with_process, cell_in, cell_at, event_in, cells_with, set_all_able}
 use Rattle.algol_standing.specs.Skeleton.{IsIn}
 use Rattle.algol_standing.specs.Skeleton as skeletons
-use Rattle.algol_standing.specs.Worlds.{IsListed, AreListed, IsOwn, IsStanding, IsOnPath, referred_in_cells}
+use Rattle.algol_standing.specs.Worlds.{AreListed, IsOwn, IsStanding, IsOnPath, referred_in_cells}
 use Rattle.b67_word.specs.declared.Place.{Place}
 use Rattle.b67_events.specs.Events as kernel
-use Rattle.b67_events.specs.Events.{Event, waiters_of, waiters_at, closed_from, caused, changed as with_event}
+use Rattle.b67_events.specs.Events.{Event, waiters_at, closed_from, changed as with_event, with_state}
 use Rattle.b67_ops.specs.declared.Operator.TheVariants as ops
 use Rattle.b67_ops.specs.declared.PlainKind.TheVariants as kinds
 use Rattle.b67_segment.specs.declared.code.Code.{Code}
@@ -219,11 +223,11 @@ module _ (tree : PProgram) (code : Code) (texts : Texts) (closing : FramesClose)
 
   -- ---- the event
 
-  abbrev c : EventCell
+  abbrev c : EventState
   c = found.cell
 
-  abbrev later : EventCell
-  later = record c { happened = true; waiters = [] }
+  abbrev later : EventState
+  later = caused c
 
   means : cell_at v r ≡ event c
   means = ap (λ (z : Instance). cell_in z.cells r.name) here ∙ found.means
@@ -243,7 +247,7 @@ module _ (tree : PProgram) (code : Code) (texts : Texts) (closing : FramesClose)
       ∙ open_before.are_open j number c at (there.has_event sc v lay j x own_cells r.name e.made.number found later (place h.number high) laid)
 
   waiters_there : waiters_at task open_events ≡ c.waiters
-  waiters_there = ap waiters_of open_as
+  waiters_there = ap (λ (z : Option Event). (kernel.state_of z).waiters) open_as
 
   -- ---- who waits for it
 
@@ -251,7 +255,7 @@ module _ (tree : PProgram) (code : Code) (texts : Texts) (closing : FramesClose)
   listed = s.ok.sound.listed r c t.stands (ap (λ (cells : List NamedCell). cell_in cells r.name) (sym (same j).cells) ∙ means)
 
   waiter_apart : is_able ((process_at w p).state) ≡ true → IsListed c.waiters p → ⊥
-  waiter_apart able_now is = true_false able_now (ap is_able (listed.waiters p is))
+  waiter_apart able_now is = true_false able_now (waiting_not_able ((process_at w p).state) r (listed.waiters p is))
 
   -- ---- the world
 
@@ -264,19 +268,19 @@ module _ (tree : PProgram) (code : Code) (texts : Texts) (closing : FramesClose)
   world_is : set_event v r later ≡ stored
   world_is = there.event_world sc v lay j x own_cells r.name e.made.number found later
 
-  abbrev choice_by : EventCell → Choice
-  choice_by y = ended_releasing sc w p q part [] (released v r (record y { happened = true; waiters = [] }) y.waiters)
+  abbrev choice_by : EventState → Choice
+  choice_by y = ended_releasing sc w p q part [] (record { world = set_all_able (set_event v r (caused y)) y.waiters; processes = y.waiters })
 
   chosen : choice sc w p ≡ record { action = End; world = with_process (set_all_able (set_event v r later) c.waiters) p q'; released = c.waiters; started = None }
   chosen =
       ending.chosen_by tree code texts closing w lay img p q part bound core s owns asks free
-      ∙ ap (λ (o : Option Reference). ended_releasing sc w p q part [] (caused_by_end (leave w (i ∷ [])) o)) has_task
+      ∙ ap (λ (o : Option Reference). ended_releasing sc w p q part [] (caused_by_end (leave w (i ∷ [])) p o)) has_task
       ∙ ap choice_by event_is
 
   -- ---- the picture before they are released
 
   abbrev now : Image
-  now = record before { events = with_event at caused open_events }
+  now = record before { events = with_event at (with_state caused) open_events }
 
   same_core : (m : ℕ) (k : Core) → HasCore before m k → HasCore now m k
   same_core m k has = record { live = has.live; registers = has.registers; own = has.own; stack = has.stack; is = has.is }
@@ -401,7 +405,7 @@ module _ (tree : PProgram) (code : Code) (texts : Texts) (closing : FramesClose)
         (arrays_unchanged sc stored w' lay before.rows refl
         (there.arrays_after sc v lay j x own_cells r.name e.made.number found later before.rows (ending.arrays_left_world tree code texts closing w lay img p q part bound core s owns asks a)))
         (events_unchanged sc stored w' lay now.events refl
-        (there.events_after sc v lay j x own_cells r.name e.made.number found later (place h.number high) laid caused (λ z. refl) refl open_events open_before))
+        (there.events_after sc v lay j x own_cells r.name e.made.number found later (place h.number high) laid (with_state caused) (λ z. refl) refl open_events open_before))
         s.by.output refl refl refl (length_set_numbered img.states p Ended) (ending.system_stays tree code texts closing w lay img p q part bound core s owns asks a) others_now
         (dead refl (numbered_set img.states p (ending.state_now tree code texts closing w lay img p q part bound core s owns asks a).0 Ended (ending.state_now tree code texts closing w lay img p q part bound core s owns asks a).1))
 
@@ -410,7 +414,7 @@ module _ (tree : PProgram) (code : Code) (texts : Texts) (closing : FramesClose)
 
   alive_then : (IsListed c.waiters p → ⊥) → (k : ℕ) → IsListed c.waiters k → LivesIn (with_process (set_event v r later) p q') k
   alive_then none k is =
-      let waits : LivesIn w k = lives_waiting w k (waits_for r) (listed.waiters k is) refl in
+      let waits : LivesIn w k = lives_waiting w k ((process_at w k).state) refl (awaits_lives ((process_at w k).state) r (listed.waiters k is)) in
       record {
         process = waits.process;
         is = numbered_other w.processes p k q' (λ (e : p ≡ k). none (subst (IsListed c.waiters) (sym e) is)) ∙ waits.is;
@@ -436,7 +440,7 @@ module _ (tree : PProgram) (code : Code) (texts : Texts) (closing : FramesClose)
   after_is none =
       ap with_them (able_beside c.waiters p Ended img.states none)
       ∙ ap (λ (ws : List ℕ). with_them (set_numbered (able_again ws img.states) p Ended)) (sym waiters_there)
-      ∙ ap (λ (y : Place). record (with_them (set_numbered (able_again (waiters_at task open_events) img.states) p Ended)) { events = with_event y caused open_events }) (sym task_is)
+      ∙ ap (λ (y : Place). record (with_them (set_numbered (able_again (waiters_at task open_events) img.states) p Ended)) { events = with_event y (with_state caused) open_events }) (sym task_is)
 
   abbrev W : World
   W = set_all_able (with_process (set_event v r later) p q') c.waiters

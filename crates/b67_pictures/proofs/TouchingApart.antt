@@ -13,7 +13,7 @@ use Rattle.algol_tree.specs.Scopes.{Scopes, scopes_of}
 use Rattle.algol_meaning.specs.Value.{Value, Reference, number}
 use Rattle.algol_meaning.specs.Rest.{Place as FoundPlace, own, there, element_of, Given, done, value, cell, place as at_place, entered}
 use Rattle.algol_meaning.specs.World.{Process, Part, World, instance_at}
-use Rattle.algol_meaning.specs.Asks.{Ask, nothing, reads, reads_element, indexes, asks_happened, fails, enters, passes, resolves, reads_result, leaves, stores, selects, turns, goes_to, enters_block, starts, acts, writes, makes_arrays, makes_event, ask}
+use Rattle.algol_meaning.specs.Asks.{Ask, nothing, reads, reads_element, indexes, fails, enters, passes, resolves, reads_result, leaves, stores, selects, turns, goes_to, enters_block, starts, writes, makes_arrays, makes_event, ask, event_deed}
 use Rattle.algol_paths.specs.Blocks.{IsSeen, IsSeenAround, IsInner}
 use Rattle.algol_standing.specs.Worlds.{IsWhole}
 use Rattle.algol_standing.specs.Fitting.{IsOk}
@@ -75,7 +75,7 @@ use Rattle.b67_scenes.proofs.Worlds.{narrow_of}
 use Rattle.b67_scenes.proofs.Staying.{text_in, level_in, context_in, most_in, names_in}
 use Rattle.b67_scenes.proofs.TouchingOthers.{LivesThere, lives_there, own_stacks}
 use Rattle.b67_scenes.proofs.TouchingCells.{IsOperand, IsEntry, Names, variable_there, result_there, procedure_there}
-use Rattle.b67_scenes.proofs.TouchingEvents.{happened_near, acted_near, event_made_near}
+use Rattle.b67_scenes.proofs.TouchingEvents.{event_made_near, deed_near}
 use Rattle.b67_scenes.proofs.TouchingScene.{by_names, by_class}
 use Rattle.b67_pictures.proofs.Resolving.{FindsName, finds_name, resolved_name}
 use Rattle.b67_pictures.proofs.StoringThere.{FindsVariable, finds_variable}
@@ -301,12 +301,11 @@ module _ (tree : PProgram) (code : Code) (texts : Texts) (nested : AreNested (sc
     by_ask nothing e a = absurd a
     by_ask (reads_element n ks v) e a = element_read_near tree code texts nested w lay img p q part outer bound core s n ks v e a
     by_ask (indexes n ks v) e a = indexed_near tree code texts nested w lay img p q part outer bound core s n ks v e a
-    by_ask (asks_happened n) e a = happened_near tree code texts nested w lay img p q part outer bound core s n e a
     by_ask (passes n) e a = passed_near tree code texts nested w lay img p q part outer bound core s n e a
     by_ask (resolves n) e a = resolved_near n e a
     by_ask (goes_to n) e a = gone_near n a
     by_ask (starts n gs task) e a = starts_near tree code texts nested w lay img p q part outer bound core s n gs task e a
-    by_ask (acts y n) e a = acted_near tree code texts nested w lay img p q part outer bound core s y n e a
+    by_ask (event_deed y ns) e a = deed_near tree code texts nested w lay img p q part outer bound core s y ns e a
     by_ask (makes_arrays kind ns pairs vs) e a = made_near tree code texts nested w lay img p q part outer bound core s kind ns pairs vs a
     by_ask (makes_event n) e a = event_made_near tree code texts nested w lay img p q part outer bound core s n a
 

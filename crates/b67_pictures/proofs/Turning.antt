@@ -5,7 +5,7 @@ use Rattle.algol_tree.specs.Plain.{PProgram}
 use Rattle.algol_tree.specs.Scopes.{Scopes, scopes_of}
 use Rattle.algol_meaning.specs.Rest.{Answer, done}
 use Rattle.algol_meaning.specs.World.{Process, Part, lives, World}
-use Rattle.algol_meaning.specs.Actions.{Turn}
+use Rattle.b67_deeds.specs.declared.Letter.TheVariants.{Turn}
 use Rattle.algol_meaning.specs.Asks.{Ask, turns, ask, resume}
 use Rattle.algol_meaning.specs.Choice.{choice_of}
 use Rattle.b67_ops.specs.declared.Operator.TheVariants as ops
@@ -22,7 +22,6 @@ use Rattle.b67_standing.specs.Standing.{ActionAt, Acted, ComesTo}
 use Rattle.b67_cores.specs.Cores.{Core, with_core}
 use Rattle.b67_cores.specs.Stretches.{CoreAt, FragmentsArePerformed}
 use Rattle.algol_paths.specs.Laws.{RestsKeepToTheirText, AllIsMadeInOrder}
-use Rattle.b67_faithful.specs.Correspondence.{as_action}
 use Rattle.b67_rows.proofs.Rows.{action_not_plain, action_is}
 use Rattle.b67_rows.proofs.TurnRow.{at_place, turns_back, turn_raw, turn_class}
 use Rattle.b67_rows.proofs.Unmade.{makes, unmade}
@@ -72,4 +71,4 @@ module _ (tree : PProgram) (code : Code) (texts : Texts) (fragments : FragmentsA
         (turn_raw code img p core s.has a.0 a.1 there back ∙ ap (λ (o : List (List ℕ)). effects.gives (record (with_core img p new) { output = o })) s.by.output)
         (choice_is sc w p q part outer s.at s.todo ∙ ap (λ (k : Ask). choice_of sc w p q part outer k) asks)
         (λ t. action_is code img p core s.has (ops.Branch Brun a.0) a.1 there (outcomes.gives (record (with_core img p new) { output = w.output })) t
-        ∙ ap as_action (turns_back code img p core s.has a.0 a.1 there back))
+        ∙ (turns_back code img p core s.has a.0 a.1 there back))

@@ -11,7 +11,7 @@ use Rattle.algol_meaning.specs.Lines.{line_of, number_first}
 use Rattle.algol_meaning.specs.Rest.{Answer, done}
 use Rattle.algol_meaning.specs.Value.{Value, number, whole_of}
 use Rattle.algol_meaning.specs.World.{Process, Part, lives, World, instance_at}
-use Rattle.algol_meaning.specs.Actions.{Line}
+use Rattle.b67_deeds.specs.declared.Letter.TheVariants.{Line}
 use Rattle.algol_meaning.specs.Asks.{Ask, writes, ask, resume}
 use Rattle.algol_meaning.specs.Choice.{choice_of}
 use Rattle.b67_ops.specs.declared.Operator.TheVariants as ops
@@ -36,7 +36,6 @@ use Rattle.b67_standing.specs.Standing.{ActionAt, Acted, ComesTo}
 use Rattle.b67_cores.specs.Cores.{Core, with_core}
 use Rattle.b67_cores.specs.Stretches.{FragmentsArePerformed}
 use Rattle.algol_paths.specs.Laws.{RestsKeepToTheirText, AllIsMadeInOrder}
-use Rattle.b67_faithful.specs.Correspondence.{as_action}
 use Rattle.b67_rows.proofs.Rows.{action_not_plain, action_is}
 use Rattle.b67_rows.proofs.IntrinsicRows.{without_call, enter_class, write_raw}
 use Rattle.b67_rows.proofs.Unmade.{makes, unmade}
@@ -119,7 +118,7 @@ module _ (tree : PProgram) (code : Code) (texts : Texts) (fragments : FragmentsA
         (line_is sc code texts ((instance_at w part.instance).block) s.stands.frame.gives (text_in tree texts w part) (level_in tree w part) a.2.format ts vs a.2.is)
         ∙ ap (λ (o : List (List ℕ)). effects.gives (record (with_core img p new) { output = o ++ line_of ts vs ∷ [] })) s.by.output)
         (choice_is sc w p q part outer s.at s.todo ∙ ap (λ (k : Ask). choice_of sc w p q part outer k) asks)
-        (λ t. action_is code img p core s.has (ops.Plain kinds.Entr) a.0 there (outcomes.gives (record (with_core img p new) { output = out })) t ∙ ap as_action c.action)
+        (λ t. action_is code img p core s.has (ops.Plain kinds.Entr) a.0 there (outcomes.gives (record (with_core img p new) { output = out })) t ∙ c.action)
 
   pub writing : Does tree code texts w img p
   writing = does (call tree code texts w lay img p q part outer bound core s Write given a.1 (a.2.whole, a.2.fits) a.2.lies)

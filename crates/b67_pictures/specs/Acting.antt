@@ -1,5 +1,6 @@
 -- What the operator of an action does in an image of a world.
 use Rattle.std.specs.Prelude.{◌≡◌, ℕ, ◌<◌, true, false, Some, length}
+use Rattle.b67_letters.specs.Letters.{letter}
 use Rattle.b67_num.specs.declared.FaultKind.{FaultKind}
 use Rattle.algol_tree.specs.Plain.{PProgram}
 use Rattle.algol_tree.specs.Scopes.{Scopes, scopes_of}
@@ -15,7 +16,6 @@ use Rattle.b67_table.specs.Outcome.{gives, faults, limit}
 use Rattle.b67_table.specs.Image.{Image}
 use Rattle.b67_table.specs.Ending.{failed}
 use Rattle.b67_table.specs.Table.{table, plain}
-use Rattle.b67_faithful.specs.Correspondence.{operator_action}
 use Rattle.b67_faithful.specs.Weight.{weight}
 use Rattle.b67_scenes.specs.Pictures.{Pictures}
 
@@ -31,11 +31,11 @@ module _ (tree : PProgram) (code : Code) (texts : Texts) (w : World) (img : Imag
   -- It is the source's action, and gives an image of the world after it where the process may act, or keeps the source's fault. Or it comes
   -- to the stack limit, where the process weighs more than a stack has room for.
   pub data Does : Type 0 where
-    gave : (after : Image) → plain code img p ≡ false → table code img p ≡ gives after → operator_action code img p ≡ Some ((choice (scopes_of tree) w p).action) →
+    gave : (after : Image) → plain code img p ≡ false → table code img p ≡ gives after → letter code img p ≡ Some ((choice (scopes_of tree) w p).action) →
         (MayAct (scopes_of tree) w p → Pictures tree code texts ((choice (scopes_of tree) w p).world) after) → Does
-    failed_by : (kind : FaultKind) → plain code img p ≡ false → table code img p ≡ faults kind → operator_action code img p ≡ Some ((choice (scopes_of tree) w p).action) →
+    failed_by : (kind : FaultKind) → plain code img p ≡ false → table code img p ≡ faults kind → letter code img p ≡ Some ((choice (scopes_of tree) w p).action) →
         Pictures tree code texts ((choice (scopes_of tree) w p).world) (failed img p kind) → Does
     -- .. where the image has registers for as many processes as there have been
-    counted_gave : (after : Image) → plain code img p ≡ false → table code img p ≡ gives after → operator_action code img p ≡ Some ((choice (scopes_of tree) w p).action) →
+    counted_gave : (after : Image) → plain code img p ≡ false → table code img p ≡ gives after → letter code img p ≡ Some ((choice (scopes_of tree) w p).action) →
         (MayAct (scopes_of tree) w p → length img.regs ≡ img.started → Pictures tree code texts ((choice (scopes_of tree) w p).world) after) → Does
     stopped : plain code img p ≡ false → table code img p ≡ limit → stack_limit < weight tree w p → Does

@@ -30,7 +30,7 @@ use Rattle.b67_table.specs.Private.{frame, at_or}
 use Rattle.b67_table.specs.References.{couple_cell, cell_of, invalid}
 use Rattle.b67_table.specs.Rows.{value_or_entry, cell_or_entry}
 use Rattle.b67_table.specs.Table.{raw, operator_at}
-use Rattle.b67_letters.specs.declared.Letter.TheVariants.{Read, Resolve, Enter}
+use Rattle.b67_deeds.specs.declared.Letter.TheVariants.{Read, Resolve, Enter}
 use Rattle.b67_letters.specs.Letters.{entered_or, operator_letter}
 use Rattle.b67_letters.proofs.Looks.{then_seen, see_found}
 use Rattle.b67_cores.specs.Cores.{Core, IsCore, HasCore, with_core, stack_of}

@@ -1,5 +1,7 @@
 -- The actuals of a block keep to its text. So does what a part has still to do that evaluates one of them.
-use Rattle.std.proofs.Common.{◌≡◌, refl, subst, ℕ, zero, suc, List, [], ◌∷◌, ◌++◌, Some, Bool, true, false, append_assoc}
+use Rattle.std.specs.List.{AllByRecursion}
+use Rattle.algol_tree.specs.declared.tree.EventName.{EventName}
+use Rattle.std.proofs.Common.{◌≡◌, refl, subst, ℕ, zero, suc, List, [], ◌∷◌, ◌++◌, Some, Bool, true, false, append_assoc, map}
 use Rattle.std.specs.Prelude.{if◌then◌else◌, is_some, slice_get}
 use Rattle.algol_tree.specs.declared.tree.Kind.{Kind}
 use Rattle.algol_tree.specs.declared.tree.Named.{Named}
@@ -24,13 +26,17 @@ use Rattle.b67_templates.specs.Nested.{IsText}
 -- ---- names of which more holds
 
 module _ (P R : Named → Type 0) (more : (n : Named) → R n → P n) where
+  names_more : (ns : List Named) → AllByRecursion R ns → AllByRecursion P ns
+  names_more [] i = tt
+  names_more (n ∷ ns) i = (more n i.0, names_more ns i.1)
+
   mutual
     expr_more : (e : PExpr) → InExpr R e → InExpr P e
     expr_more (tree.number z spot) i = tt
     expr_more (tree.truth b spot) i = tt
     expr_more (tree.variable (tree.subscripted n es)) i = (more n i.0, exprs_more es i.1)
     expr_more (tree.call (tree.called n es)) i = (more n i.0, exprs_more es i.1)
-    expr_more (tree.tested which e spot) i = more e.name i
+    expr_more (tree.tested which es spot) i = names_more (map (λ (e : EventName). e.name) es) i
     expr_more (tree.paren e spot) i = expr_more e i
     expr_more (tree.plus e spot) i = expr_more e i
     expr_more (tree.neg e spot) i = expr_more e i
@@ -77,7 +83,7 @@ module _ (P : Named → Type 0) where
     own_in (by_name k) (tree.number z spot) i = (i, tt)
     own_in (by_name k) (tree.truth b spot) i = (i, tt)
     own_in (by_name k) (tree.call c) i = (i, tt)
-    own_in (by_name k) (tree.tested test e spot) i = (i, tt)
+    own_in (by_name k) (tree.tested x es spot) i = (i, tt)
     own_in (by_name k) (tree.paren e spot) i = (i, tt)
     own_in (by_name k) (tree.plus e spot) i = (i, tt)
     own_in (by_name k) (tree.neg e spot) i = (i, tt)

@@ -52,7 +52,7 @@ module _ (sc : Scopes) where
   own_low (by_name k) (tree.truth b spot) = (depth_small (tree.truth b spot), tt)
   own_low (by_name k) (tree.variable (tree.subscripted n (tree.more e es))) = (depth_small (tree.variable (tree.subscripted n (tree.more e es))), tt)
   own_low (by_name k) (tree.call c) = (depth_small (tree.call c), tt)
-  own_low (by_name k) (tree.tested test e spot) = (depth_small (tree.tested test e spot), tt)
+  own_low (by_name k) (tree.tested x es spot) = (depth_small (tree.tested x es spot), tt)
   own_low (by_name k) (tree.paren e spot) = (depth_small (tree.paren e spot), tt)
   own_low (by_name k) (tree.plus e spot) = (depth_small (tree.plus e spot), tt)
   own_low (by_name k) (tree.neg e spot) = (depth_small (tree.neg e spot), tt)

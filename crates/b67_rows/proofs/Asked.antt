@@ -2,7 +2,7 @@
 use Rattle.std.proofs.Common.{◌≡◌, subst}
 use Rattle.algol_tree.specs.declared.tree.Named.{Named}
 use Rattle.algol_tree.specs.Plain.{PBody}
-use Rattle.algol_meaning.specs.Rest.{Place, own, Hole, read, element, index, happens, broken, enter, inside, subscript, argument, left, right, negated, inverted, condition, Actuals, pass, in_value, Aim, resolve, place_index, inside_place, place_subscript, Rest, over, reading, giving, giving_place, store, select, turning, going, entering_block, entering, starting, acting, line, arrays, event, within, dropping, evaluating, locating, aiming, storing, choosing, looping, checking, counting, differing, stepping, selecting, calling, preparing, writing, bounding}
+use Rattle.algol_meaning.specs.Rest.{Place, own, Hole, read, element, index, tests, broken, enter, inside, subscript, argument, left, right, negated, inverted, condition, Actuals, pass, in_value, Aim, resolve, place_index, inside_place, place_subscript, Rest, over, reading, giving, giving_place, store, select, turning, going, entering_block, entering, starting, acting, line, arrays, event, within, dropping, evaluating, locating, aiming, storing, choosing, looping, checking, counting, differing, stepping, selecting, calling, preparing, writing, bounding}
 use Rattle.algol_meaning.specs.Value.{Value}
 use Rattle.algol_meaning.specs.Asks.{reads, stores, ask, ask_hole, ask_actuals, ask_aim}
 use Rattle.algol_paths.specs.Texts.{InHole, InActuals, InAim, InPlace, InRest}
@@ -13,7 +13,7 @@ module _ (P : Named → Type 0) (n : Named) where
     hole_reads (read m) e is = let same : m ≡ n = cc in subst P same is
     hole_reads (element m ks i) e is = cc
     hole_reads (index m ks i x es) e is = cc
-    hole_reads (happens m) e is = cc
+    hole_reads (tests x ns) e is = cc
     hole_reads (broken op v w fault) e is = cc
     hole_reads (enter m gs) e is = cc
     hole_reads inside e is = cc
@@ -78,7 +78,7 @@ module _ (P : Named → Type 0) (n : Named) (Q : PBody → Type 0) (R : Named �
     hole_stores (read m) p v e = cc
     hole_stores (element m ks i) p v e = cc
     hole_stores (index m ks i x es) p v e = cc
-    hole_stores (happens m) p v e = cc
+    hole_stores (tests x ns) p v e = cc
     hole_stores (broken op a w fault) p v e = cc
     hole_stores (enter m gs) p v e = cc
     hole_stores inside p v e = cc

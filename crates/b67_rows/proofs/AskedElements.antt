@@ -1,21 +1,25 @@
 -- The name for which a head asks, for an element of an array, for an index, for what a parameter stands for or for its passing, or for an event,
 -- is seen from the text of its part. All arrays of the part's own instance are made, or the name stands in a bound.
-use Rattle.std.proofs.Common.{◌≡◌, ◌⊎◌, inl, inr, refl, subst, [], Option, Some, None}
+use Rattle.std.proofs.Common.{◌≡◌, ◌⊎◌, inl, inr, refl, subst, List, [], ◌∷◌, Option, Some, None}
 use Rattle.algol_tree.specs.declared.tree.Named.{Named}
 use Rattle.algol_tree.specs.Plain.{PBody}
-use Rattle.algol_meaning.specs.Rest.{Hole, read, element, index, happens, broken, enter, inside, subscript, argument, left, right, negated, inverted, condition, Actuals, pass, in_value, Aim, resolve, place_index, inside_place, place_subscript, Rest, over, reading, giving, giving_place, store, select, turning, going, entering_block, entering, starting, acting, line, arrays, event, within, dropping, evaluating, locating, aiming, storing, choosing, looping, checking, counting, differing, stepping, selecting, calling, preparing, writing, bounding}
-use Rattle.algol_meaning.specs.Asks.{Ask, reads_element, indexes, passes, asks_happened, acts, ask, ask_hole, ask_actuals, ask_aim, resolves}
+use Rattle.algol_meaning.specs.Rest.{Hole, read, element, index, tests, broken, enter, inside, subscript, argument, left, right, negated, inverted, condition, Actuals, pass, in_value, Aim, resolve, place_index, inside_place, place_subscript, Rest, over, reading, giving, giving_place, store, select, turning, going, entering_block, entering, starting, acting, line, arrays, event, within, dropping, evaluating, locating, aiming, storing, choosing, looping, checking, counting, differing, stepping, selecting, calling, preparing, writing, bounding}
+use Rattle.algol_meaning.specs.Asks.{Ask, reads_element, indexes, passes, event_deed, ask, ask_hole, ask_actuals, ask_aim, resolves}
 use Rattle.algol_paths.specs.Arrays.{all_to_make}
 use Rattle.algol_paths.specs.Texts.{InHole, InActuals, InAim, InRest}
 
--- the array of which an element or an index is asked for, the parameter that is passed, or by name that is resolved, the event that is told or acted on
+abbrev pub first_named : List Named → Option Named
+first_named [] = None
+first_named (n ∷ ns) = Some n
+
+-- the array of which an element or an index is asked for, the parameter that is passed, or by name that is resolved, the first event with
+-- which something is done
 abbrev pub array_asked : Ask → Option Named
 array_asked (reads_element n ks v) = Some n
 array_asked (indexes n ks v) = Some n
 array_asked (passes n) = Some n
 array_asked (resolves n) = Some n
-array_asked (asks_happened n) = Some n
-array_asked (acts act n) = Some n
+array_asked (event_deed x ns) = first_named ns
 array_asked _ = None
 
 module _ (P : Named → Type 0) (n : Named) where
@@ -24,7 +28,8 @@ module _ (P : Named → Type 0) (n : Named) where
     hole_asks (element m ks i) e is = let same : m ≡ n = cc in subst P same is
     hole_asks (index m ks i x es) e is = let same : m ≡ n = cc in subst P same is.0
     hole_asks (read m) e is = cc
-    hole_asks (happens m) e is = let same : m ≡ n = cc in subst P same is
+    hole_asks (tests x []) e is = cc
+    hole_asks (tests x (m ∷ ns)) e is = let same : m ≡ n = cc in subst P same is.0
     hole_asks (broken op v w fault) e is = cc
     hole_asks (enter m gs) e is = cc
     hole_asks inside e is = cc

@@ -3,7 +3,7 @@
 use Rattle.std.proofs.Common.{◌≡◌, ◌⊎◌, inl, inr, refl, List, [], ◌∷◌, subst}
 use Rattle.algol_tree.specs.declared.tree.Named.{Named}
 use Rattle.algol_tree.specs.Plain.{PBody, body}
-use Rattle.algol_meaning.specs.Rest.{Given, valued, passed, refers, names, Hole, read, element, index, happens, broken, enter, inside, subscript, argument, left, right, negated, inverted, condition, Actuals, pass, in_value, Aim, resolve, place_index, inside_place, place_subscript, Rest, over, reading, giving, giving_place, store, select, turning, going, entering_block, entering, starting, acting, line, arrays, event, within, dropping, evaluating, locating, aiming, storing, choosing, looping, checking, counting, differing, stepping, selecting, calling, preparing, writing, bounding}
+use Rattle.algol_meaning.specs.Rest.{Given, valued, passed, refers, names, Hole, read, element, index, tests, broken, enter, inside, subscript, argument, left, right, negated, inverted, condition, Actuals, pass, in_value, Aim, resolve, place_index, inside_place, place_subscript, Rest, over, reading, giving, giving_place, store, select, turning, going, entering_block, entering, starting, acting, line, arrays, event, within, dropping, evaluating, locating, aiming, storing, choosing, looping, checking, counting, differing, stepping, selecting, calling, preparing, writing, bounding}
 use Rattle.algol_meaning.specs.Asks.{enters, enters_block, ask, ask_hole, ask_actuals, ask_aim}
 use Rattle.algol_paths.specs.Arrays.{all_to_make}
 use Rattle.algol_paths.specs.Texts.{InGivens, InHole, InActuals, InAim, InRest}
@@ -46,7 +46,7 @@ module _ (P : Named → Type 0) (n : Named) (gs : List Given) where
     hole_enters (read m) e is = cc
     hole_enters (element m ks i) e is = cc
     hole_enters (index m ks i x es) e is = cc
-    hole_enters (happens m) e is = cc
+    hole_enters (tests x ns) e is = cc
     hole_enters (broken op v w fault) e is = cc
     hole_enters (enter m hs) e is = same_entry m hs e is.0 is.1
     hole_enters inside e is = cc
@@ -116,7 +116,7 @@ mutual
   hole_blocks (read m) b e = cc
   hole_blocks (element m ks i) b e = cc
   hole_blocks (index m ks i x es) b e = cc
-  hole_blocks (happens m) b e = cc
+  hole_blocks (tests x ns) b e = cc
   hole_blocks (broken op a w fault) b e = cc
   hole_blocks (enter m hs) b e = cc
   hole_blocks inside b e = cc

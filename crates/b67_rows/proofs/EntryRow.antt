@@ -31,11 +31,10 @@ use Rattle.b67_table.specs.Names.{intrinsic_numbered}
 use Rattle.b67_table.specs.Intrinsics.{intrinsic}
 use Rattle.b67_table.specs.Rows.{row, enter, enter_by, enter_procedure, not_entered}
 use Rattle.b67_table.specs.Table.{raw, table, operator_at, class_at}
-use Rattle.algol_meaning.specs.Actions as act
+use Rattle.b67_deeds.specs.declared.Letter.TheVariants as act
 use Rattle.b67_cores.specs.Cores.{Core, IsCore, HasCore, with_core, stack_of}
-use Rattle.b67_letters.specs.declared.Letter.TheVariants.{Enter}
-use Rattle.b67_letters.specs.Letters.{told_by, intrinsic_letter, called_letter, called_by}
-use Rattle.b67_faithful.specs.Correspondence.{as_action, operator_action}
+use Rattle.b67_deeds.specs.declared.Letter.TheVariants.{Enter}
+use Rattle.b67_letters.specs.Letters.{told_by, intrinsic_letter, called_letter, called_by, letter}
 use Rattle.b67_letters.proofs.Looks.{then_seen, see_found}
 use Rattle.b67_rows.proofs.Rows.{raw_is, words_are, action_is}
 use Rattle.b67_rows.proofs.StackWords.{word-under, stack-over, length-stack, words-set, set-set}
@@ -211,12 +210,12 @@ module _ (code : Code) (img : Image) (p : ℕ) (core : Core) (has : HasCore img 
   unfolding class_at row
   enter_class = refl
 
-  pub enter_action : table code img p ≡ outcomes.gives (with_core img p new) → operator_action code img p ≡ Some act.Enter
+  pub enter_action : table code img p ≡ outcomes.gives (with_core img p new) → letter code img p ≡ Some act.Enter
   enter_action t =
       action_is code img p core has (ops.Plain kinds.Entr) next there (outcomes.gives (with_core img p new)) t
-      ∙ ap (λ (o : Option Word). as_action (told_by called_letter (seen img.stacks (valid o >-> (λ (above : Word). called_by above (cell_of r above)))))) control_there
-      ∙ ap (λ (x : Result Pcw InterruptKind). as_action (told_by called_letter x)) e.calls
-      ∙ ap (λ (b : Bool). as_action (if b then intrinsic_letter (intrinsic_numbered c.number) else Some Enter)) e.no_intrinsic
+      ∙ ap (λ (o : Option Word). (told_by (called_letter img) (seen img.stacks (valid o >-> (λ (above : Word). called_by above (cell_of r above)))))) control_there
+      ∙ ap (λ (x : Result Pcw InterruptKind). (told_by (called_letter img) x)) e.calls
+      ∙ ap (λ (b : Bool). (if b then intrinsic_letter (intrinsic_numbered c.number) else Some Enter)) e.no_intrinsic
 
   -- the new core is one, where the display names the frame
   pub new_is : place_at display c.level ≡ Some (place r.stack r.f) → IsCore new

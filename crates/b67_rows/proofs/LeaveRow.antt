@@ -1,7 +1,7 @@
 -- EXIT and RETN of a frame that is not the base frame.
 use Rattle.std.proofs.Common.{◌≡◌, refl, sym, ap, ◌∙◌, ℕ, ◌+◌, ◌≤◌, List, [], ◌∷◌, ◌++◌, length, take, drop, Option, Some, None, Bool, true, false, Ok, arith, append_assoc, length-append}
 use Rattle.std.specs.Prelude.{if◌then◌else◌, nat_eq, reverse}
-use Rattle.algol_meaning.specs.Actions as act
+use Rattle.b67_deeds.specs.declared.Letter.TheVariants as act
 use Rattle.b67_num.specs.declared.FaultKind.TheVariants.{CriticalBlockExit}
 use Rattle.b67_word.specs.declared.Place.{Place}
 use Rattle.b67_word.specs.Word.{Word}
@@ -28,9 +28,8 @@ use Rattle.b67_table.specs.Questions.{live_criticals}
 use Rattle.b67_table.specs.Rows.{row}
 use Rattle.b67_table.specs.Table.{raw, table, operator_at, class_at}
 use Rattle.b67_cores.specs.Cores.{Core, IsCore, HasCore, with_core, stack_of}
-use Rattle.b67_letters.specs.declared.Letter.TheVariants.{End, Leave}
-use Rattle.b67_letters.specs.Letters.{left_letter}
-use Rattle.b67_faithful.specs.Correspondence.{action_of, operator_action}
+use Rattle.b67_deeds.specs.declared.Letter.TheVariants.{End, Leave}
+use Rattle.b67_letters.specs.Letters.{left_letter, letter}
 use Rattle.b67_letters.proofs.Looks.{then_seen, see_found}
 use Rattle.b67_rows.proofs.Rows.{raw_is, words_are, action_is}
 use Rattle.b67_rows.proofs.StackWords.{take-seam, drop-seam, stack-over, length-stack, words-set, set-set}
@@ -175,8 +174,8 @@ module _ (code : Code) (img : Image) (p : ℕ) (core : Core) (has : HasCore img 
     unfolding class_at row
     leave_class = refl
 
-    pub leave_action : table code img p ≡ outcomes.gives (after None) → operator_action code img p ≡ Some act.Leave
+    pub leave_action : table code img p ≡ outcomes.gives (after None) → letter code img p ≡ Some act.Leave
     leave_action t =
         action_is code img p core has (ops.Plain kinds.Exit) next at (outcomes.gives (after None)) t
-        ∙ ap (λ (n : ℕ). Some (action_of (left_letter n))) e.frame_is
-        ∙ ap (λ (t : Bool). Some (action_of (if t then End else Leave))) (not_zero f e.some)
+        ∙ ap (λ (n : ℕ). Some ((left_letter n))) e.frame_is
+        ∙ ap (λ (t : Bool). Some ((if t then End else Leave))) (not_zero f e.some)

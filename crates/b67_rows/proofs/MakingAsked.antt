@@ -4,7 +4,7 @@ use Rattle.algol_tree.specs.declared.tree.Kind.{Kind}
 use Rattle.algol_tree.specs.declared.tree.Named.{Named}
 use Rattle.algol_tree.specs.Plain.{PPair}
 use Rattle.algol_meaning.specs.Value.{Value}
-use Rattle.algol_meaning.specs.Rest.{Hole, read, element, index, happens, broken, enter, inside, subscript, argument, left, right, negated, inverted, condition, Actuals, pass, in_value, Aim, resolve, place_index, inside_place, place_subscript, Rest, arrays, event, evaluating, locating, aiming, storing, choosing, looping, checking, counting, differing, stepping, selecting, calling, preparing, writing, bounding}
+use Rattle.algol_meaning.specs.Rest.{Hole, read, element, index, tests, broken, enter, inside, subscript, argument, left, right, negated, inverted, condition, Actuals, pass, in_value, Aim, resolve, place_index, inside_place, place_subscript, Rest, arrays, event, evaluating, locating, aiming, storing, choosing, looping, checking, counting, differing, stepping, selecting, calling, preparing, writing, bounding}
 use Rattle.algol_meaning.specs.Asks.{Ask, makes_arrays, makes_event, ask_hole, ask_actuals, ask_aim, ask}
 use Rattle.algol_paths.specs.Arrays.{Made, an_event, made_in, all_to_make, all_left_to_make}
 use Rattle.b67_faithful.proofs.Contradictions.{true_false}
@@ -16,7 +16,7 @@ mutual
   hole_makes_none (read n) = refl
   hole_makes_none (element n ks v) = refl
   hole_makes_none (index n ks v e es) = refl
-  hole_makes_none (happens n) = refl
+  hole_makes_none (tests x ns) = refl
   hole_makes_none (broken op v w fault) = refl
   hole_makes_none (enter n gs) = refl
   hole_makes_none inside = refl

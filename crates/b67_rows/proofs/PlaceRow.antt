@@ -25,7 +25,7 @@ use Rattle.b67_table.specs.References.{cell_word, cell_of, reached, from_top, in
 use Rattle.b67_table.specs.Linkage.{accidental}
 use Rattle.b67_table.specs.Rows.{row, evaluate, cell_or_entry}
 use Rattle.b67_table.specs.Table.{raw, operator_at, class_at}
-use Rattle.b67_letters.specs.declared.Letter.TheVariants.{Resolve}
+use Rattle.b67_deeds.specs.declared.Letter.TheVariants.{Resolve}
 use Rattle.b67_letters.specs.Letters.{told_by, entered_or, place_letter, operator_letter}
 use Rattle.b67_letters.proofs.Looks.{see_found}
 use Rattle.b67_cores.specs.Cores.{Core, HasCore, with_core}

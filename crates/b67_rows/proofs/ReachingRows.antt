@@ -20,7 +20,7 @@ use Rattle.b67_table.specs.Program.{Program, Change, does, effect_of, asked, see
 use Rattle.b67_table.specs.References.{couple_cell, reached, invalid}
 use Rattle.b67_table.specs.Rows.{row, value_call, value_or_entry, value_pushed}
 use Rattle.b67_table.specs.Table.{raw, operator_at, class_at}
-use Rattle.b67_letters.specs.declared.Letter.TheVariants.{Read}
+use Rattle.b67_deeds.specs.declared.Letter.TheVariants.{Read}
 use Rattle.b67_letters.specs.Letters.{told_by, entered_or, value_letter, operator_letter}
 use Rattle.b67_letters.proofs.Looks.{see_found}
 use Rattle.b67_cores.specs.Cores.{Core, HasCore, with_core}

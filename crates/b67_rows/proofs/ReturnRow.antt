@@ -1,7 +1,8 @@
 -- RETN of a frame that is not the base frame, with an operand on top, which it gives back.
 use Rattle.std.proofs.Common.{◌≡◌, refl, ap, ◌∙◌, ℕ, ◌+◌, ◌-◌, List, [], ◌∷◌, ◌++◌, length, Option, Some, Bool, true, false, Ok, arith}
+use Rattle.b67_letters.specs.Letters.{letter}
 use Rattle.std.specs.Prelude.{if◌then◌else◌, nat_eq, not, ◌&&◌, ◌==◌, slice_get, reverse}
-use Rattle.algol_meaning.specs.Actions as act
+use Rattle.b67_deeds.specs.declared.Letter.TheVariants as act
 use Rattle.b67_word.specs.declared.Place.{Place}
 use Rattle.b67_word.specs.Word.{Word}
 use Rattle.b67_control.specs.declared.Registers.{Registers}
@@ -26,7 +27,6 @@ use Rattle.b67_table.specs.declared.InterruptKind.TheVariants.{StackUnderflow}
 use Rattle.b67_table.specs.Rows.{row, is_result, return_value}
 use Rattle.b67_table.specs.Table.{raw, table, operator_at, class_at}
 use Rattle.b67_cores.specs.Cores.{Core, HasCore}
-use Rattle.b67_faithful.specs.Correspondence.{operator_action}
 use Rattle.b67_rows.proofs.LeaveRow.{not_zero, Leaves, after, leave_does, leave_blocked}
 use Rattle.b67_rows.proofs.Rows.{raw_is, words_are, action_is}
 use Rattle.b67_rows.proofs.StackWords.{word-over}
@@ -82,5 +82,5 @@ module _ (code : Code) (img : Image) (p : ℕ) (core : Core) (has : HasCore img 
   unfolding class_at row
   return_class = refl
 
-  pub return_action : table code img p ≡ outcomes.gives returned → operator_action code img p ≡ Some act.Leave
+  pub return_action : table code img p ≡ outcomes.gives returned → letter code img p ≡ Some act.Leave
   return_action t = action_is code img p core has (ops.Plain kinds.Retn) next there (outcomes.gives returned) t

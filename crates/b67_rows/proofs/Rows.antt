@@ -19,8 +19,7 @@ use Rattle.b67_table.specs.Image.{Image}
 use Rattle.b67_table.specs.Rows.{row}
 use Rattle.b67_table.specs.Table.{table, raw, plain, by_registers, by_operator, by_row, operator_at, class_at, is_private, is_new, private_at, private_in, private_next}
 use Rattle.b67_cores.specs.Cores.{Core, HasCore, stack_of}
-use Rattle.b67_letters.specs.Letters.{operator_letter, fetched_letter, registers_letter, letter_by}
-use Rattle.b67_faithful.specs.Correspondence.{as_action, operator_action}
+use Rattle.b67_letters.specs.Letters.{operator_letter, fetched_letter, registers_letter, letter_by, letter}
 
 module _ (code : Code) (img : Image) (p : ℕ) (core : Core) (has : HasCore img p core) (op : Operator) (next : ℕ) (at : operator_at code core.registers ≡ Ok (op, next)) where
   pub raw_is : raw code img p ≡ by_row (row op core.registers.place) code img p core.registers next
@@ -51,11 +50,11 @@ module _ (code : Code) (img : Image) (p : ℕ) (core : Core) (has : HasCore img 
       never false = refl
 
   -- the action that it is
-  pub action_is : (o : Outcome Image) → table code img p ≡ o → operator_action code img p ≡ as_action (letter_by o (operator_letter op img core.registers))
+  pub action_is : (o : Outcome Image) → table code img p ≡ o → letter code img p ≡ (letter_by o (operator_letter op img core.registers))
   action_is o e =
-      ap (λ (t : Outcome Image). as_action (letter_by t (registers_letter code img (numbered img.regs p)))) e
-      ∙ ap (λ (r : Option Registers). as_action (letter_by o (registers_letter code img r))) has.registers
-      ∙ ap (λ (x : Result (Operator × ℕ) BadCode). as_action (letter_by o (fetched_letter img core.registers x))) at
+      ap (λ (t : Outcome Image). (letter_by t (registers_letter code img (numbered img.regs p)))) e
+      ∙ ap (λ (r : Option Registers). (letter_by o (registers_letter code img r))) has.registers
+      ∙ ap (λ (x : Result (Operator × ℕ) BadCode). (letter_by o (fetched_letter img core.registers x))) at
 
 -- a word more on top of the stack of a core
 pub pushed_stack : (core : Core) (w : Word) → stack_of core ++ w ∷ [] ≡ core.below ++ reverse (w ∷ core.words)

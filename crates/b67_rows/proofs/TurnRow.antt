@@ -13,7 +13,7 @@ use Rattle.b67_table.specs.Image.{Image, with_stacks, with_registers}
 use Rattle.b67_table.specs.PrivateRows.{branch}
 use Rattle.b67_table.specs.Rows.{Row, row, private_part, acts, turn}
 use Rattle.b67_table.specs.Table.{raw, operator_at, class_at, class_by, by_row}
-use Rattle.b67_letters.specs.declared.Letter.TheVariants.{Turn}
+use Rattle.b67_deeds.specs.declared.Letter.TheVariants.{Turn}
 use Rattle.b67_letters.specs.Letters.{operator_letter}
 use Rattle.b67_cores.specs.Cores.{Core, HasCore, with_core, stack_of}
 use Rattle.b67_rows.proofs.Rows.{raw_is}

@@ -14,7 +14,7 @@ use Rattle.b67_table.specs.Image.{Image}
 use Rattle.b67_table.specs.Private.{display_at}
 use Rattle.b67_table.specs.References.{cell_in, couple_cell}
 use Rattle.b67_table.specs.Table.{raw, operator_at, class_at}
-use Rattle.b67_letters.specs.declared.Letter.TheVariants.{Read}
+use Rattle.b67_deeds.specs.declared.Letter.TheVariants.{Read}
 use Rattle.b67_letters.specs.Letters.{operator_letter}
 use Rattle.b67_cores.specs.Cores.{Core, HasCore, with_core}
 use Rattle.b67_rows.proofs.Reaching.{Reaches, reached_there}

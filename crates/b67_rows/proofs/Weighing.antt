@@ -15,7 +15,7 @@ mutual
   depth_small (tree.variable (tree.subscripted n (tree.more e es))) = omega (arith, depth_small e, line_small es)
   depth_small (tree.call (tree.called n tree.none)) = omega arith
   depth_small (tree.call (tree.called n (tree.more e es))) = omega (arith, depth_small e, line_small es)
-  depth_small (tree.tested test e spot) = omega arith
+  depth_small (tree.tested x es spot) = omega arith
   depth_small (tree.paren e spot) = omega (arith, depth_small e)
   depth_small (tree.plus e spot) = omega (arith, depth_small e)
   depth_small (tree.neg e spot) = omega (arith, depth_small e)
@@ -36,7 +36,7 @@ mutual
   arguments_small (tree.variable (tree.subscripted n (tree.more e es))) = omega (arith, arguments_small e, among_small es)
   arguments_small (tree.call (tree.called n tree.none)) = omega arith
   arguments_small (tree.call (tree.called n (tree.more e es))) = omega (arith, arguments_small e, given_small es)
-  arguments_small (tree.tested test e spot) = omega arith
+  arguments_small (tree.tested x es spot) = omega arith
   arguments_small (tree.paren e spot) = omega (arith, arguments_small e)
   arguments_small (tree.plus e spot) = omega (arith, arguments_small e)
   arguments_small (tree.neg e spot) = omega (arith, arguments_small e)

@@ -33,7 +33,7 @@ use Rattle.b67_table.specs.Look.{Look, ◌>->◌, valid, seen}
 use Rattle.b67_table.specs.References.{cell_in, cell_of, irw_or_sirw, reached_in, one_sirw}
 use Rattle.b67_table.specs.Names.{intrinsic_numbered}
 use Rattle.b67_table.specs.Private.{frame}
-use Rattle.b67_letters.specs.declared.Letter.{Letter}
+use Rattle.b67_deeds.specs.declared.Letter.{Letter}
 use Rattle.b67_letters.specs.Letters.{told_by, letter_of, intrinsic_letter, called_letter, called_by, operator_letter}
 use Rattle.b67_templates.specs.Fragments.{HasKind}
 use Rattle.b67_templates.specs.Programs.{Texts}
@@ -309,7 +309,7 @@ module _ (tree : PProgram) (code : Code) (texts : Texts) (w : World) (lay : Layo
     entry_cell = record { frame = place 0 0; index = number_of name }
 
     abbrev found_in : Look Pcw → Option Letter
-    found_in l = told_by called_letter (seen img.stacks l)
+    found_in l = told_by (called_letter img) (seen img.stacks l)
 
     -- the intrinsic is what ENTR calls
     action_is_called : operator_letter (ops.Plain kinds.Entr) img core.registers ≡ Some (letter_of name)

@@ -8,7 +8,7 @@ use Rattle.algol_tree.specs.Cells.{level_of}
 use Rattle.algol_tree.specs.Scopes.{Scopes, scopes_of}
 use Rattle.algol_meaning.specs.Rest.{Given}
 use Rattle.algol_meaning.specs.World.{Process, Part, World, instance_at}
-use Rattle.algol_meaning.specs.Actions.{Enter}
+use Rattle.b67_deeds.specs.declared.Letter.TheVariants.{Enter}
 use Rattle.algol_paths.specs.Segments.{segment_of}
 use Rattle.b67_word.specs.declared.Place.{Place}
 use Rattle.b67_word.specs.Word.{Word}
@@ -42,8 +42,7 @@ use Rattle.b67_cores.specs.Cores.{Core, IsCore, with_core}
 use Rattle.b67_cores.specs.Slots.{newest, SlotIs, SlotsAre}
 use Rattle.b67_cores.specs.Stretches.{CoreAt, control_words}
 use Rattle.b67_cores.proofs.Moving.{slots_length}
-use Rattle.b67_letters.specs.Letters.{called_by}
-use Rattle.b67_faithful.specs.Correspondence.{operator_action}
+use Rattle.b67_letters.specs.Letters.{called_by, letter}
 use Rattle.b67_faithful.specs.Faithful.{IsShort}
 use Rattle.b67_templates.specs.Nested.{AreNested, LiesNested}
 use Rattle.b67_rows.proofs.Displays.{shown, shown_top, linked_seen}
@@ -327,5 +326,5 @@ module _ (tree : PProgram) (code : Code) (texts : Texts) (nested : LiesNested tr
     entry_not_plain =
         action_not_plain code img p core s.has (ops.Plain kinds.Entr) next there (enter_class code img p core s.has next there arguments first.word second.word more m c home display entry)
 
-    pub entry_action : table code img p ≡ outcomes.gives (with_core img p new) → operator_action code img p ≡ Some Enter
+    pub entry_action : table code img p ≡ outcomes.gives (with_core img p new) → letter code img p ≡ Some Enter
     entry_action = enter_action code img p core s.has next there arguments first.word second.word more m c home display entry

@@ -6,7 +6,8 @@ use Rattle.algol_tree.specs.Blocks.{block_numbered}
 use Rattle.algol_tree.specs.Plain.{PProgram}
 use Rattle.algol_tree.specs.Scopes.{Scopes, scopes_of}
 use Rattle.algol_meaning.specs.Events.{set_event}
-use Rattle.algol_meaning.specs.Value.{EventCell, event}
+use Rattle.algol_meaning.specs.Value.{event}
+use Rattle.b67_deeds.specs.Events.{EventState}
 use Rattle.algol_meaning.specs.World.{NamedCell, Instance, Part, World, instance_at, or_no_instance, with_instance, cell_in, cells_with}
 use Rattle.algol_paths.specs.Arrays.{Made}
 use Rattle.b67_word.specs.declared.Place.{Place}
@@ -51,7 +52,7 @@ module _ (tree : PProgram) (code : Code) (texts : Texts) (w : World) (lay : Layo
       let l : Lies tree code texts w lay p (part ∷ outer) i core.below = lies_in tree code texts w lay p part outer core f.0 f.1 i own in
       subst FramedThere l.instance_is (record { outer = l.outer; at = length l.frame.lower; mark = l.frame.mark; control = l.frame.control; cells = l.frame.cells; framed = l.owned.framed })
 
-module _ (sc : Scopes) (w : World) (lay : Layout) (i : ℕ) (x : Instance) (own : OwnCells sc w lay i x) (name : List ℕ) (number : ℕ) (found : OwnEvent sc w lay i x own name number) (later : EventCell) where
+module _ (sc : Scopes) (w : World) (lay : Layout) (i : ℕ) (x : Instance) (own : OwnCells sc w lay i x) (name : List ℕ) (number : ℕ) (found : OwnEvent sc w lay i x own name number) (later : EventState) where
   abbrev cells' : List NamedCell
   cells' = cells_with x.cells name (event later)
 

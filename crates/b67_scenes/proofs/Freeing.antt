@@ -5,7 +5,7 @@ use Rattle.b67_list.specs.Numbered.{numbered, set_numbered}
 use Rattle.algol_tree.specs.Plain.{PProgram}
 use Rattle.algol_tree.specs.Scopes.{scopes_of}
 use Rattle.algol_meaning.specs.World.{Process, State, able, lives, World, process_at, or_no_process, with_process, set_able, set_all_able}
-use Rattle.algol_standing.specs.Worlds.{IsListed}
+use Rattle.b67_deeds.specs.Listed.{IsListed}
 use Rattle.b67_segment.specs.declared.code.Code.{Code}
 use Rattle.b67_templates.specs.Programs.{Texts}
 use Rattle.b67_table.specs.declared.ProcessState.{ProcessState}

@@ -6,7 +6,7 @@ use Rattle.algol_tree.specs.Plain.{PProgram}
 use Rattle.algol_tree.specs.Scopes.{Scopes, scopes_of}
 use Rattle.algol_meaning.specs.Critical.{own_instances}
 use Rattle.algol_meaning.specs.Instances.{leave}
-use Rattle.algol_meaning.specs.Value.{EventCell}
+use Rattle.b67_deeds.specs.Events.{EventState}
 use Rattle.algol_meaning.specs.World.{Instance, Process, Part, World, with_process}
 use Rattle.b67_word.specs.declared.Place.{Place}
 use Rattle.b67_word.specs.Word.{Word}
@@ -45,7 +45,7 @@ module _ (tree : PProgram) (code : Code) (texts : Texts) (closing : FramesClose)
   w' = with_process (leave w (own_instances down.above)) p q
 
   -- it was an event of an instance that is not left
-  before : (k number : ℕ) (e : EventCell) (at : Place) → HasEvent sc w' lay k number e at → HasEvent sc w lay k number e at × (IsAmong (own_instances down.above) k → ⊥)
+  before : (k number : ℕ) (e : EventState) (at : Place) → HasEvent sc w' lay k number e at → HasEvent sc w lay k number e at × (IsAmong (own_instances down.above) k → ⊥)
   before k number e at h =
       let b = stood_before (own_instances down.above) w k h.instance h.is h.stands in (
         record {
@@ -62,7 +62,7 @@ module _ (tree : PProgram) (code : Code) (texts : Texts) (closing : FramesClose)
         b.1,
       )
 
-  outside : (k number : ℕ) (e : EventCell) (at : Place) → HasEvent sc w' lay k number e at → NoFrame (λ (n : ℕ). is_from p n at) down.passed
+  outside : (k number : ℕ) (e : EventState) (at : Place) → HasEvent sc w' lay k number e at → NoFrame (λ (n : ℕ). is_from p n at) down.passed
   outside k number e at h = by (before k number e at h)
     where
       by : HasEvent sc w lay k number e at × (IsAmong (own_instances down.above) k → ⊥) → NoFrame (λ (n : ℕ). is_from p n at) down.passed

@@ -17,7 +17,8 @@ use Rattle.algol_meaning.specs.Run.{start}
 use Rattle.algol_meaning.specs.Arrays.{size_of_cells}
 use Rattle.algol_standing.specs.Worlds.{IsStanding, IsWhole}
 use Rattle.algol_standing.specs.Fitting.{IsOk}
-use Rattle.algol_meaning.specs.Value.{ArrayCell, EventCell, event}
+use Rattle.algol_meaning.specs.Value.{ArrayCell, event}
+use Rattle.b67_deeds.specs.Events.{EventState}
 use Rattle.algol_paths.specs.Arrays.{DeclaredArray}
 use Rattle.algol_paths.specs.Laws.{RestsKeepToTheirText, AllIsMadeInOrder}
 use Rattle.algol_paths.specs.Segments.{procedures_before, segment_among, segment_of}
@@ -342,7 +343,7 @@ module _ (tree : PProgram) (code : Code) (names : HasNames tree) (nested : AreNe
   first_events : EventsAre sc w first_lay []
   first_events = record { are_open = λ i number e at h. absurd (no_event i number e at h); apart = λ i j number other e f at h o. absurd (no_event i number e at h) }
     where
-      no_event : (i number : ℕ) (e : EventCell) (at : Place) → HasEvent sc w first_lay i number e at → ⊥
+      no_event : (i number : ℕ) (e : EventState) (at : Place) → HasEvent sc w first_lay i number e at → ⊥
       no_event i number e at h =
           let low = get_below h.instance.cells (length (simple_cells sc (block_numbered sc.blocks h.instance.block)) + number) (record { name = h.name; cell = event e }) h.has in
           let many : length h.instance.cells ≡ length (simple_cells sc (block_numbered sc.blocks h.instance.block)) =

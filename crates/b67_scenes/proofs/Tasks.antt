@@ -5,7 +5,8 @@ use Rattle.b67_list.specs.Numbered.{numbered}
 use Rattle.algol_tree.specs.Blocks.{block_numbered}
 use Rattle.algol_tree.specs.Scopes.{Scopes}
 use Rattle.algol_tree.specs.Sorts.{same_name}
-use Rattle.algol_meaning.specs.Value.{Reference, EventCell, event}
+use Rattle.algol_meaning.specs.Value.{Reference, event}
+use Rattle.b67_deeds.specs.Events.{EventState}
 use Rattle.algol_meaning.specs.World.{NamedCell, Instance, World, instance_at, or_no_instance, cell_in}
 use Rattle.b67_word.specs.declared.Place.{Place}
 use Rattle.b67_table.specs.Chains.{place}
@@ -23,8 +24,8 @@ PlacesStay lay lay' = (i : ℕ) (f : Place) → numbered lay.places i ≡ Some f
 -- what an instance has as an event, it has so in another world, in the same block
 abbrev pub EventsStayIn : World → World → ℕ → Type 0
 EventsStayIn w w' j =
-    (name : List ℕ) (e : EventCell) → cell_in ((instance_at w j).cells) name ≡ event e →
-    ((instance_at w' j).block ≡ (instance_at w j).block) × ((later : EventCell) × (cell_in ((instance_at w' j).cells) name ≡ event later))
+    (name : List ℕ) (e : EventState) → cell_in ((instance_at w j).cells) name ≡ event e →
+    ((instance_at w' j).block ≡ (instance_at w j).block) × ((later : EventState) × (cell_in ((instance_at w' j).cells) name ≡ event later))
 
 abbrev pub EventsStay : World → World → Type 0
 EventsStay w w' = (j : ℕ) → EventsStayIn w w' j
@@ -82,14 +83,14 @@ pub events_before : (w w' : World) → ((j : ℕ) (x : Instance) → numbered w.
 events_before w w' stay j name e = by_instance (numbered w.instances j) refl
   where
     by_instance : (o : Option Instance) → numbered w.instances j ≡ o → cell_in ((instance_at w j).cells) name ≡ event e →
-        ((instance_at w' j).block ≡ (instance_at w j).block) × ((later : EventCell) × (cell_in ((instance_at w' j).cells) name ≡ event later))
+        ((instance_at w' j).block ≡ (instance_at w j).block) × ((later : EventState) × (cell_in ((instance_at w' j).cells) name ≡ event later))
     by_instance (Some x) is has = events_same w w' j (ap or_no_instance (stay j x is ∙ sym is)) name e has
     by_instance None is has =
         let none : cell_in [] name ≡ event e = ap (λ (o : Option Instance). cell_in ((or_no_instance o).cells) name) (sym is) ∙ has in
         cc
 
 -- cells come after those that an instance has
-pub event_front : (cells more : List NamedCell) (name : List ℕ) (e : EventCell) → cell_in cells name ≡ event e → cell_in (cells ++ more) name ≡ event e
+pub event_front : (cells more : List NamedCell) (name : List ℕ) (e : EventState) → cell_in cells name ≡ event e → cell_in (cells ++ more) name ≡ event e
 event_front [] more name e is = cc
 event_front (c ∷ cells) more name e is = by_name (same_name c.name name) is (event_front cells more name e)
   where

@@ -4,9 +4,9 @@ use Rattle.std.specs.Prelude.{slice_get, reverse}
 use Rattle.algol_tree.specs.declared.tree.Named.{Named}
 use Rattle.algol_tree.specs.Plain.{PProgram}
 use Rattle.algol_tree.specs.Scopes.{Scopes, scopes_of}
-use Rattle.algol_meaning.specs.Asks.{Ask, asks_happened, acts, makes_event, ask}
+use Rattle.algol_meaning.specs.Asks.{Ask, event_deed, makes_event, ask}
 use Rattle.algol_meaning.specs.World.{Part, Process, World, followed}
-use Rattle.algol_tree.specs.declared.tree.EventAct.{EventAct}
+use Rattle.b67_deeds.specs.Deeds.{EventDeed}
 use Rattle.b67_word.specs.declared.Place.{Place}
 use Rattle.b67_word.specs.Word.{Word}
 use Rattle.b67_control.specs.declared.Registers.{Registers}
@@ -16,7 +16,7 @@ use Rattle.b67_control.specs.Display.{place_at}
 use Rattle.b67_ops.specs.declared.Operator.TheVariants as ops
 use Rattle.b67_ops.specs.declared.PlainKind.TheVariants as kinds
 use Rattle.b67_ops.specs.declared.intrinsic.Intrinsic.{Intrinsic}
-use Rattle.b67_ops.specs.declared.intrinsic.Intrinsic.TheVariants.{Event, Happened}
+use Rattle.b67_ops.specs.declared.intrinsic.Intrinsic.TheVariants.{Event}
 use Rattle.b67_ops.specs.Intrinsics.{number_of, couple_of_intrinsic}
 use Rattle.b67_segment.specs.declared.code.Code.{Code}
 use Rattle.b67_store.specs.Store.{words_or, word_at}
@@ -27,7 +27,7 @@ use Rattle.b67_table.specs.Image.{Image}
 use Rattle.b67_table.specs.Private.{frame}
 use Rattle.b67_table.specs.References.{cell_place, sirw_cell, cell_of}
 use Rattle.b67_templates.specs.Programs.{Texts}
-use Rattle.b67_templates.specs.Events.{intrinsic_for}
+use Rattle.b67_ops.specs.Intrinsics.{intrinsic_of}
 use Rattle.b67_standing.specs.Stepping.{Slot, reference, intrinsic, mark}
 use Rattle.b67_standing.specs.Standing.{ActionAt, ActsAt}
 use Rattle.b67_cores.specs.Cores.{Core}
@@ -135,11 +135,10 @@ module _ (tree : PProgram) (code : Code) (texts : Texts) (nested : AreNested (sc
         (cell_there tree code texts nested w lay img p q part outer bound core s h.lies h.number)
         (h.reaches t.word (ap as_irw t.slot_is ∙ reference_read found.couple h.fits.0 h.fits.1)) (h.near t.word (ap as_irw t.slot_is ∙ reference_read found.couple h.fits.0 h.fits.1)))
 
-  pub happened_near : (n : Named) → ask part.rest ≡ asks_happened n → At (asks_happened n) → StandsNear code p img core.registers
-  happened_near n asks a = acting_near Happened n (ap array_asked asks) a.0 a.1 a.2
-
-  pub acted_near : (x : EventAct) (n : Named) → ask part.rest ≡ acts x n → At (acts x n) → StandsNear code p img core.registers
-  acted_near x n asks a = acting_near (intrinsic_for x) n (ap array_asked asks) a.0 a.1 a.2
+  pub deed_near : (x : EventDeed) (ns : List Named) → ask part.rest ≡ event_deed x ns → At (event_deed x ns) → StandsNear code p img core.registers
+  deed_near x [] asks a = absurd a.2
+  deed_near x (n ∷ []) asks a = acting_near (intrinsic_of x) n (ap array_asked asks) a.0 a.1 a.2
+  deed_near x (n ∷ m ∷ ns) asks a = absurd a.2
 
   pub event_made_near : (n : Named) → At (makes_event n) → StandsNear code p img core.registers
   event_made_near n a =

@@ -2,13 +2,13 @@
 use Rattle.std.proofs.Common.{◌≡◌, refl, sym, ◌∙◌, subst, ℕ, ◌+◌, ◌≤◌, arith, List, [], ◌∷◌, ◌++◌, length, length-append, append_assoc}
 use Rattle.algol_tree.specs.declared.tree.Kind.{Kind}
 use Rattle.algol_tree.specs.declared.tree.Named.{Named}
-use Rattle.algol_tree.specs.Plain.{PExpr, PExprs}
+use Rattle.algol_tree.specs.Plain.{PExpr, PExprs, name_alone}
 use Rattle.algol_tree.specs.Sorts.{Sort, is_formal, procedure_in}
 use Rattle.algol_tree.specs.Scopes.{Scopes}
 use Rattle.algol_meaning.specs.Value.{Value}
 use Rattle.algol_meaning.specs.Rest as rests
 use Rattle.algol_meaning.specs.Rest.{Given, valued, refers, Actuals, Half, val, busy, HalfGiven, given}
-use Rattle.algol_meaning.specs.Settle.{valued_of, alone_of, name_alone, sort_at, other_of, settle_actuals}
+use Rattle.algol_meaning.specs.Settle.{valued_of, alone_of, sort_at, other_of, settle_actuals}
 use Rattle.algol_paths.specs.Arrays.{Shape}
 use Rattle.b67_segment.specs.Operators.{Placed}
 use Rattle.b67_templates.specs.Contexts.{Context}

@@ -1,6 +1,6 @@
 -- What each head asks for is an action, and so it is where the machine stands for an expression.
 use Rattle.std.proofs.Common.{◌≡◌, ℕ, List, ◌∷◌, Option}
-use Rattle.algol_tree.specs.declared.tree.EventAct.{EventAct}
+use Rattle.b67_deeds.specs.Deeds.{EventDeed}
 use Rattle.algol_tree.specs.declared.tree.Kind.{Kind}
 use Rattle.algol_tree.specs.declared.tree.Kind.TheVariants as types
 use Rattle.algol_tree.specs.declared.tree.Named.{Named}
@@ -11,7 +11,7 @@ use Rattle.algol_tree.specs.Scopes.{Scopes}
 use Rattle.algol_meaning.specs.Value.{Value}
 use Rattle.algol_meaning.specs.Rest as rests
 use Rattle.algol_meaning.specs.Rest.{Hole, Actuals, Aim, Place, Given, Answer}
-use Rattle.algol_meaning.specs.Asks.{nothing, indexes, resolves, passes, makes_arrays, makes_event, acts, goes_to, starts, reads_result, enters, leaves, stores, selects, turns, writes, enters_block, ask_hole, ask_actuals, ask_aim}
+use Rattle.algol_meaning.specs.Asks.{nothing, indexes, resolves, passes, makes_arrays, makes_event, event_deed, goes_to, starts, reads_result, enters, leaves, stores, selects, turns, writes, enters_block, ask_hole, ask_actuals, ask_aim}
 use Rattle.b67_segment.specs.Operators.{Placed}
 use Rattle.b67_templates.specs.Contexts.{Context}
 use Rattle.b67_templates.specs.Cells.{Wanted, parameter_wants}
@@ -54,8 +54,8 @@ arrays_ask kind ns pairs vs e = cc
 pub event_asks : (n : Named) → makes_event n ≡ nothing → ⊥
 event_asks n e = cc
 
-pub acts_asks : (act : EventAct) (n : Named) → acts act n ≡ nothing → ⊥
-acts_asks act n e = cc
+pub deed_asks : (x : EventDeed) (ns : List Named) → event_deed x ns ≡ nothing → ⊥
+deed_asks x ns e = cc
 
 pub going_asks : (n : Named) → goes_to n ≡ nothing → ⊥
 going_asks n e = cc
@@ -75,7 +75,7 @@ module _ (sc : Scopes) (context : Context) (ps : List Placed) (level most : ℕ)
   mutual
     pub holds_asks : (k : Kind) (h : Hole) (pc : ℕ) (slots below : List Slot) (to : ℕ) → Holds sc context ps level most k h pc slots below to → ask_hole h ≡ nothing → ⊥
     holds_asks k (rests.read n) pc slots below to s e = cc
-    holds_asks k (rests.happens n) pc slots below to s e = cc
+    holds_asks k (rests.tests x ns) pc slots below to s e = cc
     holds_asks k (rests.broken op v w fault) pc slots below to s e = cc
     holds_asks k (rests.enter n gs) pc slots below to s e = cc
     holds_asks k (rests.left op h b) pc slots below to s e = holds_asks (taken_by op) h pc slots below s.0 s.5 e

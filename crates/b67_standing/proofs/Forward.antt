@@ -8,6 +8,7 @@ use Rattle.algol_meaning.specs.Rest as rests
 use Rattle.algol_meaning.specs.Rest.{own, Answer}
 use Rattle.algol_meaning.specs.Statements.{is_past}
 use Rattle.algol_meaning.specs.Asks as asks
+use Rattle.b67_deeds.specs.Deeds as deeds
 use Rattle.algol_meaning.specs.Asks.{Ask}
 use Rattle.b67_ops.specs.declared.Couple.{Couple}
 use Rattle.b67_ops.specs.declared.PlainKind.{PlainKind}
@@ -90,8 +91,12 @@ module _ (sc : Scopes) (context : Context) (ps : List Placed) (level most : ℕ)
       omega (arith, room, last_within n r.couple r.array.lows ks r.subscript slots below r.lies, ap length l.1)
   acted_within (asks.makes_arrays kind ns pairs vs) pc slots h rests.done at after l room = omega (arith, ap length l.1)
   acted_within (asks.makes_event n) pc slots h rests.done at after l room = omega (arith, ap length l.1)
-  acted_within (asks.asks_happened n) pc slots h (rests.value v) at after l room = omega (arith, room, ap length (h.2).lies, ap length l.1)
-  acted_within (asks.acts act n) pc slots h rests.done at after l room = omega (arith, room, ap length (h.2).lies, ap length l.1)
+  acted_within (asks.event_deed (deeds.tests x) (n ∷ [])) pc slots h (rests.value v) at after l room = omega (arith, room, ap length (h.2).lies, ap length l.1)
+  acted_within (asks.event_deed (deeds.tests x) []) pc slots h (rests.value v) at after l room = absurd h.2
+  acted_within (asks.event_deed (deeds.tests x) (n ∷ m ∷ ns)) pc slots h (rests.value v) at after l room = absurd h.2
+  acted_within (asks.event_deed (deeds.acts act) (n ∷ [])) pc slots h rests.done at after l room = omega (arith, room, ap length (h.2).lies, ap length l.1)
+  acted_within (asks.event_deed (deeds.acts act) []) pc slots h rests.done at after l room = absurd h.2
+  acted_within (asks.event_deed (deeds.acts act) (n ∷ m ∷ ns)) pc slots h rests.done at after l room = absurd h.2
   acted_within (asks.starts n gs task) pc slots h rests.done at after l room =
       let r = h.3 in
       omega (arith, room, ap length r.lies, given_slots-above (parameter_wants sc h.0) gs (start_begun r.couple r.tasked h.2), ap length l.1)

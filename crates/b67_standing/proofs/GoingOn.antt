@@ -2,7 +2,7 @@
 -- was entered, the rest goes on when that has left.
 use Rattle.std.proofs.Common.{◌≡◌, refl, sym, ap, ◌∙◌, subst, ℕ, zero, suc, ◌+◌, ◌*◌, ◌<◌, ◌≤◌, arith, Bool, true, false, List, [], ◌∷◌, length, Option, Some, None}
 use Rattle.std.specs.Prelude.{nat_abs}
-use Rattle.algol_tree.specs.declared.tree.EventAct.{EventAct}
+use Rattle.b67_deeds.specs.declared.EventAct.{EventAct}
 use Rattle.algol_tree.specs.declared.tree.Kind.{Kind}
 use Rattle.algol_tree.specs.declared.tree.Kind.TheVariants as types
 use Rattle.algol_tree.specs.declared.tree.Named.{Named}
@@ -16,7 +16,8 @@ use Rattle.algol_meaning.specs.Rest as rests
 use Rattle.algol_meaning.specs.Rest.{own, Given, Hole, Actuals, Item, Rest, Answer}
 use Rattle.algol_meaning.specs.Settle.{half_of, is_typed, settle}
 use Rattle.algol_meaning.specs.Statements.{run_and, turn_and, assigned_of, aimed_at, chosen_of, looped_of, checked_of, counted_of, counted_body, selected_of, statement_called_of, prepared_of, item_of, bound_of, tested_of, differed_of, settle_line, settle_bounds, settle_stmt, settle_items}
-use Rattle.algol_meaning.specs.Asks.{nothing, reads_result, leaves, stores, selects, turns, writes, makes_arrays, makes_event, acts, starts, ask, evaluated_of, located_of, nth_stmt, called, resume}
+use Rattle.algol_meaning.specs.Asks.{nothing, reads_result, leaves, stores, selects, turns, writes, makes_arrays, makes_event, event_deed, starts, ask, evaluated_of, located_of, nth_stmt, called, resume}
+use Rattle.b67_deeds.specs.Deeds as deeds
 use Rattle.b67_ops.specs.declared.Operator.TheVariants as ops
 use Rattle.b67_ops.specs.declared.PlainKind.TheVariants as kinds
 use Rattle.b67_ops.specs.declared.BranchKind.TheVariants.{Brun}
@@ -126,7 +127,7 @@ module _ (sc : Scopes) (context : Context) (ps : List Placed) (level most : ℕ)
       Going (rests.acting act n k) pc slots
   event_acted act n k pc slots s = record { action = (s.0, pend k, s.1); answered = answer; waits = λ at left wanted l. absurd l; returns = λ at left wanted l. absurd l }
     where
-      answer : (a : Answer) (at : ℕ) (after : List Slot) → Acted sc context ps level most (acts act n) pc slots (s.0, pend k, s.1) a at after → Coming (settle_items sc k) at after
+      answer : (a : Answer) (at : ℕ) (after : List Slot) → Acted sc context ps level most (event_deed (deeds.acts act) (n ∷ [])) pc slots (s.0, pend k, s.1) a at after → Coming (settle_items sc k) at after
       answer rests.done at after l = next_at sc context ps level most k (settle_items sc k) s.0 at after l.0 l.1 (items_at sc context ps level most k s.0 s.2)
       answer (rests.value v) at after l = absurd l
       answer (rests.cell c) at after l = absurd l

@@ -50,7 +50,7 @@ module _ (sc : Scopes) (context : Context) (ps : List Placed) (level most : ℕ)
   further : (k : Kind) (h : Hole) (pc : ℕ) (slots below : List Slot) (n to : ℕ) → Holds sc context ps level most k h pc slots below n → Goes ps level n to →
       Holds sc context ps level most k h pc slots below to
   further k (rests.read x) pc slots below n to s g = (s.0, s.1, s.2, s.3, goes_on ps level s.4 g)
-  further k (rests.happens x) pc slots below n to s g = (s.0, s.1, s.2, goes_on ps level s.3 g)
+  further k (rests.tests x ns) pc slots below n to s g = (s.0, s.1, s.2, goes_on ps level s.3 g)
   further k (rests.broken op v w fault) pc slots below n to s g = s
   further k (rests.enter x gs) pc slots below n to s g = (s.0, s.1, s.2, s.3, s.4, goes_on ps level s.5 g)
   further k (rests.element x ks v) pc slots below n to s g = (s.0, s.1, s.2, s.3, goes_on ps level s.4 g)

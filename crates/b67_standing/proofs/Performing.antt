@@ -2,7 +2,7 @@
 use Rattle.std.proofs.Common.{◌≡◌, refl, sym, ap, subst, ℕ, ◌+◌, arith, List, [], ◌∷◌, length, Option, Some, None}
 use Rattle.std.specs.Prelude.{pos}
 use Rattle.algol_tree.specs.declared.tree.Kind.TheVariants as types
-use Rattle.algol_tree.specs.declared.tree.EventAct.{EventAct}
+use Rattle.b67_deeds.specs.declared.EventAct.{EventAct}
 use Rattle.algol_tree.specs.declared.tree.EventName.{EventName}
 use Rattle.algol_tree.specs.declared.tree.Named.{Named}
 use Rattle.algol_tree.specs.declared.token.Spot.{Spot}
@@ -22,13 +22,15 @@ use Rattle.b67_templates.specs.Contexts.{Context}
 use Rattle.b67_templates.specs.Fragments.{Goes, stop, over, code_at}
 use Rattle.b67_templates.specs.Cells.{parameter_wants}
 use Rattle.b67_templates.specs.Labels.{GoToAt}
-use Rattle.b67_templates.specs.Events.{intrinsic_for, OnEventAt, TaskAt}
+use Rattle.b67_deeds.specs.Deeds as deeds
+use Rattle.b67_ops.specs.Intrinsics.{intrinsic_of}
+use Rattle.b67_templates.specs.Events.{OnEventAt, TaskAt}
 use Rattle.b67_templates.specs.Code.{FormatIs, CallStmtAt, StartAt, StmtAt, StmtsAt, WriteAt}
 use Rattle.b67_templates.specs.Depths.{depth, stmt_depth, stmts_depth}
 use Rattle.b67_standing.specs.Stepping.{Slot, operand, reference, intrinsic, control, mark, HasRoom, push_number, push_reference, call, announce, summon, Leads, there, first}
 use Rattle.b67_standing.specs.Standing.{pend, call_begun, start_begun, IsTask, Follows, WhileAt, ComesTo}
 use Rattle.b67_standing.proofs.Leading.{depth-positive, pend-length, leads_by, follows_before, follows_run}
-use Rattle.b67_standing.proofs.Asking.{acts_asks, going_asks, enters_asks}
+use Rattle.b67_standing.proofs.Asking.{deed_asks, going_asks, enters_asks}
 use Rattle.b67_standing.proofs.Actuals.{ComesFilled}
 use Rattle.b67_standing.proofs.Settling.{settle_at, actuals_at}
 use Rattle.b67_standing.proofs.Rests.{after_rest, stays_here, follows_turn, turning_at, assign_at, chosen_stands, looped_stands, checked_stands, selected_stands, called_stands, prepared_stands, line_at}
@@ -72,12 +74,12 @@ module _ (sc : Scopes) (context : Context) (ps : List Placed) (level most : ℕ)
 
   -- ---- events and labels
 
-  acted_at : (act : EventAct) (e : EventName) (f t u : ℕ) → OnEventAt sc context ps level (intrinsic_for act) e.name f t → Goes ps level t u → Doing (tree.event act e) f u
+  acted_at : (act : EventAct) (e : EventName) (f t u : ℕ) → OnEventAt sc context ps level (intrinsic_of (deeds.acts act)) e.name f t → Goes ps level t u → Doing (tree.event act e) f u
   acted_at act e f t u h g k r follows room c =
-      let begun = intrinsic (intrinsic_for act) ∷ mark ∷ pend k in
+      let begun = intrinsic (intrinsic_of (deeds.acts act)) ∷ mark ∷ pend k in
       after_rest sc context ps level most
-      (first (call (intrinsic_for act) h.intrinsic (omega (arith, room))) (first (push_reference h.couple h.reference (omega (arith, room))) there))
-      (stays_here sc context ps level most h.referred (reference h.couple ∷ begun) (rests.acting act e.name k) (acts_asks act e.name)
+      (first (call (intrinsic_of (deeds.acts act)) h.intrinsic (omega (arith, room))) (first (push_reference h.couple h.reference (omega (arith, room))) there))
+      (stays_here sc context ps level most h.referred (reference h.couple ∷ begun) (rests.acting act e.name k) (deed_asks (deeds.acts act) (e.name ∷ []))
       (t, record { couple = h.couple; is_event = h.is_event; lies = refl; stands = h.enter }, follows_before sc context ps level most k g follows))
 
   -- what waits is dropped

@@ -12,10 +12,12 @@ use Rattle.algol_tree.specs.Scopes.{Scopes}
 use Rattle.b67_num.specs.declared.NumFault.{NumFault}
 use Rattle.algol_meaning.specs.Value.{Value}
 use Rattle.algol_meaning.specs.Rest as rests
+use Rattle.b67_deeds.specs.declared.EventTest.{EventTest}
+use Rattle.b67_deeds.specs.Deeds as deeds
+use Rattle.b67_ops.specs.Intrinsics.{intrinsic_of}
 use Rattle.algol_meaning.specs.Rest.{Given, Hole, Actuals, Half, val, busy, HalfGiven, Answer}
 use Rattle.algol_meaning.specs.Settle.{subscripted_of, right_of, left_of, negated_of, inverted_of, condition_of, called_of, valued_of, half_of, settle, settle_actuals, put, put_actuals}
-use Rattle.algol_meaning.specs.Asks.{Ask, nothing, reads, reads_element, indexes, passes, asks_happened, fails, ask_hole, ask_actuals}
-use Rattle.b67_ops.specs.declared.intrinsic.Intrinsic.TheVariants.{Happened}
+use Rattle.algol_meaning.specs.Asks.{Ask, nothing, reads, reads_element, indexes, passes, event_deed, fails, ask_hole, ask_actuals}
 use Rattle.b67_segment.specs.Operators.{Placed}
 use Rattle.b67_templates.specs.Contexts as yielding
 use Rattle.b67_templates.specs.Contexts.{Yields, yields_of, Context}
@@ -23,7 +25,7 @@ use Rattle.b67_templates.specs.Fragments.{HasKind, Goes, stop, over}
 use Rattle.b67_templates.specs.Cells.{Wanted, parameter_wants}
 use Rattle.b67_templates.specs.Code.{ReadAt}
 use Rattle.b67_standing.specs.Stepping.{row, Slot, operand, descriptor, ready, HasRoom}
-use Rattle.b67_standing.specs.Standing.{given_slots, call_begun, Gives, pushed, IsNext, ActsAt, ElementReadAt, of_row, Holds, Fills, ActionAt, Acted, Entered}
+use Rattle.b67_standing.specs.Standing.{given_slots, call_begun, Gives, pushed, IsNext, ActsOnAt, ElementReadAt, of_row, Holds, Fills, ActionAt, Acted, Entered}
 use Rattle.b67_standing.proofs.Actuals.{ComesFilled, after_filled, actual_done, actual_stands, fills_room}
 use Rattle.b67_standing.proofs.Seeking.{Seeking, sought_in}
 use Rattle.b67_standing.proofs.Halves.{Comes, here, after, of_kind, right_at, left_at, negated_at, inverted_at, condition_at}
@@ -118,15 +120,15 @@ module _ (sc : Scopes) (context : Context) (ps : List Placed) (level most : ℕ)
   element_answered k n ks v pc next slots below to r same g (rests.place p) at left l = absurd l
   element_answered k n ks v pc next slots below to r same g rests.entered at left l = absurd l
 
-  happened_answered : (k : Kind) (n : Named) (pc next : ℕ) (slots below : List Slot) (to : ℕ) → k ≡ types.Truth →
-      (r : ActsAt sc context ps level most Happened n pc next slots below) → Goes ps level next to → (a : Answer) (at : ℕ) (left : List Slot) →
-      Acted sc context ps level most (asks_happened n) pc slots (next, below, r) a at left → Coming k at left (half_of a) below to
-  happened_answered k n pc next slots below to same r g (rests.value v) at left l =
+  tested_answered : (k : Kind) (x : EventTest) (ns : List Named) (pc next : ℕ) (slots below : List Slot) (to : ℕ) → k ≡ types.Truth →
+      (r : ActsOnAt sc context ps level most (intrinsic_of (deeds.tests x)) ns pc next slots below) → Goes ps level next to → (a : Answer) (at : ℕ) (left : List Slot) →
+      Acted sc context ps level most (event_deed (deeds.tests x) ns) pc slots (next, below, r) a at left → Coming k at left (half_of a) below to
+  tested_answered k x ns pc next slots below to same r g (rests.value v) at left l =
       here sc context ps level most k at left (val v) below to (subst (λ z. Goes ps level z to) (sym l.0) g, l.1, subst (λ z. HasKind z v) (sym same) l.2)
-  happened_answered k n pc next slots below to same r g rests.done at left l = absurd l
-  happened_answered k n pc next slots below to same r g (rests.cell c) at left l = absurd l
-  happened_answered k n pc next slots below to same r g (rests.place p) at left l = absurd l
-  happened_answered k n pc next slots below to same r g rests.entered at left l = absurd l
+  tested_answered k x ns pc next slots below to same r g rests.done at left l = absurd l
+  tested_answered k x ns pc next slots below to same r g (rests.cell c) at left l = absurd l
+  tested_answered k x ns pc next slots below to same r g (rests.place p) at left l = absurd l
+  tested_answered k x ns pc next slots below to same r g rests.entered at left l = absurd l
 
   -- on the descriptor of a row the second subscript comes to stand
   pub row_on : (k : Kind) (n : Named) (ks : List ℕ) (v : Value) (e : PExpr) (pc : ℕ) (slots below : List Slot) (to : ℕ)
@@ -220,9 +222,9 @@ module _ (sc : Scopes) (context : Context) (ps : List Placed) (level most : ℕ)
       returns = λ at left wanted l. absurd l;
       inside = λ at left wanted l. absurd l;
     }
-    puts_on k (rests.happens n) pc slots below to s = record {
+    puts_on k (rests.tests x ns) pc slots below to s = record {
       action = (s.0, below, s.2);
-      answered = happened_answered k n pc s.0 slots below to s.1 s.2 s.3;
+      answered = tested_answered k x ns pc s.0 slots below to s.1 s.2 s.3;
       returns = λ at left wanted l. absurd l;
       inside = λ at left wanted l. absurd l;
     }

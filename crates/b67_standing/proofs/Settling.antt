@@ -1,9 +1,13 @@
 -- From the start of its code an expression comes, by private operators only, to where the machine stands for it after the silent steps.
-use Rattle.std.proofs.Common.{◌≡◌, refl, sym, ap, ◌∙◌, subst, ℕ, ◌≤◌, arith, Bool, true, List, [], ◌∷◌, Some}
+use Rattle.std.proofs.Common.{◌≡◌, refl, sym, ap, ◌∙◌, subst, ℕ, ◌≤◌, arith, Bool, true, List, [], ◌∷◌, map, Some}
 use Rattle.std.proofs.lemmas.List.{append-nil}
 use Rattle.algol_tree.specs.declared.tree.Kind.{Kind}
 use Rattle.algol_tree.specs.declared.tree.Kind.TheVariants as types
+use Rattle.algol_tree.specs.declared.tree.EventName.{EventName}
 use Rattle.algol_tree.specs.declared.tree.Named.{Named}
+use Rattle.b67_deeds.specs.declared.EventTest.{EventTest}
+use Rattle.b67_deeds.specs.Deeds as deeds
+use Rattle.b67_ops.specs.Intrinsics.{intrinsic_of}
 use Rattle.algol_tree.specs.Plain as tree
 use Rattle.algol_tree.specs.Plain.{PExpr, PExprs}
 use Rattle.algol_tree.specs.Sorts.{Sort, procedure_in}
@@ -17,14 +21,13 @@ use Rattle.algol_meaning.specs.Settle.{left_of, negated_of, inverted_of, named_o
 use Rattle.b67_ops.specs.declared.Couple.{Couple}
 use Rattle.b67_ops.specs.declared.Operator.TheVariants as ops
 use Rattle.b67_ops.specs.declared.PlainKind.TheVariants as kinds
-use Rattle.b67_ops.specs.declared.intrinsic.Intrinsic.TheVariants.{Happened}
 use Rattle.b67_segment.specs.Operators.{Placed}
 use Rattle.b67_templates.specs.Contexts.{Context}
 use Rattle.b67_templates.specs.Fragments.{Has, Goes, stop, over}
 use Rattle.b67_templates.specs.Cells as wants
 use Rattle.b67_templates.specs.Cells.{Wanted, parameter_wants, IsProcedure, IsRead, of_variable, of_formal}
 use Rattle.b67_templates.specs.Code.{NameAt, reads, calls, ExprAt, ActualsAt}
-use Rattle.b67_templates.specs.Events.{OnEventAt}
+use Rattle.b67_templates.specs.Events.{OnEventsAt}
 use Rattle.b67_templates.specs.Depths.{depth}
 use Rattle.b67_standing.specs.Stepping.{Slot, operand, reference, intrinsic, mark, HasRoom, push_number, push_truth, push_reference, call, summon, there, first}
 use Rattle.b67_standing.specs.Standing.{given_slots, call_begun, AreGiven}
@@ -83,14 +86,17 @@ module _ (sc : Scopes) (context : Context) (ps : List Placed) (level most : ℕ)
   called_stands k n callee couple (rests.wants x) pc slots below filled next to p s h e room g =
       here sc context ps level most k pc slots (busy (rests.argument n x)) below to (callee, couple, filled, next, e, p, s, h, g)
 
-  -- the test of an event
-  event_tested : (n : Named) (f t u : ℕ) → OnEventAt sc context ps level Happened n f t → Goes ps level t u → (below : List Slot) → HasRoom most below 3 →
-      Coming types.Truth f below (busy (rests.happens n)) below u
-  event_tested n f t u h g below room =
-      let begun = intrinsic Happened ∷ mark ∷ below in
+  -- a test of events
+  event_tested : (x : EventTest) (ns : List Named) (f t u : ℕ) → OnEventsAt sc context ps level (intrinsic_of (deeds.tests x)) ns f t → Goes ps level t u → (below : List Slot) →
+      HasRoom most below 3 → Coming types.Truth f below (busy (rests.tests x ns)) below u
+  event_tested x [] f t u h g below room = absurd h
+  event_tested x (n ∷ m ∷ ns) f t u h g below room = absurd h
+  event_tested x (n ∷ []) f t u h g below room =
+      let name = intrinsic_of (deeds.tests x) in
+      let begun = intrinsic name ∷ mark ∷ below in
       after sc context ps level most types.Truth
-      (first (call Happened h.intrinsic (omega (arith, room))) (first (push_reference h.couple h.reference (omega (arith, room))) there))
-      (here sc context ps level most types.Truth h.referred (reference h.couple ∷ begun) (busy (rests.happens n)) below u
+      (first (call name h.intrinsic (omega (arith, room))) (first (push_reference h.couple h.reference (omega (arith, room))) there))
+      (here sc context ps level most types.Truth h.referred (reference h.couple ∷ begun) (busy (rests.tests x (n ∷ []))) below u
       (t, refl, record { couple = h.couple; is_event = h.is_event; lies = refl; stands = h.enter }, g))
 
   mutual
@@ -136,8 +142,9 @@ module _ (sc : Scopes) (context : Context) (ps : List Placed) (level most : ℕ)
         (after sc context ps level most k (first (summon n h.0 b (omega (arith, room))) there)
         (after sc context ps level most k filled.leads
         (called_stands k n h.0 b.couple (settled h.0) filled.at filled.with_slots below c.1 t u b.procedure filled.fills c.4 h.2 (omega (arith, room)) g)))
-    settle_at k (tree.tested tree.happened e spot) f t u h g below room =
-        of_kind sc context ps level most f below (busy (rests.happens e.name)) below u h.0 (event_tested e.name f t u h.1 g below room)
+    settle_at k (tree.tested x es spot) f t u h g below room =
+        let ns = map (λ (e : EventName). e.name) es in
+        of_kind sc context ps level most f below (busy (rests.tests x ns)) below u h.0 (event_tested x ns f t u h.1 g below room)
 
     -- the actuals come to lie there one after another
     pub actuals_at : (es : PExprs) (sorts : List Sort) (after all : List Wanted) (f filled : ℕ) (begun : List Slot) → ActualsAt sc context ps level sorts after es f filled →

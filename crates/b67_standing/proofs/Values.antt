@@ -8,7 +8,7 @@ use Rattle.algol_tree.specs.declared.tree.Kind.{Kind}
 use Rattle.algol_tree.specs.declared.tree.Kind.TheVariants as types
 use Rattle.algol_tree.specs.declared.tree.Named.{Named}
 use Rattle.algol_tree.specs.Plain as tree
-use Rattle.algol_tree.specs.Plain.{PExpr, PExprs}
+use Rattle.algol_tree.specs.Plain.{PExpr, PExprs, name_alone}
 use Rattle.algol_tree.specs.Sorts.{Sort, is_formal, is_variable, is_by_name, procedure_in}
 use Rattle.algol_tree.specs.Sorts as sorts
 use Rattle.algol_tree.specs.Scopes.{Scopes}
@@ -20,7 +20,7 @@ use Rattle.b67_num.proofs.WholeLaws.{calculated-fits, negation_of-fits}
 use Rattle.algol_meaning.specs.Value.{Value, number, truth, whole_of}
 use Rattle.algol_meaning.specs.Operators.{numeric, logical, result_of}
 use Rattle.algol_meaning.specs.Rest.{own, Given, refers, names, val, busy, read, enter, HalfGiven, resolve, at, aims}
-use Rattle.algol_meaning.specs.Settle.{named_of, alone_of, name_alone, left_alone_of, sort_at, other_of, settle}
+use Rattle.algol_meaning.specs.Settle.{named_of, alone_of, left_alone_of, sort_at, other_of, settle}
 use Rattle.b67_templates.specs.Fragments.{IsWhole, HasKind, is_implication}
 use Rattle.b67_templates.specs.Cells.{by_name, Actual, own_actual}
 use Rattle.b67_templates.specs.Code.{literal_of}

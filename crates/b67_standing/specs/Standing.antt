@@ -15,9 +15,9 @@ use Rattle.b67_num.specs.declared.NumFault.{NumFault}
 use Rattle.algol_meaning.specs.Value as cells
 use Rattle.algol_meaning.specs.Value.{Value, number, truth, Cell}
 use Rattle.algol_meaning.specs.Operators.{result_of}
-use Rattle.algol_meaning.specs.Rest.{Place, own, there, element_of, Hole, read, element, index, subscript, happens, broken, left, right, negated, inverted, condition, Half, val, busy, Aim, resolve, place_index, place_subscript, Loop, Item, count, Rest, over, store, select, turning, going, starting, acting, line, arrays, event, bounding, aiming, storing, choosing, looping, checking, counting, differing, stepping, selecting, writing, calling, preparing, Given, valued, passed, refers, names, argument, Actuals, pass, in_value, enter, entering_block, entering, reading, giving, giving_place, evaluating, locating, Answer, done, value, cell, place, entered}
+use Rattle.algol_meaning.specs.Rest.{Place, own, there, element_of, Hole, read, element, index, subscript, tests, broken, left, right, negated, inverted, condition, Half, val, busy, Aim, resolve, place_index, place_subscript, Loop, Item, count, Rest, over, store, select, turning, going, starting, acting, line, arrays, event, bounding, aiming, storing, choosing, looping, checking, counting, differing, stepping, selecting, writing, calling, preparing, Given, valued, passed, refers, names, argument, Actuals, pass, in_value, enter, entering_block, entering, reading, giving, giving_place, evaluating, locating, Answer, done, value, cell, place, entered}
 use Rattle.algol_meaning.specs.Statements.{difference_in, stepped}
-use Rattle.algol_meaning.specs.Asks.{Ask, nothing, reads, reads_element, indexes, resolves, passes, asks_happened, makes_arrays, makes_event, acts, goes_to, starts, reads_result, fails, enters, leaves, stores, selects, turns, writes, enters_block, ask, resume}
+use Rattle.algol_meaning.specs.Asks.{Ask, nothing, reads, reads_element, indexes, resolves, passes, event_deed, makes_arrays, makes_event, goes_to, starts, reads_result, fails, enters, leaves, stores, selects, turns, writes, enters_block, ask, resume}
 use Rattle.algol_paths.specs.Arrays.{DeclaredArray, Shape, shape_of}
 use Rattle.b67_control.specs.Control.{Fits_pcw}
 use Rattle.b67_ops.specs.declared.Couple.{Couple}
@@ -26,7 +26,7 @@ use Rattle.b67_ops.specs.declared.Operator.TheVariants as ops
 use Rattle.b67_ops.specs.declared.PlainKind.TheVariants as kinds
 use Rattle.b67_ops.specs.declared.BranchKind.TheVariants.{Brfl, Brtr, Brun}
 use Rattle.b67_ops.specs.declared.intrinsic.Intrinsic.{Intrinsic}
-use Rattle.b67_ops.specs.declared.intrinsic.Intrinsic.TheVariants.{Write, Select, Arrays, Event, Start, GoTo, Happened}
+use Rattle.b67_ops.specs.declared.intrinsic.Intrinsic.TheVariants.{Write, Select, Arrays, Event, Start, GoTo}
 use Rattle.b67_segment.specs.Operators.{Placed}
 use Rattle.b67_templates.specs.Contexts as yielding
 use Rattle.b67_templates.specs.Contexts.{Yields, yields_of, Context}
@@ -34,7 +34,8 @@ use Rattle.b67_templates.specs.Fragments.{IsWhole, HasKind, Has, moved, MovedAt,
 use Rattle.b67_templates.specs.Cells as wants
 use Rattle.b67_templates.specs.Cells.{Wanted, parameter_wants, Agrees, procedures, IsVariable, IsFormalName, IsProcedure, IsDeclaredArray, IsFormalArray, IsArray, IsDeclaredEvent, IsFormalEvent, IsEvent, IsOwnActual}
 use Rattle.b67_templates.specs.Labels.{IsLabel}
-use Rattle.b67_templates.specs.Events.{intrinsic_for}
+use Rattle.b67_deeds.specs.Deeds as deeds
+use Rattle.b67_ops.specs.Intrinsics.{intrinsic_of}
 use Rattle.b67_templates.specs.Code.{FormatIs, DroppedAt, ResultAt, AreDimensions, HasNoCounts, in_block, ReadAt, ExprAt, SecondAt, ActualsAt, BoundsAt, LineAt, TableAt, PastAt, StepAt, StmtAt, CasesAt, InnerAt, ThruAt, KAt, exprs_count, stmts_count}
 use Rattle.b67_templates.specs.Arguments.{arguments_in_decls, arguments_in_stmts}
 use Rattle.b67_templates.specs.Depths.{depth, line_depth, bounds_depth, decls_depth, loop_depth, stmt_depth, stmts_depth, AreShallow}
@@ -262,6 +263,12 @@ module _ (sc : Scopes) (context : Context) (ps : List Placed) (level most : ℕ)
     pub lies : slots ≡ reference couple ∷ intrinsic name ∷ mark ∷ below
     pub stands : Has ps level pc (ops.Plain kinds.Entr) next
 
+  -- .. of the event of a list of one
+  abbrev pub ActsOnAt : Intrinsic → List Named → ℕ → ℕ → List Slot → List Slot → Type 0
+  ActsOnAt name (n ∷ []) pc next slots below = ActsAt name n pc next slots below
+  ActsOnAt name [] pc next slots below = ⊥
+  ActsOnAt name (n ∷ m ∷ ns) pc next slots below = ⊥
+
   -- the reference of an intrinsic lies on a mark, with nothing below: after the entry PUSH makes a cell of the event's word
   pub record MakesEventAt (pc next : ℕ) (slots : List Slot) : Type 0 where
     pub lies : slots ≡ intrinsic Event ∷ mark ∷ []
@@ -347,7 +354,8 @@ module _ (sc : Scopes) (context : Context) (ps : List Placed) (level most : ℕ)
         (next : ℕ) × ReadAt sc context ps level n k pc next × (slots ≡ below) × HasRoom most below 1 × Goes ps level next to
     Holds k (enter n gs) pc slots below to =
         (callee : ℕ) × (next : ℕ) × CallsAt n gs callee pc next slots below × ((block_numbered sc.blocks callee).result ≡ Some k) × HasRoom most below 2 × Goes ps level next to
-    Holds k (happens n) pc slots below to = (next : ℕ) × (k ≡ types.Truth) × ActsAt Happened n pc next slots below × Goes ps level next to
+    Holds k (tests x ns) pc slots below to =
+        (next : ℕ) × (k ≡ types.Truth) × ActsOnAt (intrinsic_of (deeds.tests x)) ns pc next slots below × Goes ps level next to
     Holds k (broken op v w fault) pc slots below to = (next : ℕ) × (k ≡ given_by op) × BreaksAt op v w fault pc next slots below
     Holds k (left op h b) pc slots below to =
         (m : ℕ) × (r : ℕ) × (n : ℕ) × (next : ℕ) × (k ≡ given_by op) × Holds (taken_by op) h pc slots below m × ReadyAt ps level (is_implication op) m r
@@ -452,7 +460,7 @@ module _ (sc : Scopes) (context : Context) (ps : List Placed) (level most : ℕ)
   StandsFor (turning k) pc slots = (l : ℕ) × (next : ℕ) × TurnAt ps level pc l next × (slots ≡ pend k) × Follows k l
   -- all that lies below is dropped
   StandsFor (going n) pc slots = (next : ℕ) × (below : List Slot) × GoesToAt n pc next slots below
-  StandsFor (acting act n k) pc slots = (next : ℕ) × ActsAt (intrinsic_for act) n pc next slots (pend k) × Follows k next
+  StandsFor (acting act n k) pc slots = (next : ℕ) × ActsAt (intrinsic_of (deeds.acts act)) n pc next slots (pend k) × Follows k next
   StandsFor (line phrases vs k) pc slots = (next : ℕ) × WriteAt phrases vs pc next slots (pend k) × Follows k next
   StandsFor (entering_block (tree.body spot ds ss) k) pc slots = (next : ℕ) × EntersAt spot ds ss pc next slots (pend k) × Follows k next
   StandsFor (entering n gs k) pc slots =
@@ -558,8 +566,7 @@ module _ (sc : Scopes) (context : Context) (ps : List Placed) (level most : ℕ)
   ActionAt (stores (element_of r ks) v) pc slots = (next : ℕ) × (below : List Slot) × FoundStoreAt (element_of r ks) v pc next slots below
   ActionAt (makes_arrays kind ns pairs vs) pc slots = (next : ℕ) × MakesAt ns pairs vs pc next slots
   ActionAt (makes_event n) pc slots = (next : ℕ) × MakesEventAt pc next slots
-  ActionAt (asks_happened n) pc slots = (next : ℕ) × (below : List Slot) × ActsAt Happened n pc next slots below
-  ActionAt (acts act n) pc slots = (next : ℕ) × (below : List Slot) × ActsAt (intrinsic_for act) n pc next slots below
+  ActionAt (event_deed x ns) pc slots = (next : ℕ) × (below : List Slot) × ActsOnAt (intrinsic_of x) ns pc next slots below
   ActionAt (goes_to n) pc slots = (next : ℕ) × (below : List Slot) × GoesToAt n pc next slots below
   ActionAt (passes n) pc slots = (wanted : Wanted) × (next : ℕ) × (below : List Slot) × PassesAt n wanted pc next slots below
   ActionAt (fails fault) pc slots =
@@ -603,8 +610,9 @@ module _ (sc : Scopes) (context : Context) (ps : List Placed) (level most : ℕ)
   Acted (stores (element_of r ks) v) pc slots a done at after = (at ≡ a.0) × (after ≡ a.1)
   Acted (makes_arrays kind ns pairs vs) pc slots a done at after = (at ≡ a.0) × (after ≡ [])
   Acted (makes_event n) pc slots a done at after = (at ≡ a.0) × (after ≡ [])
-  Acted (asks_happened n) pc slots a (value v) at after = (at ≡ a.0) × (after ≡ operand v ∷ a.1) × HasKind types.Truth v
-  Acted (acts act n) pc slots a done at after = (at ≡ a.0) × (after ≡ a.1)
+  -- a test leaves a truth
+  Acted (event_deed (deeds.tests x) ns) pc slots a (value v) at after = (at ≡ a.0) × (after ≡ operand v ∷ a.1) × HasKind types.Truth v
+  Acted (event_deed (deeds.acts act) ns) pc slots a done at after = (at ≡ a.0) × (after ≡ a.1)
   Acted (starts n gs task) pc slots a done at after = (at ≡ a.1) × (after ≡ a.2)
   Acted (passes n) pc slots a (cell c) at after = (at ≡ a.1) × (after ≡ descriptor (passed_held a.0 c) ∷ a.2) × IsPassed a.0 c
   Acted turns pc slots a done at after = (at ≡ a.0) × (after ≡ slots)

@@ -1,26 +1,16 @@
 -- The code of events: how they are made, named, acted on and given to procedures, and the task of a process.
 use Rattle.std.specs.Prelude.{ℕ, pos, List, [], ◌∷◌, ◌≡◌, Option, Some, None}
-use Rattle.algol_tree.specs.declared.tree.EventAct.{EventAct}
-use Rattle.algol_tree.specs.declared.tree.EventAct.TheVariants as acts
 use Rattle.algol_tree.specs.declared.tree.Named.{Named}
 use Rattle.algol_tree.specs.Scopes.{Scopes}
 use Rattle.b67_ops.specs.declared.Couple.{Couple}
 use Rattle.b67_ops.specs.declared.Operator.TheVariants as ops
 use Rattle.b67_ops.specs.declared.PlainKind.TheVariants as kinds
 use Rattle.b67_ops.specs.declared.intrinsic.Intrinsic.{Intrinsic}
-use Rattle.b67_ops.specs.declared.intrinsic.Intrinsic.TheVariants.{Event, Cause, Reset, Wait, Procure, Liberate}
+use Rattle.b67_ops.specs.declared.intrinsic.Intrinsic.TheVariants.{Event}
 use Rattle.b67_segment.specs.Operators.{Placed}
 use Rattle.b67_templates.specs.Contexts.{Context}
 use Rattle.b67_templates.specs.Fragments.{Has, NumberAt, IntrinsicAt}
 use Rattle.b67_templates.specs.Cells.{IsDeclaredEvent, IsFormalEvent, IsEvent}
-
--- the intrinsic that does what a statement does with an event
-abbrev pub intrinsic_for : EventAct → Intrinsic
-intrinsic_for acts.Cause = Cause
-intrinsic_for acts.Reset = Reset
-intrinsic_for acts.Wait = Wait
-intrinsic_for acts.Procure = Procure
-intrinsic_for acts.Liberate = Liberate
 
 module _ (sc : Scopes) (context : Context) (ps : List Placed) (level : ℕ) where
   -- an intrinsic on an event: a mark, the reference of the intrinsic, that of the event's cell or of the parameter that stands for it, the entry
@@ -32,6 +22,12 @@ module _ (sc : Scopes) (context : Context) (ps : List Placed) (level : ℕ) wher
     pub intrinsic : IntrinsicAt ps level name f named
     pub reference : Has ps level named (ops.Namc couple) referred
     pub enter : Has ps level referred (ops.Plain kinds.Entr) t
+
+  -- .. on the events of a list: there is code for one event
+  abbrev pub OnEventsAt : Intrinsic → List Named → ℕ → ℕ → Type 0
+  OnEventsAt name (n ∷ []) f t = OnEventAt name n f t
+  OnEventsAt name [] f t = ⊥
+  OnEventsAt name (n ∷ m ∷ ns) f t = ⊥
 
   -- The actual of an event parameter: of a declared event the reference to its cell, wherever it is read; of an event parameter the reference
   -- that its cell has.

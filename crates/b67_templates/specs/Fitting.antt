@@ -5,6 +5,8 @@ use Rattle.std.specs.List.{All}
 use Rattle.algol_tree.specs.declared.token.Spot.{Spot}
 use Rattle.algol_tree.specs.declared.tree.Kind.{Kind}
 use Rattle.algol_tree.specs.declared.tree.Kind.TheVariants as types
+use Rattle.std.specs.List.{AllByRecursion}
+use Rattle.algol_tree.specs.declared.tree.EventName.{EventName}
 use Rattle.algol_tree.specs.declared.tree.Named.{Named}
 use Rattle.algol_tree.specs.declared.tree.PhraseText.{PhraseText}
 use Rattle.algol_tree.specs.declared.tree.PhraseText.TheVariants as phrase
@@ -169,7 +171,7 @@ module _ (sc : Scopes) (told : Told) (level : ℕ) where
       ExprFits k (tree.if c x y spot) = ExprFits types.Truth c × ExprFits k x × ExprFits k y
       ExprFits k (tree.call (tree.called n es)) =
           (callee : ℕ) × ProcedureFits n callee × ActualsFit (sorts_of ((block_numbered sc.blocks callee).parameters)) (parameter_wants sc callee) es × ((block_numbered sc.blocks callee).result ≡ Some k)
-      ExprFits k (tree.tested tree.happened e spot) = (k ≡ types.Truth) × EventFits e.name
+      ExprFits k (tree.tested x es spot) = (k ≡ types.Truth) × AllByRecursion EventFits (map (λ (e : EventName). e.name) es)
 
       -- a subscript for each of these lower bounds
       pub SubscriptsFit : List ℤ → PExprs → Type 0
