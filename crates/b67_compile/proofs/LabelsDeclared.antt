@@ -12,9 +12,9 @@ use Rattle.algol_tree.specs.Classes as class
 use Rattle.algol_tree.specs.Classes.{Class, Formal}
 use Rattle.algol_tree.specs.Couples.{known_at, known_there}
 use Rattle.algol_tree.specs.Plain as tree
-use Rattle.algol_tree.specs.Plain.{PExpr, PExprs, PPair, PStmt, PStmts, PDecl, PDecls, PProgram}
+use Rattle.algol_tree.specs.Plain.{PExpr, PExprs, PPair, PStmt, PStmts, PDecl, PDecls, PProgram, name_alone}
 use Rattle.algol_tree.specs.Sites as site
-use Rattle.algol_tree.specs.Sites.{Part, Site, actual_part, first_formal, other_formals, name_part, wants_value, sites, inside_expr, inside_list, inside_actuals, sites_in_pairs, here_stmt, has_decls, inside_stmt, sites_in_stmts, inside_decl, sites_in_decls}
+use Rattle.algol_tree.specs.Sites.{Part, Site, actual_part_by, first_formal, other_formals, name_part, wants_value, sites, inside_expr, inside_list, inside_actuals, sites_in_pairs, here_stmt, has_decls, inside_stmt, sites_in_stmts, inside_decl, sites_in_decls}
 use Rattle.algol_tree.specs.Sorts as sort
 use Rattle.algol_tree.specs.Sorts.{Declared, Sort, specified_by, class_by, class_in, sort_in, is_named_in, declare, declared_parameters}
 use Rattle.algol_tree.specs.Surroundings.{Surroundings, outermost, formals_at, announced, made_known, knowing, knowing_all, inside_procedure}
@@ -56,9 +56,9 @@ module _ (blocks : List Block) where
   name_has n true = tt
   name_has n false = tt
 
-  actual_has : (e : PExpr) (f : Option Formal) → PartHas AreLabels (actual_part e f)
-  actual_has (tree.variable (tree.subscripted n tree.none)) f = name_has n (wants_value f)
-  actual_has e f = tt
+  actual_has : (o : Option Named) (e : PExpr) (f : Option Formal) → PartHas AreLabels (actual_part_by o e f)
+  actual_has (Some n) e f = name_has n (wants_value f)
+  actual_has None e f = tt
 
   mutual
     expr_has : (e : PExpr) (a : Surroundings) → Have (inside_expr e a)
@@ -79,7 +79,7 @@ module _ (blocks : List Block) where
     actuals_have : (es : PExprs) (fs : List Formal) (a : Surroundings) → Have (inside_actuals es fs a)
     actuals_have tree.none fs a = tt
     actuals_have (tree.more e es) fs a =
-        (tt, (actual_has e (first_formal fs), have_both (inside_expr e a) (inside_actuals es (other_formals fs) a) (expr_has e a) (actuals_have es (other_formals fs) a)))
+        (tt, (actual_has (name_alone e) e (first_formal fs), have_both (inside_expr e a) (inside_actuals es (other_formals fs) a) (expr_has e a) (actuals_have es (other_formals fs) a)))
 
   site_has : (e : PExpr) (a : Surroundings) → Have (sites e a)
   site_has e a = (tt, expr_has e a)

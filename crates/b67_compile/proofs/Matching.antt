@@ -1,6 +1,6 @@
 -- The procedures of a program that is built: their blocks, the segments that begin at the places of the text, and their texts, in the
 -- same order.
-use Rattle.std.proofs.Common.{arith, ◌≡◌, ℕ, ◌+◌, not, Bool, true, false, List, [], ◌∷◌, ◌++◌, length, filter, Option, refl, sym, ap, ◌∙◌, subst, append-nil, if◌then◌else◌}
+use Rattle.std.proofs.Common.{arith, ◌≡◌, ℕ, ◌+◌, not, Bool, true, false, List, [], ◌∷◌, ◌++◌, length, filter, Option, refl, sym, ap, ◌∙◌, subst, append-nil, if◌then◌else◌, Some, None}
 use Rattle.std.specs.List.{flat_map}
 use Rattle.std.proofs.lemmas.Grind.{flat_map-append}
 use Rattle.std.proofs.lemmas.List.{length-map}
@@ -15,8 +15,8 @@ use Rattle.algol_tree.specs.Classes.{Formal}
 use Rattle.algol_tree.specs.Counts.{heading_tokens, stmt_tokens}
 use Rattle.algol_tree.specs.Names.{Segment, segments_of_part}
 use Rattle.algol_tree.specs.Plain as tree
-use Rattle.algol_tree.specs.Plain.{PExpr, PExprs, PPair, PStmt, PStmts, PDecls}
-use Rattle.algol_tree.specs.Sites.{Site, name_part, wants_value, actual_part, first_formal, other_formals, inside_expr, inside_list, inside_actuals, sites, here_stmt, has_decls, inside_stmt, sites_in_pairs, sites_in_stmts, sites_in_decls}
+use Rattle.algol_tree.specs.Plain.{PExpr, PExprs, PPair, PStmt, PStmts, PDecls, name_alone}
+use Rattle.algol_tree.specs.Sites.{Site, name_part, wants_value, actual_part_by, first_formal, other_formals, inside_expr, inside_list, inside_actuals, sites, here_stmt, has_decls, inside_stmt, sites_in_pairs, sites_in_stmts, sites_in_decls}
 use Rattle.algol_tree.specs.Sorts.{Declared, parameters_of}
 use Rattle.algol_tree.specs.Surroundings.{Surroundings, outermost, formals_at, knowing, knowing_all, inside, inside_procedure}
 use Rattle.algol_paths.specs.Segments.{is_procedure}
@@ -93,19 +93,9 @@ name_none : (n : Named) (b : Bool) → segments_of_part (name_part n b) ≡ []
 name_none n true = refl
 name_none n false = refl
 
-actual_none : (e : PExpr) (f : Option Formal) → segments_of_part (actual_part e f) ≡ []
-actual_none (tree.number z spot) f = refl
-actual_none (tree.truth b spot) f = refl
-actual_none (tree.variable (tree.subscripted n tree.none)) f = name_none n (wants_value f)
-actual_none (tree.variable (tree.subscripted n (tree.more e es))) f = refl
-actual_none (tree.call c) f = refl
-actual_none (tree.tested test e spot) f = refl
-actual_none (tree.paren e spot) f = refl
-actual_none (tree.plus e spot) f = refl
-actual_none (tree.neg e spot) f = refl
-actual_none (tree.not e spot) f = refl
-actual_none (tree.two op x y) f = refl
-actual_none (tree.if c x y spot) f = refl
+actual_none : (o : Option Named) (e : PExpr) (f : Option Formal) → segments_of_part (actual_part_by o e f) ≡ []
+actual_none (Some n) e f = name_none n (wants_value f)
+actual_none None e f = refl
 
 mutual
   expr_none : (e : PExpr) (a : Surroundings) → segs (inside_expr e a) ≡ []
@@ -113,7 +103,7 @@ mutual
   expr_none (tree.truth b spot) a = refl
   expr_none (tree.variable (tree.subscripted n es)) a = list_none es a
   expr_none (tree.call (tree.called n es)) a = actuals_none es (formals_at a n) a
-  expr_none (tree.tested test e spot) a = refl
+  expr_none (tree.tested test es spot) a = refl
   expr_none (tree.paren e spot) a = expr_none e a
   expr_none (tree.plus e spot) a = expr_none e a
   expr_none (tree.neg e spot) a = expr_none e a
@@ -129,7 +119,7 @@ mutual
   actuals_none : (es : PExprs) (fs : List Formal) (a : Surroundings) → segs (inside_actuals es fs a) ≡ []
   actuals_none tree.none fs a = refl
   actuals_none (tree.more e es) fs a =
-      ap (λ (ss : List Segment). ss ++ segs (inside_expr e a ++ inside_actuals es (other_formals fs) a)) (actual_none e (first_formal fs))
+      ap (λ (ss : List Segment). ss ++ segs (inside_expr e a ++ inside_actuals es (other_formals fs) a)) (actual_none (name_alone e) e (first_formal fs))
       ∙ both_none (inside_expr e a) (inside_actuals es (other_formals fs) a) (expr_none e a) (actuals_none es (other_formals fs) a)
 
 pairs_none : (ps : List PPair) (a : Surroundings) → segs (sites_in_pairs ps a) ≡ []

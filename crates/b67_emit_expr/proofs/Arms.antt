@@ -1,5 +1,6 @@
 -- The forms of expression, each as it is matched.
-use Rattle.std.proofs.Common.{◌≡◌, ℕ, Result, Ok, Err, List, refl, sym, ap, ◌∙◌, subst}
+use Rattle.b67_deeds.specs.declared.EventTest.TheVariants as test
+use Rattle.std.proofs.Common.{◌≡◌, ℕ, Result, Ok, Err, List, [], ◌∷◌, refl, sym, ap, ◌∙◌, subst}
 use Rattle.std.specs.Result.{OnOk}
 use Rattle.algol_tree.specs.declared.token.Spot.{Spot}
 use Rattle.algol_tree.specs.declared.tree.EventName.{EventName}
@@ -83,7 +84,7 @@ module _ (s : Names) (level : ℕ) where
 
   -- the test of an event
   module _ (e : Expr) (event : EventName) (spot : Spot) (is : e ≡ expressions.Happened event spot) where
-    testing : expr e ≡ tree.tested tree.happened event spot
+    testing : expr e ≡ tree.tested test.Happened (event ∷ []) spot
     testing = ap expr is ∙ happened_is event spot
 
     pub event_syllables : inline (meanings s) (expr e) ≡ 12
@@ -91,8 +92,8 @@ module _ (s : Names) (level : ℕ) where
 
     pub event_has : HasCode s level (expr e) → HasEvent s level event.name
     event_has h =
-        let has = has_as e (tree.tested tree.happened event spot) testing h in
-        record { scopes = has.scopes; own = has.own; outer = has.outer; fits = has.fits.1 }
+        let has = has_as e (tree.tested test.Happened (event ∷ []) spot) testing h in
+        record { scopes = has.scopes; own = has.own; outer = has.outer; fits = has.fits.1.0 }
 
     pub event_arm : (a b : Built) (xs : List ℕ) → EventEmitted s level a b Happened event.name → ValueWithExits s level a b xs xs (expr e)
-    event_arm a b xs h = emitted_as a b xs xs e (tree.tested tree.happened event spot) testing (happened_form s level a b xs event spot h)
+    event_arm a b xs h = emitted_as a b xs xs e (tree.tested test.Happened (event ∷ []) spot) testing (happened_form s level a b xs event spot h)

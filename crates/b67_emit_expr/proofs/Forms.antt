@@ -1,4 +1,5 @@
 -- The code of each form of expression, of the code of its parts.
+use Rattle.b67_deeds.specs.declared.EventTest.TheVariants as test
 use Rattle.std.proofs.Common.{◌≡◌, ℕ, ℤ, Bool, List, [], ◌∷◌, length, drop, refl, sym, ◌∙◌, subst}
 use Rattle.algol_tree.specs.declared.token.Spot.{Spot}
 use Rattle.algol_tree.specs.declared.tree.EventName.{EventName}
@@ -67,11 +68,11 @@ module _ (s : Names) where
   }
 
   pub happened_form : (level : ℕ) (a b : Built) (xs : List ℕ) (e : EventName) (spot : Spot) → EventEmitted s level a b Happened e.name →
-      ValueWithExits s level a b xs xs (tree.tested tree.happened e spot)
+      ValueWithExits s level a b xs xs (tree.tested test.Happened (e ∷ []) spot)
   happened_form level a b xs e spot h = record {
     code = λ scopes context kind fits.
         no_exits xs
-        (weaker (λ qs. ExprAt scopes context qs level kind (tree.tested tree.happened e spot) (size a.operators) (size b.operators) (size b.operators)) (h.code scopes context fits.1)
+        (weaker (λ qs. ExprAt scopes context qs level kind (tree.tested test.Happened (e ∷ []) spot) (size a.operators) (size b.operators) (size b.operators)) (h.code scopes context fits.1.0)
         (λ qs x. (fits.0, x)));
   }
 

@@ -4,10 +4,9 @@ use Rattle.std.specs.Prelude.{IsSome}
 use Rattle.algol_tree.specs.declared.tree.Kind.{Kind}
 use Rattle.algol_tree.specs.declared.tree.Named.{Named}
 use Rattle.algol_tree.specs.Plain as tree
-use Rattle.algol_tree.specs.Plain.{PExpr}
+use Rattle.algol_tree.specs.Plain.{PExpr, name_alone}
 use Rattle.algol_tree.specs.Scopes.{Scopes, use_of}
 use Rattle.algol_tree.specs.Sorts.{is_formal}
-use Rattle.algol_meaning.specs.Settle.{name_alone}
 use Rattle.algol_paths.specs.Arrays.{Lows, Shape}
 use Rattle.b67_ops.specs.declared.Couple.{Couple}
 use Rattle.b67_ops.specs.Spelling.{IsSeen}

@@ -1,5 +1,6 @@
 -- The plain tree of each form of expression.
-use Rattle.std.proofs.Common.{rules, ◌≡◌, ◌+◌, ◌≤◌, ℤ, Bool, ap, sym, ◌∙◌, arith}
+use Rattle.b67_deeds.specs.declared.EventTest.TheVariants as test
+use Rattle.std.proofs.Common.{rules, [], ◌∷◌, ◌≡◌, ◌+◌, ◌≤◌, ℤ, Bool, ap, sym, ◌∙◌, arith}
 use Rattle.std.specs.declared.boxed.Box.{Box}
 use Rattle.std.specs.declared.alloc.Global.{Global}
 use Rattle.algol_tree.specs.declared.token.Spot.{Spot}
@@ -43,7 +44,7 @@ call_is c = search (rules, calls.the_lemmas)
 pub calling_is : (c : Call) → expr (expressions.Call c) ≡ tree.call (call c)
 calling_is c = search (rules, expressions.the_lemmas)
 
-pub happened_is : (e : EventName) (spot : Spot) → expr (expressions.Happened e spot) ≡ tree.tested tree.happened e spot
+pub happened_is : (e : EventName) (spot : Spot) → expr (expressions.Happened e spot) ≡ tree.tested test.Happened (e ∷ []) spot
 happened_is e spot = search (rules, expressions.the_lemmas)
 
 pub paren_is : (x : Box Expr Global) (spot : Spot) → expr (expressions.Paren x spot) ≡ tree.paren (expr x.value) spot

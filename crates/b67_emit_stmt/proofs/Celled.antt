@@ -93,7 +93,7 @@ module _ (sc : Scopes) (told : Told) (level block : ℕ) where
         subst (λ (j : ℕ). exprs_of (actuals_given sc (parameter_wants sc j) es) ≡ cells_given told (modes_of (told.meant n.spot)) es) (sym (ap block_of ((f.1).procedure).sort_is))
         (subst (λ (m : Meant). exprs_of (actuals_given sc (parameter_wants sc f.0) es) ≡ cells_given told (modes_of m) es) (sym (f.1).modes)
         (celled_given (sorts_of ((block_numbered sc.blocks f.0).parameters)) (parameter_wants sc f.0) es f.2))
-    celled_in k (tree.tested tree.happened e spot) f = refl
+    celled_in k (tree.tested x es spot) f = refl
 
     celled_among : (ls : List ℤ) (es : PExprs) → SubscriptsFit sc told level block ls es → exprs_of (actuals_among sc es) ≡ cells_among told es
     celled_among (low ∷ []) (tree.more e tree.none) f = both _ _ (celled_in types.Number e f.1) refl

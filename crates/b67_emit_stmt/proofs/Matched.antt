@@ -2,7 +2,7 @@
 use Rattle.std.proofs.Common.{◌≡◌, ℕ, ◌+◌, ◌≤◌, List, length, refl, sym, ap, ◌∙◌, subst, arith}
 use Rattle.std.specs.Prelude.{IsSome, Option}
 use Rattle.algol_tree.specs.declared.token.Spot.{Spot}
-use Rattle.algol_tree.specs.declared.tree.EventAct.{EventAct}
+use Rattle.b67_deeds.specs.declared.EventAct.{EventAct}
 use Rattle.algol_tree.specs.declared.tree.EventName.{EventName}
 use Rattle.algol_tree.specs.declared.tree.Kind.TheVariants as types
 use Rattle.algol_tree.specs.declared.tree.Named.{Named}
@@ -18,7 +18,8 @@ use Rattle.b67_segment.specs.Operators.{Placed, size}
 use Rattle.b67_segment.specs.Building.{Built, level_set}
 use Rattle.b67_emit_stmt.specs.Lengths.{expr_syllables, stmt_syllables, write_syllables}
 use Rattle.b67_templates.specs.Emitting.{Emitted}
-use Rattle.b67_templates.specs.Events.{intrinsic_for}
+use Rattle.b67_deeds.specs.Deeds as deeds
+use Rattle.b67_ops.specs.Intrinsics.{intrinsic_of}
 use Rattle.b67_emit_stmt.specs.Fits.{AssignFits, CallStmtFits, EventFits, ExprFits, LabelFits, ReadFits, StartFits, VariableFits, StmtFits, WriteFits}
 use Rattle.b67_emit_stmt.specs.declared.draft.Draft.{Draft}
 use Rattle.b67_emit_stmt.specs.Drafts.{Emits, IsReady, HasFew, noted}
@@ -212,13 +213,13 @@ module _ (s : Known) (a b : Draft) (p : PStmt) where
 
   pub event_emitted : (act : EventAct) (e : EventName) → p ≡ tree.event act e → b.exits.items ≡ a.exits.items → noted b ≡ noted a → HasFew a →
       ((sc : Place) (later : Later) → EventFits sc s (level_set a.out) e.name →
-      Emitted a.out b.out (λ qs. OnEventAt sc later qs (level_set a.out) (intrinsic_for act) e.name (size a.out.operators) (size b.out.operators))) →
+      Emitted a.out b.out (λ qs. OnEventAt sc later qs (level_set a.out) (intrinsic_of (deeds.acts act)) e.name (size a.out.operators) (size b.out.operators))) →
       size b.out.operators ≤ size a.out.operators + 6 → EmitsStmt s a b p
   event_emitted act e is xs fs few h short = λ sc fit.
       let level = level_set a.out in
       let F : PStmt → Type 0 = λ x. StmtFits sc s level x in
       let E : PStmt → Type 0 = λ x. Emits (stmt_syllables s x) a b (Stands sc level x a b) in
-      let code : Emits 6 a b (λ later qs target. OnEventAt sc later qs level (intrinsic_for act) e.name (size a.out.operators) (size b.out.operators)) =
+      let code : Emits 6 a b (λ later qs target. OnEventAt sc later qs level (intrinsic_of (deeds.acts act)) e.name (size a.out.operators) (size b.out.operators)) =
       piece {n = 6} {d = a} {e = b} xs fs few (λ later. h sc later (subst F is fit)) short in
       subst E (sym is) (emits_weaker (Stands sc level (tree.event act e) a b) code (omega arith) (λ later qs target hi x. x))
 

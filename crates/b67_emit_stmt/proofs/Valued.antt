@@ -75,7 +75,7 @@ module _ (sc : Scopes) (told : Told) (inner : AreInner told) (level block : ℕ)
     have_in k (tree.call (tree.called n es)) f =
         subst (λ (j : ℕ). Have (actuals_given sc (parameter_wants sc j) es)) (sym (ap block_of ((f.1).procedure).sort_is))
         (have_given (sorts_of ((block_numbered sc.blocks f.0).parameters)) (parameter_wants sc f.0) es f.2)
-    have_in k (tree.tested tree.happened e spot) f = tt
+    have_in k (tree.tested x es spot) f = tt
 
     have_among : (ls : List ℤ) (es : PExprs) → SubscriptsFit sc told level block ls es → Have (actuals_among sc es)
     have_among (low ∷ []) (tree.more e tree.none) f = have_both (actuals_in sc e) [] (have_in types.Number e f.1) tt

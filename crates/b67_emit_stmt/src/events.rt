@@ -6,7 +6,8 @@ ghost use Rattle.b67_segment.specs.declared.TheConstants.{MOST_SEGMENT_SYLLABLES
 ghost use Rattle.b67_segment.specs.Operators.{size};
 ghost use Rattle.b67_segment.specs.Building.{level_set};
 ghost use Rattle.b67_templates.specs.Emitting.{Emitted};
-ghost use Rattle.b67_templates.specs.Events.{intrinsic_for};
+ghost use Rattle.b67_deeds.specs.Deeds.{acts};
+ghost use Rattle.b67_ops.specs.Intrinsics.{intrinsic_of};
 ghost use Rattle.b67_emitter.specs.Values.{AreNear};
 ghost use Rattle.b67_emit_stmt.specs.Fits.{EventFits};
 ghost use Rattle.b67_emit_stmt.specs.Places.{Later, Place, EventsMadeAt, OnEventAt};
@@ -20,7 +21,7 @@ use std::alloc::AllocError;
 
 /// The intrinsic that does what a statement does with an event.
 fn intrinsic_for(act: EventAct) -> Intrinsic
-    ensures { result ≡ intrinsic_for act }
+    ensures { result ≡ intrinsic_of (acts act) }
 {
     match act {
         EventAct::Cause => Intrinsic::Cause,
@@ -53,7 +54,7 @@ impl<'a, E: ExprEmitter> StmtEmitter<'a, E> {
         requires near { AreNear self.now.known.now.names.now }
         requires fits { (sc : Place) × EventFits sc self.now.known.now (level_set out.old) n.now }
         requires room { size out.old.operators + 6 ≤ MOST_SEGMENT_SYLLABLES }
-        ensures code { OnOk result ((sc : Place) (later : Later) → EventFits sc self.now.known.now (level_set out.old) n.now → Emitted out.old out.new (λ qs. OnEventAt sc later qs (level_set out.old) (intrinsic_for act) n.now (size out.old.operators) (size out.new.operators))) }
+        ensures code { OnOk result ((sc : Place) (later : Later) → EventFits sc self.now.known.now (level_set out.old) n.now → Emitted out.old out.new (λ qs. OnEventAt sc later qs (level_set out.old) (intrinsic_of (acts act)) n.now (size out.old.operators) (size out.new.operators))) }
         ensures size { OnOk result (size out.new.operators ≤ size out.old.operators + 6) }
     {
         append_on_event(intrinsic_for(act), n, self.known.names, out)

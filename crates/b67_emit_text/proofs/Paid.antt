@@ -44,7 +44,7 @@ module _ (s : Known) where
     counted (tree.truth b spot) = omega arith
     counted (tree.variable (tree.subscripted n es)) = counted_among es
     counted (tree.call (tree.called n es)) = counted_given (modes_of (told.meant n.spot)) es
-    counted (tree.tested t e spot) = omega arith
+    counted (tree.tested t es spot) = omega arith
     counted (tree.paren e spot) = counted e
     counted (tree.plus e spot) = counted e
     counted (tree.neg e spot) = counted e

@@ -7,7 +7,7 @@ use Rattle.algol_tree.specs.declared.tree.Kind.{Kind}
 use Rattle.algol_tree.specs.declared.tree.Named.{Named}
 use Rattle.algol_tree.specs.contracts.token.SpotOrd.TheImpl.{ghosts}
 use Rattle.algol_tree.specs.Plain as tree
-use Rattle.algol_tree.specs.Plain.{PExpr, PExprs, PCall, PVariable}
+use Rattle.algol_tree.specs.Plain.{PExpr, PExprs, PCall, PVariable, name_alone}
 use Rattle.algol_tree.specs.Blocks.{block_numbered}
 use Rattle.algol_tree.specs.Cells.{first_spot}
 use Rattle.algol_tree.specs.Scopes.{Scopes}
@@ -15,7 +15,7 @@ use Rattle.algol_frames.specs.declared.scopes.Couple as found
 use Rattle.algol_frames.specs.declared.scopes.Declared.{Declared}
 use Rattle.algol_frames.specs.Answers.{declaration_of, actual_of, result_of, parameters_of}
 use Rattle.algol_frames.specs.declared.scopes.Scopes as table
-use Rattle.algol_meaning.specs.Settle.{name_alone, sorts_of}
+use Rattle.algol_meaning.specs.Settle.{sorts_of}
 use Rattle.algol_sorts.specs.declared.sort.Sort.{Sort}
 use Rattle.algol_sorts.specs.declared.sort.Sort.TheVariants as sorts
 use Rattle.algol_sorts.specs.Sorts.{is_by_name}

@@ -4,7 +4,7 @@
 ghost use Rattle.std.specs.Prelude.{◌≡◌, false, Some, IsSome, option_copied};
 ghost use Rattle.algol_tree.specs.Image.{expr};
 ghost use Rattle.algol_tree.specs.Cells.{first_spot};
-ghost use Rattle.algol_meaning.specs.Settle.{name_alone};
+ghost use Rattle.algol_tree.specs.Plain.{name_alone};
 ghost use Rattle.b67_templates.specs.Fitting.{is_name};
 ghost use Rattle.b67_templates.specs.Paying.{mode_at, stands, has_cell};
 ghost use Rattle.b67_emitter.specs.Values.{couples, meant, actuals, meanings, labels, target_told, event_in, given_as, given_alone, given};
