@@ -23,6 +23,11 @@ use Rattle.b67_ops.specs.declared.intrinsic.Intrinsic.{Intrinsic}
 use Rattle.b67_ops.specs.declared.intrinsic.Intrinsic.TheVariants as names
 use Rattle.b67_segment.specs.declared.code.Code.{Code}
 use Rattle.b67_store.specs.Store.{Row as StoreRow, row_words_or, words_of}
+use Rattle.b67_deeds.specs.declared.EventAct.TheVariants as act
+use Rattle.b67_deeds.specs.declared.EventTest.{EventTest}
+use Rattle.b67_deeds.specs.declared.EventTest.TheVariants as test
+use Rattle.b67_deeds.specs.Deeds.{EventDeed}
+use Rattle.b67_deeds.specs.Deeds as deeds
 use Rattle.b67_table.specs.declared.Cell.{Cell}
 use Rattle.b67_table.specs.declared.Reached.{Reached}
 use Rattle.b67_table.specs.declared.Private.{Private}
@@ -37,7 +42,7 @@ use Rattle.b67_table.specs.Questions.{told}
 use Rattle.b67_table.specs.Questions as questions
 use Rattle.b67_table.specs.Writes.{Write, written}
 use Rattle.b67_table.specs.Writes as writes
-use Rattle.b67_table.specs.Program.{Test, answer, fault, asked, ◌>>=◌, see, Change, changed, done, cut, push, registers, row_of, open_row, write_row, close_row, close_events, end_process, line, effect_of, wait, procure, cause, reset, liberate, Program}
+use Rattle.b67_table.specs.Program.{Test, answer, fault, asked, ◌>>=◌, see, Change, changed, done, cut, push, registers, row_of, open_row, write_row, close_row, close_events, end_process, line, effect_of, Program}
 use Rattle.b67_table.specs.Program.{write as write_on}
 use Rattle.b67_table.specs.Moves.{dropped, replaced, pushed}
 use Rattle.b67_table.specs.Chains.{place, broken, mark_at, rebuilt}
@@ -136,7 +141,7 @@ module _ (P : List ℕ → Type 0) where
 
   caused_adds : (o : Option Place) (rest : Change) → Adds rest → Adds (caused_by o rest)
   caused_adds None rest k = k
-  caused_adds (Some task) rest k = still (writes.cause task) rest (λ p img. refl) k
+  caused_adds (Some task) rest k = still (writes.event_deed (deeds.acts act.Cause) task) rest (λ p img. refl) k
 
   opened_adds : (count : ℕ) (counts : Bool) (more : ℕ → Change) → ((n : ℕ) → Adds (more n)) → Adds (open_row count counts more)
   opened_adds count counts more k = record {
@@ -327,16 +332,16 @@ module _ (P : List ℕ → Type 0) where
           chained_adds _ (still (writes.open_event (place r.stack r.f)) _ (λ p img. refl) (finished_adds (event_word (record {}) ∷ []) after))
       make_event_adds (w ∷ words) = tt
 
-      on_event_adds : (act : Place → Change → Change) → ((x : Place) (rest : Change) → Adds rest → Adds (act x rest)) → (words : List Word) → Good (on_event act code r after m words)
-      on_event_adds act k [] = tt
-      on_event_adds act k (w ∷ []) =
-          test_any (event_of r w) _ (λ c. chained_adds _ (k (cell_place c) (finished_at r m [] after) (finished_adds [] after)))
-      on_event_adds act k (w ∷ x ∷ words) = tt
+      on_event_adds : (x : EventDeed) (words : List Word) → Good (on_event x code r after m words)
+      on_event_adds x [] = tt
+      on_event_adds x (w ∷ []) =
+          test_any (event_of r w) _ (λ c. chained_adds _ (still (writes.event_deed x (cell_place c)) (finished_at r m [] after) (λ p img. refl) (finished_adds [] after)))
+      on_event_adds x (w ∷ y ∷ words) = tt
 
-      tell_adds : (words : List Word) → Good (tell_event code r after m words)
-      tell_adds [] = tt
-      tell_adds (w ∷ []) = test_any (event_of r w) _ (λ c. chained_adds _ (finished_adds (truth (told img (questions.has_happened (cell_place c))) ∷ []) after))
-      tell_adds (w ∷ x ∷ words) = tt
+      tell_adds : (x : EventTest) (words : List Word) → Good (tell_event x code r after m words)
+      tell_adds x [] = tt
+      tell_adds x (w ∷ []) = test_any (event_of r w) _ (λ c. chained_adds _ (finished_adds (truth (told img (questions.event_answer x (cell_place c))) ∷ []) after))
+      tell_adds x (w ∷ y ∷ words) = tt
 
       start_adds : (words : List Word) → Good (start_process code r after m words)
       start_adds words =
@@ -352,12 +357,12 @@ module _ (P : List ℕ → Type 0) where
       intrinsic_by names.Event words = make_event_adds words
       intrinsic_by names.Start words = start_adds words
       intrinsic_by names.Write words = write_adds words
-      intrinsic_by names.Wait words = on_event_adds wait (λ x rest k. still (writes.wait x) rest (λ p img. refl) k) words
-      intrinsic_by names.Cause words = on_event_adds cause (λ x rest k. still (writes.cause x) rest (λ p img. refl) k) words
-      intrinsic_by names.Reset words = on_event_adds reset (λ x rest k. still (writes.reset x) rest (λ p img. refl) k) words
-      intrinsic_by names.Happened words = tell_adds words
-      intrinsic_by names.Procure words = on_event_adds procure (λ x rest k. still (writes.procure x) rest (λ p img. refl) k) words
-      intrinsic_by names.Liberate words = on_event_adds liberate (λ x rest k. still (writes.liberate x) rest (λ p img. refl) k) words
+      intrinsic_by names.Wait words = on_event_adds (deeds.acts act.Wait) words
+      intrinsic_by names.Cause words = on_event_adds (deeds.acts act.Cause) words
+      intrinsic_by names.Reset words = on_event_adds (deeds.acts act.Reset) words
+      intrinsic_by names.Happened words = tell_adds test.Happened words
+      intrinsic_by names.Procure words = on_event_adds (deeds.acts act.Procure) words
+      intrinsic_by names.Liberate words = on_event_adds (deeds.acts act.Liberate) words
 
       named_by : (o : Option Intrinsic) (words : List Word) → Good (intrinsic_row o code r after m words)
       named_by None words = tt

@@ -1,17 +1,15 @@
 -- The report of a run by several processors explains every source to which its code is faithful.
-use Rattle.std.specs.Prelude.{◌≢◌, sum, reverse, nat_le}
-use Rattle.std.proofs.Common.{◌≡◌, ◌⊎◌, inl, inr, ℕ, zero, suc, ◌+◌, ◌*◌, ◌<◌, ◌≤◌, Bool, true, false, List, [], ◌∷◌, ◌++◌, length, Option, Some, None, refl, sym, ap, ◌∙◌, subst, arith}
+use Rattle.std.specs.Prelude.{◌≢◌, sum, nat_le}
+use Rattle.std.proofs.Common.{◌≡◌, ◌⊎◌, inl, inr, ℕ, zero, suc, ◌+◌, ◌*◌, ◌≤◌, Bool, true, false, List, [], ◌∷◌, length, Option, Some, None, refl, sym, ap, ◌∙◌, subst, arith}
 use Rattle.std.specs.List.{All, AllByRecursion}
 use Rattle.std.specs.Prelude.{slice_get}
 use Rattle.std.proofs.lemmas.Bool.{leb-true}
 use Rattle.std.proofs.lemmas.List.Sums.{sum_by-cons}
-use Rattle.b67_list.specs.Numbered.{numbered}
 use Rattle.algol_tree.specs.Plain.{PProgram}
 use Rattle.algol_tree.specs.Scopes.{scopes_of}
-use Rattle.algol_meaning.specs.World.{World, is_able, process_at}
+use Rattle.algol_meaning.specs.World.{is_able, process_at}
 use Rattle.algol_meaning.specs.Run.{run, start, end_of}
 use Rattle.algol_laws.specs.Kept.{EachRunGrows}
-use Rattle.b67_words.specs.declared.TheConstants.{MOST_STRETCH}
 use Rattle.b67_schedule.specs.Schedules.{entries, IsSchedule, Kept as Schedule}
 use Rattle.b67_report.specs.Reading.{IsLine, IsReport}
 use Rattle.b67_report.specs.declared.Report.{Report}
@@ -28,26 +26,28 @@ use Rattle.b67_faithful.specs.Agreement.{Agrees}
 use Rattle.b67_faithful.specs.Agreement.{end_as}
 use Rattle.b67_faithful.specs.Faithful.{Faithful, longest}
 use Rattle.b67_machine.specs.declared.replay.Replayed.{Replayed}
-use Rattle.b67_machine.specs.declared.replay.Replayed.TheVariants.{Ended, Ran, Illegal, BudgetSpent, NoMemory}
+use Rattle.b67_machine.specs.declared.replay.Replayed.TheVariants.{Ended, BudgetSpent, NoMemory}
 use Rattle.b67_machine.specs.declared.reads.End.{End}
 use Rattle.b67_machine.specs.declared.reads.End.TheVariants as ends_of
 use Rattle.b67_machine.specs.Kept.{Kept, or_none, counted}
 use Rattle.b67_machine.specs.Reads.{machine_end, shown, end_by, limit_end}
-use Rattle.b67_machine.specs.Replaying.{Answers, Stands as Shows}
+use Rattle.b67_machine.specs.Replaying.{Stands as Shows}
 use Rattle.b67_stands.specs.Tails.{at_place, tail_of}
-use Rattle.b67_stands.specs.Running.{Running, spends, ends, answer_by, answer_of}
+use Rattle.b67_stands.specs.Running.{Running, ends, answer_by, answer_of}
 use Rattle.b67_stands.specs.Stands.{Stands}
 use Rattle.b67_stands.specs.Alone.{ByOne}
 use Rattle.b67_stands.specs.Picked.{Pick}
-use Rattle.b67_stands.specs.Ran.{HasRun, HasRunAlone}
+use Rattle.b67_stands.specs.Shared.{Shared, BySeats}
+use Rattle.b67_stands.specs.Ran.{HasRun, HasRunAlone, HasRunShared}
 use Rattle.b67_explain.proofs.Turning.{picked_runs_are_turns}
 use Rattle.b67_explain.specs.Explaining.{EndIs, Explains, IsOwnEnd, ExplainsRun}
 use Rattle.b67_explain.specs.Alone.{ExplainsAlone}
-use Rattle.b67_explain.specs.Telling.{words_of_end, CanBeTold, Tells, IsReportOf}
+use Rattle.b67_explain.specs.Shared.{ExplainsShared}
+use Rattle.b67_explain.specs.Telling.{words_of_end, CanBeTold, Tells, AreOfFirst, IsReportOf}
 use Rattle.b67_explain.proofs.Outputs.{run_writes}
 use Rattle.b67_explain.proofs.Printed.{listing_fine, output_fine}
 use Rattle.b67_explain.proofs.Naming.{IsOneOf, entries_are_there}
-use Rattle.b67_explain.proofs.Summing.{from_on, from_on_equal, from_on_sum, entries_by_process, sum_by_number}
+use Rattle.b67_explain.proofs.Summing.{from_on, from_on_sum, entries_by_process, sum_by_number}
 use Rattle.b67_explain.proofs.Tailed.{more_room}
 use Rattle.b67_explain.proofs.Ending.{acting, Said, said_of}
 use Rattle.b67_explain.proofs.Explained.{all_back, count_for_each}
@@ -305,15 +305,28 @@ module _ (grows : EachRunGrows) (tree : PProgram) (code : Code) (faithful : Fait
     }
 
     -- and where one processor did all the work
-    pub turns_explained : (pick : Pick) → ByOne code budget pick s → ExplainsAlone tree pick processors budget report
-    turns_explained pick one =
+    pub turns_explained : (pick : Pick) → ByOne code budget pick s → AreOfFirst processors (length (entries s.schedule.runs)) report.acts → ExplainsAlone tree pick processors budget report
+    turns_explained pick one first =
         let run : TableRun code (entries report.schedule.runs) [] one.image =
         record { history = one.history; counts = one.counts; before_tails = one.image; order = entries_are ∙ one.order; runs = one.runs; after = table_runs.none } in
         record {
           explains = run_explained;
           turns = picked_runs_are_turns tree code pick (entries report.schedule.runs) [] one.image faithful run one.picked;
           within = omega (arith, spent_is, one.within);
+          first = subst (λ (xs : List ℕ). AreOfFirst processors (length xs) report.acts) (sym entries_are) first;
         }
+
+    -- and where processors shared it
+    pub shares_explained : (pick : Pick) → Shared code budget pick processors s → BySeats processors s report.acts → ExplainsShared tree pick processors budget report
+    shares_explained pick shared seats = record {
+      explains = run_explained;
+      code = code;
+      listed = subst (ListingText code) (sym is.listing) listed;
+      plant = s;
+      shared = shared;
+      order = sym entries_are;
+      seats = seats;
+    }
 
 -- ---- what a run left
 
@@ -332,10 +345,14 @@ module _ (grows : EachRunGrows) (tree : PProgram) (code : Code) (faithful : Fait
     valid_of : (h : HasRun code budget m schedule answer) → IsSchedule h.plant.schedule.runs
     valid_of h = subst (λ (x : Schedule). IsSchedule x.runs) (sym h.schedule_is) valid
 
-    pub left_explained : HasRun code budget m schedule answer → ExplainsRun tree processors budget report
-    left_explained h = run_explained grows tree code faithful budget h.plant h.stands answer h.answered some processors lines report (is_of h) (valid_of h) listed
-
-    pub left_alone_explained : (pick : Pick) → HasRunAlone code budget pick m schedule answer → ExplainsAlone tree pick processors budget report
-    left_alone_explained pick h =
+    pub left_alone_explained : (pick : Pick) → HasRunAlone code budget pick m schedule answer → AreOfFirst processors (length (entries schedule.runs)) report.acts
+        → ExplainsAlone tree pick processors budget report
+    left_alone_explained pick h first =
         turns_explained grows tree code faithful budget h.has_run.plant h.has_run.stands answer h.has_run.answered some processors lines report (is_of h.has_run) (valid_of h.has_run) listed
-        pick h.by_one
+        pick h.by_one (subst (λ (x : Schedule). AreOfFirst processors (length (entries x.runs)) report.acts) (sym h.has_run.schedule_is) first)
+
+    pub left_shared_explained : (pick : Pick) (acts : List ℕ) → report.acts ≡ acts → HasRunShared code budget pick processors m schedule answer acts
+        → ExplainsShared tree pick processors budget report
+    left_shared_explained pick acts same h =
+        shares_explained grows tree code faithful budget h.has_run.plant h.has_run.stands answer h.has_run.answered some processors lines report (is_of h.has_run) (valid_of h.has_run) listed
+        pick h.shared (subst (BySeats processors h.has_run.plant) (sym same) h.seats)

@@ -1,4 +1,5 @@
 pub mod Explaining
 pub mod Telling
 pub mod Alone
+pub mod Shared
 pub mod Turning

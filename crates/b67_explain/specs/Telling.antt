@@ -1,5 +1,5 @@
 -- The report of a machine after a run.
-use Rattle.std.specs.Prelude.{◌≡◌, ℕ, ◌<◌, ◌≤◌, ◌^◌, List, length, sum, Option, Some, None}
+use Rattle.std.specs.Prelude.{◌≡◌, ℕ, ◌-◌, ◌<◌, ◌≤◌, ◌^◌, List, ◌∷◌, length, replicate, sum, Option, Some, None}
 use Rattle.b67_schedule.specs.Schedules.{entries, Kept as Schedule}
 use Rattle.b67_report.specs.Reading.{IsEnd}
 use Rattle.b67_report.specs.Reading.{AreCounts as AreNumbers}
@@ -43,6 +43,10 @@ pub record AreCounts (machine : Kept) (operators : List ℕ) : Type 0 where
 pub record AreActs (processors count : ℕ) (acts : List ℕ) : Type 0 where
   pub each : length acts ≡ processors
   pub sum_is : sum acts ≡ count
+
+-- the first of so many processors made so many acts, and the others made none
+abbrev pub AreOfFirst : ℕ → ℕ → List ℕ → Type 0
+AreOfFirst processors count acts = acts ≡ count ∷ replicate (processors - 1) 0
 
 -- there are as many lines and counts as 64 bits can number, and each number has its bits
 pub record HasSizes (report : Report) : Type 0 where

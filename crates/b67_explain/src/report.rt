@@ -4,7 +4,7 @@ ghost use Rattle.std.specs.Prelude.{◌≡◌, ◌<◌, ◌≤◌, ◌^◌, IfOk
 ghost use Rattle.b67_schedule.specs.Schedules.{entries};
 ghost use Rattle.b67_report.specs.Reading.{AreCounts as AreNumbers};
 ghost use Rattle.b67_machine.specs.Reads.{machine_end};
-ghost use Rattle.b67_explain.specs.Telling.{CanBeTold, AreCounts, AreActs, IsReportOf};
+ghost use Rattle.b67_explain.specs.Telling.{CanBeTold, AreCounts, AreActs, AreOfFirst, IsReportOf};
 
 use crate::ends::words_of;
 use b67_list::{Line, List, discard};
@@ -41,6 +41,7 @@ fn operators_of<C: Core>(alloc: Global, machine: &Machine<C>) -> Result<List<u64
 /// The acts of so many processors, where the first one made so many and the others none.
 pub fn acts_of(alloc: Global, processors: u32, count: u64) -> Result<List<u64>, AllocError>
     requires { 1 ≤ processors }
+    ensures first { IfOk result (AreOfFirst processors count) }
     ensures acts { IfOk result (AreActs processors count) }
     ensures numbers { IfOk result AreNumbers }
 {
@@ -85,7 +86,8 @@ pub fn report_of<C: Core>(
     requires all { sum acts ≡ length (entries schedule.runs) }
     requires numbers { AreNumbers acts }
     requires told { CanBeTold answer (machine_end machine.now) }
-    ensures { IfOk result (IsReportOf machine.now answer lines (length acts) schedule) }
+    ensures report { IfOk result (IsReportOf machine.now answer lines (length acts) schedule) }
+    ensures acts { IfOk result (λ report. report.acts ≡ acts) }
 {
     // The number of the lines is read once, so that it is known to have 64 bits.
     let _count = lines.items().len();

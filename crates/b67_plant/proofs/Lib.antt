@@ -6,3 +6,4 @@ pub mod Many
 pub mod Lacking
 pub mod Stretching
 pub mod Landing
+pub mod Sharing

@@ -52,11 +52,15 @@ pub record LandsWell (budget : ℕ) (s : Stretch) (old new : Running) : Type 0 w
   pub lands : LandsOnce old s.process s.count new
   pub then : answer_of budget new ≡ spends (nat_le budget new.spent)
 
--- The process has another private part than the parcel's start: here the words of both first differ. It has gone back to the queue.
-pub record IsStale (s : Stretch) (old : Running) (place : ℕ) (kept given : Word) (new : Running) : Type 0 where
+-- the process has another private part than the parcel's start: here the words of both first differ
+pub record StartsElse (s : Stretch) (old : Running) (place : ℕ) (kept given : Word) : Type 0 where
   pub part : Private
   pub has : private_part old.machine.image s.process ≡ Some part
   pub differ : FirstDiffer (part_list part) (part_list s.start) place kept given
+
+-- and it has gone back to the queue
+pub record IsStale (s : Stretch) (old : Running) (place : ℕ) (kept given : Word) (new : Running) : Type 0 where
+  pub starts_else : StartsElse s old place kept given
   pub back : GoesBack old s.process new
 
 abbrev pub Lands : ℕ → ℕ → Stretch → Running → PlantLanding → Running → Type 0
@@ -65,6 +69,14 @@ Lands budget me s old (landings.Stale place kept given) new = MayLand budget me 
 Lands budget me s old landings.NotOut new = (answer_of budget old ≡ None) × (holder_of old.out s.process ≢ me) × (new ≡ old)
 Lands budget me s old landings.Over new = IsOver budget old × (new ≡ old)
 Lands budget me s old landings.Lacked new = (answer_of budget old ≡ Some NoMemory) × (new ≡ old)
+
+-- the same, but a process whose parcel is stale stays out, and all is as it was
+abbrev pub LandsOrStays : ℕ → ℕ → Stretch → Running → PlantLanding → Running → Type 0
+LandsOrStays budget me s old landings.Landed new = Lands budget me s old landings.Landed new
+LandsOrStays budget me s old (landings.Stale place kept given) new = MayLand budget me s old × StartsElse s old place kept given × (new ≡ old)
+LandsOrStays budget me s old landings.NotOut new = Lands budget me s old landings.NotOut new
+LandsOrStays budget me s old landings.Over new = Lands budget me s old landings.Over new
+LandsOrStays budget me s old landings.Lacked new = Lands budget me s old landings.Lacked new
 
 -- a worked parcel of this process has landed, which a processor brought, and nothing else was done since then
 pub record HasLanded (code : Code) (budget p : ℕ) (s : Running) : Type 0 where

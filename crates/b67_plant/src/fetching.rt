@@ -1,10 +1,13 @@
 // What a processor takes ahead: a process, whose private part stands apart until a parcel begins with it.
-ghost use Rattle.std.specs.Prelude.{◌≡◌, ◌≢◌, ◌≤◌, All, IfOk, true, false, length, Some};
+ghost use Rattle.std.specs.Prelude.{◌≡◌, ◌≢◌, ◌≤◌, All, IfOk, IfSome, true, false, length, Some, None};
 ghost use Rattle.b67_list.specs.Numbered.{numbered};
 ghost use Rattle.b67_segment.specs.declared.TheConstants.{MOST_SEGMENT_WORDS};
 ghost use Rattle.b67_table.specs.Image.{is_able};
 ghost use Rattle.b67_table.specs.Valid.{IsValid};
 ghost use Rattle.b67_machine.specs.Parts.{private_part};
+ghost use Rattle.b67_stands.specs.Placing.{holder_of};
+ghost use Rattle.b67_stands.specs.Running.{answer_of};
+ghost use Rattle.b67_stands.specs.Shared.{IsFree};
 ghost use Rattle.b67_stands.specs.Stands.{Stands};
 ghost use Rattle.b67_plant.specs.Calls.{Takes};
 ghost use Rattle.b67_plant.specs.Parcels.{IsFetched};
@@ -99,6 +102,31 @@ impl<N: Named> Ahead<N> {
 }
 
 impl<N: Named, L: Ledger, C: Core, P: Rule> Plant<N, L, C, P> {
+    // The process that is out with a processor, where one is: the one with the lowest number.
+    pub fn out_with(&self, me: u32) -> Option<u32>
+        requires me { 1 ≤ me }
+        requires going { answer_of N.budget self.now ≡ None }
+        ensures out { IfSome result (λ process. holder_of self.now.out process ≡ me) }
+        ensures free { result ≡ None → IsFree me self.now }
+    {
+        'processes: for before in 0..self.machine.started() {
+            if self.holder(before + 1) == me {
+                return Some(before + 1);
+            }
+        }
+        None
+    }
+
+    // The private part of a process that is out is copied.
+    pub fn fetch_out(&self, process: u32, ahead: &mut Ahead<N>)
+        requires going { answer_of N.budget self.now ≡ None }
+        requires out { 1 ≤ holder_of self.now.out process }
+        ensures there { ahead.new.is_there ≡ true }
+        ensures process { ahead.new.process ≡ process }
+    {
+        ahead.fetch(&self.machine, process);
+    }
+
     /// Takes a process as `take` does, but no parcel: its private part stands apart until one begins with it. Takes no memory.
     pub fn take_ahead(&mut self, me: u32, ahead: &mut Ahead<N>) -> Taken
         requires me { 1 ≤ me }

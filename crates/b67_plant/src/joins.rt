@@ -3,6 +3,8 @@ ghost use Rattle.std.specs.Prelude.{◌≡◌, ◌≢◌, ◌+◌, ◌<◌, ◌�
 ghost use Rattle.std.specs.List.{sum_by};
 ghost use Rattle.std.specs.Thread.{IsSync};
 ghost use Rattle.b67_stands.specs.Running.{answer_of};
+ghost use Rattle.b67_stands.specs.Calls.{IsFirst};
+ghost use Rattle.b67_stands.specs.Shared.{Shared};
 ghost use Rattle.b67_stands.specs.Stands.{Stands};
 
 use crate::{Named, Plant, Post, Seat, SharedPlant};
@@ -40,7 +42,7 @@ fn shares_of<N: Named, L: Ledger>(post: Post<N, L>) -> Shares<N, L>
     Shares { acts, leaves }
 }
 
-/// The acts of all posts are the book's, and since each has left, the run has an end or lacked memory.
+/// The acts and the leaves of all posts are the books', and since each has left, the run has an end or lacked memory.
 pub fn gather<N: Named, L: Ledger, C: Core, P: Rule>(
     plant: &mut Plant<N, L, C, P>,
     posts: Vec<Post<N, L>>,
@@ -52,6 +54,7 @@ pub fn gather<N: Named, L: Ledger, C: Core, P: Rule>(
     ensures ended { answer_of N.budget plant.old ≢ None }
     ensures same { plant.new ≡ plant.old }
     ensures acts { sum_by (λ post. post.seat.count) posts.items ≡ plant.old.acts }
+    ensures leaves { sum_by (λ post. post.seat.left) posts.items ≡ plant.old.leaves }
 {
     let mut posts = posts;
     let Some(first) = posts.pop() else {
@@ -107,7 +110,9 @@ pub fn run_all<
 ) -> Plant<N, L, C, P>
     requires code { code ≡ N.code }
     requires processors { (length posts.old ≡ N.processors) × (length posts.old < 9) }
+    requires first { IsFirst N.code plant }
     ensures stands { Stands N.code N.budget result }
+    ensures shared { Shared N.code N.budget N.pick N.processors result }
     ensures posts { length posts.new ≡ length posts.old }
     ensures left { All (λ post. 0 < post.seat.left) posts.new }
 {

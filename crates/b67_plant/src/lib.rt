@@ -7,6 +7,7 @@
 mod copying;
 mod entering;
 mod fetching;
+mod floor;
 mod joins;
 mod making;
 mod placing;
@@ -23,6 +24,7 @@ use b67_ready::{Dispatcher, Rule};
 use b67_schedule::Schedule;
 use b67_store::Core;
 pub use fetching::Ahead;
+pub use floor::Floor;
 pub use joins::{gather, run_all};
 pub use running::{Ran, run_by_caller, run_by_processors};
 pub use shared::{Pass, SharedPlant};

@@ -29,6 +29,8 @@ struct Bench<N: Named> {
 fn post<N: Named, L: Ledger>(bench: Bench<N>, acts: Share<N>, leaves: Share<L>) -> Post<N, L>
     requires acts { (acts.parts ≡ 1) × (acts.amount ≡ 0) }
     requires leaves { (leaves.parts ≡ 1) × (leaves.amount ≡ 0) }
+    ensures numbers { (result.seat.count ≡ 0) × (result.seat.left ≡ 0) }
+    ensures ahead { result.seat.ahead ≡ bench.ahead }
 {
     let Bench { parcel, ahead } = bench;
     Post {
@@ -56,7 +58,8 @@ fn first_bench<N: Named>(alloc: Global) -> Result<Bench<N>, AllocError>
 // The memory of each of so many processors.
 fn benches_of<N: Named>(alloc: Global, processors: u32) -> Result<Vec<Bench<N>>, AllocError>
     requires { All (λ segment. length segment.words ≤ MOST_SEGMENT_WORDS) N.code.segments }
-    ensures { IfOk result (λ benches. length benches.items ≡ processors) }
+    ensures each { IfOk result (λ benches. length benches.items ≡ processors) }
+    ensures none { IfOk result (λ benches. All (λ bench. bench.ahead.is_there ≡ false) benches.items) }
 {
     let mut benches = Vec::with_capacity(alloc, processors as usize)?;
     'benches: while benches.len() < processors as usize {
@@ -76,7 +79,9 @@ fn fill_posts<N: Named, L: Ledger>(
     requires room { length benches.items ≤ vec_capacity posts.old }
     requires acts { (acts.parts ≡ length benches.items) × (acts.amount ≡ 0) }
     requires leaves { (leaves.parts ≡ length benches.items) × (leaves.amount ≡ 0) }
-    ensures { length posts.new.items ≡ length benches.items }
+    requires free { All (λ bench. bench.ahead.is_there ≡ false) benches.items }
+    ensures each { length posts.new.items ≡ length benches.items }
+    ensures seats { All (λ post. (post.seat.count ≡ 0) × (post.seat.left ≡ 0) × (post.seat.ahead.is_there ≡ false)) posts.new.items }
 {
     let mut benches = benches;
     let mut acts = acts;
@@ -114,7 +119,7 @@ fn rooms_of<P: Rule>(alloc: Global, rule: P, budget: u32) -> Result<Rooms<P>, Al
 
 impl<N: Named, L: Ledger, C: Core, P: Rule> Plant<N, L, C, P> {
     /// A plant of a machine that has performed nothing. There is a place for each of its processors among the posts, which have the
-    /// room, and none where memory lacks.
+    /// room, and none where memory lacks. No seat has an act or a leave yet, nor a process taken ahead.
     pub fn new(
         alloc: Global,
         machine: Machine<C>,
@@ -137,6 +142,7 @@ impl<N: Named, L: Ledger, C: Core, P: Rule> Plant<N, L, C, P> {
         requires none { posts.old.items ≡ [] }
         requires room { processors ≤ vec_capacity posts.old }
         ensures posts { IfOk result (λ plant. length posts.new.items ≡ processors) }
+        ensures seats { IfOk result (λ plant. All (λ post. (post.seat.count ≡ 0) × (post.seat.left ≡ 0) × (post.seat.ahead.is_there ≡ false)) posts.new.items) }
         ensures no_posts { OnErr result (posts.new.items ≡ []) }
         ensures first { IfOk result (IsFirst N.code) }
     {

@@ -1,6 +1,5 @@
 // Whole runs, from a machine that has performed nothing to the end.
-ghost use Rattle.std.specs.Prelude.{◌≡◌, ◌≢◌, ℕ, ◌<◌, ◌≤◌, ◌^◌, [], All, IfOk, OnErr, Some, None, length, sum, vec_capacity};
-ghost use Rattle.std.specs.List.{sum_by};
+ghost use Rattle.std.specs.Prelude.{◌≡◌, ◌≢◌, ℕ, ◌<◌, ◌≤◌, ◌^◌, [], All, IfOk, OnErr, Some, None, length, map, sum, vec_capacity};
 ghost use Rattle.b67_ready.specs.Orders.{place_of};
 ghost use Rattle.b67_schedule.specs.Schedules.{entries};
 ghost use Rattle.b67_segment.specs.declared.TheConstants.{MOST_SEGMENT_WORDS};
@@ -8,7 +7,7 @@ ghost use Rattle.b67_table.specs.Sound.{Sound};
 ghost use Rattle.b67_machine.specs.Beginning.{IsFresh};
 ghost use Rattle.b67_words.specs.declared.TheConstants.{MOST_BUDGET, MOST_PROCESSORS};
 ghost use Rattle.b67_stands.specs.Alone.{ByOne};
-ghost use Rattle.b67_stands.specs.Ran.{HasRun, HasRunAlone};
+ghost use Rattle.b67_stands.specs.Ran.{HasRunAlone, HasRunShared};
 ghost use Rattle.b67_stands.specs.Running.{answer_of};
 ghost use Rattle.b67_stands.specs.Stands.{Stands};
 
@@ -131,12 +130,11 @@ pub fn run_by_caller<C: Core>(
 
 // ---- by processors
 
-// How many acts each processor made.
+// How many acts each processor made, in their order.
 fn note_acts<N: Named, L: Ledger>(counts: &mut Vec<u64>, posts: &[Post<N, L>])
     requires none { counts.old.items ≡ [] }
     requires room { length posts.now ≤ vec_capacity counts.old }
-    ensures each { length counts.new.items ≡ length posts.now }
-    ensures all { sum counts.new.items ≡ sum_by (λ post. post.seat.count) posts.now }
+    ensures each { counts.new.items ≡ map (λ post. post.seat.count) posts.now }
     ensures numbers { All (λ count. count < 2 ^ 64) counts.new.items }
 {
     'posts: for post in posts {
@@ -177,7 +175,7 @@ fn run_named<
     requires rule { (n takes : ℕ) → P.pick rule n takes ≡ N.pick n takes }
     requires none { counts.old.items ≡ [] }
     requires room { processors ≤ vec_capacity counts.old }
-    ensures ran { IfOk result (λ ran. HasRun N.code N.budget ran.machine ran.schedule ran.answer) }
+    ensures ran { IfOk result (λ ran. HasRunShared N.code N.budget N.pick processors ran.machine ran.schedule ran.answer counts.new.items) }
     ensures each { IfOk result (λ ran. length counts.new.items ≡ processors) }
     ensures all { IfOk result (λ ran. sum counts.new.items ≡ length (entries ran.schedule.runs)) }
     ensures numbers { IfOk result (λ ran. All (λ count. count < 2 ^ 64) counts.new.items) }
@@ -194,7 +192,7 @@ fn run_named<
 }
 
 /// The run of a machine that has performed nothing, by so many processors that share it, under a rule and a budget. How many acts each
-/// processor made is noted, and none where memory lacks.
+/// processor made is noted in their order, as their seats say, and none where memory lacks.
 pub fn run_by_processors<C: Core + Send, G: Gate + Sync, R: Threads + Wait + Sync>(
     rt: &R,
     alloc: Global,
@@ -212,7 +210,7 @@ pub fn run_by_processors<C: Core + Send, G: Gate + Sync, R: Threads + Wait + Syn
     requires processors { (1 ≤ processors) × (processors ≤ MOST_PROCESSORS) }
     requires none { counts.old.items ≡ [] }
     requires room { processors ≤ vec_capacity counts.old }
-    ensures ran { IfOk result (λ ran. HasRun machine.code budget ran.machine ran.schedule ran.answer) }
+    ensures ran { IfOk result (λ ran. HasRunShared machine.code budget (place_of order) processors ran.machine ran.schedule ran.answer counts.new.items) }
     ensures each { IfOk result (λ ran. length counts.new.items ≡ processors) }
     ensures all { IfOk result (λ ran. sum counts.new.items ≡ length (entries ran.schedule.runs)) }
     ensures numbers { IfOk result (λ ran. All (λ count. count < 2 ^ 64) counts.new.items) }

@@ -6,10 +6,11 @@
 ghost use Rattle.std.specs.Prelude.{◌≡◌, ◌≢◌, ◌+◌, ◌<◌, ◌≤◌, ◌^◌, true, false, Some};
 ghost use Rattle.std.specs.Sync.Mutex.{mutex_guard_value};
 ghost use Rattle.b67_processors.specs.Acts.{IsActed};
+ghost use Rattle.b67_stands.specs.Shared.{Shared};
 ghost use Rattle.b67_plant.specs.Calls.{HasLanded};
 ghost use Rattle.b67_plant.specs.Parcels.{IsWorked};
 
-use crate::{Named, Parcel, Plant, PlantLanding, Seat, Taken};
+use crate::{Floor, Named, Parcel, Plant, PlantLanding, Seat, Taken};
 use b67_processors::{Acted, Landing, Shop, Work};
 use b67_ready::Rule;
 use b67_segment::Code;
@@ -20,7 +21,7 @@ use std::thread::Threads;
 
 /// The plant behind a lock, and the code of its run beside it.
 pub struct SharedPlant<N: Named, L: Ledger, C: Core, P: Rule> {
-    plant: Mutex<Plant<N, L, C, P>>,
+    floor: Mutex<Floor<N, L, C, P>>,
     moved: Condvar,
     code: Code,
     ghost named: { code ≡ N.code },
@@ -29,19 +30,19 @@ pub struct SharedPlant<N: Named, L: Ledger, C: Core, P: Rule> {
 /// The leave to act in a process: a worked parcel of it has landed, and nobody else had the plant since then.
 #[derive(Drop)]
 pub struct Pass<'a, N: Named, L: Ledger, C: Core, P: Rule> {
-    plant: MutexGuard<'a, Plant<N, L, C, P>>,
+    floor: MutexGuard<'a, Floor<N, L, C, P>>,
     process: u32,
-    ghost landed: { ∥ HasLanded N.code N.budget process (mutex_guard_value plant) ∥₁ },
+    ghost landed: { ∥ HasLanded N.code N.budget process (mutex_guard_value floor) ∥₁ },
 }
 
 // The leave to act after a landing.
 fn passed<'a, N: Named, L: Ledger, C: Core, P: Rule>(
-    plant: MutexGuard<'a, Plant<N, L, C, P>>,
+    floor: MutexGuard<'a, Floor<N, L, C, P>>,
     process: u32,
 ) -> Pass<'a, N, L, C, P>
-    requires { HasLanded N.code N.budget process (mutex_guard_value plant) }
+    requires { HasLanded N.code N.budget process (mutex_guard_value floor) }
 {
-    Pass { plant, process }
+    Pass { floor, process }
 }
 
 // What a processor is answered whose parcel did not land.
@@ -55,11 +56,11 @@ fn refused<T>(landing: PlantLanding) -> Landing<T> {
 
 // A take under the lock, or nothing where the processor has to wait.
 fn tried<N: Named, L: Ledger, C: Core, P: Rule>(
-    plant: &mut Plant<N, L, C, P>,
+    floor: &mut Floor<N, L, C, P>,
     me: u32,
     seat: &mut Seat<N, L>,
 ) -> Option<Work>
-    requires me { 1 ≤ me }
+    requires me { (1 ≤ me) × (me ≤ N.processors) }
     requires free { seat.old.ahead.is_there ≡ false }
     ensures over { result ≡ Some Work.Over → seat.new.left ≡ seat.old.left + 1 }
     ensures other { result ≢ Some Work.Over → seat.new.left ≡ seat.old.left }
@@ -67,11 +68,11 @@ fn tried<N: Named, L: Ledger, C: Core, P: Rule>(
     ensures there { result ≡ Some Work.Parcel → seat.new.ahead.is_there ≡ true }
     ensures free { result ≢ Some Work.Parcel → seat.new.ahead.is_there ≡ false }
 {
-    match plant.take_ahead(me, &mut seat.ahead) {
+    match floor.take(me, &mut seat.ahead) {
         Taken::Work => Some(Work::Parcel),
         Taken::Idle => None,
         Taken::Over | Taken::Lacked => {
-            if plant.leave(seat) {
+            if floor.leave(seat) {
                 Some(Work::Over)
             } else {
                 None
@@ -82,49 +83,52 @@ fn tried<N: Named, L: Ledger, C: Core, P: Rule>(
 
 // Takes the next process, where the processor has none, and says whether the run has an end or lacked memory.
 fn take_next<N: Named, L: Ledger, C: Core, P: Rule>(
-    plant: &mut Plant<N, L, C, P>,
+    floor: &mut Floor<N, L, C, P>,
     me: u32,
     seat: &mut Seat<N, L>,
 ) -> bool
-    requires { 1 ≤ me }
+    requires { (1 ≤ me) × (me ≤ N.processors) }
     ensures count { seat.new.count ≡ seat.old.count }
     ensures left { seat.new.left ≡ seat.old.left }
     ensures kept { seat.old.ahead.is_there ≡ true → seat.new.ahead ≡ seat.old.ahead }
 {
     if seat.ahead.is_there() {
-        return plant.answer().is_some();
+        return floor.plant().answer().is_some();
     }
-    match plant.take_ahead(me, &mut seat.ahead) {
+    match floor.take(me, &mut seat.ahead) {
         Taken::Work | Taken::Idle => false,
         Taken::Over | Taken::Lacked => true,
     }
 }
 
 impl<N: Named, L: Ledger, C: Core, P: Rule> SharedPlant<N, L, C, P> {
-    /// The plant goes behind the lock, and the code stays beside it.
+    /// The plant goes behind the lock, and the code stays beside it. It is one before its first take, or one that was shared before.
     pub fn new(plant: Plant<N, L, C, P>, code: Code) -> SharedPlant<N, L, C, P>
-        requires { code ≡ N.code }
+        requires code { code ≡ N.code }
+        requires shared { Shared N.code N.budget N.pick N.processors plant }
     {
         SharedPlant {
-            plant: Mutex::new(plant),
+            floor: Mutex::new(Floor::new(plant)),
             moved: Condvar::new(),
             code,
         }
     }
 
     /// The plant comes out of the lock.
-    pub fn into_plant(self) -> Plant<N, L, C, P> {
+    pub fn into_plant(self) -> Plant<N, L, C, P>
+        ensures { Shared N.code N.budget N.pick N.processors result }
+    {
         let SharedPlant {
-            plant,
+            floor,
             moved: _moved,
             code: _code,
         } = self;
-        plant.into_inner()
+        floor.into_inner().into_plant()
     }
 
     // Sees to it that a process is taken ahead: waits while nothing is ready, and leaves at the end.
     fn take_one<R: Wait>(&self, rt: &R, me: u32, seat: &mut Seat<N, L>) -> Work
-        requires { 1 ≤ me }
+        requires { (1 ≤ me) × (me ≤ N.processors) }
         ensures over { result ≡ Work.Over → seat.new.left ≡ seat.old.left + 1 }
         ensures other { result ≢ Work.Over → seat.new.left ≡ seat.old.left }
         ensures count { seat.new.count ≡ seat.old.count }
@@ -134,11 +138,11 @@ impl<N: Named, L: Ledger, C: Core, P: Rule> SharedPlant<N, L, C, P> {
         if seat.ahead.is_there() {
             return Work::Parcel;
         }
-        let mut plant = self.plant.lock(rt);
+        let mut floor = self.floor.lock(rt);
         for _ in rt.forever() {
-            match tried(&mut *plant, me, seat) {
+            match tried(&mut *floor, me, seat) {
                 Some(work) => return work,
-                None => plant = self.moved.wait(rt, plant),
+                None => floor = self.moved.wait(rt, floor),
             }
         }
         unreachable!()
@@ -202,17 +206,13 @@ impl<'a, N: Named + Send + Sync, L: Ledger + Send + Sync, C: Core + Send, P: Rul
         parcel: &Parcel<N>,
     ) -> Landing<Pass<'a, N, L, C, P>> {
         let shared: &'a SharedPlant<N, L, C, P> = *self;
-        let mut plant = shared.plant.lock(rt);
-        let landing = plant.land(me, parcel);
+        let mut floor = shared.floor.lock(rt);
+        let landing = floor.land(me, parcel);
         if let PlantLanding::Landed = landing {
-            if plant.is_spent() {
+            if floor.plant().is_spent() {
                 shared.moved.notify_all();
             }
-            return Landing::Landed(passed(plant, parcel.process()));
-        }
-        drop(plant);
-        if let PlantLanding::Stale { .. } = landing {
-            shared.moved.notify_one();
+            return Landing::Landed(passed(floor, parcel.process()));
         }
         refused(landing)
     }
@@ -225,12 +225,12 @@ impl<'a, N: Named + Send + Sync, L: Ledger + Send + Sync, C: Core + Send, P: Rul
         pass: Pass<'a, N, L, C, P>,
         seat: &mut Seat<N, L>,
     ) -> Acted {
-        let Pass { mut plant, process } = pass;
-        let before = plant.waiting();
-        let acted = plant.act(me, process, seat);
-        let has_ended = take_next(&mut *plant, me, seat);
-        let joined = plant.waiting().saturating_sub(before);
-        drop(plant);
+        let Pass { mut floor, process } = pass;
+        let before = floor.plant().waiting();
+        let acted = floor.act(me, process, seat);
+        let has_ended = take_next(&mut *floor, me, seat);
+        let joined = floor.plant().waiting().saturating_sub(before);
+        drop(floor);
         self.wake(has_ended, joined);
         acted
     }

@@ -2,7 +2,7 @@
 ghost use Rattle.std.specs.Prelude.{◌≡◌, ◌≢◌, ℕ, ◌+◌, ◌-◌, ◌<◌, ◌≤◌, ◌^◌, nat_le, true, false, None, Some, IfSome, length};
 ghost use Rattle.b67_processors.specs.Acts.{IsActed};
 ghost use Rattle.b67_table.specs.Limits.{most_processes};
-ghost use Rattle.b67_plant.specs.Calls.{Picks, Takes, Lands, LandsWell, Acts, LeavesOr, LackingIsKept};
+ghost use Rattle.b67_plant.specs.Calls.{Picks, Takes, Lands, LandsOrStays, LandsWell, Acts, LeavesOr, LackingIsKept};
 ghost use Rattle.b67_plant.specs.Parcels.{IsCopied, StartsAs};
 ghost use Rattle.b67_stands.specs.Calls.{GoesBack};
 ghost use Rattle.b67_stands.specs.Placing.{holder_of};
@@ -102,7 +102,7 @@ impl<N: Named, L: Ledger, C: Core, P: Rule> Plant<N, L, C, P> {
     }
 
     // The processor with which a process is out.
-    fn holder(&self, process: u32) -> u32
+    pub fn holder(&self, process: u32) -> u32
         ensures { result ≡ holder_of self.now.out process }
     {
         match process {
@@ -176,6 +176,18 @@ impl<N: Named, L: Ledger, C: Core, P: Rule> Plant<N, L, C, P> {
         requires { 1 ≤ me }
         ensures { Lands N.budget me parcel.now self.old result self.new }
     {
+        let landing = self.land_or_stay(me, parcel);
+        if let PlantLanding::Stale { .. } = landing {
+            self.put_back(parcel.process());
+        }
+        landing
+    }
+
+    // Lands a parcel, as `land` does. But where its start is not the private part that is kept, its process stays out.
+    pub fn land_or_stay(&mut self, me: u32, parcel: &Parcel<N>) -> PlantLanding
+        requires { 1 ≤ me }
+        ensures { LandsOrStays N.budget me parcel.now self.old result self.new }
+    {
         match self.answer() {
             Some(Replayed::NoMemory) => return PlantLanding::Lacked,
             Some(_) => return PlantLanding::Over,
@@ -186,7 +198,6 @@ impl<N: Named, L: Ledger, C: Core, P: Rule> Plant<N, L, C, P> {
         }
         let process = parcel.process();
         if let Some((place, kept, given)) = self.machine.differs(process, parcel.start()) {
-            self.put_back(process);
             return PlantLanding::Stale { place, kept, given };
         }
         self.put_end(parcel);
@@ -216,16 +227,19 @@ impl<N: Named, L: Ledger, C: Core, P: Rule> Plant<N, L, C, P> {
         self.spent += count;
     }
 
-    /// A processor stops, since the run has an end or lacked memory; the machine is as it was. It does not where that can not be counted.
+    /// A processor stops, since the run has an end or lacked memory; the machine is as it was. It does not exactly where that can not be
+    /// counted, since there have been as many leaves as 64 bits can number.
     pub fn leave(&mut self, seat: &mut Seat<N, L>) -> bool
         requires { answer_of N.budget self.old ≢ None }
         ensures leaves { LeavesOr result self.old self.new }
         ensures left { result ≡ true → seat.new.left ≡ seat.old.left + 1 }
+        ensures full { result ≡ false → self.old.leaves ≡ 2 ^ 64 - 1 }
         ensures refused { result ≡ false → seat.new.left ≡ seat.old.left }
         ensures count { seat.new.count ≡ seat.old.count }
         ensures ahead { seat.new.ahead ≡ seat.old.ahead }
     {
-        if self.left == u64::MAX || seat.left == u64::MAX {
+        self.leaves.audit(&mut seat.leaves);
+        if self.left == u64::MAX {
             return false;
         }
         self.leaves.add(&mut seat.leaves, 1);

@@ -8,5 +8,6 @@ pub mod Laws
 pub mod Picked
 pub mod Alone
 pub mod Turns
+pub mod Shared
 pub mod Ran
 pub mod Commuting

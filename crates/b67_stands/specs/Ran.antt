@@ -1,5 +1,5 @@
 -- What is known of a run that has ended.
-use Rattle.std.specs.Prelude.{◌≡◌, ℕ, Some}
+use Rattle.std.specs.Prelude.{◌≡◌, ℕ, List, Some}
 use Rattle.b67_schedule.specs.Schedules.{Kept as Schedule}
 use Rattle.b67_segment.specs.declared.code.Code.{Code}
 use Rattle.b67_machine.specs.Kept.{Kept as Machine}
@@ -8,6 +8,7 @@ use Rattle.b67_stands.specs.Running.{Running, answer_of}
 use Rattle.b67_stands.specs.Picked.{Pick}
 use Rattle.b67_stands.specs.Stands.{Stands}
 use Rattle.b67_stands.specs.Alone.{ByOne}
+use Rattle.b67_stands.specs.Shared.{Shared, BySeats}
 
 -- A run of this code under that budget has ended so, with this machine and this schedule: a plant with them stands.
 pub record HasRun (code : Code) (budget : ℕ) (machine : Machine) (schedule : Schedule) (answer : Replayed) : Type 0 where
@@ -21,3 +22,9 @@ pub record HasRun (code : Code) (budget : ℕ) (machine : Machine) (schedule : S
 pub record HasRunAlone (code : Code) (budget : ℕ) (pick : Pick) (machine : Machine) (schedule : Schedule) (answer : Replayed) : Type 0 where
   pub has_run : HasRun code budget machine schedule answer
   pub by_one : ByOne code budget pick has_run.plant
+
+-- And so many processors shared it, under this rule, and these are their numbers of acts.
+pub record HasRunShared (code : Code) (budget : ℕ) (pick : Pick) (processors : ℕ) (machine : Machine) (schedule : Schedule) (answer : Replayed) (acts : List ℕ) : Type 0 where
+  pub has_run : HasRun code budget machine schedule answer
+  pub shared : Shared code budget pick processors has_run.plant
+  pub seats : BySeats processors has_run.plant acts

@@ -1,4 +1,4 @@
-use Rattle.std.proofs.Common.{◌≡◌, ◌+◌, ◌≤◌, length}
+use Rattle.std.proofs.Common.{◌≡◌, ◌+◌, ◌≤◌, false, All, length}
 use Rattle.std.specs.Prelude.{vec_capacity}
 use Rattle.b67_plant.proofs.making.fill_posts.Given as goal
 
@@ -10,6 +10,8 @@ invariant-posts g l = record {
   leaves : l.leaves.parts ≡ length l.benches.items;
   no_leaves : l.leaves.amount ≡ 0;
   all : length l.posts.items + length l.benches.items ≡ length l.fn.benches.items;
+  free : All (λ bench. bench.ahead.is_there ≡ false) l.benches.items;
+  seats : All (λ post. (post.seat.count ≡ 0) × (post.seat.left ≡ 0) × (post.seat.ahead.is_there ≡ false)) l.posts.items;
   room : length l.fn.benches.items ≤ vec_capacity l.posts;
 }
 

@@ -1,9 +1,12 @@
-use Rattle.std.specs.Prelude.{◌≢◌, None, length}
+use Rattle.std.specs.Prelude.{◌≢◌, None, length, map, sum}
 use Rattle.std.specs.List.{sum_by}
-use Rattle.std.proofs.Common.{All, sym, ap, subst, ◌∙◌, ◌<◌, arith}
-use Rattle.std.proofs.lemmas.List.{with_items_is}
+use Rattle.std.proofs.Common.{ℕ, All, sym, ap, subst, ◌∙◌, ◌<◌, arith}
+use Rattle.std.proofs.lemmas.List.Sums.{sum-map}
+use Rattle.std.proofs.lemmas.List.{length-map, with_items_is}
 use Rattle.b67_schedule.specs.Schedules.{entries, Kept as Schedule}
 use Rattle.b67_stands.specs.Running.{Running, answer_of}
+use Rattle.b67_stands.specs.Shared.{Shared}
+use Rattle.b67_plant.proofs.Sharing.{seated}
 use Rattle.b67_plant.proofs.running.run_named.Goals as goal
 
 pub run_all-plant-requires-clause-processors : goal.run_all-plant-requires-clause-processors
@@ -40,23 +43,40 @@ pub left_by-requires : goal.left_by-requires
 left_by-requires g c = subst (λ (s : Running). answer_of g.N.Named.budget s ≢ None) (sym c.gather.ensures.same) c.gather.ensures.ended
 
 pub returns-clause-ran : goal.returns-clause-ran
-returns-clause-ran g c = record {
-  plant = c.gather.new.plant;
-  stands = c.left_by.ensures.stands;
-  machine_is = sym c.left_by.ensures.parts.0;
-  schedule_is = sym c.left_by.ensures.parts.1;
-  answered = c.left_by.ensures.answered;
-}
+returns-clause-ran g c =
+    let after = c.run_all-plant.new.posts in
+    let same = c.run_all-plant.ensures.posts ∙ c.as_mut_slice.ensures.len in
+    let is = with_items_is c.new.new.posts after same in
+    let each = c.run_all-plant.ensures.posts ∙ ap length c.as_mut_slice.ensures.value ∙ c.in_ok-plant.ensures.posts in
+    record {
+      has_run = record {
+        plant = c.gather.new.plant;
+        stands = c.left_by.ensures.stands;
+        machine_is = sym c.left_by.ensures.parts.0;
+        schedule_is = sym c.left_by.ensures.parts.1;
+        answered = c.left_by.ensures.answered;
+      };
+      shared =
+          subst (λ (s : Running). Shared g.N.Named.code g.N.Named.budget g.N.Named.pick c.args.processors s) (sym c.gather.ensures.same)
+          (subst (λ (n : ℕ). Shared g.N.Named.code g.N.Named.budget g.N.Named.pick n c.run_all-plant.result) (sym c.requires.processors.0) c.run_all-plant.ensures.shared);
+      seats =
+          seated (λ post. post.seat.count) (λ post. post.seat.left) after c.args.processors c.gather.new.plant c.note_acts.new.counts.items each
+          (c.note_acts.ensures.each ∙ ap (map (λ post. post.seat.count)) (c.as_slice.ensures.value ∙ is)) c.run_all-plant.ensures.left
+          (ap (sum_by (λ post. post.seat.count)) (sym is) ∙ c.gather.ensures.acts ∙ ap (λ (s : Running). s.acts) (sym c.gather.ensures.same))
+          (ap (sum_by (λ post. post.seat.left)) (sym is) ∙ c.gather.ensures.leaves ∙ ap (λ (s : Running). s.leaves) (sym c.gather.ensures.same));
+    }
 
 pub returns-clause-each : goal.returns-clause-each
 returns-clause-each g c =
     let same = c.run_all-plant.ensures.posts ∙ c.as_mut_slice.ensures.len in
-    c.note_acts.ensures.each ∙ ap length (c.as_slice.ensures.value ∙ with_items_is c.new.new.posts c.run_all-plant.new.posts same)
+    ap length c.note_acts.ensures.each ∙ length-map c.as_slice.result.now (λ post. post.seat.count)
+    ∙ ap length (c.as_slice.ensures.value ∙ with_items_is c.new.new.posts c.run_all-plant.new.posts same)
     ∙ c.run_all-plant.ensures.posts ∙ ap length c.as_mut_slice.ensures.value ∙ c.in_ok-plant.ensures.posts
 
 pub returns-clause-all : goal.returns-clause-all
 returns-clause-all g c =
-    c.note_acts.ensures.all ∙ ap (sum_by (λ post. post.seat.count)) c.as_slice.ensures.value ∙ c.gather.ensures.acts
+    ap sum c.note_acts.ensures.each ∙ sum-map (λ post. post.seat.count) c.as_slice.result.now
+    ∙ ap (sum_by (λ post. post.seat.count)) c.as_slice.ensures.value ∙ c.gather.ensures.acts
     ∙ ap (λ (s : Running). s.acts) (sym c.gather.ensures.same) ∙ c.left_by.ensures.stands.acts
     ∙ ap (λ (s : Schedule). length (entries s.runs)) (sym c.left_by.ensures.parts.1)
 

@@ -1,6 +1,6 @@
 use Rattle.std.proofs.Common.{sym, subst}
 use Rattle.b67_plant.specs.declared.taking.PlantLanding.{PlantLanding}
-use Rattle.b67_plant.specs.Calls.{Lands}
+use Rattle.b67_plant.specs.Calls.{LandsOrStays}
 use Rattle.b67_plant.proofs.shared.RefSharedPlantShop.land.Goals as goal
 
 pub passed-requires : goal.passed-requires
@@ -11,5 +11,6 @@ passed-requires g c = record {
   whose = sym c.process.ensures;
   worked = c.requires.worked;
   landed =
-      subst (λ (answer : PlantLanding). Lands g.N.Named.budget c.args.me c.args.parcel.now c.deref_mut.result.now answer c.land-landing.new.self) c.in-Landed.is c.land-landing.ensures;
+      subst (λ (answer : PlantLanding). LandsOrStays g.N.Named.budget c.args.me c.args.parcel.now c.deref_mut.result.now answer c.land-landing.new.self) c.in-Landed.is
+      c.land-landing.ensures;
 }
