@@ -1,5 +1,5 @@
 -- From what a part of the top call found to the answer.
-use Rattle.std.proofs.Common.{◌≡◌, ◌⊎◌, inl, inr, ℕ, ◌<◌, ◌≤◌, List, length, Option, Some, Result, Ok, Err, refl, sym, subst}
+use Rattle.std.proofs.Common.{◌≡◌, ◌⊎◌, inl, inr, ℕ, ◌<◌, ◌≤◌, List, length, Option, Some, None, Result, Ok, Err, refl, sym, subst}
 use Rattle.std.specs.Prelude.{◌≢◌, IfSome, IfOk}
 use Rattle.std.specs.declared.alloc.AllocError.{AllocError}
 use Rattle.std.specs.Io.KnownBytes.{IsAtEnd}
@@ -7,7 +7,6 @@ use Rattle.algol_tree.specs.declared.TheConstants.{MOST_SOURCE_BYTES}
 use Rattle.algol_tree.specs.declared.token.Spot.{Spot}
 use Rattle.algol_tree.specs.declared.refusal.Code.{Code as SourceCode}
 use Rattle.algol_tree.specs.Plain.{PProgram}
-use Rattle.algol_tree.specs.First.{Source, First}
 use Rattle.b67_io.specs.Faults.{Rose}
 use Rattle.b67_io.specs.Writing.{WroteFront}
 use Rattle.b67_io.specs.declared.writing.WriteAll.{WriteAll}
@@ -15,8 +14,9 @@ use Rattle.b67_io.specs.declared.writing.WriteAll.TheVariants as writes
 use Rattle.b67_words.specs.Grammar.{WordsMean, run as run_command, check as check_command, list as list_command, replay as replay_command, exec as exec_command, trial as trial_command, meant}
 use Rattle.b67_words.specs.declared.TheConstants.{MOST_BUDGET, MOST_PROCESSORS}
 use Rattle.b67_words.specs.declared.Rule.{Rule}
+use Rattle.b67_words.specs.declared.Task.{Task}
 use Rattle.b67_words.specs.declared.Words.{Words}
-use Rattle.b67_words.specs.declared.Words.TheVariants as commands
+use Rattle.b67_words.specs.declared.Words.TheVariants.{OnSource, Exec, Trial}
 use Rattle.b67_words.specs.declared.BadWords.{BadWords}
 use Rattle.b67_report.specs.declared.Report.{Report}
 use Rattle.b67_report.specs.Texts.{ReportText}
@@ -26,7 +26,8 @@ use Rattle.b67_schedule.specs.Schedules.{entries, IsSchedule, ScheduleText}
 use Rattle.b67_listing.specs.Listings.{ListingText}
 use Rattle.b67_segment.specs.declared.code.Code.{Code}
 use Rattle.b67_faithful.specs.Faithful.{Faithful}
-use Rattle.b67_explain.specs.Explaining.{ExplainsRun, ExplainsReplay}
+use Rattle.b67_explain.specs.Explaining.{ExplainsReplay}
+use Rattle.b67_explain.specs.Shared.{ExplainsShared}
 use Rattle.b67_explain.specs.Alone.{ExplainsAlone}
 use Rattle.b67_ready.specs.declared.order.Order.TheVariants as orders
 use Rattle.b67_ready.specs.Orders.{place_of}
@@ -39,8 +40,9 @@ use Rattle.b67_desk.specs.declared.asking.Unanswered.TheVariants as why
 use Rattle.b67_desk.specs.declared.asking.Job.{Job}
 use Rattle.b67_desk.specs.declared.asking.Asked.{Asked}
 use Rattle.b67_desk.specs.declared.asking.Asked.TheVariants as asked
-use Rattle.b67_desk.specs.Answers.{usage_text, refused_text, bad_schedule_text, listing_text, status_of, Workers, by_one, by_all, Runs, ran, Lists, listed, IsBadSchedule, AreGiven, Replays, bad_schedule, replayed, trial_text, Tries, tried, SaysAccepted, AnswersTree, IsRefusedAt, RefusedOr, refused, accepted, IsDivided, AnswersBytes, IsOfSource, ReadsInput, AnswersInput, long_part, divided, most_bytes, AnswersSource, too_long, too_long_text, read, Reading, Untouched, AnswersCommand, Answers, usage, answered, ReadsIfAsked, Writing, HasAnswer, write_fault}
-use Rattle.b67_desk.specs.Calls.{IsReported, Asks, settled, InRange, SourceAsked, CommandAsked, CallAsked, CallAnswered, IsUsage, IsRefusal, IsReportAnswer, IsTrialAnswer, IsRunAnswer, IsBadAt, IsTooLong}
+use Rattle.b67_desk.specs.declared.asking.Found.TheVariants as found
+use Rattle.b67_desk.specs.Answers.{order_of, usage_text, refused_text, bad_schedule_text, listing_text, status_of, Workers, by_one, by_all, Runs, ran, Lists, listed, IsBadSchedule, AreGiven, OrBadSchedule, bad_schedule, followed, Replays, replayed, trial_text, Tries, tried, AnswersTree, IsSourceOf, IsRefusedAt, RefusedOr, refused, accepted, IsDivided, AnswersBytes, ReadsInput, AnswersInput, long_part, divided, most_bytes, AnswersSource, too_long, too_long_text, read, Reading, Untouched, AnswersCommand, Answers, usage, answered, ReadsIfAsked, Writing, HasAnswer, write_fault}
+use Rattle.b67_desk.specs.Calls.{IsReported, Asks, settled, InRange, IsFound, SourceAsked, CommandAsked, CallAsked, CallAnswered, IsUsage, IsRefusal, IsReportAnswer, IsTrialAnswer, IsRunAnswer, IsBadAt, IsTooLong}
 
 -- ---- what is asked for
 
@@ -69,31 +71,32 @@ run_asks processors budget rule tree code faithful some budget_is =
 
 -- ---- reports
 
-replayed_is : (budget : ℕ) (schedule : Option (List ℕ)) (input : ℕ) (tree : PProgram) (given : List ℕ) (report : Report) (a : Answer) → AreGiven schedule given →
-    ExplainsReplay tree given budget report → IsReportAnswer report a → Replays budget schedule input tree a.text.items a.status
-replayed_is budget schedule input tree given report a are explains is =
-    subst (λ (t : List ℕ). Replays budget schedule input tree t a.status) (sym is.text)
-    (subst (λ (s : Status). Replays budget schedule input tree (ReportText report) s) (sym is.status) (replayed given report are explains))
+replayed_is : (budget : ℕ) (tree : PProgram) (given : List ℕ) (report : Report) (a : Answer) → ExplainsReplay tree given budget report → IsReportAnswer report a →
+    Replays budget tree given a.text.items a.status
+replayed_is budget tree given report a explains is =
+    subst (λ (t : List ℕ). Replays budget tree given t a.status) (sym is.text)
+    (subst (λ (s : Status). Replays budget tree given (ReportText report) s) (sym is.status) (replayed report explains))
 
-pub replayed_answered : (budget : ℕ) (schedule : Option (List ℕ)) (text : List ℕ) (input : ℕ) (tree : PProgram) (runs : List Run) (report : Report)
-    (result : Result Answer AllocError) → schedule ≡ Some text → IsSchedule runs × (text ≡ ScheduleText runs) → ExplainsReplay tree (entries runs) budget report →
-    IfOk result (IsReportAnswer report) → IfOk result (λ a. Replays budget schedule input tree a.text.items a.status)
-replayed_answered budget schedule text input tree runs report (Ok a) is_text are explains is =
-    subst (λ (o : Option (List ℕ)). Replays budget o input tree a.text.items a.status) (sym is_text)
-    (replayed_is budget (Some text) input tree (entries runs) report a (record { runs = runs; schedule = are.0; text_is = are.1 }, refl) explains is)
-replayed_answered budget schedule text input tree runs report (Err e) is_text are explains is = is
+pub replayed_answered : (budget : ℕ) (beside : Option (List ℕ)) (text : List ℕ) (input : ℕ) (tree : PProgram) (runs : List Run) (report : Report)
+    (result : Result Answer AllocError) → beside ≡ Some text → IsSchedule runs × (text ≡ ScheduleText runs) → ExplainsReplay tree (entries runs) budget report →
+    IfOk result (IsReportAnswer report) → IfOk result (λ a. OrBadSchedule beside input (Replays budget tree) a.text.items a.status)
+replayed_answered budget beside text input tree runs report (Ok a) is_text are explains is =
+    subst (λ (o : Option (List ℕ)). OrBadSchedule o input (Replays budget tree) a.text.items a.status) (sym is_text)
+    (followed (entries runs) a.text.items a.status (record { runs = runs; schedule = are.0; text_is = are.1 }, refl)
+    (replayed_is budget tree (entries runs) report a explains is))
+replayed_answered budget beside text input tree runs report (Err e) is_text are explains is = is
 
-bad_is : (budget : ℕ) (schedule : Option (List ℕ)) (input : ℕ) (tree : PProgram) (byte : ℕ) (result : Result Answer AllocError) → IsBadSchedule schedule input byte →
-    IfOk result (IsBadAt byte) → IfOk result (λ a. Replays budget schedule input tree a.text.items a.status)
-bad_is budget schedule input tree byte (Ok a) bad is =
-    subst (λ (t : List ℕ). Replays budget schedule input tree t a.status) (sym is.text)
-    (subst (λ (s : Status). Replays budget schedule input tree (bad_schedule_text byte) s) (sym is.status) (bad_schedule byte bad))
-bad_is budget schedule input tree byte (Err e) bad is = is
+-- a schedule text that is bad
+module _ (input : ℕ) (Its : List ℕ → List ℕ → Status → Type 0) where
+  bad_is : (beside : Option (List ℕ)) (byte : ℕ) (a : Answer) → IsBadSchedule beside input byte → IsBadAt byte a → OrBadSchedule beside input Its a.text.items a.status
+  bad_is beside byte a bad is =
+      subst (λ (t : List ℕ). OrBadSchedule beside input Its t a.status) (sym is.text)
+      (subst (λ (s : Status). OrBadSchedule beside input Its (bad_schedule_text byte) s) (sym is.status) (bad_schedule byte bad))
 
-pub bad_answered : (budget : ℕ) (schedule kept : Option (List ℕ)) (input : ℕ) (tree : PProgram) (byte : ℕ) (result : Result Answer AllocError) → schedule ≡ kept →
-    IsBadSchedule kept input byte → IfOk result (IsBadAt byte) → IfOk result (λ a. Replays budget schedule input tree a.text.items a.status)
-bad_answered budget schedule kept input tree byte result same bad is =
-    subst (λ (o : Option (List ℕ)). IfOk result (λ a. Replays budget o input tree a.text.items a.status)) (sym same) (bad_is budget kept input tree byte result bad is)
+  pub bad_answered : (beside kept : Option (List ℕ)) (byte : ℕ) (result : Result Answer AllocError) → beside ≡ kept → IsBadSchedule kept input byte →
+      IfOk result (IsBadAt byte) → IfOk result (λ a. OrBadSchedule beside input Its a.text.items a.status)
+  bad_answered beside kept byte (Ok a) same bad is = bad_is beside byte a (subst (λ (o : Option (List ℕ)). IsBadSchedule o input byte) (sym same) bad) is
+  bad_answered beside kept byte (Err e) same bad is = is
 
 -- the run of a source that was made
 tried_is : (bytes : ℕ) (tree : PProgram) (report : Report) (a : Answer) → ExplainsAlone tree (place_of orders.Fifo) 1 MOST_BUDGET report → IsTrialAnswer bytes report a →
@@ -112,59 +115,46 @@ pub listed_is : (tree : PProgram) (code : Code) (lines : List (List ℕ)) (text 
     Lists tree text status.Finished
 listed_is tree code lines text faithful are is = subst (λ (t : List ℕ). Lists tree t status.Finished) (sym is) (listed code lines faithful are)
 
--- what answers a command answers a source under it
-module _ (by : Workers) (command : Words) (schedule : Option (List ℕ)) (input : ℕ) (tree : PProgram) (result : Result Answer AllocError) where
-  Told : Words → Type 0
-  Told w = IfOk result (λ a. AnswersTree by w schedule input tree a.text.items a.status)
+-- what a task asks for
+pub task_asks : (task other : Task) (beside : Option (List ℕ)) (input : ℕ) (tree : PProgram) (result : Result Asked AllocError) → task ≡ other →
+    IfOk result (Asks (λ by. AnswersTree by (OnSource other) beside input tree)) → IfOk result (Asks (λ by. AnswersTree by (OnSource task) beside input tree))
+task_asks task other beside input tree result same asks =
+    subst (λ (t : Task). IfOk result (Asks (λ by. AnswersTree by (OnSource t) beside input tree))) (sym same) asks
 
-  told_tree : (w : Words) → command ≡ w → Told w → Told command
-  told_tree w is told = subst Told (sym is) told
-
-  pub check_tree : command ≡ commands.Check → IfOk result (λ a. SaysAccepted a.text.items a.status) →
-      IfOk result (λ a. AnswersTree by command schedule input tree a.text.items a.status)
-  unfolding Told
-  check_tree is told = told_tree commands.Check is told
-
-  pub list_tree : command ≡ commands.List → IfOk result (λ a. Lists tree a.text.items a.status) →
-      IfOk result (λ a. AnswersTree by command schedule input tree a.text.items a.status)
-  unfolding Told
-  list_tree is told = told_tree commands.List is told
-
-  pub replay_tree : (budget : ℕ) → command ≡ commands.Replay budget →
-      IfOk result (λ a. Replays budget schedule input tree a.text.items a.status) → IfOk result (λ a. AnswersTree by command schedule input tree a.text.items a.status)
-  unfolding Told
-  replay_tree budget is told = told_tree (commands.Replay budget) is told
-
-  pub trial_tree : (n : ℕ) → command ≡ commands.Trial n →
-      IfOk result (λ a. Tries input tree a.text.items a.status) → IfOk result (λ a. AnswersTree by command schedule input tree a.text.items a.status)
-  unfolding Told
-  trial_tree n is told = told_tree (commands.Trial n) is told
-
--- what answers a run of a source answers the source
-pub run_out : (command : Words) (schedule : Option (List ℕ)) (input : ℕ) (tree : PProgram) (processors budget : ℕ) (rule : Rule) →
-    command ≡ commands.Run processors budget rule → (by : Workers) (text : List ℕ) (s : Status) → Runs by processors budget rule tree text s →
-    AnswersTree by command schedule input tree text s
-run_out command schedule input tree processors budget rule is by text s runs =
-    subst (λ (w : Words). AnswersTree by w schedule input tree text s) (sym is) runs
-
--- a text that is refused, and one that is accepted
-module _ (bytes : List ℕ) (Its : PProgram → List ℕ → Status → Type 0) where
-  refused_is : (place : Spot) (code : SourceCode) (a : Answer) → IsRefusedAt bytes place code → IsRefusal place (OfSource code) a → RefusedOr bytes Its a.text.items a.status
-  refused_is place code a at is =
-      subst (λ (t : List ℕ). RefusedOr bytes Its t a.status) (sym is.text)
-      (subst (λ (s : Status). RefusedOr bytes Its (refused_text place (OfSource code)) s) (sym is.status) (refused place code at))
-
-  pub refused_answered : (place : Spot) (code : SourceCode) (result : Result Answer AllocError) → First bytes place code → ((tree : PProgram) → Source bytes tree → ⊥) →
-      IfOk result (IsRefusal place (OfSource code)) → IfOk result (λ a. RefusedOr bytes Its a.text.items a.status)
-  refused_answered place code (Ok a) first none is = refused_is place code a (record { first = first; none = none }) is
-  refused_answered place code (Err e) first none is = is
+-- ---- what a source is found to be
 
 -- what answers the tree of a source answers the bytes that it is in
-pub tree_out : (command : Words) (bytes source : List ℕ) (schedule : Option (List ℕ)) (tree : PProgram) → IsDivided command bytes source schedule →
-    length source ≤ MOST_SOURCE_BYTES → Source source tree → ((t : PProgram) → Source source t → t ≡ tree) → (by : Workers) (text : List ℕ) (s : Status) →
-    AnswersTree by command schedule (length bytes) tree text s → AnswersBytes by command bytes text s
-tree_out command bytes source schedule tree parts small is only by text s answers =
-    divided source schedule text s parts small (accepted tree text s (record { source = is; only = only }) answers)
+pub tree_out : (command : Words) (bytes source : List ℕ) (beside : Option (List ℕ)) (tree : PProgram) → IsDivided command bytes source beside →
+    (length source ≤ MOST_SOURCE_BYTES) × IsSourceOf source tree → (by : Workers) (text : List ℕ) (s : Status) →
+    AnswersTree by command beside (length bytes) tree text s → AnswersBytes by command bytes text s
+tree_out command bytes source beside tree parts is by text s answers = divided source beside text s parts is.0 (accepted tree text s is.1 answers)
+
+-- and so does the refusal of a source
+module _ (by : Workers) (command : Words) (bytes source : List ℕ) (beside : Option (List ℕ)) (parts : IsDivided command bytes source beside) where
+  long_is : (a : Answer) → MOST_SOURCE_BYTES < length source → IsTooLong a → AnswersBytes by command bytes a.text.items a.status
+  long_is a more is =
+      subst (λ (t : List ℕ). AnswersBytes by command bytes t a.status) (sym is.text)
+      (subst (λ (s : Status). AnswersBytes by command bytes too_long_text s) (sym is.status) (long_part source beside parts more))
+
+  refused_is : (Its : PProgram → List ℕ → Status → Type 0) (place : Spot) (code : SourceCode) (a : Answer) → IsRefusedAt source place code →
+      IsRefusal place (OfSource code) a → RefusedOr source Its a.text.items a.status
+  refused_is Its place code a at is =
+      subst (λ (t : List ℕ). RefusedOr source Its t a.status) (sym is.text)
+      (subst (λ (s : Status). RefusedOr source Its (refused_text place (OfSource code)) s) (sym is.status) (refused place code at))
+
+  pub none_out : (a : Answer) → IsFound source (found.Refused a) → AnswersBytes by command bytes a.text.items a.status
+  none_out a (inl (more, is)) = long_is a more is
+  none_out a (inr (small, place, code, at, is)) =
+      divided source beside a.text.items a.status parts small (refused_is (AnswersTree by command beside (length bytes)) place code a at is)
+
+-- the run of a source that was made answers its number
+pub trial_out : (by : Workers) (n : ℕ) (source : List ℕ) (tree : PProgram) (result : Result Answer AllocError) → source ≡ made n →
+    (length source ≤ MOST_SOURCE_BYTES) × IsSourceOf source tree → IfOk result (λ a. Tries (length source) tree a.text.items a.status) →
+    IfOk result (λ a. AnswersBytes by (Trial n) (made n) a.text.items a.status)
+trial_out by n source tree (Ok a) same is tries =
+    tree_out (Trial n) (made n) source None tree (same, refl) is by a.text.items a.status
+    (subst (λ (bytes : List ℕ). Tries (length bytes) tree a.text.items a.status) same tries)
+trial_out by n source tree (Err e) same is tries = tries
 
 pub in_range : (words : List (List ℕ)) (command : Words) → WordsMean words (Ok command) → InRange command
 in_range words command (meant ws meaning (run_command first second last p b rule f s n)) = (f.least, f.greatest, s.least, s.greatest)
@@ -174,26 +164,29 @@ in_range words command (meant ws meaning (replay_command first b f)) = (f.least,
 in_range words command (meant ws meaning (exec_command first b f)) = (f.least, f.greatest)
 in_range words command (meant ws meaning (trial_command first n f)) = tt
 
--- ---- a command that reads its input, and one that reads nothing
+-- ---- what is read
 
-pub reads_input : (command : Words) →
-    ((p : ℕ) × (b : ℕ) × (r : Rule) × (command ≡ commands.Run p b r))
-    ⊎ ((command ≡ commands.Check) ⊎ ((command ≡ commands.List) ⊎ (((b : ℕ) × (command ≡ commands.Replay b)) ⊎ ((b : ℕ) × (command ≡ commands.Exec b))))) →
-    ReadsInput command
-reads_input command (inl (p, b, r, is)) = subst ReadsInput (sym is) tt
-reads_input command (inr (inl is)) = subst ReadsInput (sym is) tt
-reads_input command (inr (inr (inl is))) = subst ReadsInput (sym is) tt
-reads_input command (inr (inr (inr (inl (b, is))))) = subst ReadsInput (sym is) tt
-reads_input command (inr (inr (inr (inr (b, is))))) = subst ReadsInput (sym is) tt
+-- what answers the bytes that were read answers the source
+pub input_out : (command : Words) (most : ℕ) (left left_after : Option (List ℕ)) (items bytes : List ℕ) → bytes ≡ items → most ≡ most_bytes command →
+    (length items ≤ most) × IfSome left (λ all. items ≡ all) × IsAtEnd left_after → (by : Workers) (text : List ℕ) (s : Status) →
+    AnswersInput by command bytes text s → AnswersSource by command left left_after text s
+input_out command most left left_after items bytes is most_is (small, all, end) by text s a =
+    read items text s (subst (λ (n : ℕ). length items ≤ n) most_is small) all end (subst (λ (b : List ℕ). AnswersInput by command b text s) is a)
+
+pub too_long_is : (by : Workers) (command : Words) (most : ℕ) (left left_after : Option (List ℕ)) (a : Answer) → most ≡ most_bytes command → IfSome left (λ bytes. most < length bytes) → IsTooLong a →
+    AnswersSource by command left left_after a.text.items a.status
+too_long_is by command most left left_after a most_is more is =
+    subst (λ (t : List ℕ). AnswersSource by command left left_after t a.status) (sym is.text)
+    (subst (λ (s : Status). AnswersSource by command left left_after too_long_text s) (sym is.status)
+    (too_long (subst (λ (n : ℕ). IfSome left (λ bytes. n < length bytes)) most_is more)))
+
+-- ---- a command that reads its input, and one that reads nothing
 
 source_out : (command : Words) (r : Reading) → ReadsInput command → (by : Workers) (text : List ℕ) (s : Status) → AnswersSource by command r.left r.left_after text s →
     AnswersCommand by command r text s
-source_out (commands.Run processors budget rule) r reads by text s is = is
-source_out commands.Check r reads by text s is = is
-source_out commands.List r reads by text s is = is
-source_out (commands.Replay budget) r reads by text s is = is
-source_out (commands.Exec budget) r reads by text s is = is
-source_out (commands.Trial n) r reads by text s is = absurd reads
+source_out (OnSource task) r reads by text s is = is
+source_out (Exec budget) r reads by text s is = is
+source_out (Trial n) r reads by text s is = absurd reads
 
 pub source_asks : (command : Words) (r : Reading) (result : Result Asked Unanswered) → ReadsInput command → SourceAsked command r result → CommandAsked command r result
 source_asks command r (Ok a) reads asks =
@@ -201,14 +194,12 @@ source_asks command r (Ok a) reads asks =
 source_asks command r (Err why.ReadFault) reads rose = (reads, rose)
 source_asks command r (Err why.NoMemory) reads s = inl reads
 
-trial_so : (n : ℕ) (r : Reading) (a : Asked) → Untouched r → Asks (λ by. AnswersBytes by (commands.Trial n) (made n)) a →
-    CommandAsked (commands.Trial n) r (Ok a)
-trial_so n r a still asks =
-    (asks_so (λ by. AnswersBytes by (commands.Trial n) (made n)) (λ by. AnswersCommand by (commands.Trial n) r) (λ by text s answers. (still, answers)) a asks, inr still)
+pub command_is : (command other : Words) (r : Reading) (result : Result Asked Unanswered) → command ≡ other → CommandAsked other r result → CommandAsked command r result
+command_is command other r result same asks = subst (λ (w : Words). CommandAsked w r result) (sym same) asks
 
-pub trial_asks : (command : Words) (n : ℕ) (r : Reading) (a : Asked) → command ≡ commands.Trial n → Untouched r →
-    Asks (λ by. AnswersBytes by (commands.Trial n) (made n)) a → CommandAsked command r (Ok a)
-trial_asks command n r a is still asks = subst (λ (w : Words). CommandAsked w r (Ok a)) (sym is) (trial_so n r a still asks)
+pub trial_asks : (n : ℕ) (r : Reading) (a : Asked) → Untouched r → Asks (λ by. AnswersBytes by (Trial n) (made n)) a → CommandAsked (Trial n) r (Ok a)
+trial_asks n r a still asks =
+    (asks_so (λ by. AnswersBytes by (Trial n) (made n)) (λ by. AnswersCommand by (Trial n) r) (λ by text s answers. (still, answers)) a asks, inr still)
 
 reads_asked : (words : List (List ℕ)) (r : Reading) (command : Words) → WordsMean words (Ok command) → ReadsInput command ⊎ Untouched r → ReadsIfAsked words r
 reads_asked words r command m (inl reads) = inl (record { command = command; means = m; reads = reads })
@@ -242,20 +233,22 @@ report_answers by job report (Ok a) reported told = record { report = report; re
 report_answers by job report (Err e) reported told = told
 
 -- a run by one serves, by whomever the work of runs is done
-pub one_serves : (by : Workers) (job : Job) (result : Result Answer AllocError) → IfOk result (IsRunAnswer by_one job) → IfOk result (IsRunAnswer by job)
-one_serves by job (Ok a) is = record {
+pub one_serves : (by : Workers) (job : Job) (result : Result Answer AllocError) → by job.processors ≡ 1 → IfOk result (IsRunAnswer by_one job) →
+    IfOk result (IsRunAnswer by job)
+one_serves by job (Ok a) one is = record {
   report = is.report;
   reported = λ tree faithful.
       let x = is.reported tree faithful in
-      record { explains = x.explains; alone = λ one. x.alone refl };
+      record { explains = x.explains; alone = λ same. x.alone refl; shared = λ more. absurd (more one) };
   told = is.told;
 }
-one_serves by job (Err e) is = is
+one_serves by job (Err e) one is = is
 
--- a run by several says nothing of turns
+-- a run by several says nothing of turns, but that it was under the rule
 pub several_report : (job : Job) (report : Report) → job.processors ≢ 1 →
-    ((tree : PProgram) → Faithful tree job.code → ExplainsRun tree job.processors job.budget report) → IsReported by_all job report
-several_report job report several explains = λ tree faithful. record { explains = explains tree faithful; alone = λ one. absurd (several one) }
+    ((tree : PProgram) → Faithful tree job.code → ExplainsShared tree (place_of (order_of job.rule)) job.processors job.budget report) → IsReported by_all job report
+several_report job report several explains = λ tree faithful.
+    let x = explains tree faithful in record { explains = x.explains; alone = λ one. absurd (several one); shared = λ more. x }
 
 pub run_answered : (by : Workers) (words : List (List ℕ)) (r : Reading) (job : Job) (a : Answer) → Asks (λ by. Answers by words r) (asked.Run job) →
     IsRunAnswer by job a → Answers by words r a.text.items a.status
@@ -270,52 +263,3 @@ none_answered by words r why.NoMemory is = is
 pub not_written : (by : Workers) (words : List (List ℕ)) (r : Reading) (w : Writing) (text : List ℕ) (s : Status) (e : WriteAll) → Answers by words r text s → WroteFront w.written w.written_after text e → Rose w.faults w.faults_after →
     HasAnswer by words r w status.WriteFault
 not_written by words r w text s (writes.Failed count) a front rose = write_fault text s count a front.0 front.1 rose
-
--- what answers the bytes that were read answers the source
-pub input_out : (command : Words) (left left_after : Option (List ℕ)) (items bytes : List ℕ) → bytes ≡ items → length items ≤ most_bytes command →
-    IfSome left (λ all. items ≡ all) → IsAtEnd left_after → (by : Workers) (text : List ℕ) (s : Status) → AnswersInput by command bytes text s →
-    AnswersSource by command left left_after text s
-input_out command left left_after items bytes is small all end by text s a =
-    read items text s small all end (subst (λ (b : List ℕ). AnswersInput by command b text s) is a)
-
-pub too_long_is : (by : Workers) (command : Words) (most : ℕ) (left left_after : Option (List ℕ)) (a : Answer) → most ≡ most_bytes command → IfSome left (λ bytes. most < length bytes) → IsTooLong a →
-    AnswersSource by command left left_after a.text.items a.status
-too_long_is by command most left left_after a most_is more is =
-    subst (λ (t : List ℕ). AnswersSource by command left left_after t a.status) (sym is.text)
-    (subst (λ (s : Status). AnswersSource by command left left_after too_long_text s) (sym is.status)
-    (too_long (subst (λ (n : ℕ). IfSome left (λ bytes. n < length bytes)) most_is more)))
-
--- the bytes that were read, by their parts
-pub long_part_is : (by : Workers) (command : Words) (bytes source : List ℕ) (schedule : Option (List ℕ)) (result : Result Answer AllocError) → IsDivided command bytes source schedule →
-    MOST_SOURCE_BYTES < length source → IfOk result IsTooLong → IfOk result (λ a. AnswersBytes by command bytes a.text.items a.status)
-long_part_is by command bytes source schedule (Ok a) parts more is =
-    subst (λ (t : List ℕ). AnswersBytes by command bytes t a.status) (sym is.text)
-    (subst (λ (s : Status). AnswersBytes by command bytes too_long_text s) (sym is.status) (long_part source schedule parts more))
-long_part_is by command bytes source schedule (Err e) parts more is = is
-
-pub divided_is : (by : Workers) (command : Words) (bytes source : List ℕ) (schedule : Option (List ℕ)) (result : Result Answer AllocError) → IsDivided command bytes source schedule →
-    length source ≤ MOST_SOURCE_BYTES → IfOk result (λ a. RefusedOr source (AnswersTree by command schedule (length bytes)) a.text.items a.status) →
-    IfOk result (λ a. AnswersBytes by command bytes a.text.items a.status)
-divided_is by command bytes source schedule (Ok a) parts small is = divided source schedule a.text.items a.status parts small is
-divided_is by command bytes source schedule (Err e) parts small is = is
-
--- the commands that are answered by a source
-pub of_source : (command : Words) →
-    ((p : ℕ) × (b : ℕ) × (r : Rule) × (command ≡ commands.Run p b r))
-    ⊎ ((command ≡ commands.Check) ⊎ ((command ≡ commands.List) ⊎ (((b : ℕ) × (command ≡ commands.Replay b)) ⊎ ((n : ℕ) × (command ≡ commands.Trial n))))) →
-    IsOfSource command
-of_source command (inl (p, b, r, is)) = subst IsOfSource (sym is) tt
-of_source command (inr (inl is)) = subst IsOfSource (sym is) tt
-of_source command (inr (inr (inl is))) = subst IsOfSource (sym is) tt
-of_source command (inr (inr (inr (inl (b, is))))) = subst IsOfSource (sym is) tt
-of_source command (inr (inr (inr (inr (n, is))))) = subst IsOfSource (sym is) tt
-
--- what answers the bytes of a source answers what was read
-pub bytes_out : (command : Words) (bytes : List ℕ) → IsOfSource command → (by : Workers) (text : List ℕ) (s : Status) → AnswersBytes by command bytes text s →
-    AnswersInput by command bytes text s
-bytes_out (commands.Run processors budget rule) bytes of by text s is = is
-bytes_out commands.Check bytes of by text s is = is
-bytes_out commands.List bytes of by text s is = is
-bytes_out (commands.Replay budget) bytes of by text s is = is
-bytes_out (commands.Trial n) bytes of by text s is = is
-bytes_out (commands.Exec budget) bytes of by text s is = absurd of

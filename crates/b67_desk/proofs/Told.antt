@@ -1,5 +1,5 @@
 -- From a run of a machine to what its report explains.
-use Rattle.std.proofs.Common.{◌≡◌, ℕ, ◌≤◌, List, length, Result, Ok, Err, sym, subst}
+use Rattle.std.proofs.Common.{◌≡◌, ℕ, ◌≤◌, List, length, Result, Ok, Err, refl, sym, subst, ◌∙◌}
 use Rattle.std.specs.Prelude.{◌≢◌, IfOk}
 use Rattle.std.specs.List.{All}
 use Rattle.std.specs.declared.alloc.AllocError.{AllocError}
@@ -19,12 +19,13 @@ use Rattle.b67_machine.specs.Replaying.{Replays}
 use Rattle.b67_faithful.specs.Faithful.{Faithful}
 use Rattle.b67_ready.specs.Orders.{place_of}
 use Rattle.b67_stands.specs.Picked.{Pick}
-use Rattle.b67_stands.specs.Ran.{HasRun, HasRunAlone}
+use Rattle.b67_stands.specs.Ran.{HasRun, HasRunAlone, HasRunShared}
 use Rattle.b67_explain.specs.Alone.{ExplainsAlone}
-use Rattle.b67_explain.specs.Explaining.{ExplainsRun, ExplainsReplay}
-use Rattle.b67_explain.specs.Telling.{CanBeTold, IsReportOf}
+use Rattle.b67_explain.specs.Explaining.{ExplainsReplay}
+use Rattle.b67_explain.specs.Shared.{ExplainsShared}
+use Rattle.b67_explain.specs.Telling.{CanBeTold, AreOfFirst, IsReportOf}
 use Rattle.b67_explain.proofs.Explained.{replay_explained}
-use Rattle.b67_explain.proofs.Ran.{left_can_be_told, left_explained, left_alone_explained}
+use Rattle.b67_explain.proofs.Ran.{left_can_be_told, left_alone_explained, left_shared_explained}
 use Rattle.b67_desk.specs.declared.asking.Job.{Job}
 use Rattle.b67_desk.specs.Answers.{by_one, order_of}
 use Rattle.b67_desk.specs.Calls.{IsLeft, IsReported}
@@ -59,21 +60,24 @@ left_is m answer lines processors schedule (Err e) some valid is = is
 
 -- what a report of a run in the caller explains, where there is one
 pub run_reported : (job : Job) (m : Kept) (answer : Replayed) (schedule : Schedule) → HasRunAlone job.code job.budget (place_of (order_of job.rule)) m schedule answer →
-    (lines : List (List ℕ)) (result : Result Report AllocError) → IfOk result (IsLeft m answer lines job.processors schedule) → ListingText job.code lines →
-    IfOk result (IsReported by_one job)
-run_reported job m answer schedule alone lines (Ok report) left listed = λ tree faithful.
+    (acts : List ℕ) → AreOfFirst job.processors (length (entries schedule.runs)) acts → (lines : List (List ℕ)) (result : Result Report AllocError) →
+    IfOk result (IsLeft m answer lines job.processors schedule) → IfOk result (λ report. report.acts ≡ acts) → ListingText job.code lines → IfOk result (IsReported by_one job)
+run_reported job m answer schedule alone acts first lines (Ok report) left same listed = λ tree faithful.
     let x : ExplainsAlone tree (place_of (order_of job.rule)) job.processors job.budget report =
-    left_alone_explained runs_grow tree job.code faithful job.budget m schedule answer left.some job.processors lines report left.is left.valid listed (place_of (order_of job.rule)) alone in
-    record { explains = x.explains; alone = λ one. x }
-run_reported job m answer schedule alone lines (Err e) left listed = left
+    left_alone_explained runs_grow tree job.code faithful job.budget m schedule answer left.some job.processors lines report left.is left.valid listed (place_of (order_of job.rule)) alone
+    (same ∙ first) in
+    record { explains = x.explains; alone = λ one. x; shared = λ more. absurd (more refl) }
+run_reported job m answer schedule alone acts first lines (Err e) left same listed = left
 
 -- and of one that processors shared
-pub share_reported : (job : Job) (m : Kept) (answer : Replayed) (schedule : Schedule) → HasRun job.code job.budget m schedule answer →
-    (lines : List (List ℕ)) (result : Result Report AllocError) → IfOk result (IsLeft m answer lines job.processors schedule) → ListingText job.code lines →
-    IfOk result (λ report. (tree : PProgram) → Faithful tree job.code → ExplainsRun tree job.processors job.budget report)
-share_reported job m answer schedule run lines (Ok report) left listed = λ tree faithful.
-    left_explained runs_grow tree job.code faithful job.budget m schedule answer left.some job.processors lines report left.is left.valid listed run
-share_reported job m answer schedule run lines (Err e) left listed = left
+pub share_reported : (job : Job) (m : Kept) (answer : Replayed) (schedule : Schedule) (acts : List ℕ) →
+    HasRunShared job.code job.budget (place_of (order_of job.rule)) job.processors m schedule answer acts → (lines : List (List ℕ)) (result : Result Report AllocError) →
+    IfOk result (IsLeft m answer lines job.processors schedule) → IfOk result (λ report. report.acts ≡ acts) → ListingText job.code lines →
+    IfOk result (λ report. (tree : PProgram) → Faithful tree job.code → ExplainsShared tree (place_of (order_of job.rule)) job.processors job.budget report)
+share_reported job m answer schedule acts run lines (Ok report) left same listed = λ tree faithful.
+    left_shared_explained runs_grow tree job.code faithful job.budget m schedule answer left.some job.processors lines report left.is left.valid listed (place_of (order_of job.rule)) acts
+    same run
+share_reported job m answer schedule acts run lines (Err e) left same listed = left
 
 -- and of a replay
 pub replay_answered : (code : Code) (given : List ℕ) (budget : ℕ) (m : Kept) (answer : Replayed) (schedule : Schedule) → Replays code given budget (entries schedule.runs) m answer →

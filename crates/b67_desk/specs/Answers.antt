@@ -1,5 +1,5 @@
 -- What the desk answers: the text that it writes and the status that it gives, for which words and which bytes.
-use Rattle.std.specs.Prelude.{◌≡◌, ◌⊎◌, ℕ, ◌<◌, ◌≤◌, List, ◌∷◌, ◌++◌, length, codes, Option, Some, None, IfSome, Ok, Err, take}
+use Rattle.std.specs.Prelude.{◌≡◌, ◌≢◌, ◌⊎◌, ℕ, ◌<◌, ◌≤◌, List, ◌∷◌, ◌++◌, length, codes, Option, Some, None, IfSome, Ok, Err, take}
 use Rattle.std.specs.Fmt.{decimal}
 use Rattle.std.specs.Io.KnownBytes.{Appends, IsAtEnd}
 use Rattle.algol_tree.specs.declared.TheConstants.{MOST_SOURCE_BYTES}
@@ -12,9 +12,10 @@ use Rattle.b67_io.specs.Faults.{Rose}
 use Rattle.b67_words.specs.declared.TheConstants.{MOST_BUDGET}
 use Rattle.b67_words.specs.declared.Rule.{Rule}
 use Rattle.b67_words.specs.declared.Rule.TheVariants as rules
+use Rattle.b67_words.specs.declared.Task.TheVariants.{Run, Check, Replay}
+use Rattle.b67_words.specs.declared.Task.TheVariants.{List as ListCode}
 use Rattle.b67_words.specs.declared.Words.{Words}
-use Rattle.b67_words.specs.declared.Words.TheVariants.{Run, Check, Replay, Exec, Trial}
-use Rattle.b67_words.specs.declared.Words.TheVariants.{List as ListCode}
+use Rattle.b67_words.specs.declared.Words.TheVariants.{OnSource, Exec, Trial}
 use Rattle.b67_words.specs.declared.BadWords.TheVariants as bad
 use Rattle.b67_words.specs.declared.UsageKind.{UsageKind}
 use Rattle.b67_words.specs.declared.UsageKind.TheVariants as kinds
@@ -37,6 +38,7 @@ use Rattle.b67_parts.specs.Parts.{Parts}
 use Rattle.b67_make.specs.Made.{made}
 use Rattle.b67_explain.specs.Explaining.{ExplainsRun, ExplainsReplay}
 use Rattle.b67_explain.specs.Alone.{ExplainsAlone}
+use Rattle.b67_explain.specs.Shared.{ExplainsShared}
 use Rattle.b67_asm.specs.declared.refusal.Refusal.{Refusal}
 use Rattle.b67_asm.specs.Codes.{number_of}
 use Rattle.b67_asm.specs.Assembling.{Assembles, IsRefusedText}
@@ -85,6 +87,31 @@ listing_text lines = lines_text (codes "LISTING ") lines
 abbrev pub trial_text : ℕ → Report → List ℕ
 trial_text bytes report = head_text (codes "SOURCE ") bytes ++ lines_text (codes "OUTPUT ") report.output ++ line_text (end_words report.end)
 
+-- ---- the inputs of the commands
+
+-- how the input of a command is divided, and how many bytes it may have: the record that stands between a source and the text after it,
+-- where it has both, and the most bytes
+pub record Form : Type 0 where
+  pub mark : Option (List ℕ)
+  pub most : ℕ
+
+abbrev pub form_of : Words → Form
+form_of (OnSource (Replay budget)) = record { mark = Some (codes "%%SCHEDULE"); most = MOST_INPUT_BYTES }
+form_of command = record { mark = None; most = MOST_SOURCE_BYTES }
+
+-- the source in the bytes that are read, and the text after it: where there is a mark those of the two parts, else all is the source
+abbrev pub DividedBy : Option (List ℕ) → List ℕ → List ℕ → Option (List ℕ) → Type 0
+DividedBy None bytes source text = (source ≡ bytes) × (text ≡ None)
+DividedBy (Some mark) bytes source text = Parts mark bytes source text
+
+-- those of the bytes that are read under that command
+abbrev pub IsDivided : Words → List ℕ → List ℕ → Option (List ℕ) → Type 0
+IsDivided command = DividedBy (form_of command).mark
+
+-- how many bytes are read under that command
+abbrev pub most_bytes : Words → ℕ
+most_bytes command = (form_of command).most
+
 -- ---- a source
 
 abbrev pub status_of : EndWords → Status
@@ -118,11 +145,13 @@ by_all processors = processors
 abbrev pub by_one : Workers
 by_one processors = 1
 
--- The report explains a run of this source. Where one processor did all the work, it explains too whose each action is: that of the turns
--- of the source under the rule.
+-- The report explains a run of this source under the rule. Where one processor did all the work, it explains too whose each action is: that
+-- of the turns of the source. Where processors shared it, each of their takes was at the place that the rule picks, and the acts are the
+-- numbers of their seats.
 pub record ExplainsBy (workers processors budget : ℕ) (rule : Rule) (tree : PProgram) (report : Report) : Type 0 where
   pub explains : ExplainsRun tree processors budget report
   pub alone : workers ≡ 1 → ExplainsAlone tree (place_of (order_of rule)) processors budget report
+  pub shared : workers ≢ 1 → ExplainsShared tree (place_of (order_of rule)) processors budget report
 
 -- `run`: a report that explains it
 pub data Runs (by : Workers) (processors budget : ℕ) (rule : Rule) (tree : PProgram) : List ℕ → Status → Type 0 where
@@ -143,25 +172,28 @@ abbrev pub AreGiven : Option (List ℕ) → List ℕ → Type 0
 AreGiven None given = ⊥
 AreGiven (Some text) given = (is : IsScheduleText text) × (given ≡ entries is.runs)
 
--- `replay`: a refusal exactly where the schedule text is bad, else a report that explains a run that follows it
-pub data Replays (budget : ℕ) (schedule : Option (List ℕ)) (input : ℕ) (tree : PProgram) : List ℕ → Status → Type 0 where
-  bad_schedule : (byte : ℕ) → IsBadSchedule schedule input byte → Replays budget schedule input tree (bad_schedule_text byte) (status.BadSchedule byte)
-  replayed : (given : List ℕ) (report : Report) → AreGiven schedule given → ExplainsReplay tree given budget report →
-      Replays budget schedule input tree (ReportText report) (status_of report.end)
+-- What a schedule text is answered by: a refusal exactly where it is bad, else what answers its entries.
+pub data OrBadSchedule (schedule : Option (List ℕ)) (input : ℕ) (AnswersIts : List ℕ → List ℕ → Status → Type 0) : List ℕ → Status → Type 0 where
+  bad_schedule : (byte : ℕ) → IsBadSchedule schedule input byte → OrBadSchedule schedule input AnswersIts (bad_schedule_text byte) (status.BadSchedule byte)
+  followed : (given text : List ℕ) (s : Status) → AreGiven schedule given → AnswersIts given text s → OrBadSchedule schedule input AnswersIts text s
+
+-- `replay`: a report that explains a run that follows these entries
+pub data Replays (budget : ℕ) (tree : PProgram) (given : List ℕ) : List ℕ → Status → Type 0 where
+  replayed : (report : Report) → ExplainsReplay tree given budget report → Replays budget tree given (ReportText report) (status_of report.end)
 
 -- `trial`: the output and the end of a report that explains a run of the source by one processor, first in, first out, under the greatest
 -- budget. Its listing, its counts and its schedule, which is that of the source's own turns, are not printed.
 pub data Tries (bytes : ℕ) (tree : PProgram) : List ℕ → Status → Type 0 where
   tried : (report : Report) → ExplainsAlone tree (place_of orders.Fifo) 1 MOST_BUDGET report → Tries bytes tree (trial_text bytes report) (status_of report.end)
 
--- what a source with this tree is answered by under that command, with the schedule text beside it and the bytes of both
+-- what a source with this tree is answered by under that command, with the text beside it and the bytes of both
 abbrev pub AnswersTree : Workers → Words → Option (List ℕ) → ℕ → PProgram → List ℕ → Status → Type 0
-AnswersTree by (Run processors budget rule) schedule input tree = Runs by processors budget rule tree
-AnswersTree by Check schedule input tree = SaysAccepted
-AnswersTree by ListCode schedule input tree = Lists tree
-AnswersTree by (Replay budget) schedule input tree = Replays budget schedule input tree
-AnswersTree by (Exec budget) schedule input tree = λ text s. ⊥
-AnswersTree by (Trial n) schedule input tree = Tries input tree
+AnswersTree by (OnSource (Run processors budget rule)) beside input tree = Runs by processors budget rule tree
+AnswersTree by (OnSource Check) beside input tree = SaysAccepted
+AnswersTree by (OnSource ListCode) beside input tree = Lists tree
+AnswersTree by (OnSource (Replay budget)) beside input tree = OrBadSchedule beside input (Replays budget tree)
+AnswersTree by (Trial n) beside input tree = Tries input tree
+AnswersTree by (Exec budget) beside input tree = λ text s. ⊥
 
 -- The bytes are a source with this tree, and with no other.
 pub record IsSourceOf (bytes : List ℕ) (tree : PProgram) : Type 0 where
@@ -178,11 +210,6 @@ pub data RefusedOr (bytes : List ℕ) (AnswersIts : PProgram → List ℕ → St
   refused : (place : Spot) (code : SourceCode) → IsRefusedAt bytes place code →
       RefusedOr bytes AnswersIts (refused_text place (OfSource code)) (status.Refused place (OfSource code))
   accepted : (tree : PProgram) (text : List ℕ) (s : Status) → IsSourceOf bytes tree → AnswersIts tree text s → RefusedOr bytes AnswersIts text s
-
--- the source in the bytes that are read, and the schedule text after it: under `replay` those of its two parts, else all is the source
-abbrev pub IsDivided : Words → List ℕ → List ℕ → Option (List ℕ) → Type 0
-IsDivided (Replay budget) bytes source schedule = Parts (codes "%%SCHEDULE") bytes source schedule
-IsDivided command bytes source schedule = (source ≡ bytes) × (schedule ≡ None)
 
 -- what these bytes are answered by under that command: too long exactly where the source in them has more than 262,144 bytes
 pub data AnswersBytes (by : Workers) (command : Words) (bytes : List ℕ) : List ℕ → Status → Type 0 where
@@ -213,11 +240,6 @@ pub data Execs (budget : ℕ) (bytes : List ℕ) : List ℕ → Status → Type 
       Execs budget bytes (refused_text (line_start refusal.line) (OfText refusal.rule)) (status.Refused (line_start refusal.line) (OfText refusal.rule))
   executed : (code : Code) → Assembles bytes code → Execs budget bytes (exec_text code budget) (status_by (exec_run code budget).why)
 
--- the commands that are answered by a source
-abbrev pub IsOfSource : Words → Type 0
-IsOfSource (Exec budget) = ⊥
-IsOfSource command = Unit {0}
-
 -- the commands that read their input: all but `trial`
 abbrev pub ReadsInput : Words → Type 0
 ReadsInput (Trial n) = ⊥
@@ -227,11 +249,6 @@ ReadsInput command = Unit {0}
 abbrev pub AnswersInput : Workers → Words → List ℕ → List ℕ → Status → Type 0
 AnswersInput by (Exec budget) bytes = Execs budget bytes
 AnswersInput by command bytes = AnswersBytes by command bytes
-
--- how many bytes are read under that command
-abbrev pub most_bytes : Words → ℕ
-most_bytes (Replay budget) = MOST_INPUT_BYTES
-most_bytes _ = MOST_SOURCE_BYTES
 
 -- What a source is answered by under that command, from the bytes that it has left, before and after, where it tells them: too long
 -- exactly where more than 262,144 are left, or 16,777,216 under `replay`; else it is read to its end, and its bytes are all that it had left.
@@ -248,6 +265,10 @@ pub record Reading : Type 0 where
   pub left_after : Option (List ℕ)
   pub faults : ℕ
   pub faults_after : ℕ
+
+-- of a source before and after, by what it tells of its bytes and its faults
+abbrev pub reading : {S : Type 0} → (S → Option (List ℕ)) → (S → ℕ) → S → S → Reading
+reading left faults before after = record { left = left before; left_after = left after; faults = faults before; faults_after = faults after }
 
 -- nothing is read
 pub record Untouched (r : Reading) : Type 0 where
@@ -287,6 +308,10 @@ pub record Writing : Type 0 where
   pub written_after : Option (List ℕ)
   pub faults : ℕ
   pub faults_after : ℕ
+
+-- of a sink before and after, by what it tells of what it got and of its faults
+abbrev pub writing : {K : Type 0} → (K → Option (List ℕ)) → (K → ℕ) → K → K → Writing
+writing written faults before after = record { written = written before; written_after = written after; faults = faults before; faults_after = faults after }
 
 -- The sink was not called: nothing was written, and its count is as it was.
 pub record Unwritten (w : Writing) : Type 0 where

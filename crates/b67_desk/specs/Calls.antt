@@ -1,13 +1,19 @@
 -- What the parts of the top call promise one another.
-use Rattle.std.specs.Prelude.{◌≡◌, ◌≢◌, ◌⊎◌, ℕ, ◌≤◌, List, Result, Ok, Err}
+use Rattle.std.specs.Prelude.{◌≡◌, ◌≢◌, ◌⊎◌, ℕ, ◌<◌, ◌≤◌, List, length, Option, Some, None, IfSome, Result, Ok, Err}
+use Rattle.std.specs.declared.alloc.Global.{Global}
+use Rattle.std.specs.declared.vec.Vec.{Vec}
+use Rattle.std.specs.Io.KnownBytes.{IsAtEnd}
 use Rattle.std.specs.declared.alloc.AllocError.{AllocError}
+use Rattle.algol_tree.specs.declared.TheConstants.{MOST_SOURCE_BYTES}
+use Rattle.algol_tree.specs.declared.refusal.Code.{Code as SourceCode}
+use Rattle.algol_tree.specs.Image.{program as plain}
 use Rattle.algol_tree.specs.Plain.{PProgram}
 use Rattle.algol_tree.specs.declared.token.Spot.{Spot}
 use Rattle.b67_io.specs.Faults.{Rose}
 use Rattle.b67_words.specs.declared.TheConstants.{MOST_BUDGET, MOST_PROCESSORS}
 use Rattle.b67_words.specs.declared.Words.{Words}
-use Rattle.b67_words.specs.declared.Words.TheVariants.{Run, Check, Replay, Exec, Trial}
-use Rattle.b67_words.specs.declared.Words.TheVariants.{List as ListCode}
+use Rattle.b67_words.specs.declared.Task.TheVariants.{Run, Replay}
+use Rattle.b67_words.specs.declared.Words.TheVariants.{OnSource, Exec}
 use Rattle.b67_words.specs.declared.BadWords.{BadWords}
 use Rattle.b67_words.specs.declared.BadWords.TheVariants as broken
 use Rattle.b67_words.specs.declared.UsageKind.{UsageKind}
@@ -25,10 +31,41 @@ use Rattle.b67_desk.specs.declared.asking.Unanswered.TheVariants as why
 use Rattle.b67_desk.specs.declared.asking.Job.{Job}
 use Rattle.b67_desk.specs.declared.asking.Asked.{Asked}
 use Rattle.b67_desk.specs.declared.asking.Asked.TheVariants as asked
+use Rattle.b67_desk.specs.declared.asking.Found.{Found}
+use Rattle.b67_desk.specs.declared.asking.Found.TheVariants as found
 use Rattle.b67_desk.specs.declared.status.Code.{Code as RefusalCode}
+use Rattle.b67_desk.specs.declared.status.Code.TheVariants.{OfSource}
 use Rattle.b67_desk.specs.declared.status.Status.{Status}
 use Rattle.b67_desk.specs.declared.status.Status.TheVariants as statuses
-use Rattle.b67_desk.specs.Answers.{usage_text, refused_text, too_long_text, bad_schedule_text, trial_text, status_of, Workers, ExplainsBy, ReadsInput, AnswersSource, AnswersCommand, Answers, Reading, Untouched, ReadsIfAsked, Unreadable}
+use Rattle.b67_desk.specs.Answers.{usage_text, refused_text, too_long_text, bad_schedule_text, trial_text, status_of, Workers, ExplainsBy, IsRefusedAt, IsSourceOf, ReadsInput, AnswersSource, AnswersCommand, Answers, Reading, Untouched, ReadsIfAsked, Unreadable}
+
+-- ---- refusals
+
+-- the refusal of a text at a place
+pub record IsRefusal (place : Spot) (code : RefusalCode) (a : Answer) : Type 0 where
+  pub text : a.text.items ≡ refused_text place code
+  pub status : a.status ≡ statuses.Refused place code
+
+-- the refusal of a text that is too long
+pub record IsTooLong (a : Answer) : Type 0 where
+  pub text : a.text.items ≡ too_long_text
+  pub status : a.status ≡ statuses.TooLong
+
+-- ---- what is read
+
+-- what an input of at most so many bytes is read to: all that it had left, or nothing, since that is more; or it failed, or memory ran out
+abbrev pub InputRead : ℕ → Reading → Result (Option (Vec ℕ Global)) Unanswered → Type 0
+InputRead most r (Ok (Some bytes)) = (length bytes.items ≤ most) × IfSome r.left (λ all. bytes.items ≡ all) × IsAtEnd r.left_after
+InputRead most r (Ok None) = IfSome r.left (λ bytes. most < length bytes)
+InputRead most r (Err why.ReadFault) = Rose r.faults r.faults_after
+InputRead most r (Err why.NoMemory) = Unit {0}
+
+-- what a source is found to be: accepted, and then this is its only tree; or it is too long, or refused, and then this is the answer
+abbrev pub IsFound : List ℕ → Found → Type 0
+IsFound source (found.Accepted checked) = (length source ≤ MOST_SOURCE_BYTES) × IsSourceOf source (plain checked.program)
+IsFound source (found.Refused a) =
+    ((MOST_SOURCE_BYTES < length source) × IsTooLong a)
+    ⊎ ((length source ≤ MOST_SOURCE_BYTES) × (place : Spot) × (code : SourceCode) × IsRefusedAt source place code × IsRefusal place (OfSource code) a)
 
 -- ---- what is asked for
 
@@ -95,24 +132,12 @@ IsUsage bad (Ok (asked.Run job)) = ⊥
 IsUsage bad (Err why.ReadFault) = ⊥
 IsUsage bad (Err why.NoMemory) = Unit {0}
 
--- the refusal of a text at a place
-pub record IsRefusal (place : Spot) (code : RefusalCode) (a : Answer) : Type 0 where
-  pub text : a.text.items ≡ refused_text place code
-  pub status : a.status ≡ statuses.Refused place code
-
 -- what the numbers of the command are: some processors, and a budget from 1 to the greatest
 abbrev pub InRange : Words → Type 0
-InRange (Run processors budget rule) = (1 ≤ processors) × (processors ≤ MOST_PROCESSORS) × (1 ≤ budget) × (budget ≤ MOST_BUDGET)
-InRange Check = Unit {0}
-InRange ListCode = Unit {0}
-InRange (Replay budget) = (1 ≤ budget) × (budget ≤ MOST_BUDGET)
+InRange (OnSource (Run processors budget rule)) = (1 ≤ processors) × (processors ≤ MOST_PROCESSORS) × (1 ≤ budget) × (budget ≤ MOST_BUDGET)
+InRange (OnSource (Replay budget)) = (1 ≤ budget) × (budget ≤ MOST_BUDGET)
 InRange (Exec budget) = (1 ≤ budget) × (budget ≤ MOST_BUDGET)
-InRange (Trial n) = Unit {0}
-
--- the refusal of a text that is too long
-pub record IsTooLong (a : Answer) : Type 0 where
-  pub text : a.text.items ≡ too_long_text
-  pub status : a.status ≡ statuses.TooLong
+InRange command = Unit {0}
 
 -- the refusal of a schedule text that is bad from a byte on
 pub record IsBadAt (byte : ℕ) (a : Answer) : Type 0 where

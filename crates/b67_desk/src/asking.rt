@@ -1,9 +1,11 @@
 //! What a call asks for: an answer, or a run whose report is the answer.
 
 ghost use Rattle.std.specs.Prelude.{◌≡◌};
+ghost use Rattle.b67_desk.specs.declared.asking.Unanswered.TheVariants.{NoMemory};
 ghost use Rattle.b67_desk.specs.Calls.{settled};
 
 use crate::status::Status;
+use algol_front::Checked;
 use b67_segment::Code;
 use b67_words::Rule;
 use std::alloc::AllocError;
@@ -22,6 +24,14 @@ pub enum Unanswered {
     NoMemory,
 }
 
+impl From<AllocError> for Unanswered {
+    ghost from_gives = { λ _ why. why ≡ NoMemory };
+
+    fn from(_error: AllocError) -> Unanswered {
+        Unanswered::NoMemory
+    }
+}
+
 /// A run that is to be made: of a code, on so many processors, within a budget and under a rule.
 #[derive(Drop)]
 pub struct Job {
@@ -38,6 +48,15 @@ pub enum Asked {
     Settled(Answer),
     /// A run, whose report is the answer.
     Run(Job),
+}
+
+/// What a source is found to be.
+#[derive(Drop)]
+pub enum Found {
+    /// It is accepted.
+    Accepted(Checked),
+    /// It is not, and this is the answer.
+    Refused(Answer),
 }
 
 /// What is asked for where the answer is there.

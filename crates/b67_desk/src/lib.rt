@@ -3,6 +3,7 @@
 
 mod asking;
 mod exec;
+mod form;
 mod running;
 mod status;
 mod texts;

@@ -3,11 +3,13 @@
 ghost use Rattle.std.specs.Prelude.{◌≡◌, ◌≢◌, ◌≤◌, IfOk, length, sum};
 ghost use Rattle.algol_tree.specs.Plain.{PProgram};
 ghost use Rattle.b67_words.specs.declared.TheConstants.{MOST_BUDGET};
+ghost use Rattle.b67_ready.specs.Orders.{place_of};
 ghost use Rattle.b67_schedule.specs.Schedules.{entries};
 ghost use Rattle.b67_report.specs.Reading.{AreCounts as AreNumbers};
 ghost use Rattle.b67_machine.specs.Reads.{machine_end};
 ghost use Rattle.b67_faithful.specs.Faithful.{Faithful};
-ghost use Rattle.b67_explain.specs.Explaining.{ExplainsRun, ExplainsReplay};
+ghost use Rattle.b67_explain.specs.Explaining.{ExplainsReplay};
+ghost use Rattle.b67_explain.specs.Shared.{ExplainsShared};
 ghost use Rattle.b67_explain.specs.Telling.{CanBeTold};
 ghost use Rattle.b67_desk.specs.Answers.{by_one, order_of};
 ghost use Rattle.b67_desk.specs.Calls.{CanBeMade, IsLeft, IsReported};
@@ -50,7 +52,8 @@ fn left_report(
     requires all { sum acts ≡ length (entries ran.schedule.runs) }
     requires numbers { AreNumbers acts }
     requires told { ran.answer ≢ Replayed.NoMemory → CanBeTold ran.answer (machine_end ran.machine) }
-    ensures { IfOk result (IsLeft ran.machine ran.answer lines (length acts) ran.schedule) }
+    ensures left { IfOk result (IsLeft ran.machine ran.answer lines (length acts) ran.schedule) }
+    ensures acts { IfOk result (λ report. report.acts ≡ acts) }
 {
     let Ran {
         machine,
@@ -89,7 +92,7 @@ pub fn share_report<R: Threads + Wait + Sync, G: Gate + Sync>(
     job: Job,
 ) -> Result<Report, AllocError>
     requires { CanBeMade job }
-    ensures { IfOk result (λ report. (tree : PProgram) → Faithful tree job.code → ExplainsRun tree job.processors job.budget report) }
+    ensures { IfOk result (λ report. (tree : PProgram) → Faithful tree job.code → ExplainsShared tree (place_of (order_of job.rule)) job.processors job.budget report) }
 {
     let Job {
         processors,

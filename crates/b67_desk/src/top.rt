@@ -1,39 +1,28 @@
 //! The top call.
 
-ghost use Rattle.std.specs.Prelude.{◌≡◌, ◌≤◌, ℕ, List, IfOk, length, map, string_bytes, option_copied};
+ghost use Rattle.std.specs.Prelude.{◌≡◌, ℕ, List, IfOk, map, string_bytes};
 ghost use Rattle.b67_make.specs.Made.{made};
-ghost use Rattle.b67_desk.specs.Answers.{Answers, AnswersBytes, AnswersInput, HasAnswer, IsDivided, IsOfSource, Reading, Workers, by_all, by_one, most_bytes};
-ghost use Rattle.b67_desk.specs.Calls.{Asks, CallAnswered, CallAsked, CanBeMade, CommandAsked, InRange, IsRunAnswer, IsTooLong, IsUsage, SourceAsked};
+ghost use Rattle.b67_desk.specs.Answers.{AnswersBytes, HasAnswer, Reading, Workers, by_all, by_one, reading, writing};
+ghost use Rattle.b67_desk.specs.Calls.{Asks, CallAnswered, CallAsked, CanBeMade, CommandAsked, InRange, InputRead, IsFound, IsRunAnswer, IsTooLong, IsUsage, SourceAsked};
 
-use crate::asking::{Answer, Asked, Job, Unanswered, settled};
+use crate::asking::{Answer, Asked, Found, Job, Unanswered, settled};
 use crate::exec::answer_exec;
+use crate::form::{divide, form_of};
 use crate::running::{run_report, share_report};
 use crate::status::{Code, Status};
 use crate::texts::{too_long_line, usage_line};
-use crate::tree::{ask_tree, refuse, tell};
+use crate::tree::{answer_trial, ask_tree, refuse, tell};
 use algol_front::front;
 use algol_tree::{MOST_SOURCE_BYTES, Refusal};
 use b67_io::{ReadAll, Sink, Source, WriteAll, read_all, write_all};
 use b67_make::make;
-use b67_parts::{MOST_INPUT_BYTES, parts};
 use b67_processors::Gate;
-use b67_words::{BadWords, UsageKind, Words, read_words};
+use b67_words::{BadWords, Task, UsageKind, Words, read_words};
 use std::alloc::{AllocError, Global};
 use std::sync::Wait;
 use std::thread::Threads;
 
 // ---- what is asked for
-
-/// The source in bytes that were read under a command, and the schedule text after it.
-fn divided(command: Words, bytes: &[u8]) -> (&[u8], Option<&[u8]>)
-    ensures { IsDivided command bytes.now result.0.now (option_copied result.1) }
-{
-    match command {
-        Words::Replay { .. } => parts(bytes),
-        Words::Run { .. } | Words::Check | Words::List | Words::Exec { .. } | Words::Trial { .. } =>
-            (bytes, None),
-    }
-}
 
 /// The answer to a text that is too long.
 fn refuse_length(alloc: Global) -> Result<Answer, AllocError>
@@ -45,71 +34,69 @@ fn refuse_length(alloc: Global) -> Result<Answer, AllocError>
     })
 }
 
-/// What the bytes of a source that were read under a command ask for.
-fn ask_bytes(alloc: Global, command: Words, bytes: &[u8]) -> Result<Asked, AllocError>
-    requires range { InRange command }
-    requires source { IsOfSource command }
-    ensures { IfOk result (Asks (λ by. AnswersBytes by command bytes.now)) }
+/// The tree of a source, or the answer to what is none.
+fn find(alloc: Global, source: &[u8]) -> Result<Found, AllocError>
+    ensures { IfOk result (IsFound source.now) }
 {
-    let (source, schedule) = divided(command, bytes);
     if source.len() > MOST_SOURCE_BYTES {
-        return settled(refuse_length(alloc));
+        return Ok(Found::Refused(refuse_length(alloc)?));
     }
     match front(alloc, source) {
-        Ok(checked) => ask_tree(alloc, command, schedule, bytes.len(), &checked),
-        Err(Refusal::At { spot, code }) => settled(refuse(alloc, spot, Code::OfSource(code))),
+        Ok(checked) => Ok(Found::Accepted(checked)),
+        Err(Refusal::At { spot, code }) => {
+            Ok(Found::Refused(refuse(alloc, spot, Code::OfSource(code))?))
+        }
         Err(Refusal::NoMemory) => Err(AllocError),
     }
 }
 
-/// What the bytes that were read under a command ask for.
-fn ask_input(alloc: Global, command: Words, bytes: &[u8]) -> Result<Asked, AllocError>
-    requires range { InRange command }
-    requires few { length bytes.now ≤ most_bytes command }
-    ensures { IfOk result (Asks (λ by. AnswersInput by command bytes.now)) }
+/// What a task with the source in bytes that were read asks for.
+fn ask_bytes(alloc: Global, task: Task, bytes: &[u8]) -> Result<Asked, AllocError>
+    requires { InRange (Words.OnSource task) }
+    ensures { IfOk result (Asks (λ by. AnswersBytes by (Words.OnSource task) bytes.now)) }
 {
-    match command {
-        Words::Exec { budget } => settled(answer_exec(alloc, budget, bytes)),
-        Words::Run { .. }
-        | Words::Check
-        | Words::List
-        | Words::Replay { .. }
-        | Words::Trial { .. } => ask_bytes(alloc, command, bytes),
+    let (source, text) = divide(form_of(Words::OnSource(task)).mark, bytes);
+    match find(alloc, source)? {
+        Found::Accepted(checked) => ask_tree(alloc, task, text, bytes.len(), &checked),
+        Found::Refused(answer) => Ok(Asked::Settled(answer)),
     }
 }
 
-/// How many bytes are read under a command.
-fn most_bytes(command: Words) -> usize
-    ensures { result ≡ most_bytes command }
+/// Reads an input to its end: its bytes, or nothing where they are more than so many.
+fn read_input<S: Source>(
+    alloc: Global,
+    most: usize,
+    source: &mut S,
+) -> Result<Option<Vec<u8>>, Unanswered>
+    ensures { InputRead most (reading S.left S.faults source.old source.new) result }
 {
-    match command {
-        Words::Replay { .. } => MOST_INPUT_BYTES,
-        Words::Run { .. } | Words::Check | Words::List | Words::Exec { .. } | Words::Trial { .. } =>
-            MOST_SOURCE_BYTES,
-    }
-}
-
-/// Reads the source to its end, and finds what it asks for.
-fn ask_source<S: Source>(alloc: Global, command: Words, source: &mut S) -> Result<Asked, Unanswered>
-    requires { InRange command }
-    ensures { SourceAsked command (record {
-      left = S.left source.old;
-      left_after = S.left source.new;
-      faults = S.faults source.old;
-      faults_after = S.faults source.new;
-    }) result }
-{
-    match read_all(alloc, source, most_bytes(command)) {
-        Ok(bytes) => match ask_input(alloc, command, bytes.as_slice()) {
-            Ok(asked) => Ok(asked),
-            Err(_) => Err(Unanswered::NoMemory),
-        },
-        Err(ReadAll::TooLong) => match refuse_length(alloc) {
-            Ok(answer) => Ok(Asked::Settled(answer)),
-            Err(_) => Err(Unanswered::NoMemory),
-        },
+    match read_all(alloc, source, most) {
+        Ok(bytes) => Ok(Some(bytes)),
+        Err(ReadAll::TooLong) => Ok(None),
         Err(ReadAll::Failed) => Err(Unanswered::ReadFault),
         Err(ReadAll::NoMemory) => Err(Unanswered::NoMemory),
+    }
+}
+
+/// Reads a source, and finds what a task with it asks for.
+fn ask_source<S: Source>(alloc: Global, task: Task, source: &mut S) -> Result<Asked, Unanswered>
+    requires { InRange (Words.OnSource task) }
+    ensures { SourceAsked (Words.OnSource task) (reading S.left S.faults source.old source.new) result }
+{
+    match read_input(alloc, form_of(Words::OnSource(task)).most, source)? {
+        Some(bytes) => Ok(ask_bytes(alloc, task, bytes.as_slice())?),
+        None => Ok(Asked::Settled(refuse_length(alloc)?)),
+    }
+}
+
+/// Reads a text of code, and finds what answers it under a budget.
+fn ask_code<S: Source>(alloc: Global, budget: u64, source: &mut S) -> Result<Asked, Unanswered>
+    requires { InRange (Words.Exec budget) }
+    ensures { SourceAsked (Words.Exec budget) (reading S.left S.faults source.old source.new) result }
+{
+    match read_input(alloc, form_of(Words::Exec { budget }).most, source)? {
+        Some(bytes) => Ok(Asked::Settled(answer_exec(alloc, budget, bytes.as_slice())?)),
+        None => Ok(Asked::Settled(refuse_length(alloc)?)),
     }
 }
 
@@ -118,7 +105,11 @@ fn ask_trial(alloc: Global, n: u32) -> Result<Asked, AllocError>
     ensures { IfOk result (Asks (λ by. AnswersBytes by (Words.Trial n) (made n))) }
 {
     let bytes = make(alloc, n)?;
-    ask_bytes(alloc, Words::Trial { n }, bytes.as_slice())
+    let source = bytes.as_slice();
+    match find(alloc, source)? {
+        Found::Accepted(checked) => settled(answer_trial(alloc, source.len(), &checked)),
+        Found::Refused(answer) => Ok(Asked::Settled(answer)),
+    }
 }
 
 /// What a command asks for, and where it reads its input the source.
@@ -128,23 +119,12 @@ fn ask_command<S: Source>(
     source: &mut S,
 ) -> Result<Asked, Unanswered>
     requires { InRange command }
-    ensures { CommandAsked command (record {
-      left = S.left source.old;
-      left_after = S.left source.new;
-      faults = S.faults source.old;
-      faults_after = S.faults source.new;
-    }) result }
+    ensures { CommandAsked command (reading S.left S.faults source.old source.new) result }
 {
     match command {
-        Words::Trial { n } => match ask_trial(alloc, n) {
-            Ok(asked) => Ok(asked),
-            Err(_) => Err(Unanswered::NoMemory),
-        },
-        Words::Run { .. }
-        | Words::Check
-        | Words::List
-        | Words::Replay { .. }
-        | Words::Exec { .. } => ask_source(alloc, command, source),
+        Words::OnSource(task) => ask_source(alloc, task, source),
+        Words::Exec { budget } => ask_code(alloc, budget, source),
+        Words::Trial { n } => Ok(ask_trial(alloc, n)?),
     }
 }
 
@@ -162,23 +142,15 @@ fn refuse_words(alloc: Global, bad: BadWords) -> Result<Asked, Unanswered>
     ensures { IsUsage bad result }
 {
     let (word, kind) = usage_in(bad);
-    match usage_line(alloc, word, kind) {
-        Ok(text) => Ok(Asked::Settled(Answer {
-            text,
-            status: Status::Usage { word, kind },
-        })),
-        Err(_) => Err(Unanswered::NoMemory),
-    }
+    Ok(Asked::Settled(Answer {
+        text: usage_line(alloc, word, kind)?,
+        status: Status::Usage { word, kind },
+    }))
 }
 
 /// What the words ask for, and where they are a command the source.
 fn ask_call<S: Source>(alloc: Global, words: &[String], source: &mut S) -> Result<Asked, Unanswered>
-    ensures { CallAsked (map string_bytes words.now) (record {
-      left = S.left source.old;
-      left_after = S.left source.new;
-      faults = S.faults source.old;
-      faults_after = S.faults source.new;
-    }) result }
+    ensures { CallAsked (map string_bytes words.now) (reading S.left S.faults source.old source.new) result }
 {
     match read_words(words) {
         Ok(command) => ask_command(alloc, command, source),
@@ -218,19 +190,11 @@ fn answer_alone<S: Source>(
     words: &[String],
     source: &mut S,
 ) -> Result<Answer, Unanswered>
-    ensures { CallAnswered by_one (map string_bytes words.now) (record {
-      left = S.left source.old;
-      left_after = S.left source.new;
-      faults = S.faults source.old;
-      faults_after = S.faults source.new;
-    }) result }
+    ensures { CallAnswered by_one (map string_bytes words.now) (reading S.left S.faults source.old source.new) result }
 {
     match ask_call(alloc, words, source) {
         Ok(Asked::Settled(answer)) => Ok(answer),
-        Ok(Asked::Run(job)) => match do_alone(alloc, job) {
-            Ok(answer) => Ok(answer),
-            Err(_) => Err(Unanswered::NoMemory),
-        },
+        Ok(Asked::Run(job)) => Ok(do_alone(alloc, job)?),
         Err(why) => Err(why),
     }
 }
@@ -243,19 +207,11 @@ fn answer_shared<S: Source, R: Threads + Wait + Sync, G: Gate + Sync>(
     words: &[String],
     source: &mut S,
 ) -> Result<Answer, Unanswered>
-    ensures { CallAnswered by_all (map string_bytes words.now) (record {
-      left = S.left source.old;
-      left_after = S.left source.new;
-      faults = S.faults source.old;
-      faults_after = S.faults source.new;
-    }) result }
+    ensures { CallAnswered by_all (map string_bytes words.now) (reading S.left S.faults source.old source.new) result }
 {
     match ask_call(alloc, words, source) {
         Ok(Asked::Settled(answer)) => Ok(answer),
-        Ok(Asked::Run(job)) => match do_shared(rt, gate, alloc, job) {
-            Ok(answer) => Ok(answer),
-            Err(_) => Err(Unanswered::NoMemory),
-        },
+        Ok(Asked::Run(job)) => Ok(do_shared(rt, gate, alloc, job)?),
         Err(why) => Err(why),
     }
 }
@@ -263,7 +219,7 @@ fn answer_shared<S: Source, R: Threads + Wait + Sync, G: Gate + Sync>(
 /// Writes an answer, where there is one, and says how the call ended.
 fn write_answer<K: Sink>(sink: &mut K, answer: Result<Answer, Unanswered>) -> Status
     ensures { (by : Workers) (words : List (List ℕ)) (r : Reading) → CallAnswered by words r answer → HasAnswer by words r
-        (record { written = K.written sink.old; written_after = K.written sink.new; faults = K.faults sink.old; faults_after = K.faults sink.new })
+        (writing K.written K.faults sink.old sink.new)
         result }
 {
     match answer {
@@ -287,7 +243,7 @@ fn write_answer<K: Sink>(sink: &mut K, answer: Result<Answer, Unanswered>) -> St
 /// with P of 1 to [`MOST_PROCESSORS`](b67_words::MOST_PROCESSORS) processors, a budget B of 1 to [`MOST_BUDGET`](b67_words::MOST_BUDGET)
 /// operators and a rule of dispatch R, `check`, `list`, and `trial N` with a number N of 0 to [`MOST_TRIAL`](b67_words::MOST_TRIAL).
 /// `source` gives the bytes of an ALGOL source, at most [`MOST_SOURCE_BYTES`] of them, and is read to its end. Under `replay` it gives at
-/// most [`MOST_INPUT_BYTES`]: after the source a record that is exactly `%%SCHEDULE`, and after that the text of the schedule to be
+/// most [`MOST_INPUT_BYTES`](b67_parts::MOST_INPUT_BYTES): after the source a record that is exactly `%%SCHEDULE`, and after that the text of the schedule to be
 /// followed. Under `exec` it gives a text of code in place of a source. Under `trial` nothing is read, and the source is the one that is
 /// made from the number. `sink` gets the answer whole: the report of the run, the listing of the code, the word ACCEPTED, what a run by
 /// turns says, what a trial says, or one line of refusal. It returns on every input.
@@ -318,8 +274,8 @@ pub fn desk_alone<S: Source, K: Sink>(
     sink: &mut K,
 ) -> Status
     ensures { HasAnswer by_one (map string_bytes words.now)
-        (record { left = S.left source.old; left_after = S.left source.new; faults = S.faults source.old; faults_after = S.faults source.new })
-        (record { written = K.written sink.old; written_after = K.written sink.new; faults = K.faults sink.old; faults_after = K.faults sink.new })
+        (reading S.left S.faults source.old source.new)
+        (writing K.written K.faults sink.old sink.new)
         result }
 {
     let answer = answer_alone(alloc, words, source);
@@ -337,8 +293,8 @@ pub fn desk<S: Source, K: Sink, G: Gate + Sync, R: Threads + Wait + Sync>(
     gate: &G,
 ) -> Status
     ensures { HasAnswer by_all (map string_bytes words.now)
-        (record { left = S.left source.old; left_after = S.left source.new; faults = S.faults source.old; faults_after = S.faults source.new })
-        (record { written = K.written sink.old; written_after = K.written sink.new; faults = K.faults sink.old; faults_after = K.faults sink.new })
+        (reading S.left S.faults source.old source.new)
+        (writing K.written K.faults sink.old sink.new)
         result }
 {
     let answer = answer_shared(rt, gate, alloc, words, source);

@@ -3,7 +3,7 @@
 ghost use Rattle.std.specs.Prelude.{◌≡◌, ◌≤◌, IfOk, option_copied};
 ghost use Rattle.algol_tree.specs.Image.{program as plain};
 ghost use Rattle.b67_words.specs.declared.TheConstants.{MOST_BUDGET, MOST_PROCESSORS};
-ghost use Rattle.b67_desk.specs.Answers.{AnswersTree, IsOfSource, SaysAccepted, Runs, Lists, Replays, Tries, status_of};
+ghost use Rattle.b67_desk.specs.Answers.{AnswersTree, OrBadSchedule, SaysAccepted, Runs, Lists, Replays, Tries, status_of};
 ghost use Rattle.b67_desk.specs.Calls.{Asks, InRange, IsRefusal, IsBadAt, IsReportAnswer, IsTrialAnswer};
 
 use crate::asking::{Answer, Asked, Job, settled};
@@ -16,7 +16,7 @@ use b67_compile::compile;
 use b67_listing::listing;
 use b67_report::{EndWords, Report, text as report_text};
 use b67_schedule::{ReadSchedule, read as read_schedule};
-use b67_words::{MOST_BUDGET, Rule, Words};
+use b67_words::{MOST_BUDGET, Rule, Task, Words};
 use std::alloc::{AllocError, Global};
 
 /// The status under which a run is reported.
@@ -116,7 +116,7 @@ fn answer_replay(
     checked: &Checked,
 ) -> Result<Answer, AllocError>
     requires most { budget ≤ MOST_BUDGET }
-    ensures { IfOk result (λ answer. Replays budget (option_copied schedule.entry) input (plain checked.now.program) answer.text.items answer.status) }
+    ensures { IfOk result (λ answer. OrBadSchedule (option_copied schedule.entry) input (Replays budget (plain checked.now.program)) answer.text.items answer.status) }
 {
     let Some(text) = schedule else {
         return refuse_schedule(alloc, input as u64);
@@ -143,7 +143,7 @@ fn tell_trial(alloc: Global, bytes: usize, report: &Report) -> Result<Answer, Al
 
 /// The answer to an accepted source that was made, which has so many bytes: it is run in the caller, first in, first out, under the
 /// greatest budget.
-fn answer_trial(alloc: Global, bytes: usize, checked: &Checked) -> Result<Answer, AllocError>
+pub fn answer_trial(alloc: Global, bytes: usize, checked: &Checked) -> Result<Answer, AllocError>
     ensures { IfOk result (λ answer. Tries bytes (plain checked.now.program) answer.text.items answer.status) }
 {
     let code = compile(alloc, checked)?;
@@ -156,30 +156,25 @@ fn answer_trial(alloc: Global, bytes: usize, checked: &Checked) -> Result<Answer
     tell_trial(alloc, bytes, &run_report(alloc, job)?)
 }
 
-/// What an accepted source asks for under a command, with the schedule text beside it, in an input of so many bytes.
+/// What a task with an accepted source asks for, with the text beside it, in an input of so many bytes.
 pub fn ask_tree(
     alloc: Global,
-    command: Words,
-    schedule: Option<&[u8]>,
+    task: Task,
+    text: Option<&[u8]>,
     input: usize,
     checked: &Checked,
 ) -> Result<Asked, AllocError>
-    requires range { InRange command }
-    requires source { IsOfSource command }
-    ensures { IfOk result (Asks (λ by. AnswersTree by command (option_copied schedule.entry) input (plain checked.now.program))) }
+    requires { InRange (Words.OnSource task) }
+    ensures { IfOk result (Asks (λ by. AnswersTree by (Words.OnSource task) (option_copied text.entry) input (plain checked.now.program))) }
 {
-    match command {
-        Words::Run {
+    match task {
+        Task::Run {
             processors,
             budget,
             rule,
         } => ask_run(alloc, processors, budget, rule, checked),
-        Words::Check => settled(accept_source(alloc)),
-        Words::List => settled(answer_list(alloc, checked)),
-        Words::Replay { budget } => {
-            settled(answer_replay(alloc, budget, schedule, input, checked))
-        }
-        Words::Trial { .. } => settled(answer_trial(alloc, input, checked)),
-        Words::Exec { .. } => unreachable!(),
+        Task::Check => settled(accept_source(alloc)),
+        Task::List => settled(answer_list(alloc, checked)),
+        Task::Replay { budget } => settled(answer_replay(alloc, budget, text, input, checked)),
     }
 }

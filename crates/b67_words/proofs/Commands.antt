@@ -6,24 +6,25 @@ use Rattle.b67_words.specs.declared.TheConstants.{MOST_BUDGET, MOST_PROCESSORS, 
 use Rattle.b67_words.specs.declared.Rule.{Rule}
 use Rattle.b67_words.specs.declared.Rule.TheVariants.{Fifo, Lifo, Seed}
 use Rattle.b67_words.specs.declared.Words.{Words}
-use Rattle.b67_words.specs.declared.Words.TheVariants as commands
-use Rattle.b67_words.specs.declared.Words.TheVariants.{Run, Check, Replay, Exec, Trial}
+use Rattle.b67_words.specs.declared.Task.TheVariants as tasks
+use Rattle.b67_words.specs.declared.Task.TheVariants.{Run, Check, Replay}
+use Rattle.b67_words.specs.declared.Words.TheVariants.{OnSource, Exec, Trial}
 use Rattle.b67_words.specs.Grammar.{IsNumber, IsFromZero, IsRule, fifo, lifo, seed, NameRule, IsCommand, run, check, list, replay, exec, trial, BeginCommand, IsWhole}
 
 -- the word is a command by itself, which means this
 pub data IsAlone (name : List ℕ) (meaning : Words) : Type 0 where
-  is_check : name ≡ codes "check" → meaning ≡ Check → IsAlone name meaning
-  is_list : name ≡ codes "list" → meaning ≡ commands.List → IsAlone name meaning
+  is_check : name ≡ codes "check" → meaning ≡ OnSource Check → IsAlone name meaning
+  is_list : name ≡ codes "list" → meaning ≡ OnSource tasks.List → IsAlone name meaning
 
 -- the word with a budget after it is a command, which means this
 pub data IsBudgeted (name : List ℕ) (b : ℕ) (meaning : Words) : Type 0 where
-  is_replay : name ≡ codes "replay" → meaning ≡ Replay b → IsBudgeted name b meaning
+  is_replay : name ≡ codes "replay" → meaning ≡ OnSource (Replay b) → IsBudgeted name b meaning
   is_exec : name ≡ codes "exec" → meaning ≡ Exec b → IsBudgeted name b meaning
 
 -- the words of a command, and what they mean
 pub data Form (words : List (List ℕ)) (meaning : Words) : Type 0 where
   a_run : (processors budget : List ℕ) (last : List (List ℕ)) (p b : ℕ) (rule : Rule) → words ≡ codes "run" ∷ processors ∷ budget ∷ last →
-      IsNumber MOST_PROCESSORS processors p → IsNumber MOST_BUDGET budget b → NameRule last rule → meaning ≡ Run p b rule → Form words meaning
+      IsNumber MOST_PROCESSORS processors p → IsNumber MOST_BUDGET budget b → NameRule last rule → meaning ≡ OnSource (Run p b rule) → Form words meaning
   a_budget : (name budget : List ℕ) (b : ℕ) → words ≡ name ∷ budget ∷ [] → IsNumber MOST_BUDGET budget b → IsBudgeted name b meaning → Form words meaning
   a_trial : (number : List ℕ) (n : ℕ) → words ≡ codes "trial" ∷ number ∷ [] → IsFromZero MOST_TRIAL number n → meaning ≡ Trial n → Form words meaning
   a_word : (name : List ℕ) → words ≡ name ∷ [] → IsAlone name meaning → Form words meaning
@@ -109,7 +110,7 @@ replay_not_exec : {B : Type 0} → codes "replay" ≡ codes "exec" → B
 replay_not_exec e = differ (get_or (codes "replay") 0 0) (get_or (codes "exec") 0 0) 114 101 refl refl (ap (λ (w : List ℕ). get_or w 0 0) e) (λ p. omega arith)
 
 pub same_budgeted : (name : List ℕ) (b k : ℕ) (one other : Words) → b ≡ k → IsBudgeted name b one → IsBudgeted name k other → one ≡ other
-same_budgeted name b k one other same (is_replay e m) (is_replay f n) = m ∙ ap (λ (x : ℕ). Replay x) same ∙ sym n
+same_budgeted name b k one other same (is_replay e m) (is_replay f n) = m ∙ ap (λ (x : ℕ). OnSource (Replay x)) same ∙ sym n
 same_budgeted name b k one other same (is_replay e m) (is_exec f n) = replay_not_exec (sym e ∙ f)
 same_budgeted name b k one other same (is_exec e m) (is_replay f n) = replay_not_exec (sym f ∙ e)
 same_budgeted name b k one other same (is_exec e m) (is_exec f n) = m ∙ ap (λ (x : ℕ). Exec x) same ∙ sym n
@@ -190,13 +191,13 @@ pub one : (most : ℕ) → 1 ≤ most → IsNumber most (codes "1") 1
 one most p = record { written = sym (decimal_digit 1 (omega arith)); least = omega arith; greatest = p }
 
 pub begin_nothing : BeginCommand []
-begin_nothing = (codes "check" ∷ [], Check, check)
+begin_nothing = (codes "check" ∷ [], OnSource Check, check)
 
 pub begin_check : BeginCommand (codes "check" ∷ [])
-begin_check = ([], Check, check)
+begin_check = ([], OnSource Check, check)
 
 pub begin_run : (processors : List ℕ) (p : ℕ) → IsNumber MOST_PROCESSORS processors p → BeginCommand (codes "run" ∷ processors ∷ [])
-begin_run processors p is = (codes "1" ∷ [], Run p 1 Fifo, run processors (codes "1") [] p 1 Fifo is (one MOST_BUDGET (omega arith)) refl)
+begin_run processors p is = (codes "1" ∷ [], OnSource (Run p 1 Fifo), run processors (codes "1") [] p 1 Fifo is (one MOST_BUDGET (omega arith)) refl)
 
 pub begin_trial : BeginCommand (codes "trial" ∷ codes "1" ∷ [])
 begin_trial = ([], Trial 1, trial (codes "1") 1 (record { written = sym (decimal_digit 1 (omega arith)); greatest = omega arith }))
@@ -207,14 +208,14 @@ pub whole_alone : (name : List ℕ) (meaning : Words) → IsCommand (name ∷ []
 whole_alone name meaning is alone =
     record { is = is; last = λ word (more, m, also). alone_form name word more meaning m alone (form_of (name ∷ word ∷ more) m also) }
 
-pub whole_check : IsWhole (codes "check" ∷ []) Check
-whole_check = whole_alone (codes "check") Check check (is_check refl refl)
+pub whole_check : IsWhole (codes "check" ∷ []) (OnSource Check)
+whole_check = whole_alone (codes "check") (OnSource Check) check (is_check refl refl)
 
-pub whole_list : IsWhole (codes "list" ∷ []) commands.List
-whole_list = whole_alone (codes "list") commands.List list (is_list refl refl)
+pub whole_list : IsWhole (codes "list" ∷ []) (OnSource tasks.List)
+whole_list = whole_alone (codes "list") (OnSource tasks.List) list (is_list refl refl)
 
 pub whole_run : (processors budget word : List ℕ) (p b : ℕ) (rule : Rule) → IsNumber MOST_PROCESSORS processors p → IsNumber MOST_BUDGET budget b → IsRule word rule →
-    IsWhole (codes "run" ∷ processors ∷ budget ∷ word ∷ []) (Run p b rule)
+    IsWhole (codes "run" ∷ processors ∷ budget ∷ word ∷ []) (OnSource (Run p b rule))
 whole_run processors budget word p b rule f s n = record {
   is = run processors budget (word ∷ []) p b rule f s n;
   last = λ next (more, m, also).

@@ -6,7 +6,8 @@ use Rattle.std.proofs.lemmas.Fmt.{decimal_injective}
 use Rattle.b67_words.specs.declared.TheConstants.{MOST_BUDGET, MOST_PROCESSORS, MOST_TRIAL}
 use Rattle.b67_words.specs.declared.Rule.{Rule}
 use Rattle.b67_words.specs.declared.Words.{Words}
-use Rattle.b67_words.specs.declared.Words.TheVariants.{Run, Trial}
+use Rattle.b67_words.specs.declared.Task.TheVariants.{Run}
+use Rattle.b67_words.specs.declared.Words.TheVariants.{OnSource, Trial}
 use Rattle.b67_words.specs.declared.UsageKind.{UsageKind}
 use Rattle.b67_words.specs.declared.UsageKind.TheVariants.{Missing, Unknown, BadNumber, BadRule, Extra}
 use Rattle.b67_words.specs.declared.BadWords.{BadWords}
@@ -39,7 +40,7 @@ same_form words a b (a_run processors budget last p n rule e f s u m) (a_run oth
     let one : p ≡ q = same_number MOST_PROCESSORS processors p q (omega arith) f (subst (λ w. IsNumber MOST_PROCESSORS w q) first g) in
     let two : n ≡ k = same_number MOST_BUDGET budget n k (omega arith) s (subst (λ w. IsNumber MOST_BUDGET w k) second t) in
     let named : rule ≡ by = same_name last rule by u (subst (λ (ws : List (List ℕ)). NameRule ws by) third v) in
-    m ∙ ap (λ x. Run x n rule) one ∙ ap (λ x. Run q x rule) two ∙ ap (λ (x : Rule). Run q k x) named ∙ sym l
+    m ∙ ap (λ x. OnSource (Run x n rule)) one ∙ ap (λ x. OnSource (Run q x rule)) two ∙ ap (λ (x : Rule). OnSource (Run q k x)) named ∙ sym l
 same_form words a b (a_run processors budget last p n rule e f s u m) (a_budget name other k also t is) =
     let same = sym e ∙ also in budget_not_run name k b is (let word : name ≡ codes "run" = cc in word)
 same_form words a b (a_run processors budget last p n rule e f s u m) (a_trial number k also is l) =

@@ -8,8 +8,9 @@ use Rattle.b67_words.specs.declared.TheConstants.{MOST_BUDGET, MOST_PROCESSORS, 
 use Rattle.b67_words.specs.declared.Rule.{Rule}
 use Rattle.b67_words.specs.declared.Rule.TheVariants.{Fifo}
 use Rattle.b67_words.specs.declared.Words.{Words}
-use Rattle.b67_words.specs.declared.Words.TheVariants as commands
-use Rattle.b67_words.specs.declared.Words.TheVariants.{Run, Check, Replay, Exec, Trial}
+use Rattle.b67_words.specs.declared.Task.TheVariants as tasks
+use Rattle.b67_words.specs.declared.Task.TheVariants.{Run, Check, Replay}
+use Rattle.b67_words.specs.declared.Words.TheVariants.{OnSource, Exec, Trial}
 use Rattle.b67_words.specs.declared.BadWords.{BadWords}
 use Rattle.b67_words.specs.declared.BadWords.TheVariants.{Usage}
 use Rattle.b67_words.specs.declared.UsageKind.TheVariants.{Missing, Unknown, BadNumber, BadRule, Extra}
@@ -93,7 +94,7 @@ awaits_processors = record {
 awaits_budget : (processors : List ℕ) (p : ℕ) → IsNumber MOST_PROCESSORS processors p → Awaits (codes "run" ∷ processors ∷ []) (IsNumber MOST_BUDGET)
 awaits_budget processors p f = record {
   unfinished = λ m is. let e = (after_run (processors ∷ []) m is).are in cc;
-  begun = ([], Run p 1 Fifo, run processors (codes "1") [] p 1 Fifo f (one MOST_BUDGET (omega arith)) refl);
+  begun = ([], OnSource (Run p 1 Fifo), run processors (codes "1") [] p 1 Fifo f (one MOST_BUDGET (omega arith)) refl);
   only = λ word (more, m, is). let words = after_run (processors ∷ word ∷ more) m is in let e = words.are in let same : words.budget ≡ word = cc in
       (words.b, subst (λ w. IsNumber MOST_BUDGET w words.b) same words.second);
 }
@@ -141,15 +142,15 @@ module _ (name : List ℕ) (meaning : ℕ → Words) (named : (b : ℕ) → IsBu
 
 pub replay_broken : (words : List (List ℕ)) (bad : BadWords) → slice_get words 0 ≡ Some (codes "replay") → NumberStandsAt (IsNumber MOST_BUDGET) words 1 (Err bad) →
     WordsMean words (Err bad)
-replay_broken = budget_broken (codes "replay") (λ b. Replay b) (λ b. is_replay refl refl) replay
+replay_broken = budget_broken (codes "replay") (λ b. OnSource (Replay b)) (λ b. is_replay refl refl) replay
 
 pub exec_broken : (words : List (List ℕ)) (bad : BadWords) → slice_get words 0 ≡ Some (codes "exec") → NumberStandsAt (IsNumber MOST_BUDGET) words 1 (Err bad) →
     WordsMean words (Err bad)
 exec_broken = budget_broken (codes "exec") (λ b. Exec b) (λ b. is_exec refl refl) exec
 
 pub begin_replay_whole : (words : List (List ℕ)) (b : ℕ) → slice_get words 0 ≡ Some (codes "replay") → NumberStandsAt (IsNumber MOST_BUDGET) words 1 (Ok b) →
-    BeginWhole words 2 (Replay b)
-begin_replay_whole = begin_budget_whole (codes "replay") (λ b. Replay b) (λ b. is_replay refl refl) replay
+    BeginWhole words 2 (OnSource (Replay b))
+begin_replay_whole = begin_budget_whole (codes "replay") (λ b. OnSource (Replay b)) (λ b. is_replay refl refl) replay
 
 pub begin_exec_whole : (words : List (List ℕ)) (b : ℕ) → slice_get words 0 ≡ Some (codes "exec") → NumberStandsAt (IsNumber MOST_BUDGET) words 1 (Ok b) →
     BeginWhole words 2 (Exec b)
@@ -174,11 +175,11 @@ begin_trial_whole words k h f =
     let first = number_read (codes "trial" ∷ []) words (IsFromZero MOST_TRIAL) k (starts (codes "trial") words h) f in
     begin_whole (codes "trial" ∷ first.word ∷ []) words (Trial k) first.on (whole_trial first.word k first.is)
 
-pub begin_check_whole : (words : List (List ℕ)) → slice_get words 0 ≡ Some (codes "check") → BeginWhole words 1 Check
-begin_check_whole words h = begin_whole (codes "check" ∷ []) words Check (starts (codes "check") words h) whole_check
+pub begin_check_whole : (words : List (List ℕ)) → slice_get words 0 ≡ Some (codes "check") → BeginWhole words 1 (OnSource Check)
+begin_check_whole words h = begin_whole (codes "check" ∷ []) words (OnSource Check) (starts (codes "check") words h) whole_check
 
-pub begin_list_whole : (words : List (List ℕ)) → slice_get words 0 ≡ Some (codes "list") → BeginWhole words 1 commands.List
-begin_list_whole words h = begin_whole (codes "list" ∷ []) words commands.List (starts (codes "list") words h) whole_list
+pub begin_list_whole : (words : List (List ℕ)) → slice_get words 0 ≡ Some (codes "list") → BeginWhole words 1 (OnSource tasks.List)
+begin_list_whole words h = begin_whole (codes "list" ∷ []) words (OnSource tasks.List) (starts (codes "list") words h) whole_list
 
 -- ---- after a whole command
 
@@ -209,14 +210,14 @@ module _ (processors budget : List ℕ) (p b : ℕ) (f : IsNumber MOST_PROCESSOR
   abbrev run_with : List (List ℕ) → List (List ℕ)
   run_with rest = codes "run" ∷ processors ∷ budget ∷ rest
 
-  meant_by : (rest : List (List ℕ)) (rule : Rule) → RuleStandsAt (run_with rest) (Ok rule) → length (run_with rest) ≤ 4 → WordsMean (run_with rest) (Ok (Run p b rule))
-  meant_by [] rule (inl k) short = meant (run_with []) (Run p b rule) (run processors budget [] p b rule f s k.1)
+  meant_by : (rest : List (List ℕ)) (rule : Rule) → RuleStandsAt (run_with rest) (Ok rule) → length (run_with rest) ≤ 4 → WordsMean (run_with rest) (Ok (OnSource (Run p b rule)))
+  meant_by [] rule (inl k) short = meant (run_with []) (OnSource (Run p b rule)) (run processors budget [] p b rule f s k.1)
   meant_by [] rule (inr k) short = let no : None ≡ Some k.0 = k.1 in cc
   meant_by (word ∷ []) rule (inl k) short = absurd (omega (arith, k.0))
   meant_by (word ∷ []) rule (inr k) short =
       let e : Some word ≡ Some k.0 = k.1 in
       let same : k.0 ≡ word = cc in
-      meant (run_with (word ∷ [])) (Run p b rule) (run processors budget (word ∷ []) p b rule f s (subst (λ (w : List ℕ). IsRule w rule) same k.2))
+      meant (run_with (word ∷ [])) (OnSource (Run p b rule)) (run processors budget (word ∷ []) p b rule f s (subst (λ (w : List ℕ). IsRule w rule) same k.2))
   meant_by (word ∷ other ∷ rest) rule k short = absurd (omega (arith, short))
 
   extra_by : (rest : List (List ℕ)) (rule : Rule) → RuleStandsAt (run_with rest) (Ok rule) → 4 < length (run_with rest) → WordsMean (run_with rest) (Err (Usage 5 Extra))
@@ -226,10 +227,10 @@ module _ (processors budget : List ℕ) (p b : ℕ) (f : IsNumber MOST_PROCESSOR
   extra_by (word ∷ other ∷ rest) rule (inr k) long =
       let e : Some word ≡ Some k.0 = k.1 in
       let same : k.0 ≡ word = cc in
-      extra (run_with (word ∷ other ∷ rest)) 4 (Run p b rule) (whole_run processors budget word p b rule f s (subst (λ (w : List ℕ). IsRule w rule) same k.2)) long
+      extra (run_with (word ∷ other ∷ rest)) 4 (OnSource (Run p b rule)) (whole_run processors budget word p b rule f s (subst (λ (w : List ℕ). IsRule w rule) same k.2)) long
 
   begun : BeginCommand (run_with [])
-  begun = ([], Run p b Fifo, run processors budget [] p b Fifo f s refl)
+  begun = ([], OnSource (Run p b Fifo), run processors budget [] p b Fifo f s refl)
 
   -- a word that may follow names a rule
   only_rule : (word : List ℕ) (more : List (List ℕ)) (rule : Rule) → NameRule (word ∷ more) rule → IsRule word rule
@@ -247,7 +248,7 @@ module _ (processors budget : List ℕ) (p b : ℕ) (f : IsNumber MOST_PROCESSOR
   rule_bad word after none =
       broken (run_with (word ∷ after)) 4 BadRule
       (wrong (run_with []) word after BadRule begun (none_by word none)
-      (rule_named (run_with []) (codes "--rule=fifo") Fifo fifo ([], Run p b Fifo, run processors budget (codes "--rule=fifo" ∷ []) p b Fifo f s fifo)))
+      (rule_named (run_with []) (codes "--rule=fifo") Fifo fifo ([], OnSource (Run p b Fifo), run processors budget (codes "--rule=fifo" ∷ []) p b Fifo f s fifo)))
 
   broken_by : (rest : List (List ℕ)) (bad : BadWords) → RuleStandsAt (run_with rest) (Err bad) → WordsMean (run_with rest) (Err bad)
   broken_by [] (Usage k BadRule) n = let no : None ≡ Some n.1 = n.2 in cc
@@ -273,9 +274,9 @@ module _ (words : List (List ℕ)) (p b : ℕ) (h : slice_get words 0 ≡ Some (
   are : words ≡ codes "run" ∷ first.word ∷ second.word ∷ second.on.0
   are = second.on.1
 
-  pub run_meant : (rule : Rule) → RuleStandsAt words (Ok rule) → length words ≤ 4 → WordsMean words (Ok (Run p b rule))
+  pub run_meant : (rule : Rule) → RuleStandsAt words (Ok rule) → length words ≤ 4 → WordsMean words (Ok (OnSource (Run p b rule)))
   run_meant rule k short =
-      subst (λ (ws : List (List ℕ)). WordsMean ws (Ok (Run p b rule))) (sym are)
+      subst (λ (ws : List (List ℕ)). WordsMean ws (Ok (OnSource (Run p b rule)))) (sym are)
       (meant_by first.word second.word p b first.is second.is second.on.0 rule (subst (λ (ws : List (List ℕ)). RuleStandsAt ws (Ok rule)) are k)
       (subst (λ (ws : List (List ℕ)). length ws ≤ 4) are short))
 

@@ -5,8 +5,9 @@ use Rattle.b67_words.specs.declared.TheConstants.{MOST_BUDGET, MOST_PROCESSORS, 
 use Rattle.b67_words.specs.declared.Rule.{Rule}
 use Rattle.b67_words.specs.declared.Rule.TheVariants.{Fifo, Lifo, Seed}
 use Rattle.b67_words.specs.declared.Words.{Words}
-use Rattle.b67_words.specs.declared.Words.TheVariants as commands
-use Rattle.b67_words.specs.declared.Words.TheVariants.{Run, Check, Replay, Exec, Trial}
+use Rattle.b67_words.specs.declared.Task.TheVariants as tasks
+use Rattle.b67_words.specs.declared.Task.TheVariants.{Run, Check, Replay}
+use Rattle.b67_words.specs.declared.Words.TheVariants.{OnSource, Exec, Trial}
 use Rattle.b67_words.specs.declared.UsageKind.{UsageKind}
 use Rattle.b67_words.specs.declared.UsageKind.TheVariants.{Missing, Unknown, BadNumber, BadRule, Extra}
 use Rattle.b67_words.specs.declared.BadWords.{BadWords}
@@ -38,10 +39,10 @@ NameRule (word ∷ other ∷ rest) rule = ⊥
 -- The commands: the words of each, and what they mean.
 pub data IsCommand : List (List ℕ) → Words → Type 0 where
   run : (processors budget : List ℕ) (last : List (List ℕ)) (p b : ℕ) (rule : Rule) → IsNumber MOST_PROCESSORS processors p → IsNumber MOST_BUDGET budget b →
-      NameRule last rule → IsCommand (codes "run" ∷ processors ∷ budget ∷ last) (Run p b rule)
-  check : IsCommand (codes "check" ∷ []) Check
-  list : IsCommand (codes "list" ∷ []) commands.List
-  replay : (budget : List ℕ) (b : ℕ) → IsNumber MOST_BUDGET budget b → IsCommand (codes "replay" ∷ budget ∷ []) (Replay b)
+      NameRule last rule → IsCommand (codes "run" ∷ processors ∷ budget ∷ last) (OnSource (Run p b rule))
+  check : IsCommand (codes "check" ∷ []) (OnSource Check)
+  list : IsCommand (codes "list" ∷ []) (OnSource tasks.List)
+  replay : (budget : List ℕ) (b : ℕ) → IsNumber MOST_BUDGET budget b → IsCommand (codes "replay" ∷ budget ∷ []) (OnSource (Replay b))
   exec : (budget : List ℕ) (b : ℕ) → IsNumber MOST_BUDGET budget b → IsCommand (codes "exec" ∷ budget ∷ []) (Exec b)
   trial : (number : List ℕ) (n : ℕ) → IsFromZero MOST_TRIAL number n → IsCommand (codes "trial" ∷ number ∷ []) (Trial n)
 

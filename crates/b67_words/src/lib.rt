@@ -1,9 +1,9 @@
 //! The words of a command line: the grammar of the commands, and which word of a list is the first that breaks it.
 #![tactic(auto)]
 
-ghost use Rattle.std.specs.Prelude.{◌≡◌, ◌≢◌, ◌<◌, ◌≤◌, ℕ, List, Result, map, length, codes, slice_get, slice_index, Some, IsTrue, ◌↔◌};
+ghost use Rattle.std.specs.Prelude.{◌≡◌, ◌≢◌, ◌+◌, ◌^◌, ◌<◌, ◌≤◌, ℕ, List, Result, map, length, codes, slice_get, slice_index, Some, IsTrue, ◌↔◌};
 ghost use Rattle.std.specs.String.{string_bytes};
-ghost use Rattle.b67_words.specs.declared.TheConstants.{MOST_TRIAL};
+ghost use Rattle.b67_words.specs.declared.TheConstants.{MOST_BUDGET, MOST_STRETCH, MOST_PROCESSORS, MOST_SEED, MOST_TRIAL};
 ghost use Rattle.b67_words.specs.Grammar.{WordsMean, BeginWhole, IsNumber, IsNumberOrNone, IsFromZero, IsFromZeroOrNone, NumberStandsAt, IsRuleOrNone, RuleStandsAt};
 
 use thiserror::Error;
@@ -35,33 +35,35 @@ pub enum Rule {
     Seed(u32),
 }
 
-/// A command with what its words say.
+/// What is to be done with the source that is read.
 #[derive(Clone, Copy)]
-pub enum Words {
-    /// `run P B` or `run P B --rule=R`: run the source on P processors, from 1 to [`MOST_PROCESSORS`], with a budget of B operators,
+pub enum Task {
+    /// `run P B` or `run P B --rule=R`: run it on P processors, from 1 to [`MOST_PROCESSORS`], with a budget of B operators,
     /// from 1 to [`MOST_BUDGET`], under a rule of dispatch, which is `fifo` where none is named.
     Run {
         processors: u32,
         budget: u64,
         rule: Rule,
     },
-    /// `check`: say whether the source is accepted.
+    /// `check`: say whether it is accepted.
     Check,
-    /// `list`: print the listing of the source's code.
+    /// `list`: print the listing of its code.
     List,
-    /// `replay B`: run the source under the schedule of the input, with a budget of B operators, from 1 to
-    /// [`MOST_BUDGET`].
+    /// `replay B`: run it under the schedule that stands after it, with a budget of B operators, from 1 to [`MOST_BUDGET`].
     Replay {
         budget: u64,
     },
+}
+
+/// A command with what its words say.
+#[derive(Clone, Copy)]
+pub enum Words {
+    /// A task with the source that is read.
+    OnSource(Task),
     /// `exec B`: run the code that the input assembles to by turns, with a budget of B operators, from 1 to [`MOST_BUDGET`].
-    Exec {
-        budget: u64,
-    },
+    Exec { budget: u64 },
     /// `trial N`: make a source from the number N, from 0 to [`MOST_TRIAL`], and run it.
-    Trial {
-        n: u32,
-    },
+    Trial { n: u32 },
 }
 
 /// What is wrong with the first word that breaks the grammar.
@@ -104,8 +106,8 @@ pub fn read_words(words: &[String]) -> Result<Words, BadWords>
     };
     match command.as_str() {
         "run" => read_run(words),
-        "check" => whole(words, 1, Words::Check),
-        "list" => whole(words, 1, Words::List),
+        "check" => whole(words, 1, Words::OnSource(Task::Check)),
+        "list" => whole(words, 1, Words::OnSource(Task::List)),
         "replay" => read_replay(words),
         "exec" => read_exec(words),
         "trial" => read_trial(words),
@@ -130,11 +132,11 @@ fn read_run(words: &[String]) -> Result<Words, BadWords>
             kind: UsageKind::Extra,
         });
     }
-    Ok(Words::Run {
+    Ok(Words::OnSource(Task::Run {
         processors: processors as u32,
         budget,
         rule,
-    })
+    }))
 }
 
 /// `replay B`, where the first word is `replay`.
@@ -143,7 +145,7 @@ fn read_replay(words: &[String]) -> Result<Words, BadWords>
     ensures { WordsMean (map string_bytes words.now) result }
 {
     let budget = number_at(words, 1, MOST_BUDGET)?;
-    whole(words, 2, Words::Replay { budget })
+    whole(words, 2, Words::OnSource(Task::Replay { budget }))
 }
 
 /// `exec B`, where the first word is `exec`.
@@ -283,3 +285,14 @@ fn from_zero(text: &str, most: u32) -> Option<u32>
         },
     }
 }
+
+/// Law: the numbers of this crate, which the words of a command and the ends of a run are defined with: the greatest budget, the room of a
+/// run whose budget is spent, the most processors and the greatest number of a trial by this project's profile, as docs/LANGUAGE.md has them;
+/// the greatest seed has 32 bits.
+pub fn numbers_are_told()
+    ensures budget { MOST_BUDGET ≡ 4194304 }
+    ensures stretch { MOST_STRETCH ≡ 64 }
+    ensures processors { MOST_PROCESSORS ≡ 8 }
+    ensures seed { MOST_SEED + 1 ≡ 2 ^ 32 }
+    ensures trial { MOST_TRIAL ≡ 500 }
+{}

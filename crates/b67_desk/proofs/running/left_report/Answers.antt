@@ -7,8 +7,8 @@ use Rattle.b67_desk.proofs.running.left_report.Goals as goal
 pub report_of-requires-clause-told : goal.report_of-requires-clause-told
 report_of-requires-clause-told c = c.requires.told c.in_default.not-NoMemory
 
-pub returns : goal.returns
-returns c =
+pub returns-clause-left : goal.returns-clause-left
+returns-clause-left c =
     let ran = c.args.ran in
     left_is ran.machine ran.answer c.args.lines (length c.args.acts) ran.schedule c.report_of.result c.in_default.not-NoMemory
-    (subst IsSchedule (ap (λ s. s.runs) c.schedule.view_is) c.schedule.invariant.0) c.report_of.ensures
+    (subst IsSchedule (ap (λ s. s.runs) c.schedule.view_is) c.schedule.invariant.0) c.report_of.ensures.report

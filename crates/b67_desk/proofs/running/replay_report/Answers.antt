@@ -18,7 +18,7 @@ returns c =
     replay_answered c.args.code (entries c.args.given.now.runs) c.args.budget m c.replay-answer.result done
     (subst (λ (k : Code). Replays k (entries c.args.given.now.runs) c.args.budget (entries done.runs) m c.replay-answer.result) c.in_ok-machine.ensures.code c.replay-answer.ensures.replays)
     c.in_ok-lines.lines c.left_report.result
-    (subst (λ (n : ℕ). IfOk c.left_report.result (IsLeft m c.replay-answer.result c.in_ok-lines.lines n done)) c.in_ok-acts.ensures.acts.each c.left_report.ensures)
+    (subst (λ (n : ℕ). IfOk c.left_report.result (IsLeft m c.replay-answer.result c.in_ok-lines.lines n done)) c.in_ok-acts.ensures.acts.each c.left_report.ensures.left)
     c.in_ok-lines.ensures
 
 pub replay-answer-requires-clause-room : goal.replay-answer-requires-clause-room

@@ -1,8 +1,10 @@
 use Rattle.std.specs.Prelude.{IfOk, sum}
-use Rattle.std.proofs.Common.{◌≤◌, ℕ, length, sym, ap, subst, ◌∙◌, arith}
+use Rattle.std.proofs.Common.{◌≡◌, ◌≤◌, ℕ, List, length, sym, ap, subst, ◌∙◌, arith}
 use Rattle.b67_segment.specs.declared.code.Code.{Code}
 use Rattle.b67_report.specs.Reading.{AreCounts as AreNumbers}
-use Rattle.b67_stands.specs.Ran.{HasRun}
+use Rattle.b67_ready.specs.declared.order.Order.{Order}
+use Rattle.b67_ready.specs.Orders.{place_of}
+use Rattle.b67_stands.specs.Ran.{HasRunShared}
 use Rattle.b67_desk.specs.Calls.{IsLeft}
 use Rattle.b67_desk.proofs.Told.{segments_short, kept_short, ran_can_be_told, share_reported}
 use Rattle.b67_desk.proofs.running.share_report.Goals as goal
@@ -29,16 +31,18 @@ left_report-requires g c =
           (record { each = c.in_ok-ran.ensures.numbers; few = omega (arith, c.in_ok-ran.ensures.each, most) });
       told = λ some.
           ran_can_be_told c.args.job.code c.in_ok-machine.machine.code c.requires.faithful.0 c.requires.faithful.1 c.args.job.budget
-          ran.machine ran.schedule ran.answer some c.in_ok-machine.ensures.code c.in_ok-ran.ensures.ran;
+          ran.machine ran.schedule ran.answer some c.in_ok-machine.ensures.code c.in_ok-ran.ensures.ran.has_run;
     }
 
 pub returns : goal.returns
 returns g c =
     let ran = c.in_ok-ran.ran in
     let job = c.args.job in
-    share_reported job ran.machine ran.answer ran.schedule
-    (subst (λ (k : Code). HasRun k job.budget ran.machine ran.schedule ran.answer) c.in_ok-machine.ensures.code c.in_ok-ran.ensures.ran)
+    share_reported job ran.machine ran.answer ran.schedule c.run_by_processors.new.counts.items
+    (subst (λ (o : Order). HasRunShared job.code job.budget (place_of o) job.processors ran.machine ran.schedule ran.answer c.run_by_processors.new.counts.items) c.order_of.ensures
+    (subst (λ (k : Code). HasRunShared k job.budget (place_of c.order_of.result) job.processors ran.machine ran.schedule ran.answer c.run_by_processors.new.counts.items)
+    c.in_ok-machine.ensures.code c.in_ok-ran.ensures.ran))
     c.in_ok-lines.lines c.left_report.result
     (subst (λ (n : ℕ). IfOk c.left_report.result (IsLeft ran.machine ran.answer c.in_ok-lines.lines n ran.schedule)) (ap length c.of.ensures ∙ c.in_ok-ran.ensures.each)
-    c.left_report.ensures)
-    c.in_ok-lines.ensures
+    c.left_report.ensures.left)
+    (subst (λ (acts : List ℕ). IfOk c.left_report.result (λ report. report.acts ≡ acts)) c.of.ensures c.left_report.ensures.acts) c.in_ok-lines.ensures

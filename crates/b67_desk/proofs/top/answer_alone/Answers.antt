@@ -1,19 +1,8 @@
 use Rattle.b67_desk.specs.Answers.{by_one}
-use Rattle.b67_desk.proofs.Answering.{run_answered, none_answered}
+use Rattle.b67_desk.proofs.Answering.{run_answered}
 use Rattle.b67_desk.proofs.top.answer_alone.Goals as goal
 
-pub do_alone-requires : goal.do_alone-requires
-do_alone-requires g c = (rw c.in-Ok-Run.field-0-is at c.in-Ok-Run.ensures).0.0
-
-pub returns-in-Ok-Settled : goal.returns-in-Ok-Settled
-returns-in-Ok-Settled g c = (rw c.in-Ok-Settled.field-0-is at c.in-Ok-Settled.ensures).0 by_one
-
-pub returns-in-Ok : goal.returns-in-Ok
-returns-in-Ok g c =
-    run_answered by_one _ _ c.in-Ok-Run.job c.in-Ok.answer (rw c.in-Ok-Run.field-0-is at c.in-Ok-Run.ensures).0 c.in-Ok.ensures
-
-pub returns-in-Err : goal.returns-in-Err
-returns-in-Err g c = none_answered by_one _ _ c.in-Err.why c.in-Err.ensures
-
-pub returns-in-Err-do_alone : goal.returns-in-Err-do_alone
-returns-in-Err-do_alone g c = (rw c.in-Ok-Run.field-0-is at c.in-Ok-Run.ensures).1
+pub returns-in_ok-do_alone-in-Ok-Run : goal.returns-in_ok-do_alone-in-Ok-Run
+returns-in_ok-do_alone-in-Ok-Run g c =
+    run_answered by_one _ _ c.in-Ok-Run.job c.in_ok-do_alone-in-Ok-Run.field-0 (rw c.in-Ok-Run.field-0-is at c.in-Ok-Run.ensures).0
+    c.in_ok-do_alone-in-Ok-Run.ensures

@@ -1,36 +1,28 @@
-use Rattle.std.proofs.Common.{◌≤◌, length, arith}
-use Rattle.std.specs.Prelude.{option_copied}
+use Rattle.std.proofs.Common.{ℕ, Option, List, subst}
+use Rattle.std.specs.Prelude.{option_copied, length}
 use Rattle.algol_tree.specs.Image.{program as plain}
-use Rattle.algol_tree.specs.declared.TheConstants.{MOST_SOURCE_BYTES}
-use Rattle.b67_desk.specs.Answers.{AnswersBytes, AnswersTree}
-use Rattle.b67_desk.proofs.Answering.{settled_asks, asks_out, tree_out, refused_answered, long_part_is, divided_is}
+use Rattle.b67_words.specs.declared.Words.{Words}
+use Rattle.b67_words.specs.declared.Words.TheVariants.{OnSource}
+use Rattle.b67_desk.specs.Answers.{AnswersBytes, AnswersTree, DividedBy, IsDivided}
+use Rattle.b67_desk.proofs.Answering.{asks_out, tree_out, none_out}
 use Rattle.b67_desk.proofs.top.ask_bytes.Goals as goal
 
-pub returns-then-source-gt-MOST_SOURCE_BYTES : goal.returns-then-source-gt-MOST_SOURCE_BYTES
-returns-then-source-gt-MOST_SOURCE_BYTES c =
-    settled_asks (λ by. AnswersBytes by c.args.command c.args.bytes.now) c.refuse_length.result c.settled.result c.settled.ensures
-    (λ by. long_part_is by c.args.command c.args.bytes.now c.divided.result.0.now (option_copied c.divided.result.1) c.refuse_length.result c.divided.ensures
-    c.if-source-gt-MOST_SOURCE_BYTES.true c.refuse_length.ensures)
-
-pub returns-in-Ok : goal.returns-in-Ok
-returns-in-Ok c =
+pub returns-in-Accepted : goal.returns-in-Accepted
+returns-in-Accepted c =
+    let command : Words = OnSource c.args.task in
     let bytes = c.args.bytes.now in
-    let source = c.divided.result.0.now in
-    let schedule = option_copied c.divided.result.1 in
-    let tree = plain c.in-Ok.checked.program in
-    let small : length source ≤ MOST_SOURCE_BYTES = omega (arith, c.if-source-gt-MOST_SOURCE_BYTES.false) in
-    asks_out (λ by. AnswersTree by c.args.command schedule (length bytes) tree) (λ by. AnswersBytes by c.args.command bytes)
-    (tree_out c.args.command bytes source schedule tree c.divided.ensures small c.in-Ok.ensures.accepted c.in-Ok.ensures.only)
-    c.ask_tree.result c.ask_tree.ensures
+    let source = c.divide.result.0.now in
+    let beside = option_copied c.divide.result.1 in
+    let tree = plain c.in-Accepted.checked.program in
+    let parts : IsDivided command bytes source beside = subst (λ (m : Option (List ℕ)). DividedBy m bytes source beside) c.form_of.ensures.mark c.divide.ensures in
+    asks_out (λ by. AnswersTree by command beside (length bytes) tree) (λ by. AnswersBytes by command bytes)
+    (tree_out command bytes source beside tree parts (rw c.in-Accepted.is at c.in_ok-checked.ensures)) c.ask_tree.result c.ask_tree.ensures
 
-pub returns-in-Err-At : goal.returns-in-Err-At
-returns-in-Err-At c =
+pub returns-in-Refused : goal.returns-in-Refused
+returns-in-Refused c = λ by.
+    let command : Words = OnSource c.args.task in
     let bytes = c.args.bytes.now in
-    let source = c.divided.result.0.now in
-    let schedule = option_copied c.divided.result.1 in
-    let small : length source ≤ MOST_SOURCE_BYTES = omega (arith, c.if-source-gt-MOST_SOURCE_BYTES.false) in
-    settled_asks (λ by. AnswersBytes by c.args.command bytes) c.refuse.result c.settled-in-Err-At.result c.settled-in-Err-At.ensures
-    (λ by. divided_is by c.args.command bytes source schedule c.refuse.result c.divided.ensures small
-    (refused_answered source (AnswersTree by c.args.command schedule (length bytes)) c.in-Err-At.spot c.in-Err-At.code c.refuse.result
-    (rw c.in-Err-At.field-0-is at c.in-Err-At.ensures.refused) (rw c.in-Err-At.field-0-is at c.in-Err-At.ensures.none)
-    (rw (c.in-Err-At.spot-is, c.in-Err-At.code-is) at c.refuse.ensures)))
+    let source = c.divide.result.0.now in
+    let beside = option_copied c.divide.result.1 in
+    let parts : IsDivided command bytes source beside = subst (λ (m : Option (List ℕ)). DividedBy m bytes source beside) c.form_of.ensures.mark c.divide.ensures in
+    none_out by command bytes source beside parts c.in-Refused.answer (rw c.in-Refused.is at c.in_ok-checked.ensures)

@@ -1,12 +1,19 @@
-use Rattle.std.proofs.Common.{inr, refl}
-use Rattle.b67_desk.proofs.Answering.{reads_input, source_asks, trial_asks}
+use Rattle.std.proofs.Common.{Ok, refl}
+use Rattle.b67_words.specs.declared.Words.TheVariants.{OnSource, Exec, Trial}
+use Rattle.b67_desk.proofs.Answering.{command_is, source_asks, trial_asks}
 use Rattle.b67_desk.proofs.top.ask_command.Goals as goal
 
-pub returns-in-Ok : goal.returns-in-Ok
-returns-in-Ok g c = trial_asks c.args.command c.in-Trial.n _ c.in-Ok.asked c.in-Trial.is (record { left = refl; faults = refl }) c.in-Ok.ensures
+pub returns-in-OnSource : goal.returns-in-OnSource
+returns-in-OnSource g c =
+    command_is c.args.command (OnSource c.in-OnSource.task) _ c.ask_source.result c.in-OnSource.is
+    (source_asks (OnSource c.in-OnSource.task) _ c.ask_source.result tt c.ask_source.ensures)
 
-pub returns-in-Run : goal.returns-in-Run
-returns-in-Run g c = source_asks c.args.command _ c.ask_source.result (reads_input c.args.command c.in-Run.is) c.ask_source.ensures
+pub returns-in-Exec : goal.returns-in-Exec
+returns-in-Exec g c =
+    command_is c.args.command (Exec c.in-Exec.budget) _ c.ask_code.result c.in-Exec.is (source_asks (Exec c.in-Exec.budget) _ c.ask_code.result tt c.ask_code.ensures)
 
-pub returns-in-Err : goal.returns-in-Err
-returns-in-Err g c = inr (record { left = refl; faults = refl })
+pub returns-in_ok-ask_trial-in-Trial : goal.returns-in_ok-ask_trial-in-Trial
+returns-in_ok-ask_trial-in-Trial g c =
+    let a = c.in_ok-ask_trial-in-Trial.field-0 in
+    command_is c.args.command (Trial c.in-Trial.n) _ (Ok a) c.in-Trial.is
+    (trial_asks c.in-Trial.n _ a (record { left = refl; faults = refl }) c.in_ok-ask_trial-in-Trial.ensures)

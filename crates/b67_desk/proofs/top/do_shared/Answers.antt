@@ -3,7 +3,7 @@ use Rattle.b67_desk.proofs.Answering.{report_answers, one_serves, several_report
 use Rattle.b67_desk.proofs.top.do_shared.Goals as goal
 
 pub returns-then-job-eq1 : goal.returns-then-job-eq1
-returns-then-job-eq1 g c = one_serves by_all c.args.job c.do_alone.result c.do_alone.ensures
+returns-then-job-eq1 g c = one_serves by_all c.args.job c.do_alone.result c.if-job-eq1.true c.do_alone.ensures
 
 pub returns : goal.returns
 returns g c =
