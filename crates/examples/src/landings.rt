@@ -10,6 +10,7 @@ ghost use Rattle.std.specs.Prelude.{◌≡◌, ℕ, ◌≤◌, All, length};
 ghost use Rattle.b67_segment.specs.declared.TheConstants.{MOST_SEGMENT_WORDS};
 ghost use Rattle.b67_table.specs.Sound.{Sound};
 ghost use Rattle.b67_machine.specs.Beginning.{IsFresh};
+ghost use Rattle.b67_stands.specs.Calls.{IsFirst};
 
 use crate::answer::Told;
 use crate::rules::{acted_words, machine_of, taken_words};
@@ -117,6 +118,7 @@ fn push_shared<N: Named + Send + Sync, L: Ledger + Send + Sync, R: Threads + Wai
 )
     requires named { code ≡ N.code }
     requires processors { 1 ≤ N.processors }
+    requires first { IsFirst N.code plant }
 {
     let shop = SharedPlant::new(plant, code);
     let count = landed(rt, &shop, post);
@@ -139,6 +141,7 @@ fn push_either<N: Named + Send + Sync, L: Ledger + Send + Sync, R: Threads + Wai
 )
     requires named { code ≡ N.code }
     requires processors { 1 ≤ N.processors }
+    requires first { IsFirst N.code plant }
 {
     if is_shared {
         push_shared(text, rt, plant, code, first);
