@@ -83,7 +83,7 @@ use Rattle.b67_pictures.proofs.InFrame.{does_in_frame}
 -- an event that a process acts on, whatever it does with it
 module _ (tree : PProgram) (code : Code) (texts : Texts) (nested : AreNested (scopes_of tree)) (fragments : FragmentsArePerformed) (keeps : RestsKeepToTheirText) (order : AllIsMadeInOrder)
     (w : World) (lay : Layout) (img : Image) (p : ℕ) (q : Process) (part : Part) (outer : List Part) (bound : ℕ) (core : Core) (s : Scene tree code texts w lay img p q part outer bound core)
-    (able_is : lives q.state ≡ true) (able_p : StateIs q.state (numbered img.states p)) (x : EventAct) (n : Named) (asks : ask part.rest ≡ asked_for.event_deed (deeds.acts x) (n ∷ []))
+    (able_is : lives q.state ≡ true) (able_p : StateIs (scopes_of tree) w lay q.state (numbered img.states p)) (x : EventAct) (n : Named) (asks : ask part.rest ≡ asked_for.event_deed (deeds.acts x) (n ∷ []))
     (a : ActionAt (scopes_of tree) (context_in tree code texts w part s.stands.frame.gives) (text_in tree texts w part) (level_in tree w part) (most_in tree w part) (asked_for.event_deed (deeds.acts x) (n ∷ [])) s.stands.pc s.stands.slots)
     (answered : (r : Answer) (at : ℕ) (after : List Slot) →
     Acted (scopes_of tree) (context_in tree code texts w part s.stands.frame.gives) (text_in tree texts w part) (level_in tree w part) (most_in tree w part) (asked_for.event_deed (deeds.acts x) (n ∷ [])) s.stands.pc s.stands.slots a r at after →
@@ -203,7 +203,7 @@ module _ (tree : PProgram) (code : Code) (texts : Texts) (nested : AreNested (sc
 
     -- these processes are released, and the process itself comes to this state
     module _ (change : EventState → EventState) (state : State) (lives_now : lives state ≡ true) (states : List ProcessState) (many_states : length states ≡ length img.states)
-        (state_is : StateIs state (numbered states p)) (states_are : (m : ℕ) → m ≢ p → numbered states m ≡ numbered img.states m) (ps : List ℕ)
+        (state_is : StateIs (scopes_of tree) w lay state (numbered states p)) (states_are : (m : ℕ) → m ≢ p → numbered states m ≡ numbered img.states m) (ps : List ℕ)
         (row_is : raw code img p ≡ effects.gives (record (with_core img p new) { events = with_event at (with_state change) img.events; states = able_again ps states }))
         (world : (choice sc w p).world ≡ with_process (set_all_able (set_event w r (change e)) ps) p (gone_on state))
         (action : (choice sc w p).action ≡ deeds.letter_of (deeds.acts x)) (released_is : (choice sc w p).released ≡ d.frees)
@@ -352,14 +352,14 @@ module _ (tree : PProgram) (code : Code) (texts : Texts) (nested : AreNested (sc
     by_parts (Some change) deeds.waits fs parts =
         let chosen = chosen_parts (Some change) deeds.waits fs parts in
         event_acts change (waits_for r) refl (own_state (WaitsFor at)) (length_set_numbered img.states p (WaitsFor at))
-        (subst (λ (y : Option ProcessState). StateIs (waits_for r) y) (sym (own_there (WaitsFor at))) tt) (own_only (WaitsFor at)) fs (row_parts (Some change) deeds.waits fs parts)
+        (subst (λ (y : Option ProcessState). StateIs sc w lay (waits_for r) y) (sym (own_there (WaitsFor at))) o.home.lies_at) (own_only (WaitsFor at)) fs (row_parts (Some change) deeds.waits fs parts)
         (ap (λ (k : Choice). k.world) chosen ∙ ap (λ (z : EventState). with_process (set_all_able (set_event w r (change z)) fs) p (gone_on (waits_for r))) event_is)
         (ap (λ (k : Choice). k.action) chosen) (ap (λ (k : Choice). k.released) chosen ∙ sym (nobody (Some change) deeds.waits fs parts (λ f. cc)))
         (alive_parts (Some change) deeds.waits fs parts) (apart_parts (Some change) deeds.waits fs parts)
     by_parts (Some change) deeds.procures fs parts =
         let chosen = chosen_parts (Some change) deeds.procures fs parts in
         event_acts change (procures r) refl (own_state (Procures at)) (length_set_numbered img.states p (Procures at))
-        (subst (λ (y : Option ProcessState). StateIs (procures r) y) (sym (own_there (Procures at))) tt) (own_only (Procures at)) fs (row_parts (Some change) deeds.procures fs parts)
+        (subst (λ (y : Option ProcessState). StateIs sc w lay (procures r) y) (sym (own_there (Procures at))) o.home.lies_at) (own_only (Procures at)) fs (row_parts (Some change) deeds.procures fs parts)
         (ap (λ (k : Choice). k.world) chosen ∙ ap (λ (z : EventState). with_process (set_all_able (set_event w r (change z)) fs) p (gone_on (procures r))) event_is)
         (ap (λ (k : Choice). k.action) chosen) (ap (λ (k : Choice). k.released) chosen ∙ sym (nobody (Some change) deeds.procures fs parts (λ f. cc)))
         (alive_parts (Some change) deeds.procures fs parts) (apart_parts (Some change) deeds.procures fs parts)

@@ -86,7 +86,7 @@ use Rattle.algol_standing.specs.Worlds.{IsStanding}
 module _ (tree : PProgram) (code : Code) (texts : Texts) (nested : LiesNested tree) (short : IsShort tree code)
     (fragments : FragmentsArePerformed) (begins_so : BlocksBegin) (starts : InnerBlocksStart) (follow : InnerBlocksFollow) (keeps : RestsKeepToTheirText) (order : AllIsMadeInOrder)
     (w : World) (lay : Layout) (img : Image) (p : ℕ) (q : Process) (part : Part) (outer : List Part) (bound : ℕ) (core : Core)
-    (s : Scene tree code texts w lay img p q part outer bound core) (able_is : lives q.state ≡ true) (able_p : StateIs q.state (numbered img.states p))
+    (s : Scene tree code texts w lay img p q part outer bound core) (able_is : lives q.state ≡ true) (able_p : StateIs (scopes_of tree) w lay q.state (numbered img.states p))
     (spot : Spot) (ds : PDecls) (ss : PStmts) (asks : ask part.rest ≡ enters_block (body spot ds ss))
     (a : ActionAt (scopes_of tree) (context_in tree code texts w part s.stands.frame.gives) (text_in tree texts w part) (level_in tree w part) (most_in tree w part) (enters_block (body spot ds ss)) s.stands.pc s.stands.slots)
     (waits : (to : ℕ) (after : List Slot) (wanted : Yields) →

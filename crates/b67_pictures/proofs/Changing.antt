@@ -52,7 +52,7 @@ use Rattle.b67_scenes.proofs.Stage.{comes_to}
 use Rattle.b67_scenes.proofs.Staying.{text_in, level_in, context_in, most_in}
 use Rattle.b67_scenes.proofs.StoringFrames.{IsStored, put, length_put, changed, stored_world, others_at, ChangedCells}
 use Rattle.b67_scenes.proofs.StoringOthers.{stored_pictured}
-use Rattle.b67_scenes.proofs.Tasks.{EventsStay, events_kept, events_beside}
+use Rattle.b67_scenes.proofs.Tasks.{EventsStay, state_stays, events_kept, events_beside}
 use Rattle.b67_pictures.proofs.Alone.{IsAfter, dependent_but, stands_on, leaves_alone}
 use Rattle.b67_pictures.proofs.GoingOn.{goes_along}
 use Rattle.b67_pictures.proofs.InFrame.{SameFrame}
@@ -185,9 +185,12 @@ module _ (tree : PProgram) (code : Code) (texts : Texts) (fragments : FragmentsA
       (arrays : ArraysAre (scopes_of tree) (with_process (stored_world w i x at with_cells) p (record q { todo = record part { rest = resume (scopes_of tree) part.rest done } ∷ outer; state = state })) lay base.rows)
       (events : EventsAre (scopes_of tree) (with_process (stored_world w i x at with_cells) p (record q { todo = record part { rest = resume (scopes_of tree) part.rest done } ∷ outer; state = state })) lay base.events)
       (output : base.output ≡ img.output) (fault : base.fault ≡ img.fault) (started : base.started ≡ img.started) (many_states : length base.states ≡ length img.states)
-      (states : (m : ℕ) → m ≢ p → numbered base.states m ≡ numbered img.states m) (lives_so : lives state ≡ true) (state_is : StateIs state (numbered base.states p)) where
+      (states : (m : ℕ) → m ≢ p → numbered base.states m ≡ numbered img.states m) (lives_so : lives state ≡ true) (state_is : StateIs (scopes_of tree) w lay state (numbered base.states p)) where
     has : HasCore base p core
     has = same p core s.has
+
+    state_then : StateIs sc changed_world lay state (numbered base.states p)
+    state_then = state_stays sc w changed_world lay lay events_stay (λ j f there. there) state (numbered base.states p) state_is
 
     system : stack_at base.stacks 0 ≡ stack_at img.stacks 0
     system = ap (λ ss. stack_at ss 0) stacks
@@ -216,7 +219,7 @@ module _ (tree : PProgram) (code : Code) (texts : Texts) (fragments : FragmentsA
           comes_to tree code texts w lay img s.by p q s.at changed_world lay (with_core base p own_core) q' refl (s.by.laid ∙ as_many) arrays events
           (λ r other. alike_but sc w changed_world lay r i x (changed w i x at with_cells) (alone after r other) at (λ (e : r ≡ x.process). other (e ∙ mine ∙ here)) refl events_stay)
           (output ∙ s.by.output) refl fault started many_states states (system_stays base p core own_core has same_stack q w s.at ∙ system)
-          (λ r other_core apart had. others_have base p core own_core has same_stack r other_core apart (same r other_core had)) (living lives_so state_is living_own)
+          (λ r other_core apart had. others_have base p core own_core has same_stack r other_core apart (same r other_core had)) (living lives_so state_then living_own)
 
     -- where it is one of another process
     module _ (other : f.number ≢ p) where
@@ -262,4 +265,4 @@ module _ (tree : PProgram) (code : Code) (texts : Texts) (fragments : FragmentsA
           (λ r apart. ap (λ (ss : List ProcessState). numbered ss r) only.states ∙ states r apart) s.by q s.at (subst (λ rows. ArraysAre sc changed_world lay rows) (sym only.rows) arrays)
           (subst (λ es. EventsAre sc changed_world lay es) (sym only.events) events) (only.output ∙ output ∙ s.by.output) (only.fault ∙ fault) (only.started ∙ started) (ap length only.states ∙ many_states)
           (system_stays with_it p core before has_so same_stack q w s.at ∙ stacks_beside base f.number k word 0 nobody ∙ system)
-          (living lives_so (subst (λ (ss : List ProcessState). StateIs state (numbered ss p)) (sym only.states) state_is) living_here)
+          (living lives_so (subst (λ (ss : List ProcessState). StateIs sc changed_world lay state (numbered ss p)) (sym only.states) state_then) living_here)

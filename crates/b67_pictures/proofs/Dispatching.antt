@@ -91,7 +91,7 @@ module _ (tree : PProgram) (code : Code) (texts : Texts) where
   abbrev pub IsDone : Ask → Type 0
   IsDone k =
       (w : World) (lay : Layout) (img : Image) (p : ℕ) (q : Process) (part : Part) (outer : List Part) (bound : ℕ) (core : Core) (s : Scene tree code texts w lay img p q part outer bound core) →
-      lives q.state ≡ true → StateIs q.state (numbered img.states p) → ask part.rest ≡ k → GoesOnFrom w lay img p q part outer bound core s k
+      lives q.state ≡ true → StateIs (scopes_of tree) w lay q.state (numbered img.states p) → ask part.rest ≡ k → GoesOnFrom w lay img p q part outer bound core s k
 
   -- a line, the choice of a statement, the entry of a block or of a procedure, what is done with arrays and events, the leaving of a block, of a
   -- procedure, or of an evaluation, the end, GO TO, the start of a process
@@ -114,7 +114,7 @@ module _ (tree : PProgram) (code : Code) (texts : Texts) where
     pub starting : (n : Named) (gs : List Given) (task : Option Named) → IsDone (starts n gs task)
 
   module _ (lies : LiesNested tree) (actuals : ActualsAreEntered tree code texts) (fragments : FragmentsArePerformed) (keeps : RestsKeepToTheirText) (order : AllIsMadeInOrder) (rests : RestsGoOn) (others : OthersAreDone) (w : World) (lay : Layout) (img : Image)
-      (p : ℕ) (q : Process) (part : Part) (outer : List Part) (bound : ℕ) (core : Core) (s : Scene tree code texts w lay img p q part outer bound core) (able_is : lives q.state ≡ true) (able_p : StateIs q.state (numbered img.states p)) where
+      (p : ℕ) (q : Process) (part : Part) (outer : List Part) (bound : ℕ) (core : Core) (s : Scene tree code texts w lay img p q part outer bound core) (able_is : lives q.state ≡ true) (able_p : StateIs (scopes_of tree) w lay q.state (numbered img.states p)) where
     abbrev IsReadThere : Named → Type 0
     IsReadThere n = ActionAt (scopes_of tree) (context_in tree code texts w part s.stands.frame.gives) (text_in tree texts w part) (level_in tree w part) (most_in tree w part) (reads n) s.stands.pc s.stands.slots
 

@@ -181,7 +181,7 @@ module _ (tree : PProgram) (code : Code) (texts : Texts) (nested : LiesNested tr
 
 module _ (tree : PProgram) (code : Code) (texts : Texts) (nested : LiesNested tree) (actuals : ActualsAreEntered tree code texts) (fragments : FragmentsArePerformed) (keeps : RestsKeepToTheirText) (order : AllIsMadeInOrder)
     (w : World) (lay : Layout) (img : Image) (p : ℕ) (q : Process) (part : Part) (outer : List Part) (bound : ℕ) (core : Core) (s : Scene tree code texts w lay img p q part outer bound core)
-    (able_is : lives q.state ≡ true) (able_p : StateIs q.state (numbered img.states p)) (n : Named) where
+    (able_is : lives q.state ≡ true) (able_p : StateIs (scopes_of tree) w lay q.state (numbered img.states p)) (n : Named) where
   abbrev WaitsHere : (k : Ask) → At tree code texts w lay img p q part outer bound core s k → Type 0
   WaitsHere k a = WaitsAfter tree code texts w lay img p q part outer bound core s k a
 

@@ -75,7 +75,7 @@ use Rattle.b67_scenes.proofs.Finding.{Found, found_laid}
 use Rattle.b67_scenes.proofs.Kept.{alike_by}
 use Rattle.b67_scenes.proofs.Landing.{steps_none, living_of}
 use Rattle.b67_scenes.proofs.Scene.{Scene}
-use Rattle.b67_scenes.proofs.Tasks.{task_stays, events_same}
+use Rattle.b67_scenes.proofs.Tasks.{task_stays, state_stays, events_same}
 use Rattle.b67_scenes.proofs.Stage.{gives_within, limit_beyond, goes_on, weight_of}
 use Rattle.b67_scenes.proofs.Staying.{text_in, level_in, context_in, most_in, FrameStill, frame_still, still_low, parts_weigh, known_stays}
 use Rattle.b67_pictures.specs.Acting.{Does, gave, stopped}
@@ -124,7 +124,7 @@ module _ (tree : PProgram) (code : Code) (texts : Texts) (w : World) where
 module _ (tree : PProgram) (code : Code) (texts : Texts) (nested : LiesNested tree) (short : IsShort tree code) (stand : HaveTexts tree code texts)
     (fragments : FragmentsArePerformed) (keeps : RestsKeepToTheirText) (order : AllIsMadeInOrder)
     (w : World) (lay : Layout) (img : Image) (p : ℕ) (q : Process) (part : Part) (outer : List Part) (bound : ℕ) (core : Core)
-    (s : Scene tree code texts w lay img p q part outer bound core) (able_is : lives q.state ≡ true) (able_p : StateIs q.state (numbered img.states p)) where
+    (s : Scene tree code texts w lay img p q part outer bound core) (able_is : lives q.state ≡ true) (able_p : StateIs (scopes_of tree) w lay q.state (numbered img.states p)) where
   abbrev sc : Scopes
   sc = scopes_of tree
 
@@ -483,7 +483,8 @@ module _ (tree : PProgram) (code : Code) (texts : Texts) (nested : LiesNested tr
         pub pictured : PicturesBy tree code texts w' lay (with_core img p new)
         pictured =
             goes_on tree code texts w lay img s.by p q s.at w' lay (with_core img p new) q' refl able_is s.by.laid (arrays_unchanged sc w w' lay img.rows refl s.by.arrays)
-            (events_unchanged sc w w' lay img.events refl s.by.events) (λ r other. alike_by sc w w' lay r (leaves_alone sc w w' lay lay p facts after_it (λ j st later. keeps_same sc w w' lay lay j refl refl) (λ j g there. there) laid_all (dependent_but w.processes p q q' s.at refl (λ e. e)) r other) refl) s.by.output refl refl refl refl (system_stays img p core new s.has refl q w s.at) able_p (others_have img p core new s.has refl) living_now
+            (events_unchanged sc w w' lay img.events refl s.by.events) (λ r other. alike_by sc w w' lay r (leaves_alone sc w w' lay lay p facts after_it (λ j st later. keeps_same sc w w' lay lay j refl refl) (λ j g there. there) laid_all (dependent_but w.processes p q q' s.at refl (λ e. e)) r other) refl) s.by.output refl refl refl refl (system_stays img p core new s.has refl q w s.at)
+            (state_stays sc w w' lay lay (λ j. events_same w w' j refl) (λ j f laid. laid) q.state (numbered img.states p) able_p) (others_have img p core new s.has refl) living_now
 
     -- where the operator enters the code of the actual, and the choice is the entry, the operator does it
     pub entering_evaluation : plain code img p ≡ false → raw code img p ≡ effects.gives (with_core img p new) → choice sc w p ≡ record { action = Enter; world = w'; released = []; started = None } →

@@ -74,6 +74,7 @@ use Rattle.b67_scenes.proofs.ElementHomes.{element_home}
 use Rattle.b67_scenes.proofs.Homes.{operator_there}
 use Rattle.b67_scenes.proofs.Ancestors.{all_laid}
 use Rattle.b67_scenes.proofs.Kept.{AreAlike, alike_by}
+use Rattle.b67_scenes.proofs.Tasks.{state_stays, events_same}
 use Rattle.b67_scenes.proofs.NamedVariables.{names_variable}
 use Rattle.b67_scenes.proofs.Scene.{Scene}
 use Rattle.b67_scenes.proofs.Stage.{choice_is, gives_within, goes_on}
@@ -127,7 +128,7 @@ place_moved sc w lay Stand i j (rests.element_of r ks) kind word found h = h
 
 module _ (tree : PProgram) (code : Code) (texts : Texts) (stand : HaveTexts tree code texts) (fragments : FragmentsArePerformed) (keeps : RestsKeepToTheirText) (order : AllIsMadeInOrder)
     (w : World) (lay : Layout) (img : Image) (p : ℕ) (q : Process) (part next : Part) (parts : List Part) (bound : ℕ) (core : Core)
-    (s : Scene tree code texts w lay img p q part (next ∷ parts) bound core) (able_is : lives q.state ≡ true) (able_p : StateIs q.state (numbered img.states p))
+    (s : Scene tree code texts w lay img p q part (next ∷ parts) bound core) (able_is : lives q.state ≡ true) (able_p : StateIs (scopes_of tree) w lay q.state (numbered img.states p))
     (lent : Lent lay (IsInReach w (next ∷ parts)) part s.stands.frame.cells s.stands.frame.home s.stands.frame.gives) where
   abbrev sc : Scopes
   sc = scopes_of tree
@@ -263,7 +264,8 @@ module _ (tree : PProgram) (code : Code) (texts : Texts) (stand : HaveTexts tree
       pictured after_it =
           goes_on tree code texts w lay img s.by p q s.at w' lay now q' refl able_is s.by.laid
           (subst (λ (rows : Rows). ArraysAre sc w' lay rows) (sym (rows_are tree code texts w lay img p q part next parts bound core s img.rows none_closed)) (arrays_unchanged sc w w' lay img.rows refl s.by.arrays))
-          events_now (alike after_it) s.by.output refl refl refl refl (system_stays img p core new s.has refl q w s.at) able_p others (here after_it)
+          events_now (alike after_it) s.by.output refl refl refl refl (system_stays img p core new s.has refl q w s.at)
+          (state_stays sc w w' lay lay (λ j. events_same w w' j refl) (λ j f laid. laid) q.state (numbered img.states p) able_p) others (here after_it)
 
       chosen : ask part.rest ≡ leaves r → choice sc w p ≡ record { action = Leave; world = w'; released = []; started = None }
       chosen asks =

@@ -50,15 +50,15 @@ use Rattle.b67_pictures.proofs.Alone.{IsAfter}
 use Rattle.b67_pictures.proofs.Changing.{refers_fewer, own_pictured, other_pictured}
 
 -- who lives in a world lives in its image
-lives_there : (x : State) (o : Option ProcessState) → StateIs x o → lives x ≡ true → is_live o ≡ true
-lives_there meant.able (Some image_states.Able) is e = refl
-lives_there (meant.waits_for r) (Some (image_states.WaitsFor at)) is e = refl
-lives_there (meant.procures r) (Some (image_states.Procures at)) is e = refl
-lives_there meant.ended (Some image_states.Ended) is e = cc
-lives_there meant.able _ is e = absurd is
-lives_there (meant.waits_for r) _ is e = absurd is
-lives_there (meant.procures r) _ is e = absurd is
-lives_there meant.ended _ is e = absurd is
+lives_there : (sc : Scopes) (w : World) (lay : Layout) (x : State) (o : Option ProcessState) → StateIs sc w lay x o → lives x ≡ true → is_live o ≡ true
+lives_there sc w lay meant.able (Some image_states.Able) is e = refl
+lives_there sc w lay (meant.waits_for r) (Some (image_states.WaitsFor at)) is e = refl
+lives_there sc w lay (meant.procures r) (Some (image_states.Procures at)) is e = refl
+lives_there sc w lay meant.ended (Some image_states.Ended) is e = cc
+lives_there sc w lay meant.able _ is e = absurd is
+lives_there sc w lay (meant.waits_for r) _ is e = absurd is
+lives_there sc w lay (meant.procures r) _ is e = absurd is
+lives_there sc w lay meant.ended _ is e = absurd is
 
 module _ (tree : PProgram) (code : Code) (texts : Texts) (w : World) (lay : Layout) (img : Image)
     (p : ℕ) (q : Process) (part : Part) (outer : List Part) (bound : ℕ) (core : Core) (s : Scene tree code texts w lay img p q part outer bound core)
@@ -79,7 +79,7 @@ module _ (tree : PProgram) (code : Code) (texts : Texts) (nested : AreNested (sc
     (later : EventState) (change : Event → Event) (stays : StaysInPlace change)
     (becomes : change (event_there (cell_place (cell_there tree code texts nested w lay img p q part outer bound core s l number)) found.cell)
     ≡ event_there (cell_place (cell_there tree code texts nested w lay img p q part outer bound core s l number)) later)
-    (state : State) (lives_now : lives state ≡ true) (states : List ProcessState) (many_states : length states ≡ length img.states) (state_is : StateIs state (numbered states p)) (states_are : (m : ℕ) → m ≢ p → numbered states m ≡ numbered img.states m)
+    (state : State) (lives_now : lives state ≡ true) (states : List ProcessState) (many_states : length states ≡ length img.states) (state_is : StateIs (scopes_of tree) w lay state (numbered states p)) (states_are : (m : ℕ) → m ≢ p → numbered states m ≡ numbered img.states m)
     (words : List Word) (df next : ℕ) (below : List Slot) (held : length below ≤ most_in tree w part)
     (there : CoreAt (scopes_of tree) s.stands.held code (text_in tree texts w part) (level_in tree w part) next below (without_call core words df next))
     (comes : ComesTo (scopes_of tree) (context_in tree code texts w part s.stands.frame.gives) (text_in tree texts w part) (level_in tree w part) (most_in tree w part) (resume (scopes_of tree) part.rest done) next below)
@@ -125,7 +125,7 @@ module _ (tree : PProgram) (code : Code) (texts : Texts) (nested : AreNested (sc
   same m other had = record { live = by_number (same_or_not m p); registers = had.registers; own = had.own; stack = had.stack; is = had.is }
     where
       by_number : (m ≡ p) ⊎ (m ≢ p) → is_live (numbered states m) ≡ true
-      by_number (inl e) = ap (λ (n : ℕ). is_live (numbered states n)) e ∙ lives_there state (numbered states p) state_is lives_now
+      by_number (inl e) = ap (λ (n : ℕ). is_live (numbered states n)) e ∙ lives_there sc w lay state (numbered states p) state_is lives_now
       by_number (inr apart) = ap is_live (states_are m apart) ∙ had.live
 
   arrays_now : ArraysAre sc w' lay img.rows

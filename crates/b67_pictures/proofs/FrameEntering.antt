@@ -83,7 +83,7 @@ use Rattle.b67_scenes.proofs.Kept.{AreAlike}
 use Rattle.b67_scenes.proofs.Landing.{living_of}
 use Rattle.b67_scenes.proofs.Led.{reached_stands}
 use Rattle.b67_scenes.proofs.Scene.{Scene}
-use Rattle.b67_scenes.proofs.Tasks.{PlacesStay, EventsStay, critical_stays, task_stays, events_before}
+use Rattle.b67_scenes.proofs.Tasks.{PlacesStay, EventsStay, critical_stays, task_stays, state_stays, events_before}
 use Rattle.b67_scenes.proofs.Stage.{gives_within, goes_on, weight_of}
 use Rattle.b67_scenes.proofs.Staying.{text_in, level_in, context_in, most_in, FrameStill, frame_still, still_low, known_stays, parts_weigh, names_in}
 use Rattle.b67_pictures.specs.Acting.{Does, gave}
@@ -126,7 +126,7 @@ entered_world sc w p q part outer h j given purpose =
 module _ (tree : PProgram) (code : Code) (texts : Texts) (nested : LiesNested tree) (short : IsShort tree code)
     (fragments : FragmentsArePerformed) (begins : BlocksBegin) (keeps : RestsKeepToTheirText) (order : AllIsMadeInOrder)
     (w : World) (lay : Layout) (img : Image) (p : ℕ) (q : Process) (part : Part) (outer : List Part) (bound : ℕ) (core : Core)
-    (s : Scene tree code texts w lay img p q part outer bound core) (able_is : lives q.state ≡ true) (able_p : StateIs q.state (numbered img.states p)) where
+    (s : Scene tree code texts w lay img p q part outer bound core) (able_is : lives q.state ≡ true) (able_p : StateIs (scopes_of tree) w lay q.state (numbered img.states p)) where
   abbrev sc : Scopes
   sc = scopes_of tree
 
@@ -653,7 +653,8 @@ module _ (tree : PProgram) (code : Code) (texts : Texts) (nested : LiesNested tr
           (arrays_joined sc w w' lay lay' made refl (no_elements (simple_cells sc b) (fresh_cells b given) (taken ++ zeros) cells_are) (no_rows (simple_cells sc b) (fresh_cells b given) (taken ++ zeros) cells_are) (λ k. refl)
           img.rows s.by.arrays)
           (events_joined sc w w' lay lay' made refl (cells_length (simple_cells sc b) (fresh_cells b given) (taken ++ zeros) cells_are)
-          (λ k f other laid. numbered_earlier lay.places (place p at) k f (λ (e : k ≡ length lay.places + 1). other (omega (arith, e, s.by.laid))) laid) img.events s.by.events) alike s.by.output refl refl refl refl (system_stays img p core new s.has refl q w s.at) able_p (others_have img p core new s.has refl) living_now
+          (λ k f other laid. numbered_earlier lay.places (place p at) k f (λ (e : k ≡ length lay.places + 1). other (omega (arith, e, s.by.laid))) laid) img.events s.by.events) alike s.by.output refl refl refl refl (system_stays img p core new s.has refl q w s.at)
+          (state_stays sc w w' lay lay' events_stay places_stay q.state (numbered img.states p) able_p) (others_have img p core new s.has refl) living_now
 
     table_is : table code img p ≡ outcomes.gives (with_core img p new)
     table_is =

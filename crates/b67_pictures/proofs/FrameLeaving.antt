@@ -65,7 +65,7 @@ use Rattle.b67_frames.proofs.EventsKept.{events_left}
 
 module _ (tree : PProgram) (code : Code) (texts : Texts) (stand : HaveTexts tree code texts) (fragments : FragmentsArePerformed) (keeps : RestsKeepToTheirText) (order : AllIsMadeInOrder) (closing : FramesClose)
     (w : World) (lay : Layout) (img : Image) (p : ℕ) (q : Process) (part next : Part) (parts : List Part) (bound : ℕ) (core : Core)
-    (s : Scene tree code texts w lay img p q part (next ∷ parts) bound core) (able_is : lives q.state ≡ true) (able_p : StateIs q.state (numbered img.states p)) (owns : is_evaluation part.purpose ≡ false) where
+    (s : Scene tree code texts w lay img p q part (next ∷ parts) bound core) (able_is : lives q.state ≡ true) (able_p : StateIs (scopes_of tree) w lay q.state (numbered img.states p)) (owns : is_evaluation part.purpose ≡ false) where
   abbrev sc : Scopes
   sc = scopes_of tree
 
@@ -194,7 +194,8 @@ module _ (tree : PProgram) (code : Code) (texts : Texts) (stand : HaveTexts tree
       pictured after_it =
           goes_on tree code texts w lay img s.by p q s.at w' lay now q' refl able_is as_many
           (subst (λ (rows : Rows). ArraysAre sc w' lay rows) (sym (rows_are tree code texts w lay img p q part next parts bound core s shut.rows shut.changes)) (arrays_unchanged sc (leave w (i ∷ [])) w' lay shut.rows refl shut.are)) events_now (alike after_it)
-          s.by.output refl refl refl refl (system_stays img p core new s.has refl q w s.at) able_p others (here after_it)
+          s.by.output refl refl refl refl (system_stays img p core new s.has refl q w s.at)
+          (tasks.state_stays sc w w' lay lay (tasks.events_left w w' same_now) (λ j f laid. laid) q.state (numbered img.states p) able_p) others (here after_it)
 
       chosen : some_depends w.processes i ≡ false → ask part.rest ≡ leaves r → choice sc w p ≡ record { action = Leave; world = w'; released = []; started = None }
       chosen free asks =

@@ -49,7 +49,7 @@ use Rattle.b67_scenes.proofs.Kept.{alike_by}
 use Rattle.b67_scenes.proofs.Landing.{steps_none, living_of}
 use Rattle.b67_scenes.proofs.Scene.{Scene}
 use Rattle.b67_scenes.specs.Depending.{CriticalIs, TaskIs}
-use Rattle.b67_scenes.proofs.Tasks.{task_stays, events_same}
+use Rattle.b67_scenes.proofs.Tasks.{task_stays, state_stays, events_same}
 use Rattle.b67_scenes.proofs.Stage.{gives_within, limit_beyond, goes_on, weight_of}
 use Rattle.b67_scenes.proofs.Staying.{text_in, level_in, context_in, most_in, FrameStill, frame_still, frame_low, chained_stays, top_stays, parts_weigh, known_stays, names_in}
 use Rattle.b67_pictures.specs.Acting.{MayAct, Does, gave, stopped}
@@ -61,7 +61,7 @@ pub record SameFrame (a b : Registers) : Type 0 where
   pub is : b ≡ record a { s = b.s; f = b.f; place = b.place }
 
 module _ (tree : PProgram) (code : Code) (texts : Texts) (fragments : FragmentsArePerformed) (keeps : RestsKeepToTheirText) (order : AllIsMadeInOrder) (w : World) (lay : Layout) (img : Image)
-    (p : ℕ) (q : Process) (part : Part) (outer : List Part) (bound : ℕ) (core : Core) (s : Scene tree code texts w lay img p q part outer bound core) (able_is : lives q.state ≡ true) (able_p : StateIs q.state (numbered img.states p))
+    (p : ℕ) (q : Process) (part : Part) (outer : List Part) (bound : ℕ) (core : Core) (s : Scene tree code texts w lay img p q part outer bound core) (able_is : lives q.state ≡ true) (able_p : StateIs (scopes_of tree) w lay q.state (numbered img.states p))
     (unmade : all_left_to_make part.rest ≡ all_to_make part.rest)
     (a : Answer) (nameless : InAnswer (IsSeen (scopes_of tree) ((instance_at w part.instance).block)) a) (out : List (List ℕ)) (new : Core) (below : new.below ≡ core.below) (frame_is : SameFrame core.registers new.registers)
     (known : List Known) (known_are : AreKnown (scopes_of tree) w lay (IsInReach w (part ∷ outer)) part.instance known)
@@ -152,7 +152,8 @@ module _ (tree : PProgram) (code : Code) (texts : Texts) (fragments : FragmentsA
     pub in_frame : size new ≤ stack_limit → PicturesBy tree code texts w' lay after
     in_frame small =
         goes_on tree code texts w lay img s.by p q s.at w' lay after q' refl able_is s.by.laid (arrays_unchanged (scopes_of tree) w w' lay img.rows refl s.by.arrays) (events_unchanged (scopes_of tree) w w' lay img.events refl s.by.events) (λ r other. alike_by (scopes_of tree) w w' lay r (leaves_alone (scopes_of tree) w w' lay lay p facts after_it (λ j st later. keeps_same (scopes_of tree) w w' lay lay j refl refl) (λ j f there. there) laid (dependent_but w.processes p q q' s.at refl (λ e. e)) r other) refl) refl refl refl refl refl
-        (system_stays img p core new s.has same_stack q w s.at) able_p others
+        (system_stays img p core new s.has same_stack q w s.at)
+        (state_stays (scopes_of tree) w w' lay lay (λ j. events_same w w' j refl) (λ j f laid. laid) q.state (numbered img.states p) able_p) others
         (living_of tree code texts w' lay after after_it.climb (all_laid w' lay after_it.climb.facts s.by.laid) fragments p q' part' outer bound new new (record {
           todo = refl;
           has = has_here;

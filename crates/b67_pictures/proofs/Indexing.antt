@@ -79,7 +79,7 @@ more_known known one sc level home base (slot ∷ slots) (w ∷ words) are = (of
 
 module _ (tree : PProgram) (code : Code) (texts : Texts) (nested : AreNested (scopes_of tree)) (fragments : FragmentsArePerformed) (keeps : RestsKeepToTheirText) (order : AllIsMadeInOrder)
     (w : World) (lay : Layout) (img : Image) (p : ℕ) (q : Process) (part : Part) (outer : List Part) (bound : ℕ) (core : Core) (s : Scene tree code texts w lay img p q part outer bound core)
-    (able_is : lives q.state ≡ true) (able_p : StateIs q.state (numbered img.states p)) (n : Named) (ks : List ℕ) (v : Value) (asks : ask part.rest ≡ indexes n ks v) where
+    (able_is : lives q.state ≡ true) (able_p : StateIs (scopes_of tree) w lay q.state (numbered img.states p)) (n : Named) (ks : List ℕ) (v : Value) (asks : ask part.rest ≡ indexes n ks v) where
   abbrev sc : Scopes
   sc = scopes_of tree
 

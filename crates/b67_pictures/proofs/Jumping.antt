@@ -56,7 +56,7 @@ use Rattle.b67_pictures.proofs.JumpingHere.{jumping_here}
 module _ (tree : PProgram) (code : Code) (texts : Texts) (lies : LiesNested tree) (named : HasNames tree) (stand : HaveTexts tree code texts) (labels : LabelsStand tree code texts)
     (short : All (λ (segment : Segment). length segment.words ≤ segment_limit) code.segments) (fragments : FragmentsArePerformed) (keeps : RestsKeepToTheirText) (jumps_keep : JumpsKeepToTheirText)
     (jump : JumpsStand) (closing : FramesClose) (w : World) (lay : Layout) (img : Image) (p : ℕ) (q : Process) (part : Part) (outer : List Part) (bound : ℕ) (core : Core)
-    (s : Scene tree code texts w lay img p q part outer bound core) (able_is : lives q.state ≡ true) (able_p : StateIs q.state (numbered img.states p)) (n : Named) (asks : ask part.rest ≡ goes_to n)
+    (s : Scene tree code texts w lay img p q part outer bound core) (able_is : lives q.state ≡ true) (able_p : StateIs (scopes_of tree) w lay q.state (numbered img.states p)) (n : Named) (asks : ask part.rest ≡ goes_to n)
     (a : ActionAt (scopes_of tree) (context_in tree code texts w part s.stands.frame.gives) (text_in tree texts w part) (level_in tree w part) (most_in tree w part) (goes_to n) s.stands.pc s.stands.slots) where
   abbrev sc : Scopes
   sc = scopes_of tree

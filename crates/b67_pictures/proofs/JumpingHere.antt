@@ -86,7 +86,7 @@ use Rattle.b67_scenes.proofs.Scene.{Scene, frame_is}
 use Rattle.b67_scenes.proofs.Stage.{choice_is, gives_within, goes_on, weight_of}
 use Rattle.b67_scenes.proofs.Staying.{text_in, level_in, context_in, most_in, names_in, frame_low, FrameStill, frame_still, still_low, same_weight}
 use Rattle.b67_scenes.proofs.Worlds.{held_of}
-use Rattle.b67_scenes.proofs.Tasks.{task_stays}
+use Rattle.b67_scenes.proofs.Tasks.{task_stays, state_stays}
 use Rattle.algol_standing.specs.Worlds.{IsStanding, IsOwn}
 use Rattle.b67_pictures.specs.Acting.{Does, gave}
 use Rattle.b67_pictures.proofs.Alone.{IsAfter, AreAsDependent, dependent_but, after_choice, stands_on, leaves_alone}
@@ -99,7 +99,7 @@ use Rattle.b67_pictures.proofs.JumpPlaces.{LabelsStand, way_there, comes_there}
 module _ (tree : PProgram) (code : Code) (texts : Texts) (lies : LiesNested tree) (named : HasNames tree) (stand : HaveTexts tree code texts) (labels : LabelsStand tree code texts)
     (short : All (λ (segment : Segment). length segment.words ≤ segment_limit) code.segments) (fragments : FragmentsArePerformed) (keeps : RestsKeepToTheirText) (jumps_keep : JumpsKeepToTheirText)
     (jump : JumpsStand) (closing : FramesClose) (w : World) (lay : Layout) (img : Image) (p : ℕ) (q : Process) (part : Part) (outer : List Part) (bound : ℕ) (core : Core)
-    (s : Scene tree code texts w lay img p q part outer bound core) (able_is : lives q.state ≡ true) (able_p : StateIs q.state (numbered img.states p)) (n : Named) (asks : ask part.rest ≡ goes_to n)
+    (s : Scene tree code texts w lay img p q part outer bound core) (able_is : lives q.state ≡ true) (able_p : StateIs (scopes_of tree) w lay q.state (numbered img.states p)) (n : Named) (asks : ask part.rest ≡ goes_to n)
     (a : ActionAt (scopes_of tree) (context_in tree code texts w part s.stands.frame.gives) (text_in tree texts w part) (level_in tree w part) (most_in tree w part) (goes_to n) s.stands.pc s.stands.slots)
     (own : IsOwn (part ∷ outer) (ancestor w ((use_of (scopes_of tree) n).up) part.instance)) where
   abbrev sc : Scopes
@@ -465,7 +465,8 @@ module _ (tree : PProgram) (code : Code) (texts : Texts) (lies : LiesNested tree
     pictured =
         goes_on tree code texts w lay img s.by p q s.at w' lay now q' (ap (λ (qs : List Process). set_numbered qs p q') (leave_processes left w)) able_is as_many
         (arrays_unchanged sc (leave w left) w' lay closed.rows refl closed.are) events_now alike
-        (s.by.output ∙ sym (leave_output left w)) (leave_fault left w) refl refl refl (system_stays img p core new s.has refl q w s.at) able_p others living_now
+        (s.by.output ∙ sym (leave_output left w)) (leave_fault left w) refl refl refl (system_stays img p core new s.has refl q w s.at)
+        (state_stays sc w w' lay lay (leave_events w lay p (length down.front) left q') (λ k f laid. laid) q.state (numbered img.states p) able_p) others living_now
 
   -- the label's instance stands in the process's own stack
   own_there : ((instance_at w i).process == p) ≡ true

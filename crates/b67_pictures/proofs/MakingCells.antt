@@ -72,7 +72,7 @@ use Rattle.b67_scenes.proofs.Landing.{living_of}
 use Rattle.b67_scenes.proofs.MakingFrame as frames
 use Rattle.b67_scenes.proofs.Scene.{Scene}
 use Rattle.b67_scenes.proofs.StoringFrames.{changed_at, others_at}
-use Rattle.b67_scenes.proofs.Tasks.{task_stays}
+use Rattle.b67_scenes.proofs.Tasks.{task_stays, state_stays}
 use Rattle.b67_scenes.proofs.Stage.{gives_within, limit_beyond, goes_on}
 use Rattle.b67_scenes.proofs.Staying.{text_in, level_in, context_in, most_in, names_in}
 use Rattle.b67_pictures.specs.Acting.{MayAct, Does, gave, stopped}
@@ -84,7 +84,7 @@ none_left sc known level home base [] are = refl
 none_left sc known level home base (w ∷ ws) are = absurd are
 
 module _ (tree : PProgram) (code : Code) (texts : Texts) (nested : AreNested (scopes_of tree)) (fragments : FragmentsArePerformed) (cells_made : CellsAreMade) (keeps : RestsKeepToTheirText) (order : AllIsMadeInOrder)
-    (w : World) (lay : Layout) (img : Image) (p : ℕ) (q : Process) (part : Part) (outer : List Part) (bound : ℕ) (core : Core) (s : Scene tree code texts w lay img p q part outer bound core) (able_is : lives q.state ≡ true) (able_p : StateIs q.state (numbered img.states p))
+    (w : World) (lay : Layout) (img : Image) (p : ℕ) (q : Process) (part : Part) (outer : List Part) (bound : ℕ) (core : Core) (s : Scene tree code texts w lay img p q part outer bound core) (able_is : lives q.state ≡ true) (able_p : StateIs (scopes_of tree) w lay q.state (numbered img.states p))
     (owns : is_evaluation part.purpose ≡ false) (ms : List Made) (makes : all_to_make part.rest ≡ ms ++ all_left_to_make part.rest) (new_cells : List NamedCell) (allotted : List Allotted) (descriptors : List Word) (added : AreMade ms new_cells allotted descriptors)
     (name : Intrinsic) (slots : List Slot) (lies : s.stands.slots ≡ slots) (arguments : List Word) (c : IsEntered tree code texts w lay img p q part outer bound core s name slots [] lies arguments)
     (made next : ℕ) (stands : Has (text_in tree texts w part) (level_in tree w part) s.stands.pc (ops.Plain kinds.Entr) made) (push : Has (text_in tree texts w part) (level_in tree w part) made (ops.Plain kinds.Push) next)
@@ -308,7 +308,9 @@ module _ (tree : PProgram) (code : Code) (texts : Texts) (nested : AreNested (sc
     pictured may small =
         goes_on tree code texts w lay img s.by p q s.at w' lay' after q' refl able_is as_many arrays_now events_now
         (alike (after_so may) (low_so may))
-        s.by.output refl refl refl refl (system_stays img p core new s.has refl q w s.at) able_p others (living_now (after_so may) (low_so may) small)
+        s.by.output refl refl refl refl (system_stays img p core new s.has refl q w s.at)
+        (state_stays sc w w' lay lay' (frames.events_stay tree code texts nested keeps order w lay img p q part outer bound core s owns ms makes new_cells allotted descriptors added (on (after_so may) (low_so may))) (λ j f laid. laid)
+        q.state (numbered img.states p) able_p) others (living_now (after_so may) (low_so may) small)
 
     pub cells_are_made : Does tree code texts w img p
     cells_are_made = by_size (most_or_more new.registers.s stack_limit)

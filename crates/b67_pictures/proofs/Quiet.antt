@@ -3,6 +3,7 @@
 use Rattle.std.proofs.Common.{◌≡◌, ◌⊎◌, inl, inr, refl, sym, ◌∙◌, subst, ℕ, ◌<◌, ◌≤◌, Some, true, false, arith}
 use Rattle.b67_list.specs.Numbered.{numbered}
 use Rattle.algol_tree.specs.Plain.{PProgram}
+use Rattle.algol_tree.specs.Scopes.{scopes_of}
 use Rattle.algol_meaning.specs.World.{Process, lives, World}
 use Rattle.b67_segment.specs.declared.code.Code.{Code}
 use Rattle.b67_templates.specs.Programs.{Texts}
@@ -28,7 +29,7 @@ pub record Settled (tree : PProgram) (code : Code) (texts : Texts) (w : World) (
 -- each process of a picture of this world whose core is settled does its action
 abbrev pub SettledAct : PProgram → Code → Texts → World → Type 0
 SettledAct tree code texts w =
-    (lay : Layout) (img : Image) (p : ℕ) (q : Process) → PicturesBy tree code texts w lay img → numbered w.processes p ≡ Some q → lives q.state ≡ true → StateIs q.state (numbered img.states p) →
+    (lay : Layout) (img : Image) (p : ℕ) (q : Process) → PicturesBy tree code texts w lay img → numbered w.processes p ≡ Some q → lives q.state ≡ true → StateIs (scopes_of tree) w lay q.state (numbered img.states p) →
     (l : Living tree code texts w lay img p q) → HasCore img p l.settled → Settled tree code texts w img p
 
 module _ (tree : PProgram) (code : Code) (texts : Texts) where
@@ -59,7 +60,7 @@ module _ (tree : PProgram) (code : Code) (texts : Texts) (performed : StepsArePe
   not_plain (stopped np t heavy) = np
 
   -- a settled process's operator is not plain
-  pub is_quiet : (lay : Layout) (img : Image) (p : ℕ) → PicturesBy tree code texts w lay img → (q : Process) → numbered w.processes p ≡ Some q → lives q.state ≡ true → StateIs q.state (numbered img.states p) →
+  pub is_quiet : (lay : Layout) (img : Image) (p : ℕ) → PicturesBy tree code texts w lay img → (q : Process) → numbered w.processes p ≡ Some q → lives q.state ≡ true → StateIs (scopes_of tree) w lay q.state (numbered img.states p) →
       (l : Living tree code texts w lay img p q) → HasCore img p l.settled → plain code img p ≡ false
   is_quiet lay img p by q at able_is able_p l has = not_plain (settled_does lay img p q by at able_is able_p l has).does
 
@@ -74,7 +75,7 @@ module _ (tree : PProgram) (code : Code) (texts : Texts) (performed : StepsArePe
         let stop = limits code p img c b has step long in
         stopped stop.1 stop.0 (omega (arith, long, steps_fit more, l.light))
 
-    pub operates : (img : Image) → PicturesBy tree code texts w lay img → StateIs q.state (numbered img.states p) → Living tree code texts w lay img p q → Operator lay img p
+    pub operates : (img : Image) → PicturesBy tree code texts w lay img → StateIs (scopes_of tree) w lay q.state (numbered img.states p) → Living tree code texts w lay img p q → Operator lay img p
     operates img by able_p l = by_steps l.steps refl refl
       where
         by_steps : {n : ℕ} {c d : Core} → CoreSteps code l.bound n c d → c ≡ l.core → d ≡ l.settled → Operator lay img p
@@ -92,7 +93,7 @@ module _ (tree : PProgram) (code : Code) (texts : Texts) (performed : StepsArePe
             by_size (inr long) = acting (too_long img l a b n has step (subst (λ (x : Core). CoreSteps code l.bound n b x) f more) long) (λ no_limit. absurd (no_limit (limits code p img a b has step long).0))
 
     -- after a step it goes on, where its stack has room
-    after_step : (img : Image) → PicturesBy tree code texts w lay img → StateIs q.state (numbered img.states p) → (l : Living tree code texts w lay img p q) → (b : Core) (n : ℕ) → CoreStep code l.core b → CoreSteps code l.bound n b l.settled →
+    after_step : (img : Image) → PicturesBy tree code texts w lay img → StateIs (scopes_of tree) w lay q.state (numbered img.states p) → (l : Living tree code texts w lay img p q) → (b : Core) (n : ℕ) → CoreStep code l.core b → CoreSteps code l.bound n b l.settled →
         ((fits : size b ≤ stack_limit) → Nearer tree code texts w lay img b p q l → Settling lay (with_core img p b) p) → (size b ≤ stack_limit) ⊎ (stack_limit < size b) → Settling lay img p
     after_step img by able_p l b n first rest later (inl short) =
         let one = stepped performed code p img l.core b l.has l.small short first in
@@ -100,7 +101,7 @@ module _ (tree : PProgram) (code : Code) (texts : Texts) (performed : StepsArePe
         record { count = _; quiet = more.quiet; plains = go one.1 one.2 more.plains; does = more.does }
     after_step img by able_p l b n first rest later (inr long) = record { count = 0; quiet = img; plains = stay; does = too_long img l l.core b n l.has first rest long }
 
-    settled_by : {bound n : ℕ} {c d : Core} → CoreSteps code bound n c d → (img : Image) → PicturesBy tree code texts w lay img → StateIs q.state (numbered img.states p) → (l : Living tree code texts w lay img p q) → bound ≡ l.bound →
+    settled_by : {bound n : ℕ} {c d : Core} → CoreSteps code bound n c d → (img : Image) → PicturesBy tree code texts w lay img → StateIs (scopes_of tree) w lay q.state (numbered img.states p) → (l : Living tree code texts w lay img p q) → bound ≡ l.bound →
         c ≡ l.core → d ≡ l.settled → Settling lay img p
     settled_by (here fits) img by able_p l same e f =
         record { count = 0; quiet = img; plains = stay; does = (settled_does lay img p q by at able_is able_p l (subst (λ (x : Core). HasCore img p x) (sym e ∙ f) l.has)).does }
@@ -111,5 +112,5 @@ module _ (tree : PProgram) (code : Code) (texts : Texts) (performed : StepsArePe
         (λ short near. settled_by more (with_core img p b) (pictured_nearer performed limits tree code texts w lay img p b q at by able_is able_p l near) able_p near.lives_so (same ∙ sym near.bound_is) (sym near.core_is) (f ∙ sym near.settled_is))
         (within_or_beyond (size b))
 
-    pub settles : (img : Image) → PicturesBy tree code texts w lay img → StateIs q.state (numbered img.states p) → (l : Living tree code texts w lay img p q) → Settling lay img p
+    pub settles : (img : Image) → PicturesBy tree code texts w lay img → StateIs (scopes_of tree) w lay q.state (numbered img.states p) → (l : Living tree code texts w lay img p q) → Settling lay img p
     settles img by able_p l = settled_by l.steps img by able_p l refl refl refl

@@ -68,7 +68,7 @@ event_or_not task outer (makes_event n) = of_none tt tt
 abbrev pub AreFreed : PProgram → Code → Texts → Type 0
 AreFreed tree code texts =
     (x : EventAct) (ns : List Named) (w : World) (lay : Layout) (img : Image) (p : ℕ) (q : Process) (part : Part) (outer : List Part) (bound : ℕ) (core : Core) (s : Scene tree code texts w lay img p q part outer bound core) →
-    lives q.state ≡ true → StateIs q.state (numbered img.states p) → ask part.rest ≡ event_deed (deeds.acts x) ns →
+    lives q.state ≡ true → StateIs (scopes_of tree) w lay q.state (numbered img.states p) → ask part.rest ≡ event_deed (deeds.acts x) ns →
     (a : ActionAt (scopes_of tree) (context_in tree code texts w part s.stands.frame.gives) (text_in tree texts w part) (level_in tree w part) (most_in tree w part) (event_deed (deeds.acts x) ns) s.stands.pc s.stands.slots) →
     ((r : Answer) (at : ℕ) (left : List Slot) →
     Acted (scopes_of tree) (context_in tree code texts w part s.stands.frame.gives) (text_in tree texts w part) (level_in tree w part) (most_in tree w part) (event_deed (deeds.acts x) ns) s.stands.pc s.stands.slots a r at left →
@@ -102,7 +102,7 @@ module _ (tree : PProgram) (code : Code) (texts : Texts) (w : World) (lay : Layo
 
 module _ (tree : PProgram) (code : Code) (texts : Texts) (lies : LiesNested tree) (actuals : ActualsAreEntered tree code texts) (fragments : FragmentsArePerformed) (keeps : RestsKeepToTheirText) (order : AllIsMadeInOrder) (rests : RestsGoOn)
     (others : OthersAreDone tree code texts) (freed : AreFreed tree code texts) (ends : EndsAreFreed tree code texts) (w : World) (lay : Layout) (img : Image)
-    (p : ℕ) (q : Process) (part : Part) (outer : List Part) (bound : ℕ) (core : Core) (s : Scene tree code texts w lay img p q part outer bound core) (able_is : lives q.state ≡ true) (able_p : StateIs q.state (numbered img.states p)) where
+    (p : ℕ) (q : Process) (part : Part) (outer : List Part) (bound : ℕ) (core : Core) (s : Scene tree code texts w lay img p q part outer bound core) (able_is : lives q.state ≡ true) (able_p : StateIs (scopes_of tree) w lay q.state (numbered img.states p)) where
   abbrev IsThere : Ask → Type 0
   IsThere k =
       (a : ActionAt (scopes_of tree) (context_in tree code texts w part s.stands.frame.gives) (text_in tree texts w part) (level_in tree w part) (most_in tree w part) k s.stands.pc s.stands.slots) →

@@ -81,7 +81,7 @@ use Rattle.b67_pictures.proofs.StartThere as given
 module _ (tree : PProgram) (code : Code) (program : ProgramAt code tree) (nested : LiesNested tree) (small : HasRoomFor tree)
     (fragments : FragmentsArePerformed) (begins_so : BlocksBegin) (starts_so : BlocksStart) (keeps : RestsKeepToTheirText) (order : AllIsMadeInOrder)
     (w : World) (lay : Layout) (img : Image) (p : ℕ) (q : Process) (part : Part) (outer : List Part) (bound : ℕ) (core : Core)
-    (s : Scene tree code program.texts w lay img p q part outer bound core) (able_is : lives q.state ≡ true) (able_p : StateIs q.state (numbered img.states p))
+    (s : Scene tree code program.texts w lay img p q part outer bound core) (able_is : lives q.state ≡ true) (able_p : StateIs (scopes_of tree) w lay q.state (numbered img.states p))
     (n : Named) (gs : List Given) (task : Option Named) (asks : ask part.rest ≡ starts n gs task)
     (a : ActionAt (scopes_of tree) (context_in tree code program.texts w part s.stands.frame.gives) (text_in tree program.texts w part) (level_in tree w part) (most_in tree w part) (starts n gs task) s.stands.pc s.stands.slots)
     (answered : (r : Answer) (at : ℕ) (left : List Slot) →

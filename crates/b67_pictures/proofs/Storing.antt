@@ -54,7 +54,7 @@ two_words words left x y rest e f = e ∙ ap (λ (ws : List Word). x ∷ ws) f
 
 module _ (tree : PProgram) (code : Code) (texts : Texts) (fragments : FragmentsArePerformed) (kept : RestsKeepToTheirText) (order : AllIsMadeInOrder) (w : World) (lay : Layout) (img : Image)
     (p : ℕ) (q : Process) (part : Part) (outer : List Part) (bound : ℕ) (core : Core) (s : Scene tree code texts w lay img p q part outer bound core)
-    (able_is : lives q.state ≡ true) (able_p : StateIs q.state (numbered img.states p)) (n : Named) (v : Value) (asks : ask part.rest ≡ stores (own n) v)
+    (able_is : lives q.state ≡ true) (able_p : StateIs (scopes_of tree) w lay q.state (numbered img.states p)) (n : Named) (v : Value) (asks : ask part.rest ≡ stores (own n) v)
     (a : ActionAt (scopes_of tree) (context_in tree code texts w part s.stands.frame.gives) (text_in tree texts w part) (level_in tree w part) (most_in tree w part) (stores (own n) v) s.stands.pc s.stands.slots)
     (answered : (r : Answer) (at : ℕ) (left : List Slot) →
     Acted (scopes_of tree) (context_in tree code texts w part s.stands.frame.gives) (text_in tree texts w part) (level_in tree w part) (most_in tree w part) (stores (own n) v) s.stands.pc s.stands.slots a r at left →

@@ -68,7 +68,7 @@ use Rattle.b67_pictures.proofs.WordPut.{core_beside}
 
 module _ (tree : PProgram) (code : Code) (texts : Texts) (fragments : FragmentsArePerformed) (kept : RestsKeepToTheirText) (order : AllIsMadeInOrder) (w : World) (lay : Layout) (img : Image)
     (p : ℕ) (q : Process) (part : Part) (outer : List Part) (bound : ℕ) (core : Core) (s : Scene tree code texts w lay img p q part outer bound core)
-    (able_is : lives q.state ≡ true) (able_p : StateIs q.state (numbered img.states p)) (r : Reference) (kind : Kind) (found : Found)
+    (able_is : lives q.state ≡ true) (able_p : StateIs (scopes_of tree) w lay q.state (numbered img.states p)) (r : Reference) (kind : Kind) (found : Found)
     (h : VariableHome tree code texts w lay img p q part outer bound core s r kind found) (to : meant.Place) (v : Value) (fits : HasKind kind v) (asks : ask part.rest ≡ stores to v)
     (stores_so : choice_of (scopes_of tree) w p q part outer (stores to v) ≡ goes (scopes_of tree) w p q part outer Store (set_cell w r (simple v)) done)
     (next : ℕ) (below : List Slot)

@@ -40,6 +40,7 @@ use Rattle.b67_frames.specs.Frames.{IsComplete, IsInReach, Framed, block_control
 use Rattle.b67_frames.proofs.ControlWords.{block_few, controls_many}
 use Rattle.b67_frames.proofs.EventRows.{FindsEvent, directly, by_reference}
 use Rattle.b67_frames.proofs.StaticParents.{IsParent}
+use Rattle.b67_scenes.specs.Depending.{IsEventAt}
 use Rattle.b67_scenes.proofs.Finding.{found_laid, frame_near, place_near}
 use Rattle.b67_scenes.proofs.Led.{IsLed, declared_led, led_below, named_parent, named_seen, named_shown}
 use Rattle.b67_scenes.proofs.MadeNames.{no_simple}
@@ -92,6 +93,8 @@ module _ (tree : PProgram) (code : Code) (texts : Texts) (nested : AreNested (sc
     pub reaches : (word : Word) → as_irw word ≡ Some (record { level = couple.level; index = couple.index }) → FindsEvent img p core.registers word (cell_there lies number)
     pub near : (word : Word) (reads : as_irw word ≡ Some (record { level = couple.level; index = couple.index })) → IsNearWay p img core.registers (reaches word reads)
     pub fits : (couple.level < 32) × (couple.index < 2 ^ 14)
+    -- it is the event at the place of that cell
+    pub lies_at : IsEventAt (scopes_of tree) w lay home (cell_place (cell_there lies number))
 
   module _ (r : Reference) (led : IsLed tree code texts w lay img p q part outer bound core s r) (l : LiesThere r.instance) (number : ℕ)
       (found : OwnEvent sc w lay l.found.lies.part.instance l.found.lies.owned.framed.instance (own_there l) r.name number)
@@ -137,6 +140,21 @@ module _ (tree : PProgram) (code : Code) (texts : Texts) (nested : AreNested (sc
       frame_near tree code texts w lay img r.instance l.found p,
       place_near tree code texts w lay img r.instance l.found p (length l.found.lies.frame.lower + (made_base sc (block_numbered sc.blocks framed.instance.block) + number)) (omega (arith, below, index_is)),
     )
+
+    -- it is the event at that place
+    pub is_there : IsEventAt (scopes_of tree) w lay r (cell_place (cell_there l number))
+    is_there =
+        record {
+          made = record {
+            number = number;
+            found = ap (λ (x : Instance). made_from 0 (made_of (block_numbered sc.blocks x.block).decls) r.name) here_is ∙ there;
+            cell = found.cell;
+            is = ap (λ (x : Instance). cell_in x.cells r.name) here_is ∙ found.means;
+          };
+          frame = place l.found.number (length l.found.lies.frame.lower);
+          laid = found_laid tree code texts w lay img r.instance l.found;
+          at_is = ap (λ (n : ℕ). place l.found.number (length l.found.lies.frame.lower + (n + number))) (sym base_is);
+        }
 
     -- a reference can hold its place
     cell_small : (number < length (made_of (block_numbered sc.blocks framed.instance.block).decls)) →
@@ -240,6 +258,7 @@ module _ (tree : PProgram) (code : Code) (texts : Texts) (nested : AreNested (sc
                 (named_shown tree code texts w lay img p q part outer bound core s n is_seen couple.level v.made.level_is l) (word_there (named_from sc w lay part.instance n) led l v.made.number found there);
             near = λ word reads. near_there (named_from sc w lay part.instance n) led l v.made.number found there;
             fits = couple_fits;
+            lies_at = is_there (named_from sc w lay part.instance n) led l v.made.number found there;
           }
 
     pub declared_home : EventHome (named_from (scopes_of tree) w lay part.instance n) couple
@@ -350,6 +369,7 @@ module _ (tree : PProgram) (code : Code) (texts : Texts) (nested : AreNested (sc
               by_reference couple.level couple.index f.home.at f.home.word reads f.home.shown f.home.lies f.refers (word_there f.r f.led f.lies f.leads.made.number f.found f.declared_there);
           near = λ word reads. (f.home.near, near_there f.r f.led f.lies f.leads.made.number f.found f.declared_there);
           fits = f.home.fits;
+          lies_at = is_there f.r f.led f.lies f.leads.made.number f.found f.declared_there;
         }
 
   -- ---- the one or the other

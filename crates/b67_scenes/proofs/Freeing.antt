@@ -86,7 +86,7 @@ module _ (tree : PProgram) (code : Code) (texts : Texts) (lay : Layout) where
         let later : Living tree code texts w' lay img' m o =
         living_alike tree code texts w w' lay lay m (alike_by (scopes_of tree) w w' lay m (still m) refl) img img' o at (ap (λ (x : Process). x.todo) (process_is w' m o' (numbered_set w.processes m o o' at)))
         (λ core has. same_core m core (ap is_live now) has) l in
-        living refl (subst (λ (x : Option ProcessState). StateIs able x) (sym now) tt)
+        living refl (subst (λ (x : Option ProcessState). StateIs (scopes_of tree) w' lay able x) (sym now) tt)
         (record {
           core = later.core;
           has = later.has;

@@ -29,7 +29,7 @@ use Rattle.b67_rows.proofs.Numbers.{numbered_other}
 use Rattle.b67_frames.proofs.Lying.{StayBelow, owned_frame, same_block}
 use Rattle.b67_frames.proofs.Onward.{StandOn}
 use Rattle.b67_scenes.proofs.Staying.{frames_stay, frames_weigh, frames_most}
-use Rattle.b67_scenes.proofs.Tasks.{EventsStay, critical_stays, task_stays, events_same}
+use Rattle.b67_scenes.proofs.Tasks.{EventsStay, critical_stays, task_stays, state_stays, events_same}
 
 -- What a change of a world leaves to process r: what stands before and after it, stands on; where no process that lives depends on its newest instance, none does after it; and of its
 -- instances nobody has come to what is made in those that are low.
@@ -141,5 +141,7 @@ module _ (tree : PProgram) (code : Code) (texts : Texts) (w w' : World) (lay lay
       ((core : Core) → HasCore img r core → HasCore img' r core) → Pictured tree code texts w lay img r q → Pictured tree code texts w' lay' img' r q
   pictured_alike img img' q is at' states keeps (dead e s) = dead e (states ∙ s)
   pictured_alike img img' q is at' states keeps (living a s l) =
-      living a (subst (λ (o : Option ProcessState). StateIs q.state o) (sym states) s)
+      living a
+      (subst (λ (o : Option ProcessState). StateIs (scopes_of tree) w' lay' q.state o) (sym states)
+      (state_stays (scopes_of tree) w w' lay lay' alike.events alike.alone.on.places q.state (numbered img.states r) s))
       (living_alike img img' q is (ap (λ (o : Process). o.todo) at') keeps l)

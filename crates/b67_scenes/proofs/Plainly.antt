@@ -155,7 +155,7 @@ module _ (performed : StepsArePerformed) (limits : StepsComeToLimit) (tree : PPr
       }
 
   -- the image pictures the same world after that
-  pub pictured_nearer : (c : Core) (q : Process) → numbered w.processes p ≡ Some q → PicturesBy tree code texts w lay a → lives q.state ≡ true → StateIs q.state (numbered a.states p) → (l : Living tree code texts w lay a p q) → Nearer tree code texts w lay a c p q l →
+  pub pictured_nearer : (c : Core) (q : Process) → numbered w.processes p ≡ Some q → PicturesBy tree code texts w lay a → lives q.state ≡ true → StateIs (scopes_of tree) w lay q.state (numbered a.states p) → (l : Living tree code texts w lay a p q) → Nearer tree code texts w lay a c p q l →
       PicturesBy tree code texts w lay (with_core a p c)
   pictured_nearer c q at by able_is s l n =
       record {
@@ -195,7 +195,7 @@ module _ (performed : StepsArePerformed) (limits : StepsComeToLimit) (tree : PPr
 
   abbrev pub Quiet : Type 0
   Quiet =
-      (q : Process) → numbered w.processes p ≡ Some q → lives q.state ≡ true → StateIs q.state (numbered a.states p) → (l : Living tree code texts w lay a p q) → HasCore a p l.settled → plain code a p ≡ false
+      (q : Process) → numbered w.processes p ≡ Some q → lives q.state ≡ true → StateIs (scopes_of tree) w lay q.state (numbered a.states p) → (l : Living tree code texts w lay a p q) → HasCore a p l.settled → plain code a p ≡ false
 
   moved : (q : Process) → numbered w.processes p ≡ Some q → PicturesBy tree code texts w lay a → Quiet → Pictured tree code texts w lay a p q → PicturesBy tree code texts w lay b
   moved q at by quiet (dead e s) = no_operator code a b p (ap is_live s) gives_b

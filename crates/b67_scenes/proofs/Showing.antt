@@ -3,6 +3,7 @@ use Rattle.std.proofs.Common.{◌≡◌, refl, sym, ap, ◌∙◌, subst, ℕ, s
 use Rattle.std.specs.Prelude.{if◌then◌else◌, ◌&&◌, ◌||◌, not, slice_get}
 use Rattle.b67_list.specs.Numbered.{numbered}
 use Rattle.algol_tree.specs.Plain.{PProgram}
+use Rattle.algol_tree.specs.Scopes.{Scopes, scopes_of}
 use Rattle.algol_meaning.specs.World.{Process, State, able, waits_for, procures, ended, lives, World, WorldFault, process_at, or_no_process}
 use Rattle.algol_meaning.specs.World.{is_able as meaning_able}
 use Rattle.algol_meaning.specs.Run.{end_of}
@@ -32,15 +33,15 @@ use Rattle.b67_scenes.proofs.Plainly.{steps_fit}
 -- ---- a process in a world and in its image
 
 -- some process lives in both
-some_lives_alike : (qs : List Process) (ss : List ProcessState) → length ss ≡ length qs → ((k : ℕ) (q : Process) → slice_get qs k ≡ Some q → StateIs q.state (slice_get ss k)) → meaning.some_lives qs ≡ machine.some_lives ss
-some_lives_alike [] [] e each = refl
-some_lives_alike [] (s ∷ ss) e each = absurd (omega (arith, e))
-some_lives_alike (q ∷ qs) [] e each = absurd (omega (arith, e))
-some_lives_alike (q ∷ qs) (s ∷ ss) e each =
+some_lives_alike : (sc : Scopes) (w : World) (lay : Layout) (qs : List Process) (ss : List ProcessState) → length ss ≡ length qs → ((k : ℕ) (q : Process) → slice_get qs k ≡ Some q → StateIs sc w lay q.state (slice_get ss k)) → meaning.some_lives qs ≡ machine.some_lives ss
+some_lives_alike sc w lay [] [] e each = refl
+some_lives_alike sc w lay [] (s ∷ ss) e each = absurd (omega (arith, e))
+some_lives_alike sc w lay (q ∷ qs) [] e each = absurd (omega (arith, e))
+some_lives_alike sc w lay (q ∷ qs) (s ∷ ss) e each =
     let fewer : length ss ≡ length qs = omega (arith, e) in
-    by_first q.state s (some_lives_alike qs ss fewer (λ k r h. each (suc k) r h)) (each 0 q refl)
+    by_first q.state s (some_lives_alike sc w lay qs ss fewer (λ k r h. each (suc k) r h)) (each 0 q refl)
   where
-    by_first : (x : State) (s : ProcessState) → meaning.some_lives qs ≡ machine.some_lives ss → StateIs x (Some s) → (lives x || meaning.some_lives qs) ≡ machine.some_lives (s ∷ ss)
+    by_first : (x : State) (s : ProcessState) → meaning.some_lives qs ≡ machine.some_lives ss → StateIs sc w lay x (Some s) → (lives x || meaning.some_lives qs) ≡ machine.some_lives (s ∷ ss)
     by_first able Able later is = refl
     by_first (waits_for r) (WaitsFor at) later is = refl
     by_first (procures r) (Procures at) later is = refl
@@ -51,15 +52,15 @@ some_lives_alike (q ∷ qs) (s ∷ ss) e each =
     by_first ended _ later is = absurd is
 
 -- some process is able in both
-some_able_alike : (qs : List Process) (ss : List ProcessState) → length ss ≡ length qs → ((k : ℕ) (q : Process) → slice_get qs k ≡ Some q → StateIs q.state (slice_get ss k)) → meaning.some_able qs ≡ machine.some_able ss
-some_able_alike [] [] e each = refl
-some_able_alike [] (s ∷ ss) e each = absurd (omega (arith, e))
-some_able_alike (q ∷ qs) [] e each = absurd (omega (arith, e))
-some_able_alike (q ∷ qs) (s ∷ ss) e each =
+some_able_alike : (sc : Scopes) (w : World) (lay : Layout) (qs : List Process) (ss : List ProcessState) → length ss ≡ length qs → ((k : ℕ) (q : Process) → slice_get qs k ≡ Some q → StateIs sc w lay q.state (slice_get ss k)) → meaning.some_able qs ≡ machine.some_able ss
+some_able_alike sc w lay [] [] e each = refl
+some_able_alike sc w lay [] (s ∷ ss) e each = absurd (omega (arith, e))
+some_able_alike sc w lay (q ∷ qs) [] e each = absurd (omega (arith, e))
+some_able_alike sc w lay (q ∷ qs) (s ∷ ss) e each =
     let fewer : length ss ≡ length qs = omega (arith, e) in
-    by_first q.state s (some_able_alike qs ss fewer (λ k r h. each (suc k) r h)) (each 0 q refl)
+    by_first q.state s (some_able_alike sc w lay qs ss fewer (λ k r h. each (suc k) r h)) (each 0 q refl)
   where
-    by_first : (x : State) (s : ProcessState) → meaning.some_able qs ≡ machine.some_able ss → StateIs x (Some s) → (meaning_able x || meaning.some_able qs) ≡ machine.some_able (s ∷ ss)
+    by_first : (x : State) (s : ProcessState) → meaning.some_able qs ≡ machine.some_able ss → StateIs sc w lay x (Some s) → (meaning_able x || meaning.some_able qs) ≡ machine.some_able (s ∷ ss)
     by_first able Able later is = refl
     by_first (waits_for r) (WaitsFor at) later is = later
     by_first (procures r) (Procures at) later is = later
@@ -70,26 +71,26 @@ some_able_alike (q ∷ qs) (s ∷ ss) e each =
     by_first ended _ later is = absurd is
 
 -- it is able in both, or in neither
-able_in_both : (x : State) (o : Option ProcessState) → StateIs x o → meaning_able x ≡ image_able o
-able_in_both able (Some Able) is = refl
-able_in_both (waits_for r) (Some (WaitsFor at)) is = refl
-able_in_both (procures r) (Some (Procures at)) is = refl
-able_in_both ended (Some Ended) is = refl
-able_in_both able _ is = absurd is
-able_in_both (waits_for r) _ is = absurd is
-able_in_both (procures r) _ is = absurd is
-able_in_both ended _ is = absurd is
+able_in_both : (sc : Scopes) (w : World) (lay : Layout) (x : State) (o : Option ProcessState) → StateIs sc w lay x o → meaning_able x ≡ image_able o
+able_in_both sc w lay able (Some Able) is = refl
+able_in_both sc w lay (waits_for r) (Some (WaitsFor at)) is = refl
+able_in_both sc w lay (procures r) (Some (Procures at)) is = refl
+able_in_both sc w lay ended (Some Ended) is = refl
+able_in_both sc w lay able _ is = absurd is
+able_in_both sc w lay (waits_for r) _ is = absurd is
+able_in_both sc w lay (procures r) _ is = absurd is
+able_in_both sc w lay ended _ is = absurd is
 
 -- it lives in both, or has ended in both
-ended_in_both : (x : State) (o : Option ProcessState) → StateIs x o → machine.has_ended o ≡ not (lives x)
-ended_in_both able (Some Able) is = refl
-ended_in_both (waits_for r) (Some (WaitsFor at)) is = refl
-ended_in_both (procures r) (Some (Procures at)) is = refl
-ended_in_both ended (Some Ended) is = refl
-ended_in_both able _ is = absurd is
-ended_in_both (waits_for r) _ is = absurd is
-ended_in_both (procures r) _ is = absurd is
-ended_in_both ended _ is = absurd is
+ended_in_both : (sc : Scopes) (w : World) (lay : Layout) (x : State) (o : Option ProcessState) → StateIs sc w lay x o → machine.has_ended o ≡ not (lives x)
+ended_in_both sc w lay able (Some Able) is = refl
+ended_in_both sc w lay (waits_for r) (Some (WaitsFor at)) is = refl
+ended_in_both sc w lay (procures r) (Some (Procures at)) is = refl
+ended_in_both sc w lay ended (Some Ended) is = refl
+ended_in_both sc w lay able _ is = absurd is
+ended_in_both sc w lay (waits_for r) _ is = absurd is
+ended_in_both sc w lay (procures r) _ is = absurd is
+ended_in_both sc w lay ended _ is = absurd is
 
 -- all wait, as an end of the one and of the other
 waiting_as : (b : Bool) → (if b then Some meaning.all_waiting else None) ≡ end_as (if b then Some machine.all_waiting else None)
@@ -120,13 +121,13 @@ module _ (tree : PProgram) (code : Code) (texts : Texts) (w : World) (lay : Layo
     pub process : Process
     pub at : numbered w.processes p ≡ Some process
     pub able_is : lives process.state ≡ true
-    pub able_p : StateIs process.state (numbered img.states p)
+    pub able_p : StateIs (scopes_of tree) w lay process.state (numbered img.states p)
     pub able_now : meaning_able ((process_at w p).state) ≡ true
     pub lives_so : Living tree code texts w lay img p process
 
-  state_is : (p : ℕ) (q : Process) → Pictured tree code texts w lay img p q → StateIs q.state (numbered img.states p)
+  state_is : (p : ℕ) (q : Process) → Pictured tree code texts w lay img p q → StateIs (scopes_of tree) w lay q.state (numbered img.states p)
   state_is p q (living a s l) = s
-  state_is p q (dead e s) = subst (λ (x : State). StateIs x (numbered img.states p)) (sym e) (subst (λ (o : Option ProcessState). StateIs ended o) (sym s) tt)
+  state_is p q (dead e s) = subst (λ (x : State). StateIs (scopes_of tree) w lay x (numbered img.states p)) (sym e) (subst (λ (o : Option ProcessState). StateIs (scopes_of tree) w lay ended o) (sym s) tt)
 
   -- none is there
   beyond : (p : ℕ) → numbered w.processes p ≡ None → numbered img.states p ≡ None
@@ -136,7 +137,7 @@ module _ (tree : PProgram) (code : Code) (texts : Texts) (w : World) (lay : Layo
   able_alike p = found (numbered w.processes p) refl
     where
       found : (o : Option Process) → numbered w.processes p ≡ o → meaning_able ((process_at w p).state) ≡ image_able (numbered img.states p)
-      found (Some q) at = ap (λ (x : Option Process). meaning_able ((or_no_process x).state)) at ∙ able_in_both q.state (numbered img.states p) (state_is p q (by.each p q at))
+      found (Some q) at = ap (λ (x : Option Process). meaning_able ((or_no_process x).state)) at ∙ able_in_both (scopes_of tree) w lay q.state (numbered img.states p) (state_is p q (by.each p q at))
       found None gone = ap (λ (x : Option Process). meaning_able ((or_no_process x).state)) gone ∙ sym (ap image_able (beyond p gone))
 
   pub able_one : (p : ℕ) → image_able (numbered img.states p) ≡ true → IsAble p
@@ -155,9 +156,9 @@ module _ (tree : PProgram) (code : Code) (texts : Texts) (w : World) (lay : Layo
   by_fault : (f : Option WorldFault) → meaning.end_by f w.processes ≡ end_as (machine.end_by (failure_of f) img.states)
   by_fault (Some f) = refl
   by_fault None =
-      let each : (k : ℕ) (q : Process) → slice_get w.processes k ≡ Some q → StateIs q.state (slice_get img.states k) = λ k q e. state_is (suc k) q (by.each (suc k) q e) in
-      ap (λ (b : Bool). if b && not (meaning.some_able w.processes) then Some meaning.all_waiting else None) (some_lives_alike w.processes img.states by.states each)
-      ∙ ap (λ (b : Bool). if machine.some_lives img.states && not b then Some meaning.all_waiting else None) (some_able_alike w.processes img.states by.states each)
+      let each : (k : ℕ) (q : Process) → slice_get w.processes k ≡ Some q → StateIs (scopes_of tree) w lay q.state (slice_get img.states k) = λ k q e. state_is (suc k) q (by.each (suc k) q e) in
+      ap (λ (b : Bool). if b && not (meaning.some_able w.processes) then Some meaning.all_waiting else None) (some_lives_alike (scopes_of tree) w lay w.processes img.states by.states each)
+      ∙ ap (λ (b : Bool). if machine.some_lives img.states && not b then Some meaning.all_waiting else None) (some_able_alike (scopes_of tree) w lay w.processes img.states by.states each)
       ∙ waiting_as (machine.some_lives img.states && not (machine.some_able img.states))
 
   abbrev worldly : Bool → Option meaning.End
@@ -175,13 +176,13 @@ module _ (tree : PProgram) (code : Code) (texts : Texts) (w : World) (lay : Layo
       by_life true = by_fault w.fault ∙ ap (λ (f : Option Failure). end_as (machine.end_by f img.states)) (sym by.fault)
       by_life false = refl
 
-      by_state : (q : Process) → numbered w.processes 1 ≡ Some q → StateIs q.state (numbered img.states 1) →
+      by_state : (q : Process) → numbered w.processes 1 ≡ Some q → StateIs (scopes_of tree) w lay q.state (numbered img.states 1) →
           (if lives ((process_at w 1).state) then meaning.end_by w.fault w.processes else Some meaning.finished) ≡
           end_as (if machine.has_ended (numbered img.states 1) then Some machine.finished else machine.end_by img.fault img.states)
       by_state q at is =
           ap (λ (x : Option Process). worldly (lives ((or_no_process x).state))) at
           ∙ by_life (lives q.state)
-          ∙ sym (ap (λ (b : Bool). end_as (imaged b)) (ended_in_both q.state (numbered img.states 1) is))
+          ∙ sym (ap (λ (b : Bool). end_as (imaged b)) (ended_in_both (scopes_of tree) w lay q.state (numbered img.states 1) is))
 
       found : (qs : List Process) → w.processes ≡ qs → 1 ≤ length w.processes →
           (if lives ((process_at w 1).state) then meaning.end_by w.fault w.processes else Some meaning.finished) ≡

@@ -131,11 +131,11 @@ module _ (tree : PProgram) (code : Code) (texts : Texts) (w : World) (lay : Layo
   pub goes_on : (w' : World) (lay' : Layout) (img' : Image) (q' : Process) → w'.processes ≡ set_numbered w.processes p q' → lives q'.state ≡ true → length lay'.places ≡ length w'.instances → ArraysAre (scopes_of tree) w' lay' img'.rows →
       EventsAre (scopes_of tree) w' lay' img'.events →
       ((r : ℕ) → r ≢ p → AreAlike (scopes_of tree) w w' lay lay' r) → img'.output ≡ w'.output → w'.fault ≡ w.fault → img'.fault ≡ img.fault → img'.started ≡ img.started → img'.states ≡ img.states →
-      stack_at img'.stacks 0 ≡ stack_at img.stacks 0 → StateIs q'.state (numbered img.states p) → ((r : ℕ) (core : Core) → r ≢ p → HasCore img r core → HasCore img' r core) →
+      stack_at img'.stacks 0 ≡ stack_at img.stacks 0 → StateIs (scopes_of tree) w' lay' q'.state (numbered img.states p) → ((r : ℕ) (core : Core) → r ≢ p → HasCore img r core → HasCore img' r core) →
       Living tree code texts w' lay' img' p q' → PicturesBy tree code texts w' lay' img'
   goes_on w' lay' img' q' processes able_is laid arrays events alike output world_fault fault started states system able_p keeps l =
       comes_to w' lay' img' q' processes laid arrays events alike output world_fault fault started (ap length states) (λ r other. ap (λ (ss : List ProcessState). numbered ss r) states) system keeps
-      (living able_is (subst (λ (ss : List ProcessState). StateIs q'.state (numbered ss p)) (sym states) able_p) l)
+      (living able_is (subst (λ (ss : List ProcessState). StateIs (scopes_of tree) w' lay' q'.state (numbered ss p)) (sym states) able_p) l)
 
   -- a fault leaves all that stands, and what others may look at
   untouched : IsOk (scopes_of tree) IsWhole w → (fault : Option WorldFault) (r : ℕ) → LeavesAlone (scopes_of tree) w (record w { fault = fault }) lay lay r

@@ -27,7 +27,7 @@ use Rattle.b67_rows.proofs.Numbers.{same_or_not, numbered_set, numbered_other}
 use Rattle.b67_scenes.specs.Pictures.{Living, Pictured, living, PicturesBy}
 use Rattle.b67_scenes.specs.States.{StateIs}
 use Rattle.b67_scenes.proofs.Kept.{LeavesAlone, AreAlike, pictured_alike}
-use Rattle.b67_scenes.proofs.Tasks.{events_before}
+use Rattle.b67_scenes.proofs.Tasks.{state_stays, events_before}
 use Rattle.b67_scenes.proofs.Stage.{process_is}
 
 -- the world with an instance and a process more, where the one that starts it goes on
@@ -93,7 +93,7 @@ module _ (tree : PProgram) (code : Code) (texts : Texts) (w : World) (lay : Layo
         other_state onward r words next gone.many k (λ same. old (same ∙ number)) ∙ ap (λ (ss : List ProcessState). numbered ss k) gone.states
 
     -- the new one is able, and both live in the image in which it was begun
-    pub starts_by : new.state ≡ able → lives q'.state ≡ true → StateIs q'.state (numbered img.states p) → ((k : ℕ) → k ≢ p → LeavesAlone (scopes_of tree) w (started_world w p q' made new) lay (started_layout w lay) k) →
+    pub starts_by : new.state ≡ able → lives q'.state ≡ true → StateIs (scopes_of tree) w lay q'.state (numbered img.states p) → ((k : ℕ) → k ≢ p → LeavesAlone (scopes_of tree) w (started_world w p q' made new) lay (started_layout w lay) k) →
         ArraysAre (scopes_of tree) (started_world w p q' made new) (started_layout w lay) onward.rows → EventsAre (scopes_of tree) (started_world w p q' made new) (started_layout w lay) onward.events →
         Living tree code texts (started_world w p q' made new) (started_layout w lay) (with_process onward r words) p q' →
         Living tree code texts (started_world w p q' made new) (started_layout w lay) (with_process onward r words) (length w.processes + 1) new →
@@ -116,10 +116,13 @@ module _ (tree : PProgram) (code : Code) (texts : Texts) (w : World) (lay : Layo
         old_p same = let low : p ≤ length w.processes = numbered_low w.processes p q at in omega (arith, same, low)
 
         pictured_new : Pictured tree code texts w' lay' img' (length w.processes + 1) new
-        pictured_new = living (ap lives able_is) (subst (λ (s : Option ProcessState). StateIs new.state s) (sym new_state) (subst (λ s. StateIs s (Some Able)) (sym able_is) tt)) begun
+        pictured_new = living (ap lives able_is) (subst (λ (s : Option ProcessState). StateIs (scopes_of tree) w' lay' new.state s) (sym new_state) (subst (λ s. StateIs (scopes_of tree) w' lay' s (Some Able)) (sym able_is) tt)) begun
 
         pictured_starter : Pictured tree code texts w' lay' img' p q'
-        pictured_starter = living alive (subst (λ (s : Option ProcessState). StateIs q'.state s) (sym (same_state p old_p)) state_is) starter
+        pictured_starter = living alive
+            (subst (λ (s : Option ProcessState). StateIs (scopes_of tree) w' lay' q'.state s) (sym (same_state p old_p))
+            (state_stays (scopes_of tree) w w' lay lay' (events_before w w' (λ i x e. numbered_before w.instances (made ∷ []) i x e))
+            (λ i f e. numbered_before lay.places (place (length w.processes + 1) 0 ∷ []) i f e) q'.state (numbered img.states p) state_is)) starter
 
         by_number : (k : ℕ) (o : Process) → numbered w'.processes k ≡ Some o → (k ≡ length w.processes + 1) ⊎ (k ≢ length w.processes + 1) → (k ≡ p) ⊎ (k ≢ p) → Pictured tree code texts w' lay' img' k o
         by_number k o e (inl last) mine =

@@ -36,7 +36,7 @@ use Rattle.b67_scenes.specs.Reaches.{ReachesFor}
 use Rattle.b67_scenes.proofs.Kept.{LeavesAlone, reach_alone, alike_but, pictured_alike}
 use Rattle.b67_scenes.proofs.Stage.{process_is, comes_by}
 use Rattle.b67_scenes.proofs.Staying.{IsAsHeavy, same_weight, frames_stay}
-use Rattle.b67_scenes.proofs.Tasks.{EventsStay, task_stays, events_kept, events_beside}
+use Rattle.b67_scenes.proofs.Tasks.{EventsStay, task_stays, state_stays, events_kept, events_beside}
 use Rattle.b67_scenes.proofs.StoringFrames.{IsStored, put, length_put, put_first, changed, stored_world, others_at, same_of, same_ancestors, as_heavy, ChangedCells, Stored, known_stored, onward_from, laid_from, frame_stored}
 use Rattle.b67_templates.specs.Code.{in_routine}
 use Rattle.b67_templates.specs.Contexts.{Yields}
@@ -197,7 +197,7 @@ module _ (tree : PProgram) (code : Code) (texts : Texts) (w : World) (lay : Layo
       owner_stored : (o : Process) → p ≢ a → numbered w.processes p ≡ Some o → numbered after.processes p ≡ Some o → Pictured tree code texts w lay img p o → Pictured tree code texts after lay img' p o
       owner_stored o other before now (dead e s) = dead e (states p other ∙ s)
       owner_stored o other before now (living e s l) =
-          living e (subst (λ (x : Option ProcessState). StateIs o.state x) (sym (states p other)) s)
+          living e (subst (λ (x : Option ProcessState). StateIs sc after lay o.state x) (sym (states p other)) (state_stays sc w after lay lay events_stay (λ j f there. there) o.state (numbered img.states p) s))
           (living_stored (alone p other) img o before (owns o before) l (low l.core l.has) img' (holds l.core l.has) (ap (λ (q : Process). q.todo) (process_is after p o now)))
 
       pub others_stored : (r : ℕ) (o : Process) → r ≢ a → numbered w.processes r ≡ Some o → numbered (with_process (stored_world w i x at with_cells) a q').processes r ≡ Some o → Pictured tree code texts w lay img r o →

@@ -1,4 +1,4 @@
--- A process's critical place and the place of its task's event stay where places stay and events stay events.
+-- A process's critical place and the places of the events of its task and of its wait stay where places stay and events stay events.
 use Rattle.std.proofs.Common.{◌≡◌, ◌≢◌, ◌⊎◌, inl, inr, refl, sym, ap, ◌∙◌, subst, ℕ, ◌+◌, List, [], ◌∷◌, ◌++◌, Option, Some, None, Bool, true, false}
 use Rattle.std.specs.Prelude.{if◌then◌else◌}
 use Rattle.b67_list.specs.Numbered.{numbered}
@@ -7,8 +7,10 @@ use Rattle.algol_tree.specs.Scopes.{Scopes}
 use Rattle.algol_tree.specs.Sorts.{same_name}
 use Rattle.algol_meaning.specs.Value.{Reference, event}
 use Rattle.b67_deeds.specs.Events.{EventState}
-use Rattle.algol_meaning.specs.World.{NamedCell, Instance, World, instance_at, or_no_instance, cell_in}
+use Rattle.algol_meaning.specs.World.{State, able, waits_for, procures, ended, NamedCell, Instance, World, instance_at, or_no_instance, cell_in}
 use Rattle.b67_word.specs.declared.Place.{Place}
+use Rattle.b67_table.specs.declared.ProcessState.{ProcessState}
+use Rattle.b67_table.specs.declared.ProcessState.TheVariants.{Able, WaitsFor, Procures, Ended}
 use Rattle.b67_table.specs.Chains.{place}
 use Rattle.b67_templates.specs.Cells.{made_of, made_from, made_base}
 use Rattle.b67_rows.proofs.Numbers.{same_or_not}
@@ -16,6 +18,7 @@ use Rattle.b67_rows.proofs.Parting.{IsSameBut}
 use Rattle.b67_frames.specs.Arrays.{Layout}
 use Rattle.b67_frames.proofs.Knowing.{KeepsArrays}
 use Rattle.b67_scenes.specs.Depending.{CriticalIs, IsEventAt, TaskIs}
+use Rattle.b67_scenes.specs.States.{StateIs}
 
 -- the frames of instances are where they were
 abbrev pub PlacesStay : Layout → Layout → Type 0
@@ -55,6 +58,16 @@ module _ (sc : Scopes) (w w' : World) (lay lay' : Layout) (events : EventsStay w
   pub task_stays : (r : Option Reference) (at : Option Place) → TaskIs sc w lay r at → TaskIs sc w' lay' r at
   task_stays None at none = none
   task_stays (Some r) at told = (told.0, told.1, event_stays r told.0 told.2)
+
+  pub state_stays : (x : State) (o : Option ProcessState) → StateIs sc w lay x o → StateIs sc w' lay' x o
+  state_stays able (Some Able) is = is
+  state_stays (waits_for r) (Some (WaitsFor at)) is = event_stays r at is
+  state_stays (procures r) (Some (Procures at)) is = event_stays r at is
+  state_stays ended (Some Ended) is = is
+  state_stays able _ is = absurd is
+  state_stays (waits_for r) _ is = absurd is
+  state_stays (procures r) _ is = absurd is
+  state_stays ended _ is = absurd is
 
 -- ---- the events
 

@@ -55,7 +55,7 @@ module _ (tree : PProgram) (code : Code) (texts : Texts) (w : World) (lay : Layo
     pub light : bound + 3 ≤ weight tree w p
 
   pub data Pictured (p : ℕ) (q : Process) : Type 0 where
-    living : lives q.state ≡ true → StateIs q.state (numbered img.states p) → Living p q → Pictured p q
+    living : lives q.state ≡ true → StateIs (scopes_of tree) w lay q.state (numbered img.states p) → Living p q → Pictured p q
     dead : q.state ≡ ended → numbered img.states p ≡ Some Ended → Pictured p q
 
   pub record PicturesBy : Type 0 where
