@@ -1,10 +1,11 @@
 // The first image.
-ghost use Rattle.std.specs.Prelude.{◌≡◌, ℕ, [], ◌∷◌, Some, None, IfOk, OnOk, OnErr};
-ghost use Rattle.b67_store.specs.Store.{stack_at};
+ghost use Rattle.std.specs.Prelude.{◌≡◌, [], ◌∷◌, IfOk, OnOk, OnErr};
+ghost use Rattle.b67_store.specs.Store.{opened_at};
 ghost use Rattle.b67_table.specs.declared.ProcessState.TheVariants.{Able};
-ghost use Rattle.b67_table.specs.Beginning.{base_frame, first_image, first_registers, system_stack};
+ghost use Rattle.b67_table.specs.Beginning.{base_frame, first_registers, system_stack};
 ghost use Rattle.b67_reach.specs.Images.{image_of};
 ghost use Rattle.b67_action.specs.Done.{HasRoom};
+ghost use Rattle.b67_load.specs.Closed.{NoneOpen, first_on};
 
 use crate::opening::open_with;
 use crate::words::{base_words, first_registers, system_words};
@@ -46,9 +47,9 @@ fn parts_of(alloc: Global, code: Code) -> Result<(Kernel, Parts), AllocError>
 
 // The first two stacks. Without memory none is open.
 fn open_first<C: Core>(core: &mut C) -> Result<(), AllocError>
-    requires { C.Core.stacks core.old ≡ [] }
-    ensures opened { OnOk result (C.Core.stacks core.new ≡ Some system_stack ∷ Some base_frame ∷ []) }
-    ensures none { OnErr result ((n : ℕ) → stack_at (C.Core.stacks core.new) n ≡ None) }
+    requires { NoneOpen (C.Core.stacks core.old) }
+    ensures opened { OnOk result (C.Core.stacks core.new ≡ opened_at (opened_at (C.Core.stacks core.old) 0 system_stack) 1 base_frame) }
+    ensures none { OnErr result (NoneOpen (C.Core.stacks core.new)) }
     ensures rows { C.Core.rows core.new ≡ C.Core.rows core.old }
 {
     open_with(core, 0, &system_words())?;
@@ -59,16 +60,16 @@ fn open_first<C: Core>(core: &mut C) -> Result<(), AllocError>
     second
 }
 
-/// Builds the first image of a code on a store in which nothing is open, with room for the most processes to wait and to be
-/// released. Without memory nothing is open in the store.
+/// Builds the first image of a code on a store in which nothing is open, whatever was opened in it and closed, with room for the
+/// most processes to wait and to be released. Without memory nothing is open in the store.
 pub fn load<C: Core>(alloc: Global, core: &mut C, code: Code) -> Result<(Kernel, Parts), AllocError>
-    requires stacks { C.Core.stacks core.old ≡ [] }
-    requires rows { C.Core.rows core.old ≡ [] }
-    ensures image { IfOk result (λ made. image_of (C.Core.stacks core.new) (C.Core.rows core.new) made.0.events made.1 ≡ first_image) }
+    requires stacks { NoneOpen (C.Core.stacks core.old) }
+    requires rows { NoneOpen (C.Core.rows core.old) }
+    ensures image { IfOk result (λ made. image_of (C.Core.stacks core.new) (C.Core.rows core.new) made.0.events made.1 ≡ first_on (C.Core.stacks core.old) (C.Core.rows core.old)) }
     ensures room { IfOk result (λ made. HasRoom made.0 made.1) }
     ensures code { IfOk result (λ made. made.1.code ≡ code) }
-    ensures no_stack { OnErr result ((n : ℕ) → stack_at (C.Core.stacks core.new) n ≡ None) }
-    ensures no_row { OnErr result (C.Core.rows core.new ≡ []) }
+    ensures no_stack { OnErr result (NoneOpen (C.Core.stacks core.new)) }
+    ensures same_rows { OnErr result (C.Core.rows core.new ≡ C.Core.rows core.old) }
 {
     let made = parts_of(alloc, code)?;
     open_first(core)?;

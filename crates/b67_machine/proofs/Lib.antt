@@ -6,6 +6,7 @@ pub mod Enabling
 pub mod Lasting
 pub mod Raised
 pub mod Begun
+pub mod Loading
 pub mod Chains
 pub mod Tailing
 pub mod Entering

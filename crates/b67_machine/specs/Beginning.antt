@@ -1,11 +1,16 @@
 -- A machine before its first operator.
 use Rattle.std.specs.Prelude.{◌≡◌, ℕ, false, None}
+use Rattle.b67_table.specs.Image.{Image}
 use Rattle.b67_table.specs.Beginning.{first_image}
 use Rattle.b67_machine.specs.Kept.{Kept, counted}
 
--- no operator was performed on the machine, or tried
-pub record IsFresh (m : Kept) : Type 0 where
-  pub image : m.image ≡ first_image
+-- the machine has this image, and no operator was performed on it, or tried
+pub record IsUntried (img : Image) (m : Kept) : Type 0 where
+  pub image : m.image ≡ img
   pub counts : (p : ℕ) → counted m.counts p ≡ 0
   pub limit : m.limit ≡ None
   pub lacked : m.lacked ≡ false
+
+-- no operator was performed on the machine, or tried, and its image is the first
+abbrev pub IsFresh : Kept → Type 0
+IsFresh m = IsUntried first_image m

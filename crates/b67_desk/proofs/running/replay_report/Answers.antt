@@ -3,10 +3,17 @@ use Rattle.std.proofs.Common.{ℕ, subst, ◌∙◌, arith}
 use Rattle.b67_schedule.specs.Schedules.{entries}
 use Rattle.b67_segment.specs.declared.code.Code.{Code}
 use Rattle.b67_machine.specs.Replaying.{Replays}
+use Rattle.b67_machine.proofs.Loading.{none_in}
 use Rattle.b67_desk.specs.Calls.{IsLeft}
 use Rattle.b67_explain.proofs.Explained.{can_be_told}
 use Rattle.b67_desk.proofs.Told.{segments_short, replay_answered}
 use Rattle.b67_desk.proofs.running.replay_report.Goals as goal
+
+pub load-requires-clause-stacks : goal.load-requires-clause-stacks
+load-requires-clause-stacks c = none_in _ c.new.ensures.stacks
+
+pub load-requires-clause-rows : goal.load-requires-clause-rows
+load-requires-clause-rows c = none_in _ c.new.ensures.rows
 
 pub load-requires-clause-segments : goal.load-requires-clause-segments
 load-requires-clause-segments c = segments_short c.args.code c.requires.faithful.1.listable

@@ -5,16 +5,23 @@ use Rattle.b67_ready.specs.declared.order.Order.{Order}
 use Rattle.b67_ready.specs.Orders.{place_of}
 use Rattle.b67_stands.specs.Ran.{HasRunAlone}
 use Rattle.b67_explain.specs.Telling.{AreOfFirst}
+use Rattle.b67_machine.proofs.Loading.{none_in}
 use Rattle.b67_desk.specs.Calls.{IsLeft}
 use Rattle.b67_desk.proofs.Told.{segments_short, kept_short, alone_can_be_told, run_reported}
 use Rattle.b67_desk.proofs.running.run_report.Goals as goal
+
+pub load-requires-clause-stacks : goal.load-requires-clause-stacks
+load-requires-clause-stacks c = none_in _ c.new.ensures.stacks
+
+pub load-requires-clause-rows : goal.load-requires-clause-rows
+load-requires-clause-rows c = none_in _ c.new.ensures.rows
 
 pub load-requires-clause-segments : goal.load-requires-clause-segments
 load-requires-clause-segments c = segments_short c.args.job.code c.requires.faithful.1.listable
 
 pub run_by_caller-requires : goal.run_by_caller-requires
 run_by_caller-requires c = record {
-  fresh = c.in_ok-machine.ensures.fresh;
+  fresh = c.in_ok-machine.ensures.fresh c.new.ensures.stacks c.new.ensures.rows;
   sound = (kept_short c.args.job.code c.in_ok-machine.machine.code c.requires.faithful.0 c.requires.faithful.1 c.in_ok-machine.ensures.code).0;
   segments = (kept_short c.args.job.code c.in_ok-machine.machine.code c.requires.faithful.0 c.requires.faithful.1 c.in_ok-machine.ensures.code).1;
   budget = c.requires.budget;

@@ -5,9 +5,16 @@ use Rattle.b67_report.specs.Reading.{AreCounts as AreNumbers}
 use Rattle.b67_ready.specs.declared.order.Order.{Order}
 use Rattle.b67_ready.specs.Orders.{place_of}
 use Rattle.b67_stands.specs.Ran.{HasRunShared}
+use Rattle.b67_machine.proofs.Loading.{none_in}
 use Rattle.b67_desk.specs.Calls.{IsLeft}
 use Rattle.b67_desk.proofs.Told.{segments_short, kept_short, ran_can_be_told, share_reported}
 use Rattle.b67_desk.proofs.running.share_report.Goals as goal
+
+pub load-requires-clause-stacks : goal.load-requires-clause-stacks
+load-requires-clause-stacks g c = none_in _ c.new.ensures.stacks
+
+pub load-requires-clause-rows : goal.load-requires-clause-rows
+load-requires-clause-rows g c = none_in _ c.new.ensures.rows
 
 pub load-requires-clause-segments : goal.load-requires-clause-segments
 load-requires-clause-segments g c = segments_short c.args.job.code c.requires.faithful.1.listable

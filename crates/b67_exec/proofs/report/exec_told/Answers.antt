@@ -1,8 +1,15 @@
 use Rattle.std.proofs.Common.{subst, ◌∙◌}
 use Rattle.b67_segment.specs.declared.code.Code.{Code}
+use Rattle.b67_machine.proofs.Loading.{none_in}
 use Rattle.b67_exec.specs.Exec.{ExecRun}
 use Rattle.b67_exec.proofs.Telling.{text_is, why_is}
 use Rattle.b67_exec.proofs.report.exec_told.Goals as goal
+
+pub load-requires-clause-stacks : goal.load-requires-clause-stacks
+load-requires-clause-stacks c = none_in _ c.new.ensures.stacks
+
+pub load-requires-clause-rows : goal.load-requires-clause-rows
+load-requires-clause-rows c = none_in _ c.new.ensures.rows
 
 pub returns : goal.returns
 returns c =

@@ -4,40 +4,38 @@ use Rattle.std.proofs.lemmas.List.{length-replicate}
 use Rattle.b67_events.specs.Events.{Events}
 use Rattle.b67_segment.specs.declared.code.Segment.{Segment}
 use Rattle.b67_segment.specs.declared.code.Code.{Code}
-use Rattle.b67_store.specs.Store.{Stacks, Rows}
-use Rattle.b67_table.specs.Beginning.{first_image}
+use Rattle.b67_store.specs.Store.{Stacks, Rows, row_limit}
 use Rattle.b67_table.specs.Image.{Image}
 use Rattle.b67_table.specs.Limits.{segment_limit}
 use Rattle.b67_table.specs.Valid.{IsValid}
-use Rattle.b67_table.proofs.FirstValid.{first_is_valid}
 use Rattle.b67_reach.specs.declared.Parts.{Parts}
 use Rattle.b67_reach.specs.Images.{image_of}
+use Rattle.b67_load.specs.Closed.{NoneOpen, first_on}
 use Rattle.b67_machine.specs.Kept.{counted}
 use Rattle.b67_machine.specs.Tables.{AreTables}
 use Rattle.b67_machine.proofs.Begun.{none_counted, no_tables}
+use Rattle.b67_machine.proofs.Loading.{fresh_on, first_on_is_valid}
 use Rattle.b67_machine.proofs.Failures.{without}
 use Rattle.b67_machine.proofs.Machine.load.Goals as goal
 
-loaded : (code : Code) (stacks : Stacks) (rows : Rows) (kernel : Events) (parts : Parts) → All (λ (s : Segment). length s.words ≤ segment_limit) code.segments
-    → image_of stacks rows kernel.events parts ≡ first_image → parts.code ≡ code → IsValid parts.code (image_of stacks rows kernel.events parts)
-loaded code stacks rows kernel parts short image same =
+loaded : (code : Code) (old_stacks stacks : Stacks) (old_rows rows : Rows) (kernel : Events) (parts : Parts) → NoneOpen old_stacks → NoneOpen old_rows → length old_rows ≤ row_limit
+    → All (λ (s : Segment). length s.words ≤ segment_limit) code.segments → image_of stacks rows kernel.events parts ≡ first_on old_stacks old_rows → parts.code ≡ code
+    → IsValid parts.code (image_of stacks rows kernel.events parts)
+loaded code old_stacks stacks old_rows rows kernel parts no_stack no_row few short image same =
     subst (λ (x : Image). IsValid parts.code x) (sym image)
-    (first_is_valid parts.code (subst (λ (k : Code). All (λ (s : Segment). length s.words ≤ segment_limit) k.segments) (sym same) short))
+    (first_on_is_valid old_stacks old_rows no_stack no_row parts.code few
+    (subst (λ (k : Code). All (λ (s : Segment). length s.words ≤ segment_limit) k.segments) (sym same) short))
 
 pub invariant_of-result : goal.invariant_of-result
 invariant_of-result g c =
-    let stacks = g.C.Core.stacks c.load.new.core in
-    let rows = g.C.Core.rows c.load.new.core in
     let parts = c.in_ok-kernel.parts in
-    let valid = loaded c.args.code stacks rows c.in_ok-kernel.kernel parts c.requires.segments c.in_ok-kernel.ensures.image c.in_ok-kernel.ensures.code in
+    let valid = loaded c.args.code (g.C.Core.stacks c.args.core) (g.C.Core.stacks c.load.new.core) (g.C.Core.rows c.args.core) (g.C.Core.rows c.load.new.core) c.in_ok-kernel.kernel parts
+    c.requires.stacks c.requires.rows c.counted.ensures.few c.requires.segments c.in_ok-kernel.ensures.image c.in_ok-kernel.ensures.code in
     let items : c.in_ok-counts.counts.items ≡ replicate 256 0 = c.in_ok-counts.ensures.items_if_clones_equal (λ y h. h) in
     (valid, c.in_ok-kernel.ensures.room, ap length items ∙ length-replicate {A = ℕ} 256 0, subst (AreTables parts.code) (sym c.new.ensures.items) (no_tables parts.code))
 
-pub returns-clause-fresh : goal.returns-clause-fresh
-returns-clause-fresh g c =
-    let stacks = g.C.Core.stacks c.load.new.core in
-    let rows = g.C.Core.rows c.load.new.core in
-    let parts = c.in_ok-kernel.parts in
+pub returns-clause-untried : goal.returns-clause-untried
+returns-clause-untried g c =
     let items : c.in_ok-counts.counts.items ≡ replicate 256 0 = c.in_ok-counts.ensures.items_if_clones_equal (λ y h. h) in
     record {
       image = without _ refl ∙ c.in_ok-kernel.ensures.image;
@@ -45,3 +43,6 @@ returns-clause-fresh g c =
       limit = refl;
       lacked = refl;
     }
+
+pub returns-clause-fresh : goal.returns-clause-fresh
+returns-clause-fresh g c = λ e f. fresh_on (g.C.Core.stacks c.args.core) (g.C.Core.rows c.args.core) e f (returns-clause-untried g c)

@@ -1,6 +1,13 @@
 use Rattle.algol_tree.specs.Image.{program}
+use Rattle.b67_machine.proofs.Loading.{none_in}
 use Rattle.b67_desk.proofs.Told.{segments_short, kept_short}
 use Rattle.examples.proofs.rules.machine_of.Goals as goal
+
+pub load-requires-clause-stacks : goal.load-requires-clause-stacks
+load-requires-clause-stacks c = none_in _ c.new.ensures.stacks
+
+pub load-requires-clause-rows : goal.load-requires-clause-rows
+load-requires-clause-rows c = none_in _ c.new.ensures.rows
 
 pub load-requires-clause-segments : goal.load-requires-clause-segments
 load-requires-clause-segments c = segments_short c.in_ok-code.code c.in_ok-code.ensures.listable
