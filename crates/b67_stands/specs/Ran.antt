@@ -8,7 +8,7 @@ use Rattle.b67_stands.specs.Running.{Running, answer_of}
 use Rattle.b67_stands.specs.Picked.{Pick}
 use Rattle.b67_stands.specs.Stands.{Stands}
 use Rattle.b67_stands.specs.Alone.{ByOne}
-use Rattle.b67_stands.specs.Shared.{Shared, BySeats}
+use Rattle.b67_stands.specs.Shared.{Shared, ByProcessors}
 
 -- A run of this code under that budget has ended so, with this machine and this schedule: a plant with them stands.
 pub record HasRun (code : Code) (budget : ℕ) (machine : Machine) (schedule : Schedule) (answer : Replayed) : Type 0 where
@@ -23,8 +23,8 @@ pub record HasRunAlone (code : Code) (budget : ℕ) (pick : Pick) (machine : Mac
   pub has_run : HasRun code budget machine schedule answer
   pub by_one : ByOne code budget pick has_run.plant
 
--- And so many processors shared it, under this rule, and these are their numbers of acts.
+-- And so many processors shared it, under this rule, and so many acts each of them made, in their order.
 pub record HasRunShared (code : Code) (budget : ℕ) (pick : Pick) (processors : ℕ) (machine : Machine) (schedule : Schedule) (answer : Replayed) (acts : List ℕ) : Type 0 where
   pub has_run : HasRun code budget machine schedule answer
-  pub shared : Shared code budget pick processors has_run.plant
-  pub seats : BySeats processors has_run.plant acts
+  pub shared : Shared code budget pick processors acts has_run.plant
+  pub books : ByProcessors processors has_run.plant acts

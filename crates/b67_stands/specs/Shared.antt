@@ -1,12 +1,15 @@
--- What holds of a plant that processors share, call by call, and of the numbers that their seats bring back.
-use Rattle.std.specs.Prelude.{◌≡◌, ◌≢◌, ◌≤◌, ℕ, List, length, map, sum, None}
-use Rattle.std.specs.List.{All, sum_by}
+-- What holds of a plant that processors share, call by call, of how many acts each of them made, and of the books when all have left.
+use Rattle.std.specs.Prelude.{◌≡◌, ◌≢◌, ◌+◌, ◌≤◌, ℕ, List, length, replicate, sum, None}
+use Rattle.std.specs.List.{All}
+use Rattle.b67_list.specs.Numbered.{set_numbered}
 use Rattle.b67_segment.specs.declared.code.Code.{Code}
+use Rattle.b67_action.specs.Able.{one_if}
+use Rattle.b67_machine.specs.Kept.{counted}
 use Rattle.b67_machine.specs.declared.entry.Performed.{Performed}
 use Rattle.b67_stands.specs.Running.{Running, answer_of}
 use Rattle.b67_stands.specs.Picked.{Pick}
 use Rattle.b67_stands.specs.Placing.{holder_of, IsOut}
-use Rattle.b67_stands.specs.Calls.{IsFirst, TakesOne, LandsOnce, ActsOnce, Leaves}
+use Rattle.b67_stands.specs.Calls.{IsFirst, TakesOne, LandsOnce, is_action, ActsOnce, Leaves}
 
 -- ---- the calls
 
@@ -14,33 +17,34 @@ use Rattle.b67_stands.specs.Calls.{IsFirst, TakesOne, LandsOnce, ActsOnce, Leave
 abbrev pub IsFree : ℕ → Running → Type 0
 IsFree me s = (p : ℕ) → holder_of s.out p ≢ me
 
--- A plant of this code under that budget to which calls of so many processors lead, from one before its first take. Each take is by a
--- processor with which nobody is out, and of the process at the place that the rule picks, by how many wait and how many takes there have
--- been. Each landing and each act is of a process that is out. So no more processes are out than there are processors, and none that was
--- taken waits again before its entry.
-pub data Shared (code : Code) (budget : ℕ) (pick : Pick) (processors : ℕ) : Running → Type 0 where
-  begin : {s : Running} → IsFirst code s → Shared code budget pick processors s
-  take : {old new : Running} (me p : ℕ) → Shared code budget pick processors old → answer_of budget old ≡ None → 1 ≤ me → me ≤ processors → IsFree me old
-      → TakesOne pick me old p new → Shared code budget pick processors new
-  land : {old new : Running} (p n : ℕ) → Shared code budget pick processors old → answer_of budget old ≡ None → IsOut old.out p
-      → LandsOnce old p n new → Shared code budget pick processors new
-  act : {old new : Running} (p : ℕ) (performed : Performed) → Shared code budget pick processors old → answer_of budget old ≡ None → IsOut old.out p
-      → ActsOnce budget old p performed new → Shared code budget pick processors new
-  leave : {old new : Running} → Shared code budget pick processors old → answer_of budget old ≢ None → Leaves old new → Shared code budget pick processors new
+-- so many acts more are the processor's
+abbrev pub with_acts : List ℕ → ℕ → ℕ → List ℕ
+with_acts acts me n = set_numbered acts me (counted acts me + n)
 
--- ---- the seats
+-- A plant of this code under that budget to which calls of so many processors lead, from one before its first take, and how many acts each
+-- of them made, in their order. Each take is by a processor with which nobody is out, and of the process at the place that the rule picks,
+-- by how many wait and how many takes there have been. Each landing is of a process that is out. Each act is of a process that is out with
+-- the processor that makes it, and is counted of that processor exactly where an action was performed, which is an entry of the schedule. So
+-- no more processes are out than there are processors, and none that was taken waits again before its entry.
+pub data Shared (code : Code) (budget : ℕ) (pick : Pick) (processors : ℕ) : List ℕ → Running → Type 0 where
+  begin : {s : Running} → IsFirst code s → Shared code budget pick processors (replicate processors 0) s
+  take : {acts : List ℕ} {old new : Running} (me p : ℕ) → Shared code budget pick processors acts old → answer_of budget old ≡ None → 1 ≤ me → me ≤ processors
+      → IsFree me old → TakesOne pick me old p new → Shared code budget pick processors acts new
+  land : {acts : List ℕ} {old new : Running} (p n : ℕ) → Shared code budget pick processors acts old → answer_of budget old ≡ None → IsOut old.out p
+      → LandsOnce old p n new → Shared code budget pick processors acts new
+  act : {acts : List ℕ} {old new : Running} (me p : ℕ) (performed : Performed) → Shared code budget pick processors acts old → answer_of budget old ≡ None
+      → 1 ≤ me → me ≤ processors → holder_of old.out p ≡ me → ActsOnce budget old p performed new
+      → Shared code budget pick processors (with_acts acts me (one_if (is_action performed.done))) new
+  leave : {acts : List ℕ} {old new : Running} → Shared code budget pick processors acts old → answer_of budget old ≢ None → Leaves old new
+      → Shared code budget pick processors acts new
 
--- what a seat says that its processor brings back: how many acts it made, and how often it left
-pub record Seated : Type 0 where
-  pub acts : ℕ
-  pub leaves : ℕ
+-- ---- the books
 
--- The acts are the numbers of the seats, one for each processor, in their order. Each has left, and the books of the plant are the sums of
--- the seats' numbers.
-pub record BySeats (processors : ℕ) (s : Running) (acts : List ℕ) : Type 0 where
-  pub seats : List Seated
-  pub each : length seats ≡ processors
-  pub acts_are : acts ≡ map (λ (seat : Seated). seat.acts) seats
-  pub left : All (λ (seat : Seated). 1 ≤ seat.leaves) seats
-  pub acts_book : sum_by (λ (seat : Seated). seat.acts) seats ≡ s.acts
-  pub leaves_book : sum_by (λ (seat : Seated). seat.leaves) seats ≡ s.leaves
+-- There is one number of acts for each processor. Each has left, and the books of the plant are the sums of the acts and of the leaves.
+pub record ByProcessors (processors : ℕ) (s : Running) (acts : List ℕ) : Type 0 where
+  pub each : length acts ≡ processors
+  pub acts_book : sum acts ≡ s.acts
+  pub leaves : List ℕ
+  pub each_left : length leaves ≡ processors
+  pub left : All (λ (n : ℕ). 1 ≤ n) leaves
+  pub leaves_book : sum leaves ≡ s.leaves
