@@ -146,8 +146,8 @@ abbrev pub by_one : Workers
 by_one processors = 1
 
 -- The report explains a run of this source under the rule. Where one processor did all the work, it explains too whose each action is: that
--- of the turns of the source. Where processors shared it, each of their takes was at the place that the rule picks, and the acts are the
--- numbers of their seats.
+-- of the turns of the source. Where processors shared it, each of their takes was at the place that the rule picks, and the acts are those
+-- that each of them made.
 pub record ExplainsBy (workers processors budget : ℕ) (rule : Rule) (tree : PProgram) (report : Report) : Type 0 where
   pub explains : ExplainsRun tree processors budget report
   pub alone : workers ≡ 1 → ExplainsAlone tree (place_of (order_of rule)) processors budget report

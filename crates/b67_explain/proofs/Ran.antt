@@ -37,7 +37,7 @@ use Rattle.b67_stands.specs.Running.{Running, ends, answer_by, answer_of}
 use Rattle.b67_stands.specs.Stands.{Stands}
 use Rattle.b67_stands.specs.Alone.{ByOne}
 use Rattle.b67_stands.specs.Picked.{Pick}
-use Rattle.b67_stands.specs.Shared.{Shared, BySeats}
+use Rattle.b67_stands.specs.Shared.{Shared, ByProcessors}
 use Rattle.b67_stands.specs.Ran.{HasRun, HasRunAlone, HasRunShared}
 use Rattle.b67_explain.proofs.Turning.{picked_runs_are_turns}
 use Rattle.b67_explain.specs.Explaining.{EndIs, Explains, IsOwnEnd, ExplainsRun}
@@ -317,15 +317,16 @@ module _ (grows : EachRunGrows) (tree : PProgram) (code : Code) (faithful : Fait
         }
 
     -- and where processors shared it
-    pub shares_explained : (pick : Pick) → Shared code budget pick processors s → BySeats processors s report.acts → ExplainsShared tree pick processors budget report
-    shares_explained pick shared seats = record {
+    pub shares_explained : (pick : Pick) → Shared code budget pick processors report.acts s → ByProcessors processors s report.acts
+        → ExplainsShared tree pick processors budget report
+    shares_explained pick shared books = record {
       explains = run_explained;
       code = code;
       listed = subst (ListingText code) (sym is.listing) listed;
       plant = s;
       shared = shared;
       order = sym entries_are;
-      seats = seats;
+      books = books;
     }
 
 -- ---- what a run left
@@ -355,4 +356,5 @@ module _ (grows : EachRunGrows) (tree : PProgram) (code : Code) (faithful : Fait
         → ExplainsShared tree pick processors budget report
     left_shared_explained pick acts same h =
         shares_explained grows tree code faithful budget h.has_run.plant h.has_run.stands answer h.has_run.answered some processors lines report (is_of h.has_run) (valid_of h.has_run) listed
-        pick h.shared (subst (BySeats processors h.has_run.plant) (sym same) h.seats)
+        pick (subst (λ (xs : List ℕ). Shared code budget pick processors xs h.has_run.plant) (sym same) h.shared)
+        (subst (ByProcessors processors h.has_run.plant) (sym same) h.books)

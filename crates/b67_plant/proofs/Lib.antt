@@ -1,9 +1,9 @@
 pub mod Handing
 pub mod Turning
-pub mod Noting
 pub mod Entered
 pub mod Many
 pub mod Lacking
 pub mod Stretching
 pub mod Landing
+pub mod Made
 pub mod Sharing

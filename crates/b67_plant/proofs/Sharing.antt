@@ -1,11 +1,6 @@
--- What the calls of processors that share a plant leave, and what their seats bring back.
-use Rattle.std.proofs.Common.{◌≡◌, inl, inr, refl, sym, ap, subst, ◌∙◌, ℕ, zero, suc, ◌<◌, ◌≤◌, Bool, true, false, Option, Some, None, List, length, map, All, arith}
-use Rattle.std.specs.Prelude.{◌≢◌, sum}
-use Rattle.std.specs.List.{sum_by}
-use Rattle.std.proofs.lemmas.List.{length-map}
-use Rattle.std.proofs.lemmas.List.Elements.{All-map}
-use Rattle.std.proofs.lemmas.List.Sums.{sum-map}
-use Rattle.std.proofs.lemmas.Simd.{map-map}
+-- What the calls of processors that share a plant leave.
+use Rattle.std.proofs.Common.{◌≡◌, inl, inr, refl, sym, ap, subst, ◌∙◌, ℕ, zero, suc, ◌≤◌, Bool, true, false, Option, Some, None, List, arith}
+use Rattle.std.specs.Prelude.{◌≢◌}
 use Rattle.b67_list.specs.Numbered.{numbered}
 use Rattle.b67_segment.specs.declared.code.Code.{Code}
 use Rattle.b67_table.specs.declared.ProcessState.{ProcessState}
@@ -17,39 +12,49 @@ use Rattle.b67_stands.specs.Picked.{Pick}
 use Rattle.b67_stands.specs.Placing.{holder_of}
 use Rattle.b67_stands.specs.Stands.{Stands}
 use Rattle.b67_stands.proofs.Places.{held_able}
-use Rattle.b67_stands.specs.Shared.{Shared, take, land, act, leave, IsFree, Seated, BySeats}
+use Rattle.b67_stands.specs.Shared.{Shared, take, land, act, leave, IsFree, with_acts}
 use Rattle.b67_plant.specs.declared.taking.Taken.{Taken}
 use Rattle.b67_plant.specs.declared.taking.Taken.TheVariants as taken
 use Rattle.b67_plant.specs.declared.taking.PlantLanding.{PlantLanding}
 use Rattle.b67_plant.specs.declared.taking.PlantLanding.TheVariants as landings
 use Rattle.b67_plant.specs.Parcels.{Stretch}
-use Rattle.b67_plant.specs.Calls.{Takes, LandsOrStays, Acts, LeavesOr}
+use Rattle.b67_plant.specs.Calls.{Takes, LandsOrStays, Acts, acts_in, LeavesOr}
+use Rattle.b67_plant.proofs.Made.{no_acts, refused_none, action_counts}
 
 -- ---- the calls
 
-module _ (code : Code) (budget : ℕ) (pick : Pick) (processors : ℕ) (old new : Running) (shared : Shared code budget pick processors old) where
-  pub as_it_was : new ≡ old → Shared code budget pick processors new
-  as_it_was same = subst (Shared code budget pick processors) (sym same) shared
+module _ (code : Code) (budget : ℕ) (pick : Pick) (processors : ℕ) (acts : List ℕ) (old new : Running) (shared : Shared code budget pick processors acts old) where
+  pub as_it_was : new ≡ old → Shared code budget pick processors acts new
+  as_it_was same = subst (Shared code budget pick processors acts) (sym same) shared
 
-  pub taken_on : (me : ℕ) (answer : Taken) (p : ℕ) → 1 ≤ me → me ≤ processors → IsFree me old → Takes pick budget me old answer p new → Shared code budget pick processors new
+  pub taken_on : (me : ℕ) (answer : Taken) (p : ℕ) → 1 ≤ me → me ≤ processors → IsFree me old → Takes pick budget me old answer p new
+      → Shared code budget pick processors acts new
   taken_on me taken.Work p one most free t = take me p shared t.0 one most free t.1
   taken_on me taken.Idle p one most free t = as_it_was t.2
   taken_on me taken.Over p one most free t = as_it_was t.1
   taken_on me taken.Lacked p one most free t = as_it_was t.1
 
-  pub landed_on : (me : ℕ) (s : Stretch) (answer : PlantLanding) → 1 ≤ me → LandsOrStays budget me s old answer new → Shared code budget pick processors new
+  pub landed_on : (me : ℕ) (s : Stretch) (answer : PlantLanding) → 1 ≤ me → LandsOrStays budget me s old answer new → Shared code budget pick processors acts new
   landed_on me s landings.Landed one t = land s.process s.count shared t.0.0 (omega (arith, t.0.1, one)) t.1.lands
   landed_on me s (landings.Stale place kept given) one t = as_it_was t.2
   landed_on me s landings.NotOut one t = as_it_was t.2
   landed_on me s landings.Over one t = as_it_was t.1
   landed_on me s landings.Lacked one t = as_it_was t.1
 
-  pub acted_on : (me p : ℕ) (answer : Acted) → 1 ≤ me → Acts budget me p old answer new → Shared code budget pick processors new
-  acted_on me p answer one (inl t) = as_it_was t.1
-  acted_on me p answer one (inr (inl (going, other, same, e))) = as_it_was same
-  acted_on me p answer one (inr (inr (going, mine, (performed, acts, e)))) = act p performed shared going (omega (arith, mine, one)) acts
+  -- no act is counted, and all is as it was
+  none_made : (me n : ℕ) → n ≡ 0 → new ≡ old → Shared code budget pick processors (with_acts acts me n) new
+  none_made me n none same =
+      subst (λ (xs : List ℕ). Shared code budget pick processors xs new) (sym (no_acts acts me) ∙ ap (with_acts acts me) (sym none)) (as_it_was same)
 
-  pub left_on : (has_left : Bool) → answer_of budget old ≢ None → LeavesOr has_left old new → Shared code budget pick processors new
+  pub acted_on : (me p : ℕ) (answer : Acted) → 1 ≤ me → me ≤ processors → Acts budget me p old answer new
+      → Shared code budget pick processors (with_acts acts me (acts_in answer)) new
+  acted_on me p answer one most (inl t) = none_made me (acts_in answer) (refused_none (answer_of budget old) answer t.0) t.1
+  acted_on me p answer one most (inr (inl (going, other, same, e))) = none_made me (acts_in answer) (ap acts_in e) same
+  acted_on me p answer one most (inr (inr (going, mine, (performed, made, e)))) =
+      subst (λ (n : ℕ). Shared code budget pick processors (with_acts acts me n) new) (sym (ap acts_in e ∙ action_counts performed.done))
+      (act me p performed shared going one most mine made)
+
+  pub left_on : (has_left : Bool) → answer_of budget old ≢ None → LeavesOr has_left old new → Shared code budget pick processors acts new
   left_on true ended t = leave shared ended t
   left_on false ended t = as_it_was t
 
@@ -70,26 +75,3 @@ pub nobody : (code : Code) (budget : ℕ) (s : Running) (me : ℕ) → Stands co
 nobody code budget s me stands going one none zero e = omega (arith, e, one)
 nobody code budget s me stands going one none (suc k) e =
     none (suc k) (omega arith) (started_out code budget s stands going (suc k) (omega (arith, e, one))) e
-
--- ---- the seats
-
-module _ {X : Type 0} (made left : X → ℕ) (xs : List X) where
-  abbrev seat_of : X → Seated
-  seat_of x = record { acts = made x; leaves = left x }
-
-  acts_are : map (λ (seat : Seated). seat.acts) (map seat_of xs) ≡ map made xs
-  acts_are = map-map (λ (seat : Seated). seat.acts) seat_of xs
-
-  leaves_are : map (λ (seat : Seated). seat.leaves) (map seat_of xs) ≡ map left xs
-  leaves_are = map-map (λ (seat : Seated). seat.leaves) seat_of xs
-
-  pub seated : (processors : ℕ) (s : Running) (acts : List ℕ) → length xs ≡ processors → acts ≡ map made xs → All (λ x. 0 < left x) xs → sum_by made xs ≡ s.acts
-      → sum_by left xs ≡ s.leaves → BySeats processors s acts
-  seated processors s acts each are all acts_book leaves_book = record {
-    seats = map seat_of xs;
-    each = length-map xs seat_of ∙ each;
-    acts_are = are ∙ sym acts_are;
-    left = All-map (λ (seat : Seated). 1 ≤ seat.leaves) seat_of xs (λ k d inside. omega (arith, all k d inside));
-    acts_book = sym (sum-map (λ (seat : Seated). seat.acts) (map seat_of xs)) ∙ ap sum acts_are ∙ sum-map made xs ∙ acts_book;
-    leaves_book = sym (sum-map (λ (seat : Seated). seat.leaves) (map seat_of xs)) ∙ ap sum leaves_are ∙ sum-map left xs ∙ leaves_book;
-  }

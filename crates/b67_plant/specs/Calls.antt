@@ -102,6 +102,14 @@ answer_to (Some dones.Ended) = acted.Went
 answer_to (Some (dones.Fault kind)) = acted.Went
 answer_to _ = acted.Over
 
+-- how many acts an answer says: one where an action was performed
+abbrev pub acts_in : Acted → ℕ
+acts_in acted.Went = 1
+acts_in acted.Waits = 1
+acts_in acted.NotOut = 0
+acts_in acted.Over = 0
+acts_in acted.NoMemory = 0
+
 -- what is answered where the run has ended
 abbrev pub refusal : Option Replayed → Option Acted
 refusal None = None

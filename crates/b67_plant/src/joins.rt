@@ -4,10 +4,10 @@ ghost use Rattle.std.specs.List.{sum_by};
 ghost use Rattle.std.specs.Thread.{IsSync};
 ghost use Rattle.b67_stands.specs.Running.{answer_of};
 ghost use Rattle.b67_stands.specs.Calls.{IsFirst};
-ghost use Rattle.b67_stands.specs.Shared.{Shared};
 ghost use Rattle.b67_stands.specs.Stands.{Stands};
+ghost use Rattle.b67_words.specs.declared.TheConstants.{MOST_BUDGET};
 
-use crate::{Named, Plant, Post, Seat, SharedPlant};
+use crate::{Floor, Named, Plant, Post, Seat, SharedPlant};
 use b67_list::discard;
 use b67_processors::{Gate, serve};
 use b67_ready::Rule;
@@ -93,7 +93,7 @@ fn serve_post<
     let _acts = serve(rt, &shop, gate, me, parcel, seat);
 }
 
-/// The run by all processors, one for each post, to its end.
+/// The run by all processors, one for each post, to its end. What they shared comes back.
 pub fn run_all<
     N: Named + Send + Sync,
     L: Ledger + Send + Sync,
@@ -107,12 +107,12 @@ pub fn run_all<
     plant: Plant<N, L, C, P>,
     code: Code,
     posts: &mut [Post<N, L>],
-) -> Plant<N, L, C, P>
+) -> Floor<N, L, C, P>
     requires code { code ≡ N.code }
     requires processors { (length posts.old ≡ N.processors) × (length posts.old < 9) }
+    requires most { N.budget ≤ MOST_BUDGET }
     requires first { IsFirst N.code plant }
     ensures stands { Stands N.code N.budget result }
-    ensures shared { Shared N.code N.budget N.pick N.processors result }
     ensures posts { length posts.new ≡ length posts.old }
     ensures left { All (λ post. 0 < post.seat.left) posts.new }
 {
@@ -128,7 +128,7 @@ pub fn run_all<
             ensures { post.new.seat.left ≡ post.old.seat.left + 1 }
         { serve_post(rt, shared, gate, i, count, post) },
     );
-    let plant = shop.into_plant();
-    let _answer = plant.answer();
-    plant
+    let floor = shop.into_floor();
+    let _answer = floor.plant().answer();
+    floor
 }

@@ -1,7 +1,7 @@
 // What a processor is answered after an action.
 ghost use Rattle.std.specs.Prelude.{◌≡◌};
 ghost use Rattle.b67_stands.specs.Calls.{is_action};
-ghost use Rattle.b67_plant.specs.Calls.{lacks_in, refusal, answer_to};
+ghost use Rattle.b67_plant.specs.Calls.{lacks_in, refusal, answer_to, acts_in};
 
 use b67_action::Done;
 use b67_machine::Replayed;
@@ -35,6 +35,16 @@ pub fn answer_to(done: Option<Done>) -> Acted
         Some(Done::Went | Done::Ended | Done::Fault(_)) => Acted::Went,
         Some(Done::Interrupt(_) | Done::StackLimit) => Acted::Over,
         None => Acted::Over,
+    }
+}
+
+/// How many acts an answer says: one where an action was performed.
+pub fn acts_in(acted: Acted) -> u64
+    ensures { result ≡ acts_in acted }
+{
+    match acted {
+        Acted::Went | Acted::Waits => 1,
+        Acted::NotOut | Acted::Over | Acted::NoMemory => 0,
     }
 }
 

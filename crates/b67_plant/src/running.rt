@@ -1,5 +1,5 @@
 // Whole runs, from a machine that has performed nothing to the end.
-ghost use Rattle.std.specs.Prelude.{◌≡◌, ◌≢◌, ℕ, ◌<◌, ◌≤◌, ◌^◌, [], All, IfOk, OnErr, Some, None, length, map, sum, vec_capacity};
+ghost use Rattle.std.specs.Prelude.{◌≡◌, ◌≢◌, ℕ, ◌<◌, ◌≤◌, ◌^◌, [], All, IfOk, OnErr, Some, None, length, sum, vec_capacity};
 ghost use Rattle.b67_ready.specs.Orders.{place_of};
 ghost use Rattle.b67_schedule.specs.Schedules.{entries};
 ghost use Rattle.b67_segment.specs.declared.TheConstants.{MOST_SEGMENT_WORDS};
@@ -131,14 +131,14 @@ pub fn run_by_caller<C: Core>(
 // ---- by processors
 
 // How many acts each processor made, in their order.
-fn note_acts<N: Named, L: Ledger>(counts: &mut Vec<u64>, posts: &[Post<N, L>])
+fn note_acts(counts: &mut Vec<u64>, made: &[u64])
     requires none { counts.old.items ≡ [] }
-    requires room { length posts.now ≤ vec_capacity counts.old }
-    ensures each { counts.new.items ≡ map (λ post. post.seat.count) posts.now }
+    requires room { length made.now ≤ vec_capacity counts.old }
+    ensures each { counts.new.items ≡ made.now }
     ensures numbers { All (λ count. count < 2 ^ 64) counts.new.items }
 {
-    'posts: for post in posts {
-        counts.push(post.seat.count()).unwrap();
+    'processors: for acts in made {
+        counts.push(*acts).unwrap();
     }
 }
 
@@ -185,14 +185,15 @@ fn run_named<
     let plant = Plant::<N, L, C, P>::new(
         alloc, machine, rule, budget, processors, acts, leaves, &mut posts,
     )?;
-    let mut plant = run_all(rt, gate, plant, named, posts.as_mut_slice());
-    note_acts(counts, posts.as_slice());
+    let floor = run_all(rt, gate, plant, named, posts.as_mut_slice());
+    let (mut plant, made) = floor.into_parts();
+    note_acts(counts, &made[..processors as usize]);
     gather(&mut plant, posts);
     Ok(left_by(plant))
 }
 
 /// The run of a machine that has performed nothing, by so many processors that share it, under a rule and a budget. How many acts each
-/// processor made is noted in their order, as their seats say, and none where memory lacks.
+/// processor made is noted in their order, as it was counted under the lock, and none where memory lacks.
 pub fn run_by_processors<C: Core + Send, G: Gate + Sync, R: Threads + Wait + Sync>(
     rt: &R,
     alloc: Global,

@@ -3,10 +3,11 @@
 // Under the lock lie landing, action and the copy of the process that is taken next: an entry holds it once, from its landing until the next
 // process is taken. Where nobody is ready a processor waits, and takes the lock once more. A parcel is worked outside, and so it begins and
 // ends there.
-ghost use Rattle.std.specs.Prelude.{◌≡◌, ◌≢◌, ◌+◌, ◌<◌, ◌≤◌, ◌^◌, true, false, Some};
+ghost use Rattle.std.specs.Prelude.{◌≡◌, ◌≢◌, ℕ, ◌+◌, ◌<◌, ◌≤◌, ◌^◌, List, replicate, true, false, Some};
 ghost use Rattle.std.specs.Sync.Mutex.{mutex_guard_value};
 ghost use Rattle.b67_processors.specs.Acts.{IsActed};
 ghost use Rattle.b67_stands.specs.Shared.{Shared};
+ghost use Rattle.b67_words.specs.declared.TheConstants.{MOST_BUDGET, MOST_PROCESSORS};
 ghost use Rattle.b67_plant.specs.Calls.{HasLanded};
 ghost use Rattle.b67_plant.specs.Parcels.{IsWorked};
 
@@ -102,28 +103,41 @@ fn take_next<N: Named, L: Ledger, C: Core, P: Rule>(
 }
 
 impl<N: Named, L: Ledger, C: Core, P: Rule> SharedPlant<N, L, C, P> {
-    /// The plant goes behind the lock, and the code stays beside it. It is one before its first take, or one that was shared before.
+    /// The plant goes behind the lock, and the code stays beside it. Nobody has made an act.
     pub fn new(plant: Plant<N, L, C, P>, code: Code) -> SharedPlant<N, L, C, P>
         requires code { code ≡ N.code }
-        requires shared { Shared N.code N.budget N.pick N.processors plant }
+        requires shared { Shared N.code N.budget N.pick N.processors (replicate N.processors 0) plant }
+        requires limits { (N.processors ≤ MOST_PROCESSORS) × (N.budget ≤ MOST_BUDGET) }
+    {
+        SharedPlant::of(Floor::new(plant), code)
+    }
+
+    /// What was shared before goes behind the lock.
+    pub fn of(floor: Floor<N, L, C, P>, code: Code) -> SharedPlant<N, L, C, P>
+        requires { code ≡ N.code }
     {
         SharedPlant {
-            floor: Mutex::new(Floor::new(plant)),
+            floor: Mutex::new(floor),
             moved: Condvar::new(),
             code,
         }
     }
 
-    /// The plant comes out of the lock.
-    pub fn into_plant(self) -> Plant<N, L, C, P>
-        ensures { Shared N.code N.budget N.pick N.processors result }
-    {
+    /// What is shared comes out of the lock.
+    pub fn into_floor(self) -> Floor<N, L, C, P> {
         let SharedPlant {
             floor,
             moved: _moved,
             code: _code,
         } = self;
-        floor.into_inner().into_plant()
+        floor.into_inner()
+    }
+
+    /// The plant comes out of the lock.
+    pub fn into_plant(self) -> Plant<N, L, C, P>
+        ensures { (acts : List ℕ) × Shared N.code N.budget N.pick N.processors acts result }
+    {
+        self.into_floor().into_parts().0
     }
 
     // Sees to it that a process is taken ahead: waits while nothing is ready, and leaves at the end.

@@ -159,6 +159,7 @@ impl<N: Named, L: Ledger, C: Core, P: Rule> Plant<N, L, C, P> {
         ensures count { IsActed result seat.old.count seat.new.count }
         ensures fits { seat.new.count < 2 ^ 64 }
         ensures leaves { seat.new.left ≡ seat.old.left }
+        ensures stands { Stands N.code N.budget self.old }
     {
         let _count = seat.count;
         if let Some(refused) = refusal(self.answer()) {
