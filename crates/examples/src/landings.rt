@@ -117,7 +117,8 @@ fn push_shared<N: Named + Send + Sync, L: Ledger + Send + Sync, R: Threads + Wai
     post: &mut Post<N, L>,
 )
     requires named { code ≡ N.code }
-    requires processors { 1 ≤ N.processors }
+    requires processors { (1 ≤ N.processors) × (N.processors ≤ 8) }
+    requires budget { N.budget ≤ 4194304 }
     requires first { IsFirst N.code plant }
 {
     let shop = SharedPlant::new(plant, code);
@@ -140,7 +141,8 @@ fn push_either<N: Named + Send + Sync, L: Ledger + Send + Sync, R: Threads + Wai
     second: &mut Post<N, L>,
 )
     requires named { code ≡ N.code }
-    requires processors { 1 ≤ N.processors }
+    requires processors { (1 ≤ N.processors) × (N.processors ≤ 8) }
+    requires budget { N.budget ≤ 4194304 }
     requires first { IsFirst N.code plant }
 {
     if is_shared {
