@@ -1,5 +1,5 @@
 -- The state of an event, and how it can change.
-use Rattle.std.specs.Prelude.{ℕ, Bool, true, false, List, [], ◌∷◌, ◌++◌, drop}
+use Rattle.std.specs.Prelude.{ℕ, ◌==◌, Bool, true, false, not, List, [], ◌∷◌, ◌++◌, drop, filter}
 
 -- whether it has happened, whether it is available, and the processes that wait for it to happen and that wait to procure it, in order of
 -- arrival
@@ -17,6 +17,10 @@ fresh_state = record { happened = false; available = true; waiters = []; procure
 abbrev pub caused : EventState → EventState
 caused e = record e { happened = true; waiters = [] }
 
+-- it has not happened, and nobody waits for it any more
+abbrev pub let_go : EventState → EventState
+let_go e = record e { happened = false; waiters = [] }
+
 -- it has not happened; who was released stays released
 abbrev pub cleared : EventState → EventState
 cleared e = record e { happened = false }
@@ -24,6 +28,10 @@ cleared e = record e { happened = false }
 -- a process joins those who wait for it to happen, as the last
 abbrev pub joined : ℕ → EventState → EventState
 joined process e = record e { waiters = e.waiters ++ process ∷ [] }
+
+-- a process does not wait for it to happen any more
+abbrev pub left_by : ℕ → EventState → EventState
+left_by process e = record e { waiters = filter (λ p. not (process == p)) e.waiters }
 
 -- it is taken
 abbrev pub taken : EventState → EventState

@@ -1,7 +1,7 @@
 -- The byte of each letter.
 use Rattle.std.specs.Prelude.{ℕ}
 use Rattle.b67_deeds.specs.declared.Letter.{Letter}
-use Rattle.b67_deeds.specs.declared.Letter.TheVariants.{Read, Index, ElementRead, Resolve, Store, ElementStore, Pass, Enter, Leave, MakeArrays, MakeEvent, Select, Turn, GoTo, Line, Start, End, Fault, Wait, Cause, Reset, Happened, Procure, Liberate}
+use Rattle.b67_deeds.specs.declared.Letter.TheVariants.{Read, Index, ElementRead, Resolve, Store, ElementStore, Pass, Enter, Leave, MakeArrays, MakeEvent, Select, Turn, GoTo, Line, Start, End, Fault, Wait, Cause, Reset, Happened, Procure, Liberate, WaitAny, Woke, CauseAndReset, Available, Fix}
 
 abbrev pub byte_of : Letter → ℕ
 byte_of Read = 82
@@ -28,3 +28,8 @@ byte_of Reset = 114
 byte_of Happened = 104
 byte_of Procure = 112
 byte_of Liberate = 108
+byte_of WaitAny = 97
+byte_of Woke = 107
+byte_of CauseAndReset = 100
+byte_of Available = 118
+byte_of Fix = 102

@@ -60,6 +60,16 @@ pub enum Letter {
     Procure = 112,
     /// `l`: gives such an event to the next process.
     Liberate = 108,
+    /// `a`: goes on by the first of several events that has happened, or waits for all of them.
+    WaitAny = 97,
+    /// `k`: goes on by the event that released it, after a wait for several.
+    Woke = 107,
+    /// `d`: releases who waits for an event, which has not happened then.
+    CauseAndReset = 100,
+    /// `v`: tells whether an event is available.
+    Available = 118,
+    /// `f`: takes an event for this process only, if it can, and tells whether it could not.
+    Fix = 102,
 }
 
 impl Letter {
@@ -76,6 +86,8 @@ impl Letter {
 pub enum EventAct {
     /// The event happens, and all who wait for it are released.
     Cause,
+    /// All who wait for the event are released, and it has not happened.
+    CauseAndReset,
     /// The event has not happened.
     Reset,
     /// Goes on where the event has happened, else waits for it.
@@ -91,6 +103,12 @@ pub enum EventAct {
 pub enum EventTest {
     /// Whether an event has happened.
     Happened,
+    /// Whether an event is available.
+    Available,
+    /// Whether an event is not available; where it is, it is taken.
+    Fix,
+    /// Which of several events has happened, counted from 1; where none has, the process waits for all of them.
+    WaitAny,
 }
 
 /// Law: no two actions have one letter, and each statement or test of events is an action of its own.

@@ -2,7 +2,7 @@
 #![tactic(auto)]
 
 ghost use Rattle.std.specs.Prelude.{◌≡◌};
-ghost use Rattle.b67_limits.specs.declared.TheConstants.{OUTER_LEVEL, MOST_LEVEL, MOST_BLOCK_CELLS, MOST_FRAME_CELLS, MOST_PROCEDURES, MOST_ELEMENTS, MOST_PROCESSES};
+ghost use Rattle.b67_limits.specs.declared.TheConstants.{OUTER_LEVEL, MOST_LEVEL, MOST_BLOCK_CELLS, MOST_FRAME_CELLS, MOST_PROCEDURES, MOST_ELEMENTS, MOST_PROCESSES, MOST_EVENTS};
 
 /// The level of the outer block: the program's own, under which level 0 is the system's.
 pub const OUTER_LEVEL: u8 = 2;
@@ -26,6 +26,9 @@ pub const MOST_ELEMENTS: u32 = 1_048_576;
 /// The most processes of a run, the first among them, by this project's profile.
 pub const MOST_PROCESSES: u32 = 256;
 
+/// The most events for which a process waits at once, by this project's profile.
+pub const MOST_EVENTS: u8 = 8;
+
 /// Law: the numbers of this crate, which the language and the machine are defined with. The deepest level, the cells of a frame and the procedures
 /// are as many as five, nine and ten bits of a control word have; the level of the outer block is 2, above the system's; the others are this
 /// project's profile. docs/LANGUAGE.md and docs/MACHINE.md have them.
@@ -37,4 +40,5 @@ pub fn numbers_are_told()
     ensures procedures { MOST_PROCEDURES ≡ 1023 }
     ensures elements { MOST_ELEMENTS ≡ 1048576 }
     ensures processes { MOST_PROCESSES ≡ 256 }
+    ensures events { MOST_EVENTS ≡ 8 }
 {}
