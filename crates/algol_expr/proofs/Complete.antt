@@ -1,5 +1,5 @@
 -- What the grammar has is read: reading a part goes over its tokens and makes its tree, where what follows ends the part.
-use Rattle.std.proofs.Common.{◌≡◌, ◌+◌, ℕ, true, false, List, [], ◌∷◌, refl, ap, ◌∙◌}
+use Rattle.std.proofs.Common.{◌≡◌, ◌+◌, ℕ, true, false, List, [], ◌∷◌, ◌++◌, codes, append_assoc, refl, ap, ◌∙◌}
 use Rattle.algol_tree.specs.declared.token.Token.{Token}
 use Rattle.algol_tree.specs.declared.token.TokenKind.TheVariants as kinds
 use Rattle.algol_tree.specs.declared.token.Reserved.TheVariants as reserved
@@ -11,9 +11,9 @@ use Rattle.algol_tree.specs.Plain as trees
 use Rattle.algol_tree.specs.Plain.{PExpr, PExprs, none, more, subscripted}
 use Rattle.algol_tree.specs.Tokens.{IsSymbol, IsName, is_word, is_symbol}
 use Rattle.algol_tree.specs.Operators.{Part, expr, level, not_part, rel, primary, operand}
-use Rattle.algol_tree.specs.Expressions.{Opens, IsEvent, IsPart, IsMore, IsExprs}
-use Rattle.algol_tree.specs.Due.{Value, one, many, put, Due, make, symbol, part, more_of, relation, behind_name, exprs_more, opening, event, behind_event, event_named, plain, nests, takes, skips, refuses, either, optional}
-use Rattle.algol_tree.specs.DueExpr.{behind, all_of, listed, turn_primary, turn_sum, turn_not, turn_expr, on_with, related, turn_behind_name, turn_event, turn_behind_event}
+use Rattle.algol_tree.specs.Expressions.{Opens, IsEvent, IsEvents, IsPart, IsMore, IsExprs}
+use Rattle.algol_tree.specs.Due.{Value, one, many, put, Due, make, symbol, spelled, part, more_of, relation, behind_name, exprs_more, opening, event, events_more, behind_event, event_named, event_names, plain, nests, takes, makes, skips, refuses, either, optional}
+use Rattle.algol_tree.specs.DueExpr.{behind, all_of, listed, turn_primary, turn_sum, turn_not, turn_expr, on_with, related, turn_behind_name, turn_event, turn_behind_event, turn_events_more, event_added}
 use Rattle.algol_tree.specs.Reading.{read}
 use Rattle.algol_tree.specs.declared.level.Level.{Level}
 use Rattle.algol_tree.specs.declared.level.Level.TheVariants as levels
@@ -22,7 +22,7 @@ use Rattle.algol_expr.proofs.Reading.{Leads}
 use Rattle.algol_expr.proofs.Turns.{takes_step, skips_step, skips_end, makes_step, makes_end, make_step, opens_step, word_step, symbol_step, spelled_step, symbol_is}
 use Rattle.algol_tree.specs.Ends.{ends, Ends}
 use Rattle.algol_expr.proofs.Ends.{operator_ends, relop_ends, operand_ends, level_over, rel_ends, primary_over}
-use Rattle.algol_expr.proofs.Parts.{if_refuses, not_refuses, tested, expr_at, not_at, rel_at, level_at, signless, none_empty, more_over, more_end}
+use Rattle.algol_expr.proofs.Parts.{if_refuses, not_refuses, test_turn, tested, expr_at, not_at, rel_at, level_at, signless, none_empty, more_over, more_end}
 
 -- parts that are another part only, or begin with it
 
@@ -101,19 +101,40 @@ event_step free t n ts due vs k =
     takes_step free t ts event (behind_event (record { name = n.name; spot = t.spot }) ∷ []) due vs (ap (turn_event t.spot) k.name)
     ∙ ap (λ spot. read free ts (behind_event (record { name = n.name; spot = spot }) ∷ due) vs) k.place
 
--- an event and the parenthesis that closes it
-pub event_read : (free : ℕ) (from : List Token) (e : EventName) (v : Token) (rest : List Token) → IsEvent from e (v ∷ rest) → IsSymbol symbols.CloseRound v →
-    (due : List Due) (vs : List Value) → read free from (event ∷ symbol symbols.CloseRound ∷ due) vs ≡ read free rest due (event_named e ∷ vs)
-event_read free _ _ v rest (grammar.declared t n _ k) c due vs =
+-- an event before a symbol that is no period
+event_to : (free : ℕ) (from : List Token) (e : EventName) (v : Token) (rest : List Token) (s : Symbol) → IsEvent from e (v ∷ rest) → IsSymbol s v →
+    is_symbol symbols.Period (kinds.Symbol s) ≡ false → (due : List Due) (vs : List Value) → read free from (event ∷ due) vs ≡ read free (v ∷ rest) due (event_named e ∷ vs)
+event_to free _ _ v rest s (grammar.declared t n _ k) c p due vs =
     event_step free t n (v ∷ rest) _ vs k
-    ∙ makes_step free v rest (behind_event n) _ vs _ (ap (turn_behind_event n) c)
-    ∙ symbol_step free v rest symbols.CloseRound due _ c
-event_read free _ _ v rest (grammar.of_task t u w n _ k p q) c due vs =
+    ∙ makes_step free v rest (behind_event n) _ vs _ (ap (turn_behind_event n) c
+    ∙ ap (λ b. either b (takes plain (spelled (codes "EXCEPTIONEVENT") ∷ make (put (event_named (record { name = n; task = true }))) ∷ []))
+    (makes (put (event_named (record { name = n; task = false }))))) p)
+event_to free _ _ v rest s (grammar.of_task t u w n _ k p q) c _ due vs =
     event_step free t n (u ∷ w ∷ v ∷ rest) _ vs k
     ∙ takes_step free u (w ∷ v ∷ rest) (behind_event n) _ _ vs (ap (turn_behind_event n) p)
     ∙ spelled_step free w (v ∷ rest) _ _ vs q
     ∙ make_step free (v ∷ rest) _ _ vs
+
+-- an event and the parenthesis that closes it
+pub event_read : (free : ℕ) (from : List Token) (e : EventName) (v : Token) (rest : List Token) → IsEvent from e (v ∷ rest) → IsSymbol symbols.CloseRound v →
+    (due : List Due) (vs : List Value) → read free from (event ∷ symbol symbols.CloseRound ∷ due) vs ≡ read free rest due (event_named e ∷ vs)
+event_read free from e v rest x c due vs = event_to free from e v rest symbols.CloseRound x c refl _ vs ∙ symbol_step free v rest symbols.CloseRound due _ c
+
+-- events after those of acc, and the parenthesis that closes them
+events_read : (free : ℕ) (from : List Token) (es : List EventName) (v : Token) (rest : List Token) (acc : List EventName) (due : List Due) (vs : List Value) →
+    IsEvents from es (v ∷ rest) → IsSymbol symbols.CloseRound v →
+    read free from (event ∷ make event_added ∷ events_more ∷ symbol symbols.CloseRound ∷ due) (event_names acc ∷ vs) ≡ read free rest due (event_names (acc ++ es) ∷ vs)
+events_read free _ _ v rest acc due vs (grammar.last e from _ x) c =
+    event_to free from e v rest symbols.CloseRound x c refl _ _
+    ∙ make_step free (v ∷ rest) event_added _ _
+    ∙ skips_step free v rest events_more _ _ (ap turn_events_more c)
     ∙ symbol_step free v rest symbols.CloseRound due _ c
+events_read free _ _ v rest acc due vs (grammar.comma t e es from after _ x k y) c =
+    event_to free from e t after symbols.Comma x k refl _ _
+    ∙ make_step free (t ∷ after) event_added _ _
+    ∙ takes_step free t after events_more _ _ _ (ap turn_events_more k)
+    ∙ events_read free after es v rest (acc ++ e ∷ []) due vs y c
+    ∙ ap (λ es. read free rest due (event_names es ∷ vs)) (append_assoc acc (e ∷ []) es)
 
 mutual
   pub part_read : (free : ℕ) (p : Part) (d : ℕ) (from : List Token) (e : PExpr) (rest : List Token) → IsPart free p d from e rest → Ends p rest →
@@ -175,10 +196,16 @@ mutual
       ∙ make_step free from _ _ vs
       ∙ exprs_read free (d + 1) from es v rest symbols.CloseRound none _ vs x c refl refl
       ∙ make_step free rest _ due _
-  part_read free _ _ _ _ rest (grammar.asked t u v d e from _ w s o x c) end = λ due vs.
-      takes_step free t (u ∷ from) (part primary d) _ due vs (ap (turn_primary d t.spot) w)
+  part_read free _ _ _ _ rest (grammar.asked t u v test d e from _ w s o x c) end = λ due vs.
+      takes_step free t (u ∷ from) (part primary d) _ due vs (test_turn d t.spot t.kind test w)
       ∙ opens_step free d u from (opening symbols.OpenRound d) _ _ vs (ap (λ b. either b (takes (nests d) []) refuses) (symbol_is u symbols.OpenRound s)) o
       ∙ event_read free from e v rest x c _ vs
+      ∙ make_step free rest _ due _
+  part_read free _ _ _ _ rest (grammar.waited t u v d es from _ w s o x c) end = λ due vs.
+      takes_step free t (u ∷ from) (part primary d) _ due vs (ap (turn_primary d t.spot) w)
+      ∙ opens_step free d u from (opening symbols.OpenRound d) _ _ vs (ap (λ b. either b (takes (nests d) []) refuses) (symbol_is u symbols.OpenRound s)) o
+      ∙ make_step free from _ _ vs
+      ∙ events_read free from es v rest [] _ vs x c
       ∙ make_step free rest _ due _
   part_read free _ _ _ _ rest (grammar.grouped t u d e from _ s o x c) end = λ due vs.
       opens_step free d t from (part primary d) _ due vs (ap (turn_primary d t.spot) s) o

@@ -12,8 +12,8 @@ use Rattle.algol_tree.specs.Plain as trees
 use Rattle.algol_tree.specs.Plain.{none}
 use Rattle.algol_tree.specs.Tokens.{is_symbol}
 use Rattle.algol_tree.specs.Operators.{Part, expr, level, not_part, rel, primary, operator, relop}
-use Rattle.algol_tree.specs.Due.{Value, one, event_named, put, Due, make, word, symbol, spelled, part, more_of, relation, behind_name, exprs_more, opening, event, behind_event, plain, nests, takes, makes, skips, either, optional}
-use Rattle.algol_tree.specs.DueExpr.{listed, element, applied, exprs_in, on_with, related}
+use Rattle.algol_tree.specs.Due.{Value, one, event_named, put, Due, make, word, symbol, spelled, part, more_of, relation, behind_name, exprs_more, opening, event, events_more, behind_event, plain, nests, takes, makes, skips, either, optional}
+use Rattle.algol_tree.specs.DueExpr.{event_added, listed, element, applied, exprs_in, on_with, related}
 use Rattle.algol_tree.specs.Reading.{Count, outside, goes, stops, unless, stepped, step, cut_off, read_end, unjudged, nowhere}
 use Rattle.algol_expr.proofs.Ends.{operator_end}
 use Rattle.algol_expr.proofs.Steps.{strict}
@@ -83,6 +83,8 @@ cut_short (exprs_more d ∷ due) here k vs spot i e =
     test_cut due here spot k vs (is_symbol symbols.Comma k) (part expr d ∷ make listed ∷ exprs_more d ∷ []) e (cut_short due here k vs spot i.1)
 cut_short (opening s d ∷ due) here k vs spot i e = refl
 cut_short (event ∷ due) here k vs spot i e = refl
+cut_short (events_more ∷ due) here k vs spot i e =
+    test_cut due here spot k vs (is_symbol symbols.Comma k) (event ∷ make event_added ∷ events_more ∷ []) e (cut_short due here k vs spot i.1)
 cut_short (behind_event n ∷ due) here k vs spot i e =
     let v = event_named (record { name = n; task = false }) in
     event_cut due here spot k vs (is_symbol symbols.Period k) _ v e (cut_short due here k (v ∷ vs) spot i.1)

@@ -9,7 +9,7 @@ use Rattle.algol_tree.specs.declared.level.Level.TheVariants as levels
 use Rattle.algol_tree.specs.declared.tree.Op.{Op}
 use Rattle.algol_tree.specs.Tokens.{is_word, is_symbol, is_spelled}
 use Rattle.algol_tree.specs.Operators.{Part, expr, level, not_part, rel, primary, operator, relop}
-use Rattle.algol_tree.specs.Due.{Due, make, word, symbol, spelled, part, more_of, relation, behind_name, exprs_more, opening, event, behind_event, plain, nests, Turn, takes, skips, closes, refuses, followed, either, optional}
+use Rattle.algol_tree.specs.Due.{Due, make, word, symbol, spelled, part, more_of, relation, behind_name, exprs_more, opening, event, events_more, behind_event, plain, nests, Turn, takes, skips, closes, refuses, followed, either, optional}
 use Rattle.algol_tree.specs.DueExpr.{is_sign, turn_event, turn_primary, turn_term, turn_sum, turn_rel, turn_not, turn_and, turn_or, turn_imp, turn_eqv, turn_expr, turn_part, on_with, related}
 use Rattle.algol_tree.specs.Reading.{turn}
 
@@ -26,6 +26,7 @@ IsInner (behind_name n d) = Unit {0}
 IsInner (exprs_more d) = Unit {0}
 IsInner (opening s d) = Unit {0}
 IsInner event = Unit {0}
+IsInner events_more = Unit {0}
 IsInner (behind_event n) = Unit {0}
 IsInner s = ⊥
 
@@ -61,6 +62,9 @@ primary_stays d spot (kinds.Number value) = (tt, tt)
 primary_stays d spot (kinds.Word reserved.True) = (tt, tt)
 primary_stays d spot (kinds.Word reserved.False) = (tt, tt)
 primary_stays d spot (kinds.Word reserved.Happened) = (tt, (tt, (tt, (tt, tt))))
+primary_stays d spot (kinds.Word reserved.Available) = (tt, (tt, (tt, (tt, tt))))
+primary_stays d spot (kinds.Word reserved.Fix) = (tt, (tt, (tt, (tt, tt))))
+primary_stays d spot (kinds.Word reserved.Wait) = (tt, (tt, (tt, (tt, (tt, (tt, (tt, tt)))))))
 primary_stays d spot (kinds.Name name) = (tt, tt)
 primary_stays d spot (kinds.Symbol symbols.OpenRound) = (tt, (tt, (tt, tt)))
 primary_stays d spot k = tt
@@ -126,5 +130,6 @@ inner_stays (behind_name n d) spot k i = either_stays (is_symbol symbols.OpenSqu
 inner_stays (exprs_more d) spot k i = either_stays (is_symbol symbols.Comma k) _ _ (tt, (tt, (tt, tt))) tt
 inner_stays (opening s d) spot k i = either_stays (is_symbol s k) (takes (nests d) []) refuses tt tt
 inner_stays event spot k i = event_stays spot k
+inner_stays events_more spot k i = either_stays (is_symbol symbols.Comma k) _ _ (tt, (tt, (tt, tt))) tt
 inner_stays (behind_event n) spot k i = either_stays (is_symbol symbols.Period k) _ _ (tt, (tt, tt)) tt
 inner_stays s spot k i = absurd i

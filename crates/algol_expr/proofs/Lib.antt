@@ -1,6 +1,7 @@
 pub mod Reading
 pub mod Turns
 pub mod Ends
+pub mod Events
 pub mod Parts
 pub mod Complete
 pub mod Inner

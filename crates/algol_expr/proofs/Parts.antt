@@ -1,5 +1,8 @@
 -- How the parts of an expression begin.
-use Rattle.std.proofs.Common.{◌≡◌, ℕ, Bool, true, false, List, [], ◌∷◌, None, refl, ap, ◌∙◌}
+use Rattle.std.proofs.Common.{◌≡◌, ℕ, Bool, true, false, List, [], ◌∷◌, Some, None, refl, ap, ◌∙◌}
+use Rattle.b67_deeds.specs.declared.EventTest.{EventTest}
+use Rattle.b67_deeds.specs.declared.EventTest.TheVariants as test
+use Rattle.algol_tree.specs.Expressions.{test_of}
 use Rattle.algol_tree.specs.declared.token.Spot.{Spot}
 use Rattle.algol_tree.specs.declared.token.Token.{Token}
 use Rattle.algol_tree.specs.declared.token.TokenKind.{TokenKind}
@@ -11,7 +14,7 @@ use Rattle.algol_tree.specs.declared.level.Level.TheVariants as levels
 use Rattle.algol_tree.specs.Tokens.{is_word}
 use Rattle.algol_tree.specs.Operators.{Part, expr, level, not_part, rel, primary, operand, operator}
 use Rattle.algol_tree.specs.Due.{Value, Due, make, part, more_of, relation, plain, nests, takes, skips, refuses, followed, either, optional}
-use Rattle.algol_tree.specs.DueExpr.{is_sign, signs, signed, turn_primary, turn_term, turn_sum, turn_rel, turn_not, turn_and, turn_or, turn_imp, turn_eqv, on_with}
+use Rattle.algol_tree.specs.DueExpr.{is_sign, signs, signed, turn_primary, turn_term, turn_sum, turn_rel, turn_not, turn_and, turn_or, turn_imp, turn_eqv, on_with, of_one}
 use Rattle.algol_tree.specs.Reading.{turn, outside, to, cut_off, reading, read}
 use Rattle.algol_expr.proofs.Reading.{Takes, taken, refused_, followed_takes, either_takes, read-followed, read-at, Leads}
 use Rattle.algol_expr.proofs.Turns.{word_from, refused_none, skips_step, skips_end, read_nothing}
@@ -24,6 +27,9 @@ primary_takes d spot (kinds.Number value) = taken plain _
 primary_takes d spot (kinds.Word reserved.True) = taken plain _
 primary_takes d spot (kinds.Word reserved.False) = taken plain _
 primary_takes d spot (kinds.Word reserved.Happened) = taken plain _
+primary_takes d spot (kinds.Word reserved.Available) = taken plain _
+primary_takes d spot (kinds.Word reserved.Fix) = taken plain _
+primary_takes d spot (kinds.Word reserved.Wait) = taken plain _
 primary_takes d spot (kinds.Name name) = taken plain _
 primary_takes d spot (kinds.Symbol symbols.OpenRound) = taken (nests d) _
 primary_takes d spot k = refused_
@@ -51,6 +57,13 @@ imp_takes d spot k = followed_takes (turn_or d spot k) (more_of levels.Imp d ∷
 
 pub eqv_takes : (d : ℕ) (spot : Spot) (k : TokenKind) → Takes (turn_eqv d spot k)
 eqv_takes d spot k = followed_takes (turn_imp d spot k) (more_of levels.Eqv d ∷ []) (imp_takes d spot k)
+
+-- what is due after a word that asks something of one event
+pub test_turn : (d : ℕ) (spot : Spot) (k : TokenKind) (x : EventTest) → test_of k ≡ Some x → turn_primary d spot k ≡ takes plain (of_one x d spot)
+test_turn d spot (kinds.Word reserved.Happened) x e = let same : test.Happened ≡ x = cc in ap (λ x. takes plain (of_one x d spot)) same
+test_turn d spot (kinds.Word reserved.Available) x e = let same : test.Available ≡ x = cc in ap (λ x. takes plain (of_one x d spot)) same
+test_turn d spot (kinds.Word reserved.Fix) x e = let same : test.Fix ≡ x = cc in ap (λ x. takes plain (of_one x d spot)) same
+test_turn d spot k x e = cc
 
 -- a sign, NOT or IF begins no smaller part
 

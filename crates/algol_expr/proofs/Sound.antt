@@ -1,5 +1,5 @@
 -- What is read is of the grammar: where reading what is due goes over tokens, they are those of what is due.
-use Rattle.std.proofs.Common.{◌≡◌, ◌+◌, ℕ, Bool, true, false, List, [], ◌∷◌, ◌++◌, codes, Option, Some, None, refl, sym, subst, ap, ◌∙◌}
+use Rattle.std.proofs.Common.{◌≡◌, ◌+◌, ℕ, Bool, true, false, List, [], ◌∷◌, ◌++◌, codes, append_assoc, Option, Some, None, refl, sym, subst, ap, ◌∙◌}
 use Rattle.b67_deeds.specs.declared.EventTest.TheVariants as test
 use Rattle.algol_tree.specs.declared.token.Spot.{Spot}
 use Rattle.algol_tree.specs.declared.token.Token.{Token}
@@ -16,9 +16,10 @@ use Rattle.algol_tree.specs.Plain as trees
 use Rattle.algol_tree.specs.Plain.{PExpr, PExprs, none, more}
 use Rattle.algol_tree.specs.Tokens.{IsWord, IsSymbol, IsName, IsSpelled, is_word, is_symbol, is_spelled}
 use Rattle.algol_tree.specs.Operators.{Part, expr, level, not_part, rel, primary, operand, operator, relop}
-use Rattle.algol_tree.specs.Expressions.{Opens, IsEvent, IsPart, IsMore, IsExprs}
-use Rattle.algol_tree.specs.Due.{Value, one, many, event_named, Make, put, Due, make, word, symbol, spelled, part, more_of, relation, behind_name, exprs_more, opening, event, behind_event, plain, nests, label, begun, Turn, takes, makes, skips, refuses, followed, either, optional}
-use Rattle.algol_tree.specs.DueExpr.{is_sign, behind, all_of, sign_of, signed, negated, joined, chosen, listed, element, applied, turn_primary, turn_term, turn_sum, turn_rel, turn_not, turn_and, turn_or, turn_imp, turn_eqv, turn_expr, turn_part, on_with, related, exprs_in, turn_event}
+use Rattle.b67_deeds.specs.declared.EventTest.{EventTest}
+use Rattle.algol_tree.specs.Expressions.{Opens, IsEvent, IsEvents, IsPart, IsMore, IsExprs, test_of}
+use Rattle.algol_tree.specs.Due.{Value, one, many, event_named, event_names, Make, put, Due, make, word, symbol, spelled, part, more_of, relation, behind_name, exprs_more, opening, event, events_more, behind_event, plain, nests, label, begun, Turn, takes, makes, skips, refuses, followed, either, optional}
+use Rattle.algol_tree.specs.DueExpr.{is_sign, behind, all_of, sign_of, signed, negated, joined, chosen, listed, element, applied, turn_primary, turn_term, turn_sum, turn_rel, turn_not, turn_and, turn_or, turn_imp, turn_eqv, turn_expr, turn_part, on_with, related, exprs_in, turn_event, waited, event_added, of_one}
 use Rattle.algol_tree.specs.Reading.{turn}
 use Rattle.algol_tree.specs.declared.level.Level.{Level}
 use Rattle.algol_tree.specs.declared.level.Level.TheVariants as levels
@@ -42,6 +43,9 @@ pub data Makes (free : ℕ) (p : Part) (d : ℕ) (from : List Token) (vs : List 
 
 pub data MakesEvent (from : List Token) (vs : List Value) : List Value → List Token → Type 0 where
   event_is : (e : EventName) (rest : List Token) → IsEvent from e rest → MakesEvent from vs (event_named e ∷ vs) rest
+
+pub data MakesEvents (from : List Token) (acc : List EventName) (vs : List Value) : List Value → List Token → Type 0 where
+  events_are : (es : List EventName) (rest : List Token) → IsEvents from es rest → MakesEvents from acc vs (event_names (acc ++ es) ∷ vs) rest
 
 -- a symbol that opens a level
 pub data IsOpening (free : ℕ) (s : Symbol) (d : ℕ) (vs : List Value) : List Token → List Value → List Token → Type 0 where
@@ -69,6 +73,8 @@ IsDue free (exprs_more d) vs from ws rest = (acc : PExprs) (e : PExpr) (below : 
 IsDue free (spelled name) vs from ws rest = IsOne (IsSpelled name) vs from ws rest
 IsDue free (opening s d) vs from ws rest = IsOpening free s d vs from ws rest
 IsDue free event vs from ws rest = MakesEvent from vs ws rest
+IsDue free events_more vs from ws rest = (acc : List EventName) (e : EventName) (below : List Value) (before : List Token) → vs ≡ event_names (acc ++ e ∷ []) ∷ below →
+    IsEvent before e from → MakesEvents before acc below ws rest
 IsDue free (behind_event n) vs from ws rest = (t : Token) → IsName n t → MakesEvent (t ∷ from) vs ws rest
 IsDue free s vs from ws rest = ⊥
 
@@ -130,15 +136,31 @@ back_list : (free d : ℕ) (vs ws : List Value) (from rest : List Token) (s : Sy
 back_list free d vs ws from rest s m (cons _ _ _ _ _ _ _ _ makes_it (cons _ _ _ _ _ _ _ _ (it e mid x) (cons _ _ _ _ _ _ _ _ makes_it (cons _ _ _ us _ _ after _ f y)))) =
     list_is free (d + 1) s m from vs us ws after rest (f none e vs from refl x) y
 
+-- the tokens of event { "," event } and the parenthesis that closes them
+waits_are : (free d : ℕ) (t u : Token) (from mid rest : List Token) (vs us ws : List Value) → IsWord reserved.Wait t → IsSymbol symbols.OpenRound u → Opens free d (u ∷ from) →
+    MakesEvents from [] vs us mid → IsAll free (symbol symbols.CloseRound ∷ make (waited t.spot) ∷ []) us mid ws rest → Makes free primary d (t ∷ u ∷ from) vs ws rest
+waits_are free d t u from _ _ vs _ _ k s o (events_are es _ x) (cons _ _ _ _ _ _ _ _ (single v rest c) (cons _ _ _ _ _ _ _ _ makes_it (nil _ _))) =
+    it (trees.tested test.WaitAny es t.spot) rest (grammar.waited t u v d es from rest k s o x c)
+
+-- one event in parentheses
+asks_it : (free d : ℕ) (t : Token) (ts : List Token) (x : EventTest) (vs ws : List Value) (rest : List Token) → test_of t.kind ≡ Some x →
+    IsAll free (of_one x d t.spot) vs ts ws rest → Makes free primary d (t ∷ ts) vs ws rest
+asks_it free d t _ test vs _ _ k
+    (cons _ _ _ _ _ _ _ _ (opened u mid s o) (cons _ _ _ _ _ _ _ _ (event_is e _ x) (cons _ _ _ _ _ _ _ _ (single v rest c) (cons _ _ _ _ _ _ _ _ makes_it (nil _ _))))) =
+    it (trees.tested test (e ∷ []) t.spot) rest (grammar.asked t u v test d e mid rest k s o x c)
+
 -- a literal, a name with what may stand after it, or a group
 back_primary : (free d : ℕ) (t : Token) (ts : List Token) (vs ws : List Value) (rest : List Token) (k : TokenKind) → t.kind ≡ k →
     Taken free (turn_primary d t.spot k) t ts vs ws rest → Makes free primary d (t ∷ ts) vs ws rest
 back_primary free d t ts vs _ _ (kinds.Number value) k (cons _ _ _ _ _ _ _ _ makes_it (nil _ _)) = it (trees.number value t.spot) ts (grammar.literal t d value ts k)
 back_primary free d t ts vs _ _ (kinds.Word reserved.True) k (cons _ _ _ _ _ _ _ _ makes_it (nil _ _)) = it (trees.truth true t.spot) ts (grammar.yes t d ts k)
 back_primary free d t ts vs _ _ (kinds.Word reserved.False) k (cons _ _ _ _ _ _ _ _ makes_it (nil _ _)) = it (trees.truth false t.spot) ts (grammar.no_ t d ts k)
-back_primary free d t ts vs _ _ (kinds.Word reserved.Happened) k
-    (cons _ _ _ _ _ _ _ _ (opened u mid s o) (cons _ _ _ _ _ _ _ _ (event_is e _ x) (cons _ _ _ _ _ _ _ _ (single v rest c) (cons _ _ _ _ _ _ _ _ makes_it (nil _ _))))) =
-    it (trees.tested test.Happened (e ∷ []) t.spot) rest (grammar.asked t u v d e mid rest k s o x c)
+back_primary free d t ts vs ws rest (kinds.Word reserved.Happened) k x = asks_it free d t ts test.Happened vs ws rest (ap test_of k) x
+back_primary free d t ts vs ws rest (kinds.Word reserved.Available) k x = asks_it free d t ts test.Available vs ws rest (ap test_of k) x
+back_primary free d t ts vs ws rest (kinds.Word reserved.Fix) k x = asks_it free d t ts test.Fix vs ws rest (ap test_of k) x
+back_primary free d t _ vs ws rest (kinds.Word reserved.Wait) k
+    (cons _ _ _ _ _ _ _ _ (opened u mid s o) (cons _ _ _ _ _ _ _ _ makes_it (cons _ _ _ _ _ _ _ _ (event_is e _ x) (cons _ _ _ _ _ _ _ _ makes_it (cons _ _ _ us _ _ end _ f y))))) =
+    waits_are free d t u mid end rest vs us ws k s o (f [] e vs mid refl x) y
 back_primary free d t ts vs ws rest (kinds.Name name) k (cons _ _ _ _ _ _ _ _ f (nil _ _)) = f t (record { name = k; place = refl })
 back_primary free d t ts vs _ _ (kinds.Symbol symbols.OpenRound) k
     (o, cons _ _ _ _ _ _ _ _ (it e mid x) (cons _ _ _ _ _ _ _ _ (single u rest c) (cons _ _ _ _ _ _ _ _ makes_it (nil _ _)))) =
@@ -297,6 +319,12 @@ leave_exprs free d false vs _ from _ left_out = λ acc e below before is x.
     subst (λ v. MakesList free d before acc below v from) (ap (λ es. many es ∷ below) (sym (behind-all_of acc e)) ∙ sym is)
     (they (more e none) from (grammar.one d e before from x))
 
+pub leave_events : (free : ℕ) (b : Bool) (vs ws : List Value) (from rest : List Token) →
+    Leaves (either b (takes plain (event ∷ make event_added ∷ events_more ∷ [])) skips) vs from ws rest → IsDue free events_more vs from ws rest
+leave_events free true vs ws from rest x = absurd x
+leave_events free false vs _ from _ left_out = λ acc e below before is x.
+    subst (λ v. MakesEvents before acc below v from) (sym is) (events_are (e ∷ []) from (grammar.last e before from x))
+
 pub leave_behind_event : (free : ℕ) (n : Named) (b : Bool) (vs ws : List Value) (from rest : List Token) →
     Leaves (either b (takes plain (spelled (codes "EXCEPTIONEVENT") ∷ make (put (event_named (record { name = n; task = true }))) ∷ []))
     (makes (put (event_named (record { name = n; task = false }))))) vs from ws rest → IsDue free (behind_event n) vs from ws rest
@@ -324,6 +352,7 @@ leave free (behind_name n d) spot k vs ws from rest i x = leave_name free n d (i
 leave free (exprs_more d) spot k vs ws from rest i x = leave_exprs free d (is_symbol symbols.Comma k) vs ws from rest x
 leave free (opening s d) spot k vs ws from rest i x = absurd (leave_opening d (is_symbol s k) vs ws from rest x)
 leave free event spot k vs ws from rest i x = absurd (never_left (turn_event spot k) vs ws from rest (event_takes spot k) x)
+leave free events_more spot k vs ws from rest i x = leave_events free (is_symbol symbols.Comma k) vs ws from rest x
 leave free (behind_event n) spot k vs ws from rest i x = leave_behind_event free n (is_symbol symbols.Period k) vs ws from rest x
 leave free s spot k vs ws from rest i x = absurd i
 
@@ -412,6 +441,18 @@ back_exprs free d true t ts vs ws rest e (cons _ _ _ _ _ _ _ _ (it f mid x) (con
     λ acc last below before is y. exprs_chained free d t acc last before ts below ws rest y (symbol_from t.kind symbols.Comma e)
     (g (behind acc last) f below ts (ap (λ us. listed (one f ∷ us)) is) x)
 
+events_chained : (t : Token) (acc : List EventName) (e : EventName) (before ts : List Token) (below ws : List Value) (rest : List Token) →
+    IsEvent before e (t ∷ ts) → IsSymbol symbols.Comma t → MakesEvents ts (acc ++ e ∷ []) below ws rest → MakesEvents before acc below ws rest
+events_chained t acc e before ts below _ _ x c (events_are es rest y) =
+    subst (λ fs. MakesEvents before acc below (event_names fs ∷ below) rest) (sym (append_assoc acc (e ∷ []) es)) (events_are (e ∷ es) rest (grammar.comma t e es before ts rest x c y))
+
+back_events : (free : ℕ) (b : Bool) (t : Token) (ts : List Token) (vs ws : List Value) (rest : List Token) → is_symbol symbols.Comma t.kind ≡ b →
+    Taken free (either b (takes plain (event ∷ make event_added ∷ events_more ∷ [])) skips) t ts vs ws rest → IsDue free events_more vs (t ∷ ts) ws rest
+back_events free false t ts vs ws rest e x = absurd x
+back_events free true t ts vs ws rest e (cons _ _ _ _ _ _ _ _ (event_is f mid x) (cons _ _ _ _ _ _ _ _ makes_it (cons _ _ _ _ _ _ _ _ g (nil _ _)))) =
+    λ acc last below before is y. events_chained t acc last before ts below ws rest y (symbol_from t.kind symbols.Comma e)
+    (g (acc ++ last ∷ []) f below ts (ap (λ us. event_added (event_named f ∷ us)) is) x)
+
 back_part : (free : ℕ) (p : Part) (d : ℕ) (t : Token) (ts : List Token) (vs ws : List Value) (rest : List Token) →
     Taken free (turn_part p d t.spot t.kind) t ts vs ws rest → Makes free p d (t ∷ ts) vs ws rest
 back_part free expr d t ts vs ws rest x = back_expr free d t ts vs ws rest x
@@ -438,5 +479,6 @@ back free (behind_name n d) t ts vs ws rest i x = back_name free n d (is_symbol 
 back free (exprs_more d) t ts vs ws rest i x = back_exprs free d (is_symbol symbols.Comma t.kind) t ts vs ws rest refl x
 back free (opening s d) t ts vs ws rest i x = back_opening free s d (is_symbol s t.kind) t ts vs ws rest refl x
 back free event t ts vs ws rest i x = back_event free t ts vs ws rest t.kind refl x
+back free events_more t ts vs ws rest i x = back_events free (is_symbol symbols.Comma t.kind) t ts vs ws rest refl x
 back free (behind_event n) t ts vs ws rest i x = back_behind_event free n (is_symbol symbols.Period t.kind) t ts vs ws rest refl x
 back free s t ts vs ws rest i x = absurd i

@@ -1,5 +1,9 @@
 -- The first token of each production, and what is due after it.
 use Rattle.std.proofs.Common.{◌≡◌, ◌≤◌, ◌<◌, ◌+◌, ℕ, Bool, true, false, List, [], ◌∷◌, ◌++◌, Some, None, length, codes as codes_of, refl, sym, subst, ap, ap₂, ◌∙◌}
+use Rattle.b67_deeds.specs.declared.EventTest.{EventTest}
+use Rattle.b67_deeds.specs.declared.EventTest.TheVariants as test
+use Rattle.b67_deeds.specs.Deeds.{tests, is_of_several}
+use Rattle.algol_tree.specs.Expressions.{test_of}
 use Rattle.algol_tree.specs.declared.token.Spot.{Spot}
 use Rattle.algol_tree.specs.declared.token.TokenKind.{TokenKind}
 use Rattle.algol_tree.specs.declared.token.Token.{Token}
@@ -20,9 +24,9 @@ use Rattle.algol_tree.specs.declared.level.Level.TheVariants as levels
 use Rattle.algol_tree.specs.Tokens.{is_word, is_symbol, name_in}
 use Rattle.algol_tree.specs.Operators.{expr, level, not_part, rel, primary, operand, operator, relop}
 use Rattle.algol_tree.specs.Due.{Value, one, many, event_named, put, Due, make, word, symbol, spelled, part, more_of, relation, behind_name, opening, event, behind_event, plain, nests, Turn, takes, makes, skips, refuses, followed, either, optional}
-use Rattle.algol_tree.specs.DueExpr.{is_sign, signs, signed, negated, grouped, joined, chosen, element, applied, literal, turn_primary, turn_term, turn_rel, turn_eqv, on_with, related, list_in, exprs_in, asked, turn_event}
+use Rattle.algol_tree.specs.DueExpr.{is_sign, signs, signed, negated, grouped, joined, chosen, element, applied, literal, turn_primary, turn_term, turn_rel, turn_eqv, on_with, related, list_in, exprs_in, of_one, of_several, turn_event}
 use Rattle.algol_tree.specs.Found.{Fails}
-use Rattle.algol_expr.proofs.Parts.{expr_at, not_at, rel_at, level_at}
+use Rattle.algol_expr.proofs.Parts.{test_turn, expr_at, not_at, rel_at, level_at}
 use Rattle.algol_expr.proofs.Chain.{Reaches, takes_first, opens_first, too_deep, skips_first, puts_first, making, from_tokens, fails_from}
 
 -- what IF makes due, where i levels are open after it
@@ -127,24 +131,37 @@ name_starts d tokens t ts n name is e same = subst (λ x. Reaches (part primary 
     (takes_first t ts (part primary d) (behind_name n d ∷ []) (ap (turn_primary d t.spot) (name_is t.kind name e ∙ ap kinds.Name (sym same.0))
     ∙ ap (λ spot. takes plain (behind_name (record { name = n.name; spot = spot }) d ∷ [])) (sym same.1)))
 
-primary_refuses : (d : ℕ) (spot : Spot) (k : TokenKind) → literal spot k ≡ None → name_in k ≡ None → is_word reserved.Happened k ≡ false → is_symbol symbols.OpenRound k ≡ false →
-    turn_primary d spot k ≡ refuses
-primary_refuses d spot (kinds.Number value) a b h c = cc
-primary_refuses d spot (kinds.Word reserved.True) a b h c = cc
-primary_refuses d spot (kinds.Word reserved.False) a b h c = cc
-primary_refuses d spot (kinds.Word reserved.Happened) a b h c = cc
-primary_refuses d spot (kinds.Name name) a b h c = cc
-primary_refuses d spot (kinds.Symbol symbols.OpenRound) a b h c = cc
-primary_refuses d spot k a b h c = refl
+primary_refuses : (d : ℕ) (spot : Spot) (k : TokenKind) → literal spot k ≡ None → name_in k ≡ None → test_of k ≡ None → is_word reserved.Wait k ≡ false →
+    is_symbol symbols.OpenRound k ≡ false → turn_primary d spot k ≡ refuses
+primary_refuses d spot (kinds.Number value) a b h w c = cc
+primary_refuses d spot (kinds.Word reserved.True) a b h w c = cc
+primary_refuses d spot (kinds.Word reserved.False) a b h w c = cc
+primary_refuses d spot (kinds.Word reserved.Happened) a b h w c = cc
+primary_refuses d spot (kinds.Word reserved.Available) a b h w c = cc
+primary_refuses d spot (kinds.Word reserved.Fix) a b h w c = cc
+primary_refuses d spot (kinds.Word reserved.Wait) a b h w c = cc
+primary_refuses d spot (kinds.Name name) a b h w c = cc
+primary_refuses d spot (kinds.Symbol symbols.OpenRound) a b h w c = cc
+primary_refuses d spot k a b h w c = refl
 
 pub primary_fails : (d : ℕ) (tokens : List Token) (t : Token) (ts : List Token) (left : ℕ) (e : Refusal) → tokens ≡ t ∷ ts → literal t.spot t.kind ≡ None → name_in t.kind ≡ None →
-    is_word reserved.Happened t.kind ≡ false → is_symbol symbols.OpenRound t.kind ≡ false → left ≡ length (t ∷ ts) → e ≡ At t.spot codes.Unexpected → Fails (part primary d ∷ []) [] tokens left e
-primary_fails d tokens t ts left e is a b h c l r = fails_at tokens t ts (part primary d) left e is (primary_refuses d t.spot t.kind a b h c) l r
+    test_of t.kind ≡ None → is_word reserved.Wait t.kind ≡ false → is_symbol symbols.OpenRound t.kind ≡ false → left ≡ length (t ∷ ts) → e ≡ At t.spot codes.Unexpected → Fails (part primary d ∷ []) [] tokens left e
+primary_fails d tokens t ts left e is a b h w c l r = fails_at tokens t ts (part primary d) left e is (primary_refuses d t.spot t.kind a b h w c) l r
 
--- HAPPENED, and what is due after it
-pub happened_starts : (d : ℕ) (t : Token) (ts : List Token) → is_word reserved.Happened t.kind ≡ true →
-    Reaches (part primary d ∷ []) [] (t ∷ ts) (opening symbols.OpenRound d ∷ event ∷ symbol symbols.CloseRound ∷ make (asked t.spot) ∷ []) [] ts
-happened_starts d t ts e = takes_first t ts (part primary d) _ (ap (turn_primary d t.spot) (word_from t.kind reserved.Happened e))
+-- a word that asks something of one event, and what is due after it
+pub asked_starts : (d : ℕ) (t : Token) (ts : List Token) (x : EventTest) → test_of t.kind ≡ Some x → Reaches (part primary d ∷ []) [] (t ∷ ts) (of_one x d t.spot) [] ts
+asked_starts d t ts x e = takes_first t ts (part primary d) (of_one x d t.spot) (test_turn d t.spot t.kind x e)
+
+-- it asks it of one only
+pub asks_one : (k : TokenKind) (x : EventTest) → test_of k ≡ Some x → is_of_several (tests x) ≡ false
+asks_one (kinds.Word reserved.Happened) x e = let same : test.Happened ≡ x = cc in ap (λ x. is_of_several (tests x)) (sym same)
+asks_one (kinds.Word reserved.Available) x e = let same : test.Available ≡ x = cc in ap (λ x. is_of_several (tests x)) (sym same)
+asks_one (kinds.Word reserved.Fix) x e = let same : test.Fix ≡ x = cc in ap (λ x. is_of_several (tests x)) (sym same)
+asks_one k x e = cc
+
+-- WAIT, and what is due after it
+pub waited_starts : (d : ℕ) (t : Token) (ts : List Token) → is_word reserved.Wait t.kind ≡ true → Reaches (part primary d ∷ []) [] (t ∷ ts) (of_several d t.spot) [] ts
+waited_starts d t ts e = takes_first t ts (part primary d) (of_several d t.spot) (ap (turn_primary d t.spot) (word_from t.kind reserved.Wait e))
 
 pub event_starts : (tokens : List Token) (t : Token) (ts : List Token) (n : Named) (name : List ℕ) → tokens ≡ t ∷ ts → name_in t.kind ≡ Some name →
     (n.name ≡ name) × (n.spot ≡ t.spot) → Reaches (event ∷ []) [] tokens (behind_event n ∷ []) [] ts

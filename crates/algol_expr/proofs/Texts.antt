@@ -10,10 +10,10 @@ use Rattle.algol_tree.specs.Plain.{PExpr, none}
 use Rattle.algol_tree.specs.Expressions as grammar
 use Rattle.algol_tree.specs.Operators.{Part, expr, level, not_part, rel, primary, operand}
 use Rattle.algol_tree.specs.Expressions.{IsPart}
-use Rattle.algol_tree.specs.Due.{Value, one, event_named, Due, make, word, symbol, spelled, part, more_of, relation, behind_name, exprs_more, opening, event, behind_event}
+use Rattle.algol_tree.specs.Due.{Value, one, event_named, Due, make, word, symbol, spelled, part, more_of, relation, behind_name, exprs_more, opening, event, events_more, behind_event}
 use Rattle.algol_tree.specs.Reading.{nowhere}
 use Rattle.algol_expr.proofs.Inner.{IsInner, Inners}
-use Rattle.algol_expr.proofs.Sound.{IsDue, IsAll, nil, cons, leave_more, leave_relation, leave_name, leave_exprs, leave_behind_event, single, opened, event_is, it, makes_it, left_out}
+use Rattle.algol_expr.proofs.Sound.{IsDue, IsAll, nil, cons, leave_more, leave_relation, leave_name, leave_exprs, leave_events, leave_behind_event, single, opened, event_is, it, makes_it, left_out}
 
 one_token : TokenKind → Token
 one_token k = record { kind = k; spot = nowhere; from = 0; to = 0 }
@@ -112,6 +112,7 @@ sample free (behind_name n d) vs rest i le = leave_name free n d false false vs 
 sample free (exprs_more d) vs rest i le = leave_exprs free d false vs vs rest rest left_out
 sample free (opening s d) vs rest i le = opened (one_token (kinds.Symbol s)) rest refl (inr le)
 sample free event vs rest i le = event_is _ rest (grammar.declared (one_token (kinds.Name [])) _ rest (record { name = refl; place = refl }))
+sample free events_more vs rest i le = leave_events free false vs vs rest rest left_out
 sample free (behind_event n) vs rest i le = leave_behind_event free n false vs _ rest rest makes_it
 sample free s vs rest i le = absurd i
 

@@ -1,2 +1,3 @@
 pub mod Long
+pub mod Events
 pub mod Steps

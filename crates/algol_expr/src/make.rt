@@ -1,8 +1,9 @@
 //! Expressions of smaller ones. They are in boxes, and each is made by a call of its own, so that the frames of the reader's levels have no room
 //! for a whole one.
 
-ghost use Rattle.std.specs.Prelude.{◌≡◌, [], ◌∷◌, ◌++◌, IfOk, IfErr, OnOk, IfSome, IfNone, Some, None};
+ghost use Rattle.std.specs.Prelude.{◌≡◌, false, [], ◌∷◌, ◌++◌, IfOk, IfErr, OnOk, IfSome, IfNone, Some, None};
 ghost use Rattle.b67_deeds.specs.declared.EventTest.TheVariants as test;
+ghost use Rattle.b67_deeds.specs.Deeds.{tests, is_of_several};
 ghost use Rattle.algol_tree.specs.declared.refusal.Refusal.TheVariants.{NoMemory};
 ghost use Rattle.algol_tree.specs.Plain as plain_trees;
 ghost use Rattle.algol_tree.specs.Image.{expr as plain, exprs as plain_list};
@@ -13,6 +14,7 @@ use algol_tree::{
     Call, EventName, Expr, Line, List, Named, Op, Reserved, Spot, Symbol, Token, TokenKind,
     Variable,
 };
+use b67_deeds::EventTest;
 use std::alloc::Global;
 
 /// That expression, in a box.
@@ -154,9 +156,22 @@ pub fn named(alloc: Global, name: &Line, spot: Spot) -> Result<Named, Stop>
     Ok(Named { name, spot })
 }
 
-/// Whether that event has happened.
-pub(crate) fn happened(event: EventName, spot: Spot) -> Expr
-    ensures { plain result ≡ plain_trees.tested test.Happened (event ∷ []) spot }
+/// What is asked of that one event.
+pub(crate) fn asked(test: EventTest, event: EventName, spot: Spot) -> Expr
+    requires of_one { is_of_several (tests test) ≡ false }
+    ensures { plain result ≡ plain_trees.tested test (event ∷ []) spot }
 {
-    Expr::Happened(event, spot)
+    match test {
+        EventTest::Happened => Expr::Happened(event, spot),
+        EventTest::Available => Expr::Available(event, spot),
+        EventTest::Fix => Expr::Fix(event, spot),
+        EventTest::WaitAny => unreachable!(),
+    }
+}
+
+/// The wait for these events.
+pub(crate) fn waited(events: List<EventName>, spot: Spot) -> Expr
+    ensures { plain result ≡ plain_trees.tested test.WaitAny events spot }
+{
+    Expr::WaitAny(events, spot)
 }

@@ -21,7 +21,7 @@ ghost use Rattle.algol_tree.specs.Plain.{none};
 ghost use Rattle.algol_expr.specs.Steps.{IsStart, Begins, begins_with, part_of, due_of};
 ghost use Rattle.algol_expr.specs.declared.step.Start.TheVariants as starts;
 
-use crate::event::read_happened;
+use crate::event::{read_asked, read_waited, test_in};
 use crate::make::{
     add, boxed, call, choice, grouped, literal, named, negated, signed, two, variable,
 };
@@ -265,7 +265,8 @@ fn read_relation(
     }
 }
 
-/// primary = number | TRUE | FALSE | variable | name "(" expr { "," expr } ")" | HAPPENED "(" event ")" | "(" expr ")"
+/// primary = number | TRUE | FALSE | variable | name "(" expr { "," expr } ")" | ( HAPPENED | AVAILABLE | FIX ) "(" event ")" |
+/// WAIT "(" event { "," event } ")" | "(" expr ")"
 #[cycle(expressions)]
 fn read_primary(alloc: Global, tokens: &[Token], depth: u32) -> Result<(Box<Expr>, &[Token]), Stop>
     requires ended { EndsOnce tokens.now }
@@ -280,8 +281,11 @@ fn read_primary(alloc: Global, tokens: &[Token], depth: u32) -> Result<(Box<Expr
         let name = named(alloc, name, first.spot)?;
         return read_behind_name(alloc, name, behind, depth);
     }
-    if is_word(first, Reserved::Happened) {
-        return read_happened(alloc, first, behind, depth);
+    if let Some(test) = test_in(first) {
+        return read_asked(alloc, test, first, behind, depth);
+    }
+    if is_word(first, Reserved::Wait) {
+        return read_waited(alloc, first, behind, depth);
     }
     if is_symbol(first, Symbol::OpenRound) {
         read_group(alloc, first, behind, depth)

@@ -5,7 +5,7 @@ use Rattle.algol_tree.specs.declared.token.TokenKind.TheVariants as kinds
 use Rattle.algol_tree.specs.declared.level.Level.{Level}
 use Rattle.algol_tree.specs.declared.level.Level.TheVariants as levels
 use Rattle.algol_tree.specs.Operators.{Part, expr, level, not_part, rel, primary}
-use Rattle.algol_tree.specs.Due.{Value, Due, make, word, symbol, spelled, part, more_of, relation, behind_name, exprs_more, opening, event, behind_event, whole, whole_ends, named, names_more, printer_part, files_more, literal, number_negated, lows_more, values_part, spec, spec_typed, specs_more, behind_procedure, wholes_more, actuals_part, items_part, pairs_more, segments_more, task_part, to_part, angle, phrase, phrases_more, statement, behind_start, else_part, stmts_more, declarations, typed, procedure_body, program, Turn, takes, makes, skips, closes, refuses}
+use Rattle.algol_tree.specs.Due.{Value, Due, make, word, symbol, spelled, part, more_of, relation, behind_name, exprs_more, opening, event, events_more, behind_event, whole, whole_ends, named, names_more, printer_part, files_more, literal, number_negated, lows_more, values_part, spec, spec_typed, specs_more, behind_procedure, wholes_more, actuals_part, items_part, pairs_more, segments_more, task_part, to_part, angle, phrase, phrases_more, statement, behind_start, else_part, stmts_more, declarations, typed, procedure_body, program, Turn, takes, makes, skips, closes, refuses}
 use Rattle.algol_tree.specs.Reading.{turn, Count, outside, Judged, Step, goes, stepped, step}
 
 abbrev TakesNone : Turn → Type 0
@@ -42,6 +42,7 @@ takes_none (more_of l d) spot = more_takes_none l d spot
 takes_none (relation d) spot = tt
 takes_none (behind_name n d) spot = tt
 takes_none (exprs_more d) spot = tt
+takes_none events_more spot = tt
 takes_none (opening s d) spot = tt
 takes_none event spot = tt
 takes_none (behind_event n) spot = tt

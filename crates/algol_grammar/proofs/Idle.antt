@@ -13,7 +13,7 @@ use Rattle.algol_tree.specs.Tokens.{is_word, is_symbol, is_spelled}
 use Rattle.algol_tree.specs.Operators.{operator, relop, expr}
 use Rattle.algol_tree.specs.Headings.{type_of}
 use Rattle.algol_tree.specs.Statements.{phrase_of}
-use Rattle.algol_tree.specs.Due.{Value, stmt, put, Due, make, word, symbol, spelled, part, more_of, relation, behind_name, exprs_more, opening, event, behind_event, whole, whole_ends, named, names_more, printer_part, files_more, literal, number_negated, lows_more, values_part, spec, spec_typed, specs_more, behind_procedure, wholes_more, actuals_part, items_part, pairs_more, segments_more, task_part, to_part, angle, phrase, phrases_more, statement, behind_start, else_part, stmts_more, declarations, typed, procedure_body, program, Limit, plain, Turn, takes, makes, skips, closes, refuses, followed, begins, either, optional}
+use Rattle.algol_tree.specs.Due.{Value, stmt, put, Due, make, word, symbol, spelled, part, more_of, relation, behind_name, exprs_more, opening, event, events_more, behind_event, whole, whole_ends, named, names_more, printer_part, files_more, literal, number_negated, lows_more, values_part, spec, spec_typed, specs_more, behind_procedure, wholes_more, actuals_part, items_part, pairs_more, segments_more, task_part, to_part, angle, phrase, phrases_more, statement, behind_start, else_part, stmts_more, declarations, typed, procedure_body, program, Limit, plain, Turn, takes, makes, skips, closes, refuses, followed, begins, either, optional}
 use Rattle.algol_tree.specs.DueExpr.{turn_expr, turn_event, on_with}
 use Rattle.algol_tree.specs.DueDecl.{turn_named, turn_literal, turn_negated, turn_spec_typed}
 use Rattle.algol_tree.specs.DueStmt.{turn_start, turn_behind_start, turn_typed, turn_declaration, entered, turn_procedure_body}
@@ -86,6 +86,7 @@ typed_idle kind d spot k = refused_
 start_idle : (d : ℕ) (spot : Spot) (k : TokenKind) (x y : Turn) → IsIdle x y → IsIdle (turn_start d spot k x) y
 start_idle d spot (kinds.Name n) x y i = tt
 start_idle d spot (kinds.Word reserved.Cause) x y i = tt
+start_idle d spot (kinds.Word reserved.CauseAndReset) x y i = tt
 start_idle d spot (kinds.Word reserved.Reset) x y i = tt
 start_idle d spot (kinds.Word reserved.Wait) x y i = tt
 start_idle d spot (kinds.Word reserved.Procure) x y i = tt
@@ -147,6 +148,7 @@ idle (behind_name n d) spot k = either_idle (is_symbol symbols.OpenSquare k) _ _
 idle (exprs_more d) spot k = either_idle (is_symbol symbols.Comma k) _ _ skips skips refl
 idle (opening s d) spot k = either_idle (is_symbol s k) _ _ refuses refuses refused_
 idle event spot k = event_idle spot k
+idle events_more spot k = either_idle (is_symbol symbols.Comma k) _ _ _ _ refl
 idle (behind_event n) spot k = either_idle (is_symbol symbols.Period k) _ _ _ _ refl
 idle (whole d) spot k = takes_idle _ _ (begins_takes _ (followed_takes (turn_expr d spot k) (whole_ends ∷ []) (part_takes expr d spot k)))
     (begins_takes _ (followed_takes (turn_expr d nowhere kinds.End) (whole_ends ∷ []) (part_takes expr d nowhere kinds.End)))

@@ -12,7 +12,7 @@ use Rattle.algol_tree.specs.Plain as trees
 use Rattle.algol_tree.specs.Tokens.{is_word, is_symbol}
 use Rattle.algol_tree.specs.Headings.{type_of}
 use Rattle.algol_tree.specs.Statements.{phrase_of}
-use Rattle.algol_tree.specs.Due.{stmt, put, Due, make, word, symbol, spelled, part, more_of, relation, behind_name, exprs_more, opening, event, behind_event, whole, whole_ends, named, names_more, printer_part, files_more, literal, number_negated, lows_more, values_part, spec, spec_typed, specs_more, behind_procedure, wholes_more, actuals_part, items_part, pairs_more, segments_more, task_part, to_part, angle, phrase, phrases_more, statement, behind_start, else_part, stmts_more, declarations, typed, procedure_body, program, plain, nests, label, begun, Turn, takes, makes, skips, closes, refuses, followed, either, optional}
+use Rattle.algol_tree.specs.Due.{stmt, put, Due, make, word, symbol, spelled, part, more_of, relation, behind_name, exprs_more, opening, event, events_more, behind_event, whole, whole_ends, named, names_more, printer_part, files_more, literal, number_negated, lows_more, values_part, spec, spec_typed, specs_more, behind_procedure, wholes_more, actuals_part, items_part, pairs_more, segments_more, task_part, to_part, angle, phrase, phrases_more, statement, behind_start, else_part, stmts_more, declarations, typed, procedure_body, program, plain, nests, label, begun, Turn, takes, makes, skips, closes, refuses, followed, either, optional}
 use Rattle.algol_tree.specs.DueDecl.{turn_named, turn_literal, turn_negated, turn_spec, turn_spec_typed}
 use Rattle.algol_tree.specs.DueStmt.{with_body, turn_start, turn_behind_start, turn_typed, turn_declaration, entered, turn_procedure_body}
 use Rattle.algol_tree.specs.Reading.{turn}
@@ -99,6 +99,7 @@ spec_keeps k otherwise q = kind_keeps (type_of k) _ _ (λ kind. refl)
 start_keeps : (d : ℕ) (spot : Spot) (k : TokenKind) (otherwise : Turn) → Keeps otherwise → Keeps (turn_start d spot k otherwise)
 start_keeps d spot (kinds.Name n) otherwise q = refl
 start_keeps d spot (kinds.Word reserved.Cause) otherwise q = refl
+start_keeps d spot (kinds.Word reserved.CauseAndReset) otherwise q = refl
 start_keeps d spot (kinds.Word reserved.Reset) otherwise q = refl
 start_keeps d spot (kinds.Word reserved.Wait) otherwise q = refl
 start_keeps d spot (kinds.Word reserved.Procure) otherwise q = refl
@@ -158,6 +159,7 @@ keeps (behind_name name d) spot k i n = stays_keeps _ (inner_stays (behind_name 
 keeps (exprs_more d) spot k i n = stays_keeps _ (inner_stays (exprs_more d) spot k tt)
 keeps (opening s d) spot k i n = stays_keeps _ (inner_stays (opening s d) spot k tt)
 keeps event spot k i n = stays_keeps _ (inner_stays event spot k tt)
+keeps events_more spot k i n = stays_keeps _ (inner_stays events_more spot k tt)
 keeps (behind_event name) spot k i n = stays_keeps _ (inner_stays (behind_event name) spot k tt)
 keeps (whole d) spot k i n = absurd (n d refl)
 keeps whole_ends spot k i n = cc

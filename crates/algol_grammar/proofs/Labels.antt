@@ -12,7 +12,7 @@ use Rattle.algol_tree.specs.Tokens.{is_word, is_symbol}
 use Rattle.algol_tree.specs.Headings.{type_of}
 use Rattle.algol_tree.specs.Statements.{phrase_of}
 use Rattle.algol_tree.specs.Operators.{expr}
-use Rattle.algol_tree.specs.Due.{Value, stmt, put, Make, Due, make, word, symbol, spelled, part, more_of, relation, behind_name, exprs_more, opening, event, behind_event, whole, whole_ends, named, names_more, printer_part, files_more, literal, number_negated, lows_more, values_part, spec, spec_typed, specs_more, behind_procedure, wholes_more, actuals_part, items_part, pairs_more, segments_more, task_part, to_part, angle, phrase, phrases_more, statement, behind_start, else_part, stmts_more, declarations, typed, procedure_body, program, Limit, plain, nests, label, begun, Turn, takes, makes, skips, closes, refuses, followed, begins, either, optional}
+use Rattle.algol_tree.specs.Due.{Value, stmt, put, Make, Due, make, word, symbol, spelled, part, more_of, relation, behind_name, exprs_more, opening, event, events_more, behind_event, whole, whole_ends, named, names_more, printer_part, files_more, literal, number_negated, lows_more, values_part, spec, spec_typed, specs_more, behind_procedure, wholes_more, actuals_part, items_part, pairs_more, segments_more, task_part, to_part, angle, phrase, phrases_more, statement, behind_start, else_part, stmts_more, declarations, typed, procedure_body, program, Limit, plain, nests, label, begun, Turn, takes, makes, skips, closes, refuses, followed, begins, either, optional}
 use Rattle.algol_tree.specs.DueExpr.{turn_expr}
 use Rattle.algol_tree.specs.DueDecl.{turn_named, turn_literal, turn_negated, turn_spec, turn_spec_typed}
 use Rattle.algol_tree.specs.DueStmt.{with_body, turn_start, turn_behind_start, turn_typed, turn_declaration, entered, turn_procedure_body}
@@ -149,6 +149,7 @@ declaration_calm d k = optional_calm (type_of k) (λ kind. typed kind d ∷ []) 
 start_calm : (d : ℕ) (spot : Spot) (k : TokenKind) (otherwise : Turn) → Calm spot otherwise → Calm spot (turn_start d spot k otherwise)
 start_calm d spot (kinds.Name n) otherwise q = takes_on plain _ refl (a_name (record { name = n; spot = spot }) d [] refl refl)
 start_calm d spot (kinds.Word reserved.Cause) otherwise q = calm spot _ refl
+start_calm d spot (kinds.Word reserved.CauseAndReset) otherwise q = calm spot _ refl
 start_calm d spot (kinds.Word reserved.Reset) otherwise q = calm spot _ refl
 start_calm d spot (kinds.Word reserved.Wait) otherwise q = calm spot _ refl
 start_calm d spot (kinds.Word reserved.Procure) otherwise q = calm spot _ refl
@@ -192,6 +193,7 @@ turn_calm (behind_name n d) spot k f = inner_calm (behind_name n d) spot k tt
 turn_calm (exprs_more d) spot k f = inner_calm (exprs_more d) spot k tt
 turn_calm (opening s d) spot k f = inner_calm (opening s d) spot k tt
 turn_calm event spot k f = inner_calm event spot k tt
+turn_calm events_more spot k f = inner_calm events_more spot k tt
 turn_calm (behind_event n) spot k f = inner_calm (behind_event n) spot k tt
 turn_calm (whole d) spot k f =
     let e : is_calm (turn_expr d spot k) ≡ true = stays_calm (turn_expr d spot k) (inner_stays (part expr d) spot k tt) in

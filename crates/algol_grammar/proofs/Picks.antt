@@ -12,7 +12,7 @@ use Rattle.algol_tree.specs.Ascending.{spots_of_expr, spots_of_exprs, IsAhead, A
 use Rattle.algol_tree.specs.Tokens.{IsName}
 use Rattle.algol_tree.specs.Operators.{Part}
 use Rattle.algol_tree.specs.Expressions as grammar
-use Rattle.algol_tree.specs.Expressions.{IsEvent, IsPart, IsMore, IsExprs, IsWhole}
+use Rattle.algol_tree.specs.Expressions.{IsEvent, IsEvents, IsPart, IsMore, IsExprs, IsWhole}
 
 -- Of the tokens from `from` up to `rest` these places are picked, in their order.
 pub data Picks : List Token → List Spot → List Token → Type 0 where
@@ -62,6 +62,10 @@ pub event_picks : {from : List Token} {event : EventName} {rest : List Token} �
 event_picks (grammar.declared t n rest k) = named k (over rest)
 event_picks (grammar.of_task t u v n rest k c s) = named k (passed u (passed v (over rest)))
 
+events_picks : {from : List Token} {events : List EventName} {rest : List Token} → IsEvents from events rest → Picks from (map (λ (e : EventName). e.name.spot) events) rest
+events_picks (grammar.last e from rest x) = and_then (event_picks x) (over rest)
+events_picks (grammar.comma t e es from after rest x i y) = and_then (event_picks x) (passed t (events_picks y))
+
 mutual
   pub part_picks : {free : ℕ} {p : Part} {d : ℕ} {from : List Token} {e : PExpr} {rest : List Token} → IsPart free p d from e rest → Picks from (spots_of_expr e) rest
   part_picks (grammar.conditional t u v d c a b from mid otherwise rest i o x j y k z) =
@@ -80,7 +84,8 @@ mutual
   part_picks (grammar.simple t n d rest k) = named k (over rest)
   part_picks (grammar.element t u v n d es from rest k i o x j) = named k (passed u (up_to (exprs_picks x) (passed v (over rest))))
   part_picks (grammar.called_with t u v n d es from rest k i o x j) = named k (passed u (up_to (exprs_picks x) (passed v (over rest))))
-  part_picks (grammar.asked t u v d event from rest i j o x k) = picked t (passed u (up_to (event_picks x) (passed v (over rest))))
+  part_picks (grammar.asked t u v test d event from rest i j o x k) = picked t (passed u (up_to (event_picks x) (passed v (over rest))))
+  part_picks (grammar.waited t u v d events from rest i j o x k) = picked t (passed u (up_to (events_picks x) (passed v (over rest))))
   part_picks (grammar.grouped t u d e from rest i o x j) = picked t (up_to (part_picks x) (passed u (over rest)))
 
   more_picks : {free : ℕ} {l : Level} {d : ℕ} {left : PExpr} {from : List Token} {e : PExpr} {rest before : List Token} → IsMore free l d left from e rest →

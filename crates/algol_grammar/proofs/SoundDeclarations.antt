@@ -160,6 +160,7 @@ StartsAt n x = ⊥
 pub starts_at : (d : ℕ) (spot : Spot) (k : TokenKind) → StartsAt d (turn_start d spot k refuses)
 starts_at d spot (kinds.Name name) = tt
 starts_at d spot (kinds.Word reserved.Cause) = tt
+starts_at d spot (kinds.Word reserved.CauseAndReset) = tt
 starts_at d spot (kinds.Word reserved.Reset) = tt
 starts_at d spot (kinds.Word reserved.Wait) = tt
 starts_at d spot (kinds.Word reserved.Procure) = tt

@@ -15,7 +15,7 @@ use Rattle.algol_tree.specs.Tokens.{is_word, is_symbol}
 use Rattle.algol_tree.specs.Headings.{type_of}
 use Rattle.algol_tree.specs.Statements as grammar
 use Rattle.algol_tree.specs.Statements.{phrase_of, act_of}
-use Rattle.algol_tree.specs.Due.{Value, many, names, task, stmt, put, Due, make, word, symbol, spelled, part, more_of, relation, behind_name, exprs_more, opening, event, behind_event, whole, whole_ends, named, names_more, printer_part, files_more, literal, number_negated, lows_more, values_part, spec, spec_typed, specs_more, behind_procedure, wholes_more, actuals_part, items_part, pairs_more, segments_more, task_part, to_part, angle, phrase, phrases_more, statement, behind_start, else_part, stmts_more, declarations, typed, procedure_body, program, plain, nests, label, begun, Turn, takes, makes, skips, closes, refuses, followed, either, optional}
+use Rattle.algol_tree.specs.Due.{Value, many, names, task, stmt, put, Due, make, word, symbol, spelled, part, more_of, relation, behind_name, exprs_more, opening, event, events_more, behind_event, whole, whole_ends, named, names_more, printer_part, files_more, literal, number_negated, lows_more, values_part, spec, spec_typed, specs_more, behind_procedure, wholes_more, actuals_part, items_part, pairs_more, segments_more, task_part, to_part, angle, phrase, phrases_more, statement, behind_start, else_part, stmts_more, declarations, typed, procedure_body, program, plain, nests, label, begun, Turn, takes, makes, skips, closes, refuses, followed, either, optional}
 use Rattle.algol_tree.specs.DueDecl.{turn_named, turn_literal, turn_negated, turn_spec_typed}
 use Rattle.algol_tree.specs.DueStmt.{turn_start, turn_behind_start, turn_typed, turn_declarations, entered, turn_procedure_body, one_armed}
 use Rattle.algol_tree.specs.Reading.{turn}
@@ -61,6 +61,7 @@ due_inner free (behind_name n d) vs from ws rest i x = x
 due_inner free (exprs_more d) vs from ws rest i x = x
 due_inner free (opening s d) vs from ws rest i x = x
 due_inner free event vs from ws rest i x = x
+due_inner free events_more vs from ws rest i x = x
 due_inner free (behind_event n) vs from ws rest i x = x
 due_inner free s vs from ws rest i x = absurd i
 
@@ -98,6 +99,7 @@ back free (behind_name name d) t ts vs ws rest n x = back_inner free (behind_nam
 back free (exprs_more d) t ts vs ws rest n x = back_inner free (exprs_more d) t ts vs ws rest tt x
 back free (opening s d) t ts vs ws rest n x = back_inner free (opening s d) t ts vs ws rest tt x
 back free event t ts vs ws rest n x = back_inner free event t ts vs ws rest tt x
+back free events_more t ts vs ws rest n x = back_inner free events_more t ts vs ws rest tt x
 back free (behind_event name) t ts vs ws rest n x = back_inner free (behind_event name) t ts vs ws rest tt x
 back free (whole d) t ts vs ws rest n x = absurd (n d refl)
 back free whole_ends t ts vs ws rest n x = absurd x
@@ -170,6 +172,7 @@ start_left : (d : ℕ) (spot : Spot) (k : TokenKind) (otherwise : Turn) (vs ws :
     Leaves otherwise vs from ws rest
 start_left d spot (kinds.Name n) otherwise vs ws from rest l = absurd l
 start_left d spot (kinds.Word reserved.Cause) otherwise vs ws from rest l = absurd l
+start_left d spot (kinds.Word reserved.CauseAndReset) otherwise vs ws from rest l = absurd l
 start_left d spot (kinds.Word reserved.Reset) otherwise vs ws from rest l = absurd l
 start_left d spot (kinds.Word reserved.Wait) otherwise vs ws from rest l = absurd l
 start_left d spot (kinds.Word reserved.Procure) otherwise vs ws from rest l = absurd l
@@ -269,6 +272,7 @@ leave free (behind_name name d) spot k vs ws from rest n f l = inner.leave free 
 leave free (exprs_more d) spot k vs ws from rest n f l = inner.leave free (exprs_more d) spot k vs ws from rest tt l
 leave free (opening s d) spot k vs ws from rest n f l = inner.leave free (opening s d) spot k vs ws from rest tt l
 leave free event spot k vs ws from rest n f l = inner.leave free event spot k vs ws from rest tt l
+leave free events_more spot k vs ws from rest n f l = inner.leave free events_more spot k vs ws from rest tt l
 leave free (behind_event name) spot k vs ws from rest n f l = inner.leave free (behind_event name) spot k vs ws from rest tt l
 leave free (whole d) spot k vs ws from rest n f l = absurd (n d refl)
 leave free whole_ends spot k vs ws from rest n f l = absurd l

@@ -166,6 +166,7 @@ pub back_start : (free d : ℕ) (t : Token) (ts : List Token) (vs ws : List Valu
 back_start free d t ts vs ws rest (kinds.Name name) k other never (cons _ _ _ _ _ _ _ _ f (nil _ _)) =
     regive (IsClosed free d) stmt (t ∷ ts) f (λ s. s) (λ s rest p. p t (record { name = k; place = refl })) (λ s. refl)
 back_start free d t ts vs ws rest (kinds.Word reserved.Cause) k other never x = back_act free d t ts vs acts.Cause ts ws rest (ap act_of k) x
+back_start free d t ts vs ws rest (kinds.Word reserved.CauseAndReset) k other never x = back_act free d t ts vs acts.CauseAndReset ts ws rest (ap act_of k) x
 back_start free d t ts vs ws rest (kinds.Word reserved.Reset) k other never x = back_act free d t ts vs acts.Reset ts ws rest (ap act_of k) x
 back_start free d t ts vs ws rest (kinds.Word reserved.Wait) k other never x = back_act free d t ts vs acts.Wait ts ws rest (ap act_of k) x
 back_start free d t ts vs ws rest (kinds.Word reserved.Procure) k other never x = back_act free d t ts vs acts.Procure ts ws rest (ap act_of k) x

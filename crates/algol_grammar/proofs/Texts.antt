@@ -19,11 +19,11 @@ use Rattle.algol_tree.specs.Expressions.{IsPart}
 use Rattle.algol_tree.specs.Headings as headings
 use Rattle.algol_tree.specs.Statements as grammar
 use Rattle.algol_tree.specs.Programs as programs
-use Rattle.algol_tree.specs.Due.{Value, one, names, stmt, declared, Due, make, word, symbol, spelled, part, more_of, relation, behind_name, exprs_more, opening, event, behind_event, whole, whole_ends, named, names_more, printer_part, files_more, literal, number_negated, lows_more, values_part, spec, spec_typed, specs_more, behind_procedure, wholes_more, actuals_part, items_part, pairs_more, segments_more, task_part, to_part, angle, phrase, phrases_more, statement, behind_start, else_part, stmts_more, declarations, typed, procedure_body, program}
+use Rattle.algol_tree.specs.Due.{Value, one, names, stmt, declared, Due, make, word, symbol, spelled, part, more_of, relation, behind_name, exprs_more, opening, event, events_more, behind_event, whole, whole_ends, named, names_more, printer_part, files_more, literal, number_negated, lows_more, values_part, spec, spec_typed, specs_more, behind_procedure, wholes_more, actuals_part, items_part, pairs_more, segments_more, task_part, to_part, angle, phrase, phrases_more, statement, behind_start, else_part, stmts_more, declarations, typed, procedure_body, program}
 use Rattle.algol_tree.specs.DueDecl.{spec_simple, spec_events, headed}
 use Rattle.algol_tree.specs.DueStmt.{phrase_added, two_armed, names_declared, announced}
 use Rattle.algol_tree.specs.Reading.{nowhere}
-use Rattle.algol_expr.proofs.Sound.{single, opened, event_is, it, makes_it, left_out, leave_more, leave_relation, leave_name, leave_exprs, leave_behind_event}
+use Rattle.algol_expr.proofs.Sound.{single, opened, event_is, it, makes_it, left_out, leave_more, leave_relation, leave_name, leave_exprs, leave_events, leave_behind_event}
 use Rattle.algol_grammar.proofs.Lists.{behind-decls}
 use Rattle.algol_grammar.proofs.Meant.{gives, one_name, less, one_phrase, IsArms, with_else, ended, IsDue, IsAll, nil, cons}
 use Rattle.algol_grammar.proofs.Given.{put_given}
@@ -129,6 +129,7 @@ sample free (behind_name n d) vs rest o le = (_, leave_name free n d false false
 sample free (exprs_more d) vs rest o le = (vs, leave_exprs free d false vs vs rest rest left_out)
 sample free (opening s d) vs rest o le = (vs, opened (one_token (kinds.Symbol s)) rest refl (inr le))
 sample free event vs rest o le = (_, event_is _ rest (expressions.declared a_name nobody rest (record { name = refl; place = refl })))
+sample free events_more vs rest o le = (_, leave_events free false vs vs rest rest left_out)
 sample free (behind_event n) vs rest o le = (_, leave_behind_event free n false vs _ rest rest makes_it)
 sample free (whole d) vs rest o le = (one one_tree ∷ vs, gives one_tree rest (record { reads = one_part free d expr rest; short = inl (omega arith) }))
 sample free whole_ends vs rest o le = cc

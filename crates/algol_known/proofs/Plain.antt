@@ -55,6 +55,24 @@ expr_happened e event spot h = ap expr h ∙ of_happened event spot
     of_happened : (event : EventName) (spot : Spot) → expr (expression.Happened event spot) ≡ tree.tested test.Happened (event ∷ []) spot
     of_happened event spot = search (rules, exprs_of.the_lemmas)
 
+pub expr_available : (e : Expr) (event : EventName) (spot : Spot) → e ≡ expression.Available event spot → expr e ≡ tree.tested test.Available (event ∷ []) spot
+expr_available e event spot h = ap expr h ∙ of_available event spot
+  where
+    of_available : (event : EventName) (spot : Spot) → expr (expression.Available event spot) ≡ tree.tested test.Available (event ∷ []) spot
+    of_available event spot = search (rules, exprs_of.the_lemmas)
+
+pub expr_fix : (e : Expr) (event : EventName) (spot : Spot) → e ≡ expression.Fix event spot → expr e ≡ tree.tested test.Fix (event ∷ []) spot
+expr_fix e event spot h = ap expr h ∙ of_fix event spot
+  where
+    of_fix : (event : EventName) (spot : Spot) → expr (expression.Fix event spot) ≡ tree.tested test.Fix (event ∷ []) spot
+    of_fix event spot = search (rules, exprs_of.the_lemmas)
+
+pub expr_waited : (e : Expr) (events : List EventName) (spot : Spot) → e ≡ expression.WaitAny events spot → expr e ≡ tree.tested test.WaitAny events spot
+expr_waited e events spot h = ap expr h ∙ of_waited events spot
+  where
+    of_waited : (events : List EventName) (spot : Spot) → expr (expression.WaitAny events spot) ≡ tree.tested test.WaitAny events spot
+    of_waited events spot = search (rules, exprs_of.the_lemmas)
+
 pub expr_two : (e : Expr) (op : Op) (a b : Box Expr Global) (x y : Expr) → e ≡ expression.Two op a b → x ≡ a.value → y ≡ b.value →
     expr e ≡ tree.two op (expr x) (expr y)
 expr_two e op a b x y h i j =

@@ -16,13 +16,16 @@ at_left n k = record { spot = n.spot; around = k; is_left = true }
 
 -- ---- expressions
 
+abbrev pub in_events : List EventName → ℕ → List Found
+in_events es k = map (λ (e : EventName). at e.name k) es
+
 abbrev mutual
   pub in_expr : PExpr → ℕ → List Found
   in_expr (tree.number z spot) k = []
   in_expr (tree.truth b spot) k = []
   in_expr (tree.variable (tree.subscripted n es)) k = at n k ∷ in_exprs es k
   in_expr (tree.call (tree.called n es)) k = at n k ∷ in_exprs es k
-  in_expr (tree.tested test es spot) k = map (λ (e : EventName). at e.name k) es
+  in_expr (tree.tested test es spot) k = in_events es k
   in_expr (tree.paren e spot) k = in_expr e k
   in_expr (tree.plus e spot) k = in_expr e k
   in_expr (tree.neg e spot) k = in_expr e k

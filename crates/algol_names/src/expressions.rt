@@ -2,12 +2,26 @@
 
 ghost use Rattle.std.specs.Prelude.{◌≡◌, ◌++◌, length, OnOk};
 ghost use Rattle.algol_tree.specs.Image.{expr, exprs, pairs};
-ghost use Rattle.algol_names.specs.Found.{in_expr, in_exprs, in_pairs};
+ghost use Rattle.algol_names.specs.Found.{in_events, in_expr, in_exprs, in_pairs};
 
 use crate::found::{Found, add};
 use algol_rules::{boxed_expr, exprs_in};
-use algol_tree::{Expr, Pair, Spot};
+use algol_tree::{EventName, Expr, Pair, Spot};
 use std::alloc::AllocError;
+
+/// The names of events, after others.
+fn add_events(
+    names: &mut Vec<Found>,
+    events: &[EventName],
+    outer: &[Spot],
+) -> Result<(), AllocError>
+    ensures { OnOk result (names.new.items ≡ names.old.items ++ in_events events.now (length outer.now)) }
+{
+    'events: for event in events {
+        add(names, &event.name, outer)?;
+    }
+    Ok(())
+}
 
 /// The names in an expression, after others. `outer` are the places of the blocks around it.
 #[cycle(expressions)]
@@ -26,6 +40,9 @@ pub fn add_in_expr(names: &mut Vec<Found>, e: &Expr, outer: &[Spot]) -> Result<(
             add_in_exprs(names, exprs_in(&c.actuals), outer)
         }
         Expr::Happened(n, _) => add(names, &n.name, outer),
+        Expr::Available(n, _) => add(names, &n.name, outer),
+        Expr::Fix(n, _) => add(names, &n.name, outer),
+        Expr::WaitAny(ns, _) => add_events(names, ns.items(), outer),
         Expr::Paren(e, _) => add_in_expr(names, boxed_expr(e), outer),
         Expr::Plus(e, _) => add_in_expr(names, boxed_expr(e), outer),
         Expr::Neg(e, _) => add_in_expr(names, boxed_expr(e), outer),

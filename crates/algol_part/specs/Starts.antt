@@ -24,6 +24,7 @@ start_of (kinds.Word reserved.Go) = starts.Acts verbs.Go
 start_of (kinds.Word reserved.Process) = starts.Acts verbs.Process
 start_of (kinds.Word reserved.Write) = starts.Acts verbs.Write
 start_of (kinds.Word reserved.Cause) = starts.Acts (verbs.Act acts.Cause)
+start_of (kinds.Word reserved.CauseAndReset) = starts.Acts (verbs.Act acts.CauseAndReset)
 start_of (kinds.Word reserved.Reset) = starts.Acts (verbs.Act acts.Reset)
 start_of (kinds.Word reserved.Wait) = starts.Acts (verbs.Act acts.Wait)
 start_of (kinds.Word reserved.Procure) = starts.Acts (verbs.Act acts.Procure)

@@ -61,6 +61,7 @@ fn start_of_word(word: Reserved) -> Start
         Reserved::Process => Start::Acts(Verb::Process),
         Reserved::Write => Start::Acts(Verb::Write),
         Reserved::Cause => Start::Acts(Verb::Act(EventAct::Cause)),
+        Reserved::CauseAndReset => Start::Acts(Verb::Act(EventAct::CauseAndReset)),
         Reserved::Reset => Start::Acts(Verb::Act(EventAct::Reset)),
         Reserved::Wait => Start::Acts(Verb::Act(EventAct::Wait)),
         Reserved::Procure => Start::Acts(Verb::Act(EventAct::Procure)),

@@ -1,6 +1,7 @@
 -- The tokens of names with expressions, and of bodies.
-use Rattle.std.proofs.Common.{rules, ◌≡◌, ◌+◌, refl, ◌∙◌, ap, arith}
+use Rattle.std.proofs.Common.{rules, ◌≡◌, ◌+◌, refl, ◌∙◌, ap, arith, List, [], ◌∷◌}
 use Rattle.algol_tree.specs.declared.tree.Named.{Named}
+use Rattle.algol_tree.specs.declared.tree.EventName.{EventName}
 use Rattle.algol_tree.specs.Plain as tree
 use Rattle.algol_tree.specs.Plain.{PExprs, none, more}
 use Rattle.algol_tree.specs.Counts as counts
@@ -11,7 +12,7 @@ use Rattle.algol_tree.specs.declared.tree.Call as calls
 use Rattle.algol_tree.specs.declared.tree.Call.{Call}
 use Rattle.algol_tree.specs.declared.tree.Body as bodies
 use Rattle.algol_tree.specs.declared.tree.Body.{Body}
-use Rattle.algol_rules.specs.Opened.{opened}
+use Rattle.algol_rules.specs.Opened.{opened, further_events}
 
 subscripted_counts : (n : Named) (es : PExprs) → counts.variable_tokens (tree.subscripted n es) ≡ opened es + counts.exprs_tokens es
 subscripted_counts n none = refl
@@ -40,3 +41,10 @@ pub body_counts : (b : Body) → counts.body_tokens (body b) ≡ 1 + counts.decl
 body_counts b = ap counts.body_tokens (body_is b)
 
 pub ruleset counting = (variable_counts, call_counts, body_counts)
+
+-- the first one has no comma before it
+pub events_count : (e : EventName) (es : List EventName) → counts.events_tokens (e ∷ es) ≡ counts.event_tokens e + further_events es
+events_count e [] = omega arith
+events_count e (f ∷ es) = let more : counts.events_tokens (f ∷ es) ≡ counts.event_tokens f + further_events es = events_count f es in omega (arith, more)
+
+pub ruleset events = events_count

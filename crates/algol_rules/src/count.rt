@@ -3,7 +3,7 @@
 ghost use Rattle.std.specs.Prelude.{◌≡◌, ◌+◌, ◌-◌, ◌^◌, min, length};
 ghost use Rattle.algol_tree.specs.Counts as counts;
 ghost use Rattle.algol_tree.specs.Names.{names_of_spec};
-ghost use Rattle.algol_rules.specs.Opened.{opened};
+ghost use Rattle.algol_rules.specs.Opened.{opened, further_events};
 ghost use Rattle.algol_tree.specs.Image.{expr, variable, call, exprs, pairs, stmt, stmts, decl, decls, body, program};
 
 use crate::parts::{boxed_expr, boxed_stmt, decls_in, exprs_in, stmts_in};
@@ -22,6 +22,28 @@ fn event_tokens(e: &EventName) -> usize
     ensures { result ≡ counts.event_tokens e.now }
 {
     if e.task { 3 } else { 1 }
+}
+
+/// Events, each with the comma before it.
+fn further_events(es: &[EventName]) -> usize
+    ensures { result ≡ min (further_events es.now) (2 ^ 64 - 1) }
+{
+    let mut count: usize = 0;
+    'events: for e in es {
+        count = sum(count, event_tokens(e), 1);
+    }
+    count
+}
+
+/// Events with the commas between them.
+#[tactic(auto, using(crate::proofs::Counting::events))]
+fn events_tokens(es: &[EventName]) -> usize
+    ensures { result ≡ min (counts.events_tokens es.now) (2 ^ 64 - 1) }
+{
+    match es.split_first() {
+        None => 0,
+        Some((first, further)) => event_tokens(first).saturating_add(further_events(further)),
+    }
 }
 
 /// A name with the brackets after it, but for the comma that the first expression between them has not.
@@ -49,6 +71,9 @@ fn expr_tokens(e: &Expr) -> usize
             Expr::Variable(v) => return count.saturating_add(variable_tokens(v)),
             Expr::Call(c) => return count.saturating_add(call_tokens(c)),
             Expr::Happened(e, _) => return sum(count, event_tokens(e), 3),
+            Expr::Available(e, _) => return sum(count, event_tokens(e), 3),
+            Expr::Fix(e, _) => return sum(count, event_tokens(e), 3),
+            Expr::WaitAny(es, _) => return sum(count, events_tokens(es.items()), 3),
             Expr::Paren(e, _) => {
                 count = count.saturating_add(2);
                 at = boxed_expr(e);

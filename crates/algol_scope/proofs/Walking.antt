@@ -1,5 +1,5 @@
 -- What the walk finds at parts one after another.
-use Rattle.std.proofs.Common.{◌≡◌, ℕ, ◌+◌, ◌<◌, ◌≤◌, Bool, List, [], ◌∷◌, ◌++◌, map, length, drop, get_or, Option, Some, None, refl, ap, sym, ◌∙◌, append_assoc, append-nil, drop-cons, subst, add-one, zero, suc, slice_get, Result, Ok, Err, OnOk, IfOk, true, false}
+use Rattle.std.proofs.Common.{◌≡◌, ℕ, ◌+◌, ◌<◌, ◌≤◌, Bool, not, is_some, List, [], ◌∷◌, ◌++◌, map, length, drop, get_or, Option, Some, None, refl, ap, sym, ◌∙◌, append_assoc, append-nil, drop-cons, subst, add-one, zero, suc, slice_get, Result, Ok, Err, OnOk, IfOk, true, false}
 use Rattle.std.proofs.lemmas.Option.{slice_get_past, slice_get-get_or}
 use Rattle.std.proofs.lemmas.Grind.{flat_map-append}
 use Rattle.std.proofs.lemmas.List.{map-append}
@@ -7,6 +7,7 @@ use Rattle.std.specs.List.{flat_map}
 use Rattle.std.specs.Borrow.{Bor}
 use Rattle.std.specs.Option.{option_copied, MatchOption, IfSome}
 use Rattle.algol_tree.specs.declared.refusal.Fault.{Fault}
+use Rattle.b67_deeds.specs.declared.EventTest.{EventTest}
 use Rattle.b67_deeds.specs.declared.EventTest.TheVariants as test
 use Rattle.algol_tree.specs.declared.token.Spot.{Spot}
 use Rattle.algol_tree.specs.declared.tree.Named.{Named}
@@ -20,13 +21,15 @@ use Rattle.algol_tree.specs.Image.{expr, exprs, pairs}
 use Rattle.algol_tree.specs.declared.tree.Expr.{Expr}
 use Rattle.algol_tree.specs.declared.tree.Pair.{Pair}
 use Rattle.algol_tree.specs.Blocks.{Block}
-use Rattle.algol_tree.specs.Surroundings.{Surroundings, formals_at}
+use Rattle.algol_tree.specs.Surroundings.{Surroundings, declared_as, formals_at}
 use Rattle.algol_tree.specs.Sites as site
 use Rattle.algol_tree.specs.Sites.{Site, sites, inside_list, inside_actuals, sites_in_pairs, here, actual_part_by, name_part, wants_value, first_formal, other_formals, inside_expr}
 use Rattle.algol_tree.specs.Cells as cells
 use Rattle.algol_tree.specs.Cells.{cells_at}
-use Rattle.algol_tree.specs.Couples.{Known, known_at}
-use Rattle.algol_tree.specs.Accepted.{noted_all}
+use Rattle.algol_tree.specs.Couples.{Known, known_at, known_by, known_names}
+use Rattle.algol_tree.specs.declared.refusal.Code.TheVariants as codes
+use Rattle.algol_tree.specs.Names.{if_so, places_if}
+use Rattle.algol_tree.specs.Accepted.{broken, noted_all}
 use Rattle.algol_rules.proofs.Order.{noted_all-append}
 use Rattle.algol_known.specs.declared.known.Seen.{Seen}
 use Rattle.algol_known.specs.declared.known.Seen.TheVariants as seens
@@ -35,7 +38,7 @@ use Rattle.algol_known.specs.declared.around.Around.{Around}
 use Rattle.algol_tree.proofs.Alone.{named_alone}
 use Rattle.algol_scope.specs.declared.findings.Findings.{Findings}
 use Rattle.algol_known.specs.Seeing.{Sees, mode_of, mode_given}
-use Rattle.algol_scope.specs.Noting.{Adds, Finds, Walks, Passes, at_name, faults_at, cell_of, task_parts, use_of}
+use Rattle.algol_scope.specs.Noting.{Adds, Finds, Walks, Passes, at_events, at_name, faults_at, cell_of, task_parts, use_of}
 
 -- ---- parts one after another
 
@@ -270,13 +273,74 @@ pub if_ok : {A E : Type 0} (r : Result A E) {P Q : A → Type 0} → ((x : A) �
 if_ok (Ok x) f h = f x h
 if_ok (Err e) f h = tt
 
-pub walks-happened : (k : Around) (seen : Seen) (old new : Findings) (e : EventName) (spot : Spot) →
-    Walks k seen old new (λ a. at_name e.name a ∷ []) → Walks k seen old new (sites (tree.tested test.Happened (e ∷ []) spot))
-walks-happened k seen old new e spot w =
+pub walks-asked : (k : Around) (seen : Seen) (old new : Findings) (t : EventTest) (e : EventName) (spot : Spot) →
+    Walks k seen old new (λ a. at_name e.name a ∷ []) → Walks k seen old new (sites (tree.tested t (e ∷ []) spot))
+walks-asked k seen old new t e spot w =
     record {
       finds =
           λ blocks a s.
-          again blocks old new (at_name e.name a ∷ []) (sites (tree.tested test.Happened (e ∷ []) spot) a) refl refl refl (w.finds blocks a s);
+          again blocks old new (at_name e.name a ∷ []) (sites (tree.tested t (e ∷ []) spot) a) refl refl refl (w.finds blocks a s);
+    }
+
+-- ---- the events of a wait for several
+
+pub follows-event : (k : Around) (seen : Seen) (old now new : Findings) (all : Surroundings → List Site) (es : List EventName) (i : ℕ) (e : EventName) → i < length es →
+    e ≡ get_or es i e → Follows k seen old now all (at_events (drop i es)) → Walks k seen now new (λ a. at_name e.name a ∷ []) →
+    Follows k seen old new all (at_events (drop (i + 1) es))
+follows-event k seen old now new all es i e h same l w =
+    rw add-one
+    (follows-step k seen old now new all (λ a. at_name e.name a ∷ []) (at_events (drop (suc i) es))
+    (let at : drop i es ≡ e ∷ drop (suc i) es = drop-cons es i e h ∙ ap (λ z. z ∷ drop (suc i) es) (sym same) in
+    let P : List EventName → Type 0 = λ z. Follows k seen old now all (at_events z) in
+    let moved : P (e ∷ drop (suc i) es) = subst P at l in
+    record { leads = λ blocks a s. moved.leads blocks a s })
+    w)
+
+pub events-end : (k : Around) (seen : Seen) (old now : Findings) (all : Surroundings → List Site) (es : List EventName) → es ≡ [] →
+    Follows k seen old now all (at_events es) → Walks k seen old now all
+events-end k seen old now all es h l =
+    record {
+      finds =
+          λ blocks a s.
+          let P : List EventName → Type 0 = λ z. Leads blocks old (all a) now (at_events z a) in
+          leads-end blocks old now (all a) (subst P h (l.leads blocks a s));
+    }
+
+-- what there is at their names is at the wait
+module _ (blocks : List Block) (a : Surroundings) where
+  abbrev names_of : List EventName → List Named
+  names_of es = map (λ (e : EventName). e.name) es
+
+  abbrev unknown : Named → Bool
+  unknown n = not (is_some (declared_as a n))
+
+  faults-there : (es : List EventName) → flat_map (faults_at blocks) (at_events es a) ≡ broken codes.UnknownName (places_if unknown (names_of es))
+  faults-there [] = refl
+  faults-there (e ∷ es) =
+      let p : List Spot = if_so (unknown e.name) e.name.spot in
+      ap (λ xs. xs ++ flat_map (faults_at blocks) (at_events es a)) (append-nil (broken codes.UnknownName (p ++ [])) ∙ ap (broken codes.UnknownName) (append-nil p))
+      ∙ ap (λ ys. broken codes.UnknownName p ++ ys) (faults-there es)
+      ∙ sym (map-append _ p (places_if unknown (names_of es)))
+
+  cells-there : (es : List EventName) → flat_map (cells_at blocks) (at_events es a) ≡ []
+  cells-there [] = refl
+  cells-there (e ∷ es) = cells-there es
+
+  known-there : (es : List EventName) → flat_map (known_at blocks) (at_events es a) ≡ known_names a (names_of es)
+  known-there [] = refl
+  known-there (e ∷ es) =
+      let p : List Known = known_by e.name.spot (declared_as a e.name) in
+      ap (λ xs. xs ++ flat_map (known_at blocks) (at_events es a)) (append-nil p) ∙ ap (λ ys. p ++ ys) (known-there es)
+
+pub walks-waited : (k : Around) (seen : Seen) (old new : Findings) (es : List EventName) (spot : Spot) → Walks k seen old new (at_events es) →
+    Walks k seen old new (sites (tree.tested test.WaitAny es spot))
+walks-waited k seen old new es spot w =
+    record {
+      finds =
+          λ blocks a s.
+          again blocks old new (at_events es a) (sites (tree.tested test.WaitAny es spot) a)
+          (faults-there blocks a es ∙ sym (append-nil _ ∙ append-nil _)) (cells-there blocks a es) (known-there blocks a es ∙ sym (append-nil _))
+          (w.finds blocks a s);
     }
 
 pub walks-two : (k : Around) (seen : Seen) (old mid new : Findings) (op : Op) (x y : PExpr) → Walks k seen old mid (sites x) →

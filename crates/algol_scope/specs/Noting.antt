@@ -6,6 +6,7 @@ use Rattle.algol_tree.specs.declared.token.Spot.{Spot}
 use Rattle.algol_tree.specs.declared.refusal.Code.TheVariants as codes
 use Rattle.algol_tree.specs.declared.refusal.Fault.{Fault}
 use Rattle.algol_tree.specs.declared.tree.Named.{Named}
+use Rattle.algol_tree.specs.declared.tree.EventName.{EventName}
 use Rattle.algol_tree.specs.Plain.{PExprs}
 use Rattle.algol_tree.specs.Classes as class
 use Rattle.algol_tree.specs.Classes.{Class, Formal}
@@ -98,6 +99,10 @@ pub record Passes (k : Around) (seen : Seen) (old new : Findings) (modes : List 
 -- a name where it is used
 abbrev pub at_name : Named → Surroundings → Site
 at_name n a = record { part = site.name n; around = a }
+
+-- the names of events, one after the other
+abbrev pub at_events : List EventName → Surroundings → List Site
+at_events es a = map (λ (e : EventName). at_name e.name a) es
 
 -- Names are added that are known there.
 pub record Knows (k : Around) (old new : Findings) (names : Surroundings → List Known) : Type 0 where

@@ -11,7 +11,7 @@ ghost use Rattle.algol_known.specs.declared.known.Seen.{Seen};
 ghost use Rattle.algol_known.specs.declared.known.Seen.TheVariants as seens;
 ghost use Rattle.algol_tree.specs.Sorts.{Declared};
 ghost use Rattle.algol_known.specs.Seeing.{Sees, IsClass, IsEntry, mode_given};
-ghost use Rattle.algol_scope.specs.Noting.{Finds, Knows, Walks, Passes, at_name, parameters_here, process_parts, task_parts};
+ghost use Rattle.algol_scope.specs.Noting.{Finds, Knows, Walks, Passes, at_events, at_name, parameters_here, process_parts, task_parts};
 ghost use Rattle.algol_tree.specs.Couples.{known_names};
 
 use crate::findings::Findings;
@@ -19,7 +19,7 @@ use algol_frames::{Cell, Content, Use};
 use algol_known::{Around, Class, Entry, Seen};
 use algol_rules::{boxed_expr, first_spot};
 use algol_sorts::Sort;
-use algol_tree::{Call, Code, Expr, List, MOST_LEVEL, Named, Pair, Spot, Variable};
+use algol_tree::{Call, Code, EventName, Expr, List, MOST_LEVEL, Named, Pair, Spot, Variable};
 use std::alloc::AllocError;
 
 /// What is told of parameters with a name that stands there and means this declaration: those of a procedure, with the name of the
@@ -71,6 +71,21 @@ impl Findings {
                 Ok(entry.class)
             }
         }
+    }
+
+    /// The names of events, one after the other.
+    fn events(
+        &mut self,
+        events: &List<EventName>,
+        around: &Around,
+        seen: Seen,
+    ) -> Result<(), AllocError>
+        ensures { OnOk result (Walks around.now seen self.old self.new (at_events events.now)) }
+    {
+        'events: for event in events.items() {
+            self.name(&event.name, around, seen)?;
+        }
+        Ok(())
     }
 
     /// A name that stands there, and what it means where it is known.
@@ -174,6 +189,18 @@ impl Findings {
                 }
                 Expr::Happened(event, _) => {
                     self.name(&event.name, around, seen)?;
+                    break;
+                }
+                Expr::Available(event, _) => {
+                    self.name(&event.name, around, seen)?;
+                    break;
+                }
+                Expr::Fix(event, _) => {
+                    self.name(&event.name, around, seen)?;
+                    break;
+                }
+                Expr::WaitAny(events, _) => {
+                    self.events(events, around, seen)?;
                     break;
                 }
                 Expr::Paren(e, _) => at = boxed_expr(e),

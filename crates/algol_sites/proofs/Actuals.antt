@@ -32,7 +32,7 @@ use Rattle.algol_sites.specs.Wanting.{is_met, unfit}
 use Rattle.algol_sites.specs.Expressing.{is_alone, misplaced, misplaced_by, misplaced_if, noted_actual, reference_of}
 use Rattle.algol_sites.proofs.Notes.{noted_all-append, noted_along-append}
 
-split : {A : Type 0} (xs : List A) (i : ℕ) (x : A) → i < length xs → x ≡ get_or xs i x → drop i xs ≡ x ∷ drop (i + 1) xs
+pub split : {A : Type 0} (xs : List A) (i : ℕ) (x : A) → i < length xs → x ≡ get_or xs i x → drop i xs ≡ x ∷ drop (i + 1) xs
 split xs i x h e =
     let next : suc i ≡ i + 1 = omega arith in
     drop-cons xs i x h ∙ ap (λ y. y ∷ drop (suc i) xs) (sym e) ∙ ap (λ n. x ∷ drop n xs) next

@@ -1,7 +1,8 @@
 -- The types of expressions, where the scopes tell of the names in them, and what is told of an expression by its form.
-use Rattle.std.proofs.Common.{rules, ◌≡◌, Option, ap, sym, ◌∙◌, subst, [], ◌∷◌}
+use Rattle.std.proofs.Common.{rules, ◌≡◌, List, Option, ap, sym, ◌∙◌, subst, [], ◌∷◌}
 use Rattle.std.specs.declared.boxed.Box.{Box}
 use Rattle.std.specs.declared.alloc.Global.{Global}
+use Rattle.b67_deeds.specs.declared.EventTest.{EventTest}
 use Rattle.b67_deeds.specs.declared.EventTest.TheVariants as test
 use Rattle.algol_tree.specs.declared.token.Spot.{Spot}
 use Rattle.algol_tree.specs.declared.tree.Kind.{Kind}
@@ -22,7 +23,7 @@ use Rattle.algol_frames.specs.declared.scopes.Scopes.{Scopes}
 use Rattle.algol_told.specs.Telling.{Tells}
 use Rattle.algol_sites.specs.Noting.{type_by}
 use Rattle.algol_sites.specs.Seen.{class_seen, sort_there}
-use Rattle.algol_sites.specs.Seeing.{TellsEach, TellsIn}
+use Rattle.algol_sites.specs.Seeing.{TellsEach, TellsEvents, TellsIn}
 use Rattle.algol_sites.proofs.Parts.{call_image, if_image, two_image, variable_is}
 use Rattle.algol_sites.proofs.Seen.{Resembles, class_told}
 
@@ -34,8 +35,17 @@ variable_image v = plain v ∙ ap tree.variable (variable_is v)
     plain : (v : Variable) → expr (expressions.Variable v) ≡ tree.variable (variable v)
     plain v = search (rules, expressions.the_lemmas)
 
-pub tested_image : (x : EventName) (spot : Spot) → expr (expressions.Happened x spot) ≡ tree.tested test.Happened (x ∷ []) spot
-tested_image x spot = search (rules, expressions.the_lemmas)
+pub happened_image : (x : EventName) (spot : Spot) → expr (expressions.Happened x spot) ≡ tree.tested test.Happened (x ∷ []) spot
+happened_image x spot = search (rules, expressions.the_lemmas)
+
+pub available_image : (x : EventName) (spot : Spot) → expr (expressions.Available x spot) ≡ tree.tested test.Available (x ∷ []) spot
+available_image x spot = search (rules, expressions.the_lemmas)
+
+pub fix_image : (x : EventName) (spot : Spot) → expr (expressions.Fix x spot) ≡ tree.tested test.Fix (x ∷ []) spot
+fix_image x spot = search (rules, expressions.the_lemmas)
+
+pub waited_image : (es : List EventName) (spot : Spot) → expr (expressions.WaitAny es spot) ≡ tree.tested test.WaitAny es spot
+waited_image es spot = search (rules, expressions.the_lemmas)
 
 pub paren_image : (x : Box Expr Global) (spot : Spot) → expr (expressions.Paren x spot) ≡ tree.paren (expr x.value) spot
 paren_image x spot = search (rules, expressions.the_lemmas)
@@ -61,8 +71,11 @@ module _ (s : Scopes) (a : Surroundings) (e : Expr) (t : TellsIn s a (expr e)) w
   pub told_call : (c : Call) → e ≡ expressions.Call c → Tells s a c.name × TellsEach s a (exprs c.actuals)
   told_call c is = subst P (ap expr is ∙ call_image c) t
 
-  pub told_tested : (x : EventName) (spot : Spot) → e ≡ expressions.Happened x spot → Tells s a x.name
-  told_tested x spot is = (subst P (ap expr is ∙ tested_image x spot) t).0
+  pub told_asked : (y : EventTest) (x : EventName) (spot : Spot) → expr e ≡ tree.tested y (x ∷ []) spot → Tells s a x.name
+  told_asked y x spot is = (subst P is t).0
+
+  pub told_waited : (es : List EventName) (spot : Spot) → e ≡ expressions.WaitAny es spot → TellsEvents s a es
+  told_waited es spot is = subst P (ap expr is ∙ waited_image es spot) t
 
   inner : (x : Box Expr Global) (y : Expr) → y ≡ x.value → TellsIn s a (expr x.value) → TellsIn s a (expr y)
   inner x y same k = let Q : Expr → Type 0 = λ z. TellsIn s a (expr z) in subst Q (sym same) k

@@ -6,6 +6,7 @@ pub mod Telling
 pub mod Forms
 pub mod Noted
 pub mod Actuals
+pub mod Events
 pub mod Lines
 pub mod Places
 pub mod Sameness

@@ -1,7 +1,9 @@
 -- What is noted of an expression, by its form.
-use Rattle.std.proofs.Common.{◌≡◌, [], ◌∷◌, Option, ap, sym, ◌∙◌}
+use Rattle.std.proofs.Common.{◌≡◌, List, [], ◌∷◌, Option, ap, sym, ◌∙◌}
+use Rattle.algol_tree.specs.declared.refusal.Code.TheVariants as codes
 use Rattle.std.specs.declared.boxed.Box.{Box}
 use Rattle.std.specs.declared.alloc.Global.{Global}
+use Rattle.b67_deeds.specs.declared.EventTest.{EventTest}
 use Rattle.b67_deeds.specs.declared.EventTest.TheVariants as test
 use Rattle.algol_tree.specs.declared.token.Spot.{Spot}
 use Rattle.algol_tree.specs.declared.refusal.Fault.{Fault}
@@ -16,11 +18,11 @@ use Rattle.algol_tree.specs.Image.{expr, exprs, variable}
 use Rattle.algol_tree.specs.Surroundings.{Surroundings, class_of}
 use Rattle.algol_tree.specs.Accepted.{noted_all}
 use Rattle.algol_tree.specs.Sites.{inside_list, sites}
-use Rattle.algol_sites.specs.Noting.{mistyped, noted_in}
-use Rattle.algol_sites.specs.Wanting.{unfit_event}
+use Rattle.algol_sites.specs.Noting.{broken_if, mistyped, noted_in}
+use Rattle.algol_sites.specs.Wanting.{are_miscounted, unfit_event, unfit_events}
 use Rattle.algol_sites.specs.Expressing.{noted_here}
-use Rattle.algol_sites.proofs.Parts.{only_event_told, variable_is}
-use Rattle.algol_sites.proofs.Forms.{neg_image, not_image, paren_image, plus_image, tested_image, variable_image}
+use Rattle.algol_sites.proofs.Parts.{events_told, only_event_told, variable_is}
+use Rattle.algol_sites.proofs.Forms.{neg_image, not_image, paren_image, plus_image, variable_image, waited_image}
 
 module _ (e : Expr) (a : Surroundings) (f : Option Fault) where
   -- the same of the plain tree
@@ -33,11 +35,16 @@ module _ (e : Expr) (a : Surroundings) (f : Option Fault) where
       plainly (tree.variable (tree.subscripted v.name (exprs v.subs))) h (ap expr is ∙ variable_image v)
       (q ∙ ap (λ o. noted_in o (inside_list (exprs v.subs) a)) (p ∙ ap (λ x. noted_here f (tree.variable x) a) (variable_is v)))
 
-  pub tested_noted : (x : EventName) (spot : Spot) (g : Option Fault) → e ≡ expressions.Happened x spot → g ≡ noted_all f (unfit_event x a) →
+  pub asked_noted : (y : EventTest) (x : EventName) (spot : Spot) (g : Option Fault) → expr e ≡ tree.tested y (x ∷ []) spot → g ≡ noted_all f (unfit_event x a) →
       g ≡ noted_in f (sites (expr e) a)
-  tested_noted x spot g is p =
-      plainly (tree.tested test.Happened (x ∷ []) spot) g (ap expr is ∙ tested_image x spot)
-      (p ∙ ap (noted_all f) (sym (only_event_told x.task x.name (class_of a x.name))))
+  asked_noted y x spot g is p =
+      plainly (tree.tested y (x ∷ []) spot) g is (p ∙ ap (noted_all f) (sym (only_event_told x.task x.name (class_of a x.name))))
+
+  pub waited_noted : (es : List EventName) (spot : Spot) (g : Option Fault) → e ≡ expressions.WaitAny es spot →
+      g ≡ noted_all (noted_all f (unfit_events es a)) (broken_if codes.WrongCount (are_miscounted es) spot) → g ≡ noted_in f (sites (expr e) a)
+  waited_noted es spot g is p =
+      plainly (tree.tested test.WaitAny es spot) g (ap expr is ∙ waited_image es spot)
+      (p ∙ ap (λ fs. noted_all (noted_all f fs) (broken_if codes.WrongCount (are_miscounted es) spot)) (sym (events_told es a)))
 
   pub paren_noted : (x : Box Expr Global) (spot : Spot) (y : Expr) (g : Option Fault) → e ≡ expressions.Paren x spot → y ≡ x.value →
       g ≡ noted_in f (sites (expr y) a) → g ≡ noted_in f (sites (expr e) a)

@@ -2,10 +2,12 @@
 use Rattle.std.proofs.Common.{rules, ◌≡◌, ℕ, ◌+◌, Bool, true, false, List, [], ◌∷◌, ◌++◌, length, Option, Some, None, refl, ap, sym, ◌∙◌, arith, append-nil}
 use Rattle.std.proofs.lemmas.List.{map-append}
 use Rattle.std.specs.Prelude.{◌&&◌, if◌then◌else◌, not}
+use Rattle.std.specs.List.{flat_map}
 use Rattle.algol_tree.specs.declared.token.Spot.{Spot}
 use Rattle.algol_tree.specs.declared.refusal.Fault.{Fault}
 use Rattle.algol_tree.specs.declared.refusal.Code.TheVariants as codes
 use Rattle.algol_tree.specs.declared.tree.Named.{Named}
+use Rattle.algol_tree.specs.declared.tree.EventName.{EventName}
 use Rattle.algol_tree.specs.declared.tree.Kind.{Kind}
 use Rattle.algol_tree.specs.declared.tree.Kind.TheVariants as kinds
 use Rattle.algol_tree.specs.declared.tree.Op.{Op}
@@ -29,7 +31,7 @@ use Rattle.algol_tree.specs.Sites as site
 use Rattle.algol_tree.specs.Accepted.{noted_all}
 use Rattle.algol_sites.specs.declared.wanted.Wanted.TheVariants as wanted
 use Rattle.algol_sites.specs.Noting.{broken, broken_if, noted_in, mistyped, mistyped_for, mistyped_list, differs}
-use Rattle.algol_sites.specs.Wanting.{event_wanted, is_met, unfit}
+use Rattle.algol_sites.specs.Wanting.{event_wanted, is_met, unfit, unfit_event, unfit_events}
 use Rattle.algol_sites.specs.Expressing.{miscounted_subscripts, noted_name, noted_element, noted_here, noted_call}
 use Rattle.algol_sites.proofs.Notes.{noted_all-append, noted_along-append}
 
@@ -161,6 +163,19 @@ pub only_event_told : (t : Bool) (n : Named) (c : Class) →
     broken codes.WrongType ((if t then if_so (not (is_task c) && not (is_unspecified c)) n.spot else if_so (not (is_event c) && not (is_unspecified c)) n.spot) ++ []) ≡
     broken_if codes.WrongType (not (is_met (event_wanted t) c) && not (is_unspecified c)) n.spot
 only_event_told t n c = ap (broken codes.WrongType) (append-nil _) ∙ event_told t n c
+
+-- .. and of each one of a list
+abbrev misnamed : EventName → Surroundings → List Spot
+misnamed e a =
+    if e.task then if_so (not (is_task (class_of a e.name)) && not (is_unspecified (class_of a e.name))) e.name.spot
+    else if_so (not (is_event (class_of a e.name)) && not (is_unspecified (class_of a e.name))) e.name.spot
+
+pub events_told : (es : List EventName) (a : Surroundings) → broken codes.WrongType (flat_map (λ (e : EventName). misnamed e a) es) ≡ unfit_events es a
+events_told [] a = refl
+events_told (e ∷ es) a =
+    map-append _ (misnamed e a) (flat_map (λ (x : EventName). misnamed x a) es)
+    ∙ ap (λ xs. xs ++ broken codes.WrongType (flat_map (λ (x : EventName). misnamed x a) es)) (event_told e.task e.name (class_of a e.name))
+    ∙ ap (λ ys. unfit_event e a ++ ys) (events_told es a)
 
 -- ---- the same for what is equal
 

@@ -36,6 +36,10 @@ module _ (s : Scopes) (a : Surroundings) where
     TellsEach tree.none = Unit {0}
     TellsEach (tree.more e es) = TellsIn e × TellsEach es
 
+-- the scopes tell of the names of events
+abbrev pub TellsEvents : Scopes → Surroundings → List EventName → Type 0
+TellsEvents s a es = AllByRecursion (Tells s a) (map (λ (e : EventName). e.name) es)
+
 -- the scopes tell of the task of a process, where it has one
 abbrev pub TellsTask : Scopes → Surroundings → Option Named → Type 0
 TellsTask s a None = Unit {0}

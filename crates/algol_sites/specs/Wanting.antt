@@ -1,5 +1,7 @@
 -- What a name has to be where it stands, as the tests that the rules have for it.
-use Rattle.std.specs.Prelude.{◌==◌, ◌&&◌, not, Bool, true, false, ℕ, List, is_some}
+use Rattle.std.specs.List.{flat_map}
+use Rattle.b67_limits.specs.declared.TheConstants.{MOST_EVENTS}
+use Rattle.std.specs.Prelude.{◌==◌, ◌&&◌, ◌||◌, nat_lt, length, not, Bool, true, false, ℕ, List, is_some}
 use Rattle.algol_tree.specs.declared.refusal.Code.{Code}
 use Rattle.algol_tree.specs.declared.refusal.Code.TheVariants as codes
 use Rattle.algol_tree.specs.declared.refusal.Fault.{Fault}
@@ -44,3 +46,10 @@ event_wanted false = wanted.Event
 
 abbrev pub unfit_event : EventName → Surroundings → List Fault
 unfit_event e a = unfit (event_wanted e.task) codes.WrongType e.name a
+
+abbrev pub unfit_events : List EventName → Surroundings → List Fault
+unfit_events es a = flat_map (λ (e : EventName). unfit_event e a) es
+
+-- there is none, or there are more than something can be done with at once
+abbrev pub are_miscounted : List EventName → Bool
+are_miscounted es = (length es == 0) || nat_lt MOST_EVENTS (length es)

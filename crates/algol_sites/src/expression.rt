@@ -18,7 +18,7 @@ ghost use Rattle.algol_sites.specs.Expressing.{is_alone, miscounted_actuals, mis
 
 use crate::told::{parameters_at, sort_at};
 use crate::types::{taken_by, type_of, want, want_if, want_numbers};
-use crate::wanted::{Wanted, note_if, want_event, want_name};
+use crate::wanted::{Wanted, note_if, want_event, want_events, want_name};
 use algol_frames::Scopes;
 use algol_rules::{Faults, boxed_expr, exprs_in, first_spot};
 use algol_sorts::Sort;
@@ -263,6 +263,14 @@ pub fn expression(scopes: &Scopes, e: &Expr, faults: &mut Faults)
                 return actuals(scopes, c, faults);
             }
             Expr::Happened(event, _) => return want_event(scopes, event, faults),
+            Expr::Available(event, _) => return want_event(scopes, event, faults),
+            Expr::Fix(event, _) => return want_event(scopes, event, faults),
+            Expr::WaitAny(events, spot) => return want_events(
+                scopes,
+                events.items(),
+                *spot,
+                faults,
+            ),
             Expr::Paren(e, _) => at = boxed_expr(e),
             Expr::Plus(e, _) => {
                 let operand = boxed_expr(e);

@@ -1,6 +1,8 @@
 //! What a name has to be where it stands.
 
-ghost use Rattle.std.specs.Prelude.{◌≡◌, ◌&&◌, not};
+ghost use Rattle.std.specs.Prelude.{◌≡◌, ◌==◌, ◌&&◌, ◌||◌, nat_lt, not};
+ghost use Rattle.b67_limits.specs.declared.TheConstants.{MOST_EVENTS};
+ghost use Rattle.algol_tree.specs.declared.refusal.Code.TheVariants as codes;
 ghost use Rattle.algol_tree.specs.Accepted.{noted_all};
 ghost use Rattle.algol_tree.specs.Classes.{is_unspecified};
 ghost use Rattle.algol_tree.specs.Surroundings.{Surroundings};
@@ -8,7 +10,8 @@ ghost use Rattle.algol_told.specs.Telling.{Tells};
 ghost use Rattle.algol_sites.specs.Noting.{broken_if};
 ghost use Rattle.algol_sites.specs.Seen.{class_seen};
 ghost use Rattle.algol_sites.specs.Wanting as rules;
-ghost use Rattle.algol_sites.specs.Wanting.{is_met, unfit, unfit_event};
+ghost use Rattle.algol_sites.specs.Seeing.{TellsEvents};
+ghost use Rattle.algol_sites.specs.Wanting.{are_miscounted, is_met, unfit, unfit_event, unfit_events};
 ghost use Rattle.algol_sites.specs.declared.wanted.Wanted.TheVariants as wants;
 
 use crate::told::sort_at;
@@ -17,6 +20,7 @@ use algol_frames::Scopes;
 use algol_rules::Faults;
 use algol_sorts::Sort;
 use algol_tree::{Code, EventName, Kind, Named, Spot};
+use b67_limits::MOST_EVENTS;
 
 /// What a name has to be where it stands.
 #[derive(Clone, Copy)]
@@ -116,4 +120,21 @@ pub fn want_event(scopes: &Scopes, event: &EventName, faults: &mut Faults)
         Code::WrongType,
         faults,
     );
+}
+
+/// Whether so many events are none, or more than something can be done with at once.
+fn is_miscount(count: usize) -> bool
+    ensures { result ≡ ((count == 0) || nat_lt MOST_EVENTS count) }
+{
+    count == 0 || count > MOST_EVENTS as usize
+}
+
+/// Notes which of these names are no events, and, at the place of the wait, where they are too many or there is none.
+pub fn want_events(scopes: &Scopes, events: &[EventName], spot: Spot, faults: &mut Faults)
+    ensures { (a : Surroundings) → TellsEvents scopes.now a events.now → faults.new.first ≡ noted_all (noted_all faults.old.first (unfit_events events.now a)) (broken_if codes.WrongCount (are_miscounted events.now) spot) }
+{
+    'events: for event in events {
+        want_event(scopes, event, faults);
+    }
+    note_if(is_miscount(events.len()), spot, Code::WrongCount, faults);
 }

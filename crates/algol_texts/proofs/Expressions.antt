@@ -1,6 +1,8 @@
 -- Expressions that break no rule: each name in them is known where it stands, and their calls fit.
-use Rattle.std.proofs.Common.{arith, ◌≡◌, ◌⊎◌, inl, inr, ℕ, ◌==◌, ◌&&◌, not, Bool, true, false, List, [], ◌∷◌, ◌++◌, map, length, is_some, Option, Some, refl, sym, ap, ◌∙◌, subst, if◌then◌else◌}
+use Rattle.std.proofs.Common.{arith, ◌≡◌, ◌⊎◌, inl, inr, ℕ, ◌≤◌, ◌==◌, ◌&&◌, ◌||◌, nat_lt, not, Bool, true, false, List, [], ◌∷◌, ◌++◌, map, length, is_some, Option, Some, refl, sym, ap, ◌∙◌, subst, if◌then◌else◌}
 use Rattle.std.proofs.lemmas.Bool.Decides.{nat_tests}
+use Rattle.std.proofs.lemmas.List.{length-map}
+use Rattle.b67_limits.specs.declared.TheConstants.{MOST_EVENTS}
 use Rattle.std.specs.List.{AllByRecursion, flat_map}
 use Rattle.algol_tree.specs.declared.token.Spot.{Spot}
 use Rattle.algol_tree.specs.declared.tree.Heading.{Heading}
@@ -64,6 +66,16 @@ such_array k subscripts _ = false
 such_is_array : (k : Kind) (subscripts : ℕ) (c : Class) → such_array k subscripts c ≡ true → is_array c ≡ true
 such_is_array k subscripts (class.array m count) h = refl
 such_is_array k subscripts c h = h
+
+few_by : (n : ℕ) → ((n == 0) || nat_lt MOST_EVENTS n) ≡ false → (1 ≤ n) × (n ≤ MOST_EVENTS)
+few_by n h = (grind (arith, nat_tests), grind (arith, nat_tests))
+
+-- what is done with events that are not miscounted is done with one at least, and with no more than may be
+few_events : (es : List EventName) (spot : Spot) → if_so ((length es == 0) || nat_lt MOST_EVENTS (length es)) spot ≡ [] →
+    fits.AreFew (map (λ (e : EventName). e.name) es)
+few_events es spot h =
+    subst (λ (n : ℕ). (1 ≤ n) × (n ≤ MOST_EVENTS)) (sym (length-map es (λ (e : EventName). e.name)))
+    (few_by (length es) (not_so ((length es == 0) || nat_lt MOST_EVENTS (length es)) spot h))
 
 -- as the checker sees a parameter
 abbrev formal : Heading → Named → Formal
@@ -245,7 +257,7 @@ module _ (sc : Scopes) (j : ℕ) (outer : List Spot) (a : Surroundings) (r : IsA
           let its : if_so (not (length h.params == exprs_count es)) n.spot ≡ [] = rw c at g.0.counted in
           counted_as (length h.params) (exprs_count es) (not_so (not (length h.params == exprs_count es)) n.spot its))
           g.1 (λ ns h c s i. actuals_fit es ns h c s i)
-      expr_fits (tree.tested test es spot) g = events_in es g.0.uses g.0.right
+      expr_fits (tree.tested test es spot) g = (events_in es g.0.uses g.0.right, few_events es spot g.0.counted)
       expr_fits (tree.paren e spot) g = expr_fits e g.1
       expr_fits (tree.plus e spot) g = expr_fits e g.1
       expr_fits (tree.neg e spot) g = expr_fits e g.1

@@ -2,6 +2,7 @@
 -- none of them.
 use Rattle.std.specs.Prelude.{ℕ, ◌+◌, ◌==◌, ◌&&◌, ◌||◌, nat_lt, not, Bool, false, List, [], length}
 use Rattle.std.specs.List.{list_any}
+use Rattle.b67_limits.specs.declared.TheConstants.{MOST_EVENTS}
 use Rattle.algol_tree.specs.declared.TheConstants.{MOST_LINE_WIDTH}
 use Rattle.algol_tree.specs.declared.token.Spot.{Spot}
 use Rattle.algol_tree.specs.declared.tree.Named.{Named}
@@ -21,7 +22,7 @@ abbrev pub exprs_count : PExprs → ℕ
 exprs_count tree.none = 0
 exprs_count (tree.more e es) = 1 + exprs_count es
 
--- ---- wrong counts, of the actuals of a call or the subscripts of an array, at the name
+-- ---- wrong counts, of the actuals of a call or the subscripts of an array, at the name; and no events or too many, at the word before them
 
 abbrev takes_others : Class → ℕ → Bool
 takes_others (class.procedure h) count = not (length h.params == count)
@@ -44,7 +45,7 @@ miscounted_in_expr (tree.variable (tree.subscripted n es)) a = miscounted_variab
 miscounted_in_expr (tree.call (tree.called n es)) a = miscounted_call n es a
 miscounted_in_expr (tree.number z spot) a = []
 miscounted_in_expr (tree.truth b spot) a = []
-miscounted_in_expr (tree.tested test es spot) a = []
+miscounted_in_expr (tree.tested test es spot) a = if_so ((length es == 0) || nat_lt MOST_EVENTS (length es)) spot
 miscounted_in_expr (tree.paren e spot) a = []
 miscounted_in_expr (tree.plus e spot) a = []
 miscounted_in_expr (tree.neg e spot) a = []

@@ -19,6 +19,7 @@ pub data Value : Type 0 where
   one : PExpr → Value
   many : PExprs → Value
   event_named : EventName → Value
+  event_names : List EventName → Value
   name_is : Named → Value
   names : List Named → Value
   low : ℤ → Value
@@ -55,6 +56,7 @@ pub data Due : Type 0 where
   exprs_more : ℕ → Due  -- { "," expr }
   opening : Symbol → ℕ → Due  -- a symbol that opens a level
   event : Due
+  events_more : Due  -- { "," event }
   behind_event : Named → Due  -- [ "." EXCEPTIONEVENT ]
   whole : ℕ → Due  -- an expression that stands in no other
   whole_ends : Due  -- nothing is due: it is over

@@ -1,5 +1,6 @@
 -- What a token is to a part of an expression that is due.
-use Rattle.std.specs.Prelude.{◌+◌, ℕ, Bool, true, false, ◌||◌, List, [], ◌∷◌, Option, Some, None, codes}
+use Rattle.std.specs.Prelude.{◌+◌, ℕ, Bool, true, false, ◌||◌, List, [], ◌∷◌, ◌++◌, Option, Some, None, codes}
+use Rattle.b67_deeds.specs.declared.EventTest.{EventTest}
 use Rattle.b67_deeds.specs.declared.EventTest.TheVariants as test
 use Rattle.algol_tree.specs.declared.level.Level.{Level}
 use Rattle.algol_tree.specs.declared.level.Level.TheVariants as levels
@@ -15,7 +16,7 @@ use Rattle.algol_tree.specs.Plain as trees
 use Rattle.algol_tree.specs.Plain.{PExpr, PExprs, subscripted, called, none, more}
 use Rattle.algol_tree.specs.Tokens.{is_word, is_symbol}
 use Rattle.algol_tree.specs.Operators.{Part, expr, level, not_part, rel, primary, operand}
-use Rattle.algol_tree.specs.Due.{one, many, event_named, Make, put, Due, make, word, symbol, spelled, part, more_of, relation, behind_name, exprs_more, opening, event, behind_event, whole_ends, Turn, takes, makes, skips, refuses, plain, nests, followed, begins, either}
+use Rattle.algol_tree.specs.Due.{one, many, event_named, event_names, Make, put, Due, make, word, symbol, spelled, part, more_of, relation, behind_name, exprs_more, opening, event, events_more, behind_event, whole_ends, Turn, takes, makes, skips, refuses, plain, nests, followed, begins, either}
 
 abbrev pub is_sign : TokenKind → Bool
 is_sign k = is_symbol symbols.Plus k || is_symbol symbols.Minus k
@@ -73,9 +74,17 @@ abbrev pub applied : Named → Make
 applied n (many es ∷ vs) = one (trees.call (called n es)) ∷ vs
 applied n vs = vs
 
-abbrev pub asked : Spot → Make
-asked spot (event_named e ∷ vs) = one (trees.tested test.Happened (e ∷ []) spot) ∷ vs
-asked spot vs = vs
+abbrev pub asked : EventTest → Spot → Make
+asked test spot (event_named e ∷ vs) = one (trees.tested test (e ∷ []) spot) ∷ vs
+asked test spot vs = vs
+
+abbrev pub event_added : Make
+event_added (event_named e ∷ event_names es ∷ vs) = event_names (es ++ e ∷ []) ∷ vs
+event_added vs = vs
+
+abbrev pub waited : Spot → Make
+waited spot (event_names es ∷ vs) = one (trees.tested test.WaitAny es spot) ∷ vs
+waited spot vs = vs
 
 -- number | TRUE | FALSE
 abbrev pub literal : Spot → TokenKind → Option PExpr
@@ -94,13 +103,29 @@ abbrev pub turn_behind_event : Named → TokenKind → Turn
 turn_behind_event n k = either (is_symbol symbols.Period k) (takes plain (spelled (codes "EXCEPTIONEVENT") ∷ make (put (event_named (record { name = n; task = true }))) ∷ []))
     (makes (put (event_named (record { name = n; task = false }))))
 
+-- "(" event ")", of which that is asked
+abbrev pub of_one : EventTest → ℕ → Spot → List Due
+of_one test d spot = opening symbols.OpenRound d ∷ event ∷ symbol symbols.CloseRound ∷ make (asked test spot) ∷ []
+
+-- "(" event { "," event } ")", for which a process waits
+abbrev pub of_several : ℕ → Spot → List Due
+of_several d spot =
+    opening symbols.OpenRound d ∷ make (put (event_names [])) ∷ event ∷ make event_added ∷ events_more ∷ symbol symbols.CloseRound ∷ make (waited spot) ∷ []
+
+-- what stands after commas
+abbrev pub turn_events_more : TokenKind → Turn
+turn_events_more k = either (is_symbol symbols.Comma k) (takes plain (event ∷ make event_added ∷ events_more ∷ [])) skips
+
 -- the turn of a part at a token of that place and kind
 
 abbrev pub turn_primary : ℕ → Spot → TokenKind → Turn
 turn_primary d spot (kinds.Number value) = takes plain (make (put (one (trees.number value spot))) ∷ [])
 turn_primary d spot (kinds.Word reserved.True) = takes plain (make (put (one (trees.truth true spot))) ∷ [])
 turn_primary d spot (kinds.Word reserved.False) = takes plain (make (put (one (trees.truth false spot))) ∷ [])
-turn_primary d spot (kinds.Word reserved.Happened) = takes plain (opening symbols.OpenRound d ∷ event ∷ symbol symbols.CloseRound ∷ make (asked spot) ∷ [])
+turn_primary d spot (kinds.Word reserved.Happened) = takes plain (of_one test.Happened d spot)
+turn_primary d spot (kinds.Word reserved.Available) = takes plain (of_one test.Available d spot)
+turn_primary d spot (kinds.Word reserved.Fix) = takes plain (of_one test.Fix d spot)
+turn_primary d spot (kinds.Word reserved.Wait) = takes plain (of_several d spot)
 turn_primary d spot (kinds.Name name) = takes plain (behind_name (record { name = name; spot = spot }) d ∷ [])
 turn_primary d spot (kinds.Symbol symbols.OpenRound) = takes (nests d) (part expr (d + 1) ∷ symbol symbols.CloseRound ∷ make (grouped spot) ∷ [])
 turn_primary d spot k = refuses

@@ -1,12 +1,14 @@
 -- The grammar of expressions: tokens and the expression that they read as. `IsPart free p d from e rest`: the tokens `from` begin
 -- with those of the part p, which read as e where d levels are open, and `rest` is what follows. There is one case for each
 -- form of a production. The limits are kept by all tokens but the last `free` ones; with 0 they are kept by all.
-use Rattle.std.specs.Prelude.{◌≡◌, ◌⊎◌, ◌<◌, ◌≤◌, ◌+◌, ℕ, ℤ, true, false, List, ◌∷◌, length, Some, codes, []}
+use Rattle.std.specs.Prelude.{◌≡◌, ◌⊎◌, ◌<◌, ◌≤◌, ◌+◌, ℕ, ℤ, true, false, List, ◌∷◌, length, Some, None, codes, [], Option}
+use Rattle.b67_deeds.specs.declared.EventTest.{EventTest}
 use Rattle.b67_deeds.specs.declared.EventTest.TheVariants as test
 use Rattle.algol_tree.specs.declared.TheConstants.{MOST_NESTING, MOST_EXPRESSION_TOKENS}
 use Rattle.algol_tree.specs.declared.level.Level.{Level}
 use Rattle.algol_tree.specs.declared.level.Level.TheVariants as levels
 use Rattle.algol_tree.specs.declared.token.Token.{Token}
+use Rattle.algol_tree.specs.declared.token.TokenKind.{TokenKind}
 use Rattle.algol_tree.specs.declared.token.TokenKind.TheVariants as kinds
 use Rattle.algol_tree.specs.declared.token.Reserved.TheVariants as reserved
 use Rattle.algol_tree.specs.declared.token.Symbol.TheVariants as symbols
@@ -26,6 +28,19 @@ pub data IsEvent : List Token → EventName → List Token → Type 0 where
   declared : (t : Token) (n : Named) (rest : List Token) → IsName n t → IsEvent (t ∷ rest) (record { name = n; task = false }) rest
   of_task : (t u v : Token) (n : Named) (rest : List Token) →
       IsName n t → IsSymbol symbols.Period u → IsSpelled (codes "EXCEPTIONEVENT") v → IsEvent (t ∷ u ∷ v ∷ rest) (record { name = n; task = true }) rest
+
+-- event { "," event }
+pub data IsEvents : List Token → List EventName → List Token → Type 0 where
+  last : (e : EventName) (from rest : List Token) → IsEvent from e rest → IsEvents from (e ∷ []) rest
+  comma : (t : Token) (e : EventName) (es : List EventName) (from after rest : List Token) →
+      IsEvent from e (t ∷ after) → IsSymbol symbols.Comma t → IsEvents after es rest → IsEvents from (e ∷ es) rest
+
+-- what is asked of one event
+abbrev pub test_of : TokenKind → Option EventTest
+test_of (kinds.Word reserved.Happened) = Some test.Happened
+test_of (kinds.Word reserved.Available) = Some test.Available
+test_of (kinds.Word reserved.Fix) = Some test.Fix
+test_of k = None
 
 mutual
   pub data IsPart (free : ℕ) : Part → ℕ → List Token → PExpr → List Token → Type 0 where
@@ -56,7 +71,8 @@ mutual
     relation : (t : Token) (op : Op) (d : ℕ) (a b : PExpr) (from after rest : List Token) →
         IsPart free (level levels.Sum) d from a (t ∷ after) → relop t.kind ≡ Some op → IsPart free (level levels.Sum) d after b rest →
         IsPart free rel d from (two op a b) rest
-    -- primary = number | TRUE | FALSE | variable | name "(" expr { "," expr } ")" | HAPPENED "(" event ")" | "(" expr ")"
+    -- primary = number | TRUE | FALSE | variable | name "(" expr { "," expr } ")" | ( HAPPENED | AVAILABLE | FIX ) "(" event ")" |
+    -- WAIT "(" event { "," event } ")" | "(" expr ")"
     literal : (t : Token) (d : ℕ) (value : ℤ) (rest : List Token) → t.kind ≡ kinds.Number value → IsPart free primary d (t ∷ rest) (number value t.spot) rest
     yes : (t : Token) (d : ℕ) (rest : List Token) → IsWord reserved.True t → IsPart free primary d (t ∷ rest) (truth true t.spot) rest
     no_ : (t : Token) (d : ℕ) (rest : List Token) → IsWord reserved.False t → IsPart free primary d (t ∷ rest) (truth false t.spot) rest
@@ -67,9 +83,12 @@ mutual
     called_with : (t u v : Token) (n : Named) (d : ℕ) (es : PExprs) (from rest : List Token) →
         IsName n t → IsSymbol symbols.OpenRound u → Opens free d (u ∷ from) → IsExprs free (d + 1) from es (v ∷ rest) → IsSymbol symbols.CloseRound v →
         IsPart free primary d (t ∷ u ∷ from) (call (called n es)) rest
-    asked : (t u v : Token) (d : ℕ) (event : EventName) (from rest : List Token) →
-        IsWord reserved.Happened t → IsSymbol symbols.OpenRound u → Opens free d (u ∷ from) → IsEvent from event (v ∷ rest) → IsSymbol symbols.CloseRound v →
-        IsPart free primary d (t ∷ u ∷ from) (tested test.Happened (event ∷ []) t.spot) rest
+    asked : (t u v : Token) (test : EventTest) (d : ℕ) (event : EventName) (from rest : List Token) →
+        test_of t.kind ≡ Some test → IsSymbol symbols.OpenRound u → Opens free d (u ∷ from) → IsEvent from event (v ∷ rest) → IsSymbol symbols.CloseRound v →
+        IsPart free primary d (t ∷ u ∷ from) (tested test (event ∷ []) t.spot) rest
+    waited : (t u v : Token) (d : ℕ) (events : List EventName) (from rest : List Token) →
+        IsWord reserved.Wait t → IsSymbol symbols.OpenRound u → Opens free d (u ∷ from) → IsEvents from events (v ∷ rest) → IsSymbol symbols.CloseRound v →
+        IsPart free primary d (t ∷ u ∷ from) (tested test.WaitAny events t.spot) rest
     grouped : (t u : Token) (d : ℕ) (e : PExpr) (from rest : List Token) →
         IsSymbol symbols.OpenRound t → Opens free d (t ∷ from) → IsPart free expr (d + 1) from e (u ∷ rest) → IsSymbol symbols.CloseRound u →
         IsPart free primary d (t ∷ from) (paren e t.spot) rest

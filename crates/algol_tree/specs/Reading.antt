@@ -11,7 +11,7 @@ use Rattle.algol_tree.specs.Tokens.{is_word, is_symbol, is_spelled}
 use Rattle.algol_tree.specs.Operators.{operator, relop}
 use Rattle.algol_tree.specs.Due as due
 use Rattle.algol_tree.specs.Due.{Value, Make, Due, make, word, symbol, spelled, part, more_of, relation, behind_name, exprs_more, opening, whole, whole_ends, named, statement, Limit, plain, nests, label, begun, Turn, takes, makes, skips, closes, refuses, either, optional}
-use Rattle.algol_tree.specs.DueExpr.{turn_part, turn_whole, on_with, related, turn_behind_name, turn_exprs_more, turn_event, turn_behind_event}
+use Rattle.algol_tree.specs.DueExpr.{turn_part, turn_whole, on_with, related, turn_behind_name, turn_exprs_more, turn_event, turn_behind_event, turn_events_more}
 use Rattle.algol_tree.specs.DueDecl.{turn_named, turn_names_more, turn_printer_part, turn_files_more, turn_literal, turn_negated, turn_lows_more, turn_values_part, turn_spec, turn_spec_typed, turn_specs_more, turn_behind_procedure}
 use Rattle.algol_tree.specs.DueStmt.{turn_wholes_more, turn_actuals_part, turn_items_part, turn_pairs_more, turn_segments_more, turn_task_part, turn_to_part, turn_angle, turn_phrase, turn_phrases_more, turn_statement, turn_behind_start, turn_else_part, turn_stmts_more, turn_typed, turn_declarations, turn_procedure_body, turn_program}
 
@@ -27,6 +27,7 @@ turn (behind_name n d) spot k = turn_behind_name n d k
 turn (exprs_more d) spot k = turn_exprs_more d k
 turn (opening s d) spot k = either (is_symbol s k) (takes (nests d) []) refuses
 turn due.event spot k = turn_event spot k
+turn due.events_more spot k = turn_events_more k
 turn (due.behind_event n) spot k = turn_behind_event n k
 turn (whole d) spot k = turn_whole d spot k
 turn whole_ends spot k = closes

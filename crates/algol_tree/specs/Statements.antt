@@ -53,6 +53,7 @@ pub data IsTo : List Token → List Token → Type 0 where
 -- CAUSE | RESET | WAIT | PROCURE | LIBERATE
 abbrev pub act_of : TokenKind → Option EventAct
 act_of (kinds.Word reserved.Cause) = Some acts.Cause
+act_of (kinds.Word reserved.CauseAndReset) = Some acts.CauseAndReset
 act_of (kinds.Word reserved.Reset) = Some acts.Reset
 act_of (kinds.Word reserved.Wait) = Some acts.Wait
 act_of (kinds.Word reserved.Procure) = Some acts.Procure

@@ -1,5 +1,7 @@
 -- The types of expressions. Each expression has one type, found from below; where a name is not what stands there, there is none.
 use Rattle.std.specs.Prelude.{Option, Some, None}
+use Rattle.b67_deeds.specs.declared.EventTest.{EventTest}
+use Rattle.b67_deeds.specs.declared.EventTest.TheVariants as test
 use Rattle.algol_tree.specs.declared.tree.Kind.{Kind}
 use Rattle.algol_tree.specs.declared.tree.Kind.TheVariants as types
 use Rattle.algol_tree.specs.declared.tree.Op.{Op}
@@ -43,13 +45,20 @@ abbrev pub result_type : Class → Option Kind
 result_type (class.procedure h) = h.kind
 result_type _ = None
 
+-- which of several events it is, is a number
+abbrev pub told_by : EventTest → Kind
+told_by test.Happened = types.Truth
+told_by test.Available = types.Truth
+told_by test.Fix = types.Truth
+told_by test.WaitAny = types.Number
+
 abbrev pub type_of : PExpr → Surroundings → Option Kind
 type_of (tree.number z spot) a = Some types.Number
 type_of (tree.truth b spot) a = Some types.Truth
 type_of (tree.variable (tree.subscripted n tree.none)) a = read_type (class_of a n)
 type_of (tree.variable (tree.subscripted n (tree.more e es))) a = element_type (class_of a n)
 type_of (tree.call (tree.called n es)) a = result_type (class_of a n)
-type_of (tree.tested test es spot) a = Some types.Truth
+type_of (tree.tested test es spot) a = Some (told_by test)
 type_of (tree.paren e spot) a = type_of e a
 type_of (tree.plus e spot) a = Some types.Number
 type_of (tree.neg e spot) a = Some types.Number

@@ -136,7 +136,7 @@ pub read_primary-returns-in-Some-clause-found : goal.read_primary-returns-in-Som
 read_primary-returns-in-Some-clause-found t c = done (literal_is _ _ _ _ _ c.first_of.ensures c.in-Some.ensures.some) (ap one c.in_ok-boxed.ensures.built) (behind_token c.first_of.ensures c.requires.ended (not_end_literal _ _ _ c.in-Some.ensures.some))
 
 pub read_primary-returns-else-is_symbol-clause-refused : goal.read_primary-returns-else-is_symbol-clause-refused
-read_primary-returns-else-is_symbol-clause-refused t c = primary_fails _ _ _ _ _ _ c.first_of.ensures c.in_default.ensures.none c.in_default-name_in.ensures.none (sym c.is_word.ensures ∙ c.if-is_word.false) (sym c.is_symbol.ensures ∙ c.if-is_symbol.false) c.refused.ensures.left c.refused.ensures.refusal
+read_primary-returns-else-is_symbol-clause-refused t c = primary_fails _ _ _ _ _ _ c.first_of.ensures c.in_default.ensures.none c.in_default-name_in.ensures.none (sym c.test_in.ensures ∙ c.in_default-test_in.is) (sym c.is_word.ensures ∙ c.if-is_word.false) (sym c.is_symbol.ensures ∙ c.if-is_symbol.false) c.refused.ensures.left c.refused.ensures.refusal
 
 pub read_primary-returns-in-Some-name_in-clause-found : goal.read_primary-returns-in-Some-name_in-clause-found
 read_primary-returns-in-Some-name_in-clause-found t c = completes_to c.read_behind_name.result (λ x. one (plain x.0.value)) (λ x. x.1.now) (name_starts _ _ _ _ _ _ c.first_of.ensures c.in-Some-name_in.ensures.some c.in_ok-name.ensures.built) (first_shorter c.first_of.ensures) c.read_behind_name.ensures.found
@@ -188,11 +188,17 @@ read_expression-returns-then-is_word-clause-found t c = subst (λ ts. IfOk c.rea
 pub read_expression-returns-then-is_word-clause-refused : goal.read_expression-returns-then-is_word-clause-refused
 read_expression-returns-then-is_word-clause-refused t c = subst (λ ts. IfErr c.read_choice.result (λ e. Fails (part expr c.args.depth ∷ []) [] ts e.left e.refusal)) (sym c.first_of.ensures) c.read_choice.ensures.refused
 
+pub read_primary-returns-in-Some-test_in-clause-found : goal.read_primary-returns-in-Some-test_in-clause-found
+read_primary-returns-in-Some-test_in-clause-found t c = subst (λ ts. IfOk c.read_asked.result (λ r. Finds (part primary c.args.depth) ts (one (plain r.0.value)) r.1.now)) (sym c.first_of.ensures) c.read_asked.ensures.found
+
+pub read_primary-returns-in-Some-test_in-clause-refused : goal.read_primary-returns-in-Some-test_in-clause-refused
+read_primary-returns-in-Some-test_in-clause-refused t c = subst (λ ts. IfErr c.read_asked.result (λ e. Fails (part primary c.args.depth ∷ []) [] ts e.left e.refusal)) (sym c.first_of.ensures) c.read_asked.ensures.refused
+
 pub read_primary-returns-then-is_word-clause-found : goal.read_primary-returns-then-is_word-clause-found
-read_primary-returns-then-is_word-clause-found t c = subst (λ ts. IfOk c.read_happened.result (λ r. Finds (part primary c.args.depth) ts (one (plain r.0.value)) r.1.now)) (sym c.first_of.ensures) c.read_happened.ensures.found
+read_primary-returns-then-is_word-clause-found t c = subst (λ ts. IfOk c.read_waited.result (λ r. Finds (part primary c.args.depth) ts (one (plain r.0.value)) r.1.now)) (sym c.first_of.ensures) c.read_waited.ensures.found
 
 pub read_primary-returns-then-is_word-clause-refused : goal.read_primary-returns-then-is_word-clause-refused
-read_primary-returns-then-is_word-clause-refused t c = subst (λ ts. IfErr c.read_happened.result (λ e. Fails (part primary c.args.depth ∷ []) [] ts e.left e.refusal)) (sym c.first_of.ensures) c.read_happened.ensures.refused
+read_primary-returns-then-is_word-clause-refused t c = subst (λ ts. IfErr c.read_waited.result (λ e. Fails (part primary c.args.depth ∷ []) [] ts e.left e.refusal)) (sym c.first_of.ensures) c.read_waited.ensures.refused
 
 pub read_primary-returns-then-is_symbol-clause-found : goal.read_primary-returns-then-is_symbol-clause-found
 read_primary-returns-then-is_symbol-clause-found t c = subst (λ ts. IfOk c.read_group.result (λ r. Finds (part primary c.args.depth) ts (one (plain r.0.value)) r.1.now)) (sym c.first_of.ensures) c.read_group.ensures.found

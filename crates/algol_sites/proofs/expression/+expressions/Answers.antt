@@ -1,19 +1,24 @@
-use Rattle.std.proofs.Common.{[], ◌∙◌, sym, ap, refl, map, drop, arith}
+use Rattle.std.proofs.Common.{◌≡◌, [], ◌∙◌, sym, ap, subst, refl, map, drop, arith}
 use Rattle.std.proofs.lemmas.List.{drop_all}
 use Rattle.algol_tree.specs.Image.{expr, exprs}
 use Rattle.algol_rules.specs.declared.fault.Faults.{Faults}
 use Rattle.algol_sites.specs.Seen.{classes_of, formal_as}
-use Rattle.algol_sites.specs.Noting.{noted_in}
+use Rattle.algol_tree.specs.declared.refusal.Code.TheVariants as codes
+use Rattle.algol_tree.specs.Accepted.{noted_all}
+use Rattle.algol_sites.specs.Seeing.{TellsEvents}
+use Rattle.algol_sites.specs.Wanting.{are_miscounted, unfit_events}
+use Rattle.algol_sites.specs.Noting.{broken_if, noted_in}
 use Rattle.algol_sites.specs.Expressing.{noted_actual, is_alone}
 use Rattle.algol_tree.specs.Sites.{sites}
 use Rattle.algol_tree.specs.Types.{taken_by, type_of}
 use Rattle.algol_tree.specs.Surroundings.{formals_at}
 use Rattle.algol_tree.specs.declared.tree.Kind.TheVariants as kinds
 use Rattle.algol_sites.proofs.Parts.{call_noted, two_noted, if_noted, wanted_as, wanted_for_as, through_as, typed_as}
-use Rattle.algol_sites.proofs.Noted.{neg_noted, not_noted, paren_noted, plus_noted, tested_noted, variable_noted}
+use Rattle.b67_deeds.specs.declared.EventTest.TheVariants as test
+use Rattle.algol_sites.proofs.Noted.{asked_noted, neg_noted, not_noted, paren_noted, plus_noted, variable_noted, waited_noted}
 use Rattle.algol_scope.proofs.Sizes.{in_paren, in_plus, in_neg, in_not, in_left, in_otherwise}
 use Rattle.algol_sites.proofs.Whole.{either_first}
-use Rattle.algol_sites.proofs.Forms.{told_call, told_if, told_neg, told_not, told_paren, told_plus, told_tested, told_two, told_variable}
+use Rattle.algol_sites.proofs.Forms.{available_image, fix_image, happened_image, told_asked, told_call, told_if, told_neg, told_not, told_paren, told_plus, told_two, told_variable, told_waited}
 use Rattle.algol_sites.proofs.Seen.{formals_told}
 use Rattle.algol_sites.proofs.Actuals.{each_split, list_end, list_step, actual_step, valued, alone, alike, none_left}
 use Rattle.algol_sites.proofs.expression.+expressions.Goals as goal
@@ -74,8 +79,36 @@ expression-returns-in-Call t c = λ a u.
 pub expression-returns-in-Happened : goal.expression-returns-in-Happened
 expression-returns-in-Happened t c = λ a u.
     let inv = c.parts.invariant.0 a u in
-    tested_noted c.parts.at.now a c.parts.faults.first c.in-Happened.event c.in-Happened.field-1 c.want_event.new.faults.first c.in-Happened.is
-    (c.want_event.ensures a (told_tested c.args.scopes.now a c.parts.at.now inv.1 c.in-Happened.event c.in-Happened.field-1 c.in-Happened.is))
+    let is = ap expr c.in-Happened.is ∙ happened_image c.in-Happened.event c.in-Happened.field-1 in
+    asked_noted c.parts.at.now a c.parts.faults.first test.Happened c.in-Happened.event c.in-Happened.field-1 c.want_event.new.faults.first is
+    (c.want_event.ensures a (told_asked c.args.scopes.now a c.parts.at.now inv.1 test.Happened c.in-Happened.event c.in-Happened.field-1 is))
+    ∙ inv.0
+
+pub expression-returns-in-Available : goal.expression-returns-in-Available
+expression-returns-in-Available t c = λ a u.
+    let inv = c.parts.invariant.0 a u in
+    let is = ap expr c.in-Available.is ∙ available_image c.in-Available.event c.in-Available.field-1 in
+    asked_noted c.parts.at.now a c.parts.faults.first test.Available c.in-Available.event c.in-Available.field-1 c.want_event-in-Available.new.faults.first is
+    (c.want_event-in-Available.ensures a (told_asked c.args.scopes.now a c.parts.at.now inv.1 test.Available c.in-Available.event c.in-Available.field-1 is))
+    ∙ inv.0
+
+pub expression-returns-in-Fix : goal.expression-returns-in-Fix
+expression-returns-in-Fix t c = λ a u.
+    let inv = c.parts.invariant.0 a u in
+    let is = ap expr c.in-Fix.is ∙ fix_image c.in-Fix.event c.in-Fix.field-1 in
+    asked_noted c.parts.at.now a c.parts.faults.first test.Fix c.in-Fix.event c.in-Fix.field-1 c.want_event-in-Fix.new.faults.first is
+    (c.want_event-in-Fix.ensures a (told_asked c.args.scopes.now a c.parts.at.now inv.1 test.Fix c.in-Fix.event c.in-Fix.field-1 is))
+    ∙ inv.0
+
+pub expression-returns-in-WaitAny : goal.expression-returns-in-WaitAny
+expression-returns-in-WaitAny t c = λ a u.
+    let inv = c.parts.invariant.0 a u in
+    let s = c.args.scopes.now in
+    let same : c.deref.result.now ≡ c.in-WaitAny.events = c.deref.ensures.value ∙ c.items.ensures in
+    waited_noted c.parts.at.now a c.parts.faults.first c.in-WaitAny.events c.in-WaitAny.spot c.want_events.new.faults.first c.in-WaitAny.is
+    (c.want_events.ensures a
+    (subst (TellsEvents s a) (sym same) (told_waited s a c.parts.at.now inv.1 c.in-WaitAny.events c.in-WaitAny.spot c.in-WaitAny.is))
+    ∙ ap (λ es. noted_all (noted_all c.parts.faults.first (unfit_events es a)) (broken_if codes.WrongCount (are_miscounted es) c.in-WaitAny.spot)) same)
     ∙ inv.0
 
 pub expression-parts-preserved-in-Paren : goal.expression-parts-preserved-in-Paren

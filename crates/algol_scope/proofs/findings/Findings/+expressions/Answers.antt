@@ -3,14 +3,15 @@ use Rattle.std.proofs.lemmas.List.{drop_all}
 use Rattle.algol_tree.specs.declared.tree.Expr.{size-Expr}
 use Rattle.algol_tree.specs.Image.{expr, exprs}
 use Rattle.algol_tree.specs.Sites.{sites, inside_list}
-use Rattle.algol_known.proofs.Plain.{expr_happened}
+use Rattle.b67_deeds.specs.declared.EventTest.TheVariants as test
+use Rattle.algol_known.proofs.Plain.{expr_happened, expr_available, expr_fix, expr_waited}
 use Rattle.algol_scope.specs.declared.findings.Findings.{Findings}
 use Rattle.algol_scope.specs.Noting.{Walks, at_name}
-use Rattle.algol_scope.proofs.Walking.{follows-item, follows-end, passing-item, passing-end, Follows, walks-then, walks-happened, walks-call, walks-of, on_ok, copied-get, get-within}
+use Rattle.algol_scope.proofs.Walking.{follows-item, follows-end, passing-item, passing-end, Follows, walks-then, walks-asked, walks-waited, walks-call, walks-of, on_ok, copied-get, get-within}
 use Rattle.algol_scope.proofs.Waiting.{waiting_parts, under_more, under_last, goes_in_paren, goes_in_plus, goes_in_neg, goes_in_not, goes_left, goes_last, comes_back_as, taken_up, none_waits, none_left, walks_number, walks_truth, walks_variable, walks_called}
 use Rattle.algol_scope.proofs.Sizes.{in_paren, in_plus, in_neg, in_not, in_left, in_right, in_otherwise}
 use Rattle.algol_scope.proofs.findings.Findings.+expressions.Goals as goal
-use Rattle.algol_scope.proofs.findings.Findings.+expressions.Goals.{expr-in-Number, expr-in-Truth, expr-in-Variable+in_ok-variable-in-Variable, expr-in-Call+in_ok-call-in-Call, expr-in-Happened+in_ok-name-in-Happened}
+use Rattle.algol_scope.proofs.findings.Findings.+expressions.Goals.{expr-in-Number, expr-in-Truth, expr-in-Variable+in_ok-variable-in-Variable, expr-in-Call+in_ok-call-in-Call, expr-in-Happened+in_ok-name-in-Happened, expr-in-Available+in_ok-name-in-Available, expr-in-Fix+in_ok-name-in-Fix, expr-in-WaitAny+in_ok-events-in-WaitAny}
 
 pub list-expressions-preserved : goal.list-expressions-preserved
 list-expressions-preserved t c =
@@ -122,7 +123,22 @@ expr-waiting-init t c =
         | expr-in-Happened+in_ok-name-in-Happened w ↦
             back w.name.new.self
             (walks-of k seen now w.name.new.self _ _ (expr_happened _ _ _ w.in-Happened.is)
-            (walks-happened k seen now w.name.new.self w.in-Happened.event w.in-Happened.field-1 w.in_ok-name-in-Happened.ensures.walks))
+            (walks-asked k seen now w.name.new.self test.Happened w.in-Happened.event w.in-Happened.field-1 w.in_ok-name-in-Happened.ensures.walks))
+            w.self-is
+        | expr-in-Available+in_ok-name-in-Available w ↦
+            back w.name-in-Available.new.self
+            (walks-of k seen now w.name-in-Available.new.self _ _ (expr_available _ _ _ w.in-Available.is)
+            (walks-asked k seen now w.name-in-Available.new.self test.Available w.in-Available.event w.in-Available.field-1 w.in_ok-name-in-Available.ensures.walks))
+            w.self-is
+        | expr-in-Fix+in_ok-name-in-Fix w ↦
+            back w.name-in-Fix.new.self
+            (walks-of k seen now w.name-in-Fix.new.self _ _ (expr_fix _ _ _ w.in-Fix.is)
+            (walks-asked k seen now w.name-in-Fix.new.self test.Fix w.in-Fix.event w.in-Fix.field-1 w.in_ok-name-in-Fix.ensures.walks))
+            w.self-is
+        | expr-in-WaitAny+in_ok-events-in-WaitAny w ↦
+            back w.events.new.self
+            (walks-of k seen now w.events.new.self _ _ (expr_waited _ _ _ w.in-WaitAny.is)
+            (walks-waited k seen now w.events.new.self w.in-WaitAny.events w.in-WaitAny.field-1 w.in_ok-events-in-WaitAny.ensures))
             w.self-is
       ],
       c.parts.invariant.2,
