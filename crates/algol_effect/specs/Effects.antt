@@ -8,7 +8,8 @@ use Rattle.algol_meaning.specs.World as world
 use Rattle.algol_meaning.specs.Rest as rest
 use Rattle.algol_meaning.specs.Asks as asks
 use Rattle.algol_meaning.specs.Events.{event_at}
-use Rattle.b67_deeds.specs.Deeds.{acts, deed}
+use Rattle.b67_deeds.specs.Deeds.{acts, tests, deed}
+use Rattle.b67_deeds.specs.declared.EventTest.TheVariants as test
 use Rattle.b67_deeds.specs.declared.Letter.TheVariants as actions
 use Rattle.algol_meaning.specs.Choice as choices
 use Rattle.algol_meaning.specs.Choice.{Choice}
@@ -34,6 +35,10 @@ abbrev pub outer_of : List world.Part → List world.Part
 outer_of [] = []
 outer_of (part ∷ outer) = outer
 
+-- what names of events lead to
+abbrev pub followed_in : Scopes → world.World → ℕ → List Named → List plain.Reference
+followed_in sc w at ns = map (λ n. world.followed w (here_in sc w at n)) ns
+
 module _ (sc : Scopes) (w : world.World) (p : ℕ) (q : world.Process) (part : world.Part) (outer : List world.Part) where
   -- the choice that an effect stands for
   abbrev pub choice_by : Effect → Choice
@@ -48,6 +53,11 @@ module _ (sc : Scopes) (w : world.World) (p : ℕ) (q : world.Process) (part : w
   choice_by (effects.GoesTo n i) = choices.goes_to sc w p q part outer n.now i
   choice_by (effects.Starts j parent cells task) = choices.starts sc w p q part outer j parent (map seen.cell cells.items) (views.task task)
   choice_by (effects.Acts act r) = choices.does sc w p q part outer (acts act) (reference r) (deed (acts act) p (event_at w (reference r)))
+  choice_by (effects.Fixes r) = choices.does sc w p q part outer (tests test.Fix) (reference r) (deed (tests test.Fix) p (event_at w (reference r)))
+  choice_by (effects.Waits rs) = choices.waits_here sc w p q part outer (map reference rs)
+  choice_by (effects.Wakes v) =
+      choices.chosen sc w p q part outer actions.Woke
+      (world.with_process w p (record q { todo = choices.answered sc w p q part outer (rest.value (value v)) ∷ outer; woken = 0 }))
   choice_by (effects.Writes l) = choices.goes sc w p q part outer actions.Line (record w { output = w.output ++ l ∷ [] }) rest.done
   choice_by (effects.MakesArrays cells) = choices.goes sc w p q part outer actions.MakeArrays (world.add_cells w part.instance (named_cells cells.items)) rest.done
   choice_by (effects.MakesEvent n) = choices.made_event sc w p q part outer n.now

@@ -31,6 +31,12 @@ pub enum Effect<'p> {
     Starts(usize, usize, Vec<Cell<'p>>, Option<Reference<'p>>),
     /// A statement on an event.
     Acts(EventAct, Reference<'p>),
+    /// An event is taken, where it is available.
+    Fixes(Reference<'p>),
+    /// The process waits for several events.
+    Waits(List<Reference<'p>>),
+    /// A process goes on with this value that one of several events released.
+    Wakes(Value),
     /// A line of the output.
     Writes(Line),
     /// Arrays, with all their elements.

@@ -1,6 +1,6 @@
 -- The one action of a process, with its effect on the world; all that it does not name stays. The silent steps that follow an action
 -- are done with it, so that the innermost part of each process always stands at its head.
-use Rattle.std.specs.Prelude.{ℕ, ◌+◌, ◌==◌, nat_lt, ◌&&◌, if◌then◌else◌, ℤ, pos, int_le, int_lt, Bool, true, false, List, [], ◌∷◌, ◌++◌, length, Option, Some, None}
+use Rattle.std.specs.Prelude.{ℕ, zero, suc, ◌+◌, ◌==◌, nat_lt, ◌&&◌, if◌then◌else◌, ℤ, pos, int_le, int_lt, Bool, true, false, List, [], ◌∷◌, ◌++◌, map, length, Option, Some, None}
 use Rattle.algol_tree.specs.declared.tree.Kind.{Kind}
 use Rattle.algol_tree.specs.declared.tree.Named.{Named}
 use Rattle.algol_tree.specs.Plain as tree
@@ -9,7 +9,7 @@ use Rattle.b67_num.specs.declared.FaultKind.{FaultKind}
 use Rattle.b67_num.specs.declared.FaultKind.TheVariants as fault
 use Rattle.b67_num.specs.Whole.{fault_of}
 use Rattle.algol_meaning.specs.declared.TheConstants.{MOST_STARTED}
-use Rattle.algol_meaning.specs.Value.{Value, truth, whole_of, Reference, Bounds, ArrayCell, Cell, simple, event, array, named, reference}
+use Rattle.algol_meaning.specs.Value.{Value, number, truth, whole_of, Reference, Bounds, ArrayCell, Cell, simple, event, array, named, reference}
 use Rattle.b67_deeds.specs.Events.{fresh_state}
 use Rattle.b67_deeds.specs.Deeds as deeds
 use Rattle.b67_deeds.specs.Deeds.{EventDeed, Deed, Next, deed}
@@ -18,14 +18,14 @@ use Rattle.algol_tree.specs.Scopes.{Scopes, use_of}
 use Rattle.algol_meaning.specs.Rest.{Place, own, there, element_of, Given, valued, passed, refers, names, Answer, done, value, cell, place, entered}
 use Rattle.algol_meaning.specs.Settle.{block_of, settle, settle_actual_place}
 use Rattle.algol_meaning.specs.Statements.{settle_items, items_of, items_from}
-use Rattle.algol_meaning.specs.World.{Purpose, block, procedure, name_read, name_place, started, Part, State, able, waits_for, procures, ended, Process, World, instance_at, ancestor, cell_at, set_cell, add_cells, followed, value_in, array_in, process_at, with_process}
+use Rattle.algol_meaning.specs.World.{Purpose, block, procedure, name_read, name_place, started, Part, State, able, waits_for, procures, waits_any, ended, Process, World, instance_at, ancestor, cell_at, set_cell, add_cells, followed, value_in, array_in, process_at, with_process}
 use Rattle.algol_meaning.specs.Critical.{some_depends, some_depends_on_any, is_evaluation, own_instances, newest_first, first_on_path, referred_by, referred_by_task}
 use Rattle.algol_meaning.specs.Arrays.{subscript_place, element_at, with_element, new_arrays, has_wrong_size, has_no_room, bounds_of}
-use Rattle.algol_meaning.specs.Events.{event_at, Released, released, caused_by_end}
+use Rattle.algol_meaning.specs.Events.{event_at, first_happened, joined_all, Released, released, caused_by_end}
 use Rattle.algol_meaning.specs.Lines.{line_of}
 use Rattle.algol_meaning.specs.Instances.{fresh_cells, leave, Cut, cut_at}
 use Rattle.b67_deeds.specs.declared.Letter.{Letter}
-use Rattle.b67_deeds.specs.declared.Letter.TheVariants.{Read, Index, ElementRead, Resolve, Store, ElementStore, Pass, Enter, Leave, MakeArrays, MakeEvent, Select, Turn, GoTo, Line, Start, End, Fault}
+use Rattle.b67_deeds.specs.declared.Letter.TheVariants.{Read, Index, ElementRead, Resolve, Store, ElementStore, Pass, Enter, Leave, MakeArrays, MakeEvent, Select, Turn, GoTo, Line, Start, End, Fault, WaitAny, Woke}
 use Rattle.algol_meaning.specs.Asks as asks
 use Rattle.algol_meaning.specs.Asks.{Ask, ask, resume, evaluated_of, located_of}
 
@@ -197,6 +197,7 @@ module _ (sc : Scopes) (w : World) (p : ℕ) (q : Process) (part : Part) (outer 
               critical = Some (first_on_path w (newest_first 1 w.instances []) p (parent ∷ referred_by cells ++ referred_by_task task));
               task = task;
               state = able;
+              woken = 0;
             } ∷ [];
       }
 
@@ -226,9 +227,34 @@ module _ (sc : Scopes) (w : World) (p : ℕ) (q : Process) (part : Part) (outer 
   does x r d = did x r d d.next
 
   -- a deed is done with the first event that is named
+  abbrev pub does_with_first : EventDeed → List Named → Choice
+  does_with_first x [] = chosen Fault w
+  does_with_first x (n ∷ ns) = does x (followed w (here n)) (deed x p (event_at w (followed w (here n))))
+
+  -- ---- several events
+
+  abbrev pub all_followed : List Named → List Reference
+  all_followed ns = map (λ n. followed w (here n)) ns
+
+  -- the process waits where it is: this is what it does again when it is released
+  abbrev pub waits_here : List Reference → Choice
+  waits_here rs = chosen WaitAny (with_process (joined_all w p [] rs) p (record q { state = waits_any rs }))
+
+  abbrev pub waits_for_any : List Reference → Option ℕ → Choice
+  waits_for_any rs None = waits_here rs
+  waits_for_any rs (Some n) = goes WaitAny w (value (number (pos n)))
+
+  -- a process that was released goes on with its woken number, whatever the events are now
+  abbrev pub wakes : ℕ → Choice
+  wakes n = chosen Woke (with_process w p (record q { todo = answered (value (number (pos n))) ∷ outer; woken = 0 }))
+
+  abbrev pub wakes_or_waits : ℕ → List Reference → Choice
+  wakes_or_waits zero rs = waits_for_any rs (first_happened w rs)
+  wakes_or_waits (suc n) rs = wakes (suc n)
+
+  -- with the one event that is named, or with several
   abbrev pub does_with : EventDeed → List Named → Choice
-  does_with x [] = chosen Fault w
-  does_with x (n ∷ ns) = does x (followed w (here n)) (deed x p (event_at w (followed w (here n))))
+  does_with x ns = if deeds.is_of_several x then wakes_or_waits q.woken (all_followed ns) else (does_with_first x ns)
 
   -- ---- arrays and events
 

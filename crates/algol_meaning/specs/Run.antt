@@ -21,6 +21,7 @@ start sc =
             critical = None;
             task = None;
             state = able;
+            woken = 0;
           } ∷ [];
       output = [];
       fault = None;

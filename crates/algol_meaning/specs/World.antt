@@ -34,15 +34,18 @@ pub record Part : Type 0 where
 pub data State : Type 0 where
   able : State
   waits_for : Reference → State
+  waits_any : List Reference → State  -- for several events, in the order in which they are named, with repeats
   procures : Reference → State
   ended : State
 
--- what is to be done is a list of parts, the innermost first
+-- What is to be done is a list of parts, the innermost first. The woken number is the place, from 1, of the event that released the process
+-- among those for which it waited; it is 0 where the process has gone on since, or did not wait for several.
 pub record Process : Type 0 where
   pub todo : List Part
   pub critical : Option ℕ
   pub task : Option Reference
   pub state : State
+  pub woken : ℕ
 
 pub record WorldFault : Type 0 where
   pub kind : FaultKind
@@ -117,7 +120,7 @@ array_in _ = record { bounds = []; elements = [] }
 -- ---- processes
 
 abbrev pub no_process : Process
-no_process = record { todo = []; critical = None; task = None; state = ended }
+no_process = record { todo = []; critical = None; task = None; state = ended; woken = 0 }
 
 abbrev pub or_no_process : Option Process → Process
 or_no_process (Some q) = q

@@ -1,5 +1,5 @@
 -- What the world's changes make of a world, as the definitions choose it.
-use Rattle.std.proofs.Common.{◌≡◌, refl, ℕ, false, List, [], ◌∷◌, ◌++◌}
+use Rattle.std.proofs.Common.{◌≡◌, refl, ℕ, false, List, [], ◌∷◌, ◌++◌, map}
 use Rattle.b67_num.specs.declared.FaultKind.{FaultKind}
 use Rattle.std.specs.declared.vec.Vec.{Vec}
 use Rattle.std.specs.declared.alloc.Global.{Global}
@@ -10,6 +10,7 @@ use Rattle.algol_meaning.specs.World.{World, Part, process_at, set_cell, array_i
 use Rattle.algol_meaning.specs.Rest as rest
 use Rattle.algol_meaning.specs.Events.{event_at}
 use Rattle.b67_deeds.specs.declared.EventAct.{EventAct}
+use Rattle.b67_deeds.specs.declared.EventTest.TheVariants as test
 use Rattle.b67_deeds.specs.Deeds as deeds
 use Rattle.b67_deeds.specs.Deeds.{deed}
 use Rattle.b67_deeds.specs.declared.Letter.{Letter}
@@ -22,7 +23,7 @@ use Rattle.algol_cells.specs.declared.cell.Reference.{Reference}
 use Rattle.algol_cells.specs.declared.value.Value.{Value}
 use Rattle.algol_rest_expr.specs.declared.part.Answer.{Answer}
 use Rattle.algol_world.specs.SeenWorld as views
-use Rattle.algol_world.specs.Going.{chosen, going, opening, resumed, does_of, does_by}
+use Rattle.algol_world.specs.Going.{chosen, going, opening, resumed, waking, waiting_for, does_of, does_by}
 use Rattle.algol_world.specs.Leaving.{is_nil, failing, leaves_by, leaves_of}
 use Rattle.algol_instances.specs.SeenInstance.{named_cells}
 use Rattle.algol_instances.specs.declared.instance.NamedCell.{NamedCell}
@@ -84,6 +85,34 @@ module _ (sc : Scopes) (w : World) (p : ℕ) where
           ≡ performed_by sc w p (process_at w p) parts (effects.Acts x r)
       under [] = refl
       under (part ∷ outer) = refl
+
+  pub fixes : (r : Reference) → does_by sc w p (deeds.tests test.Fix) (reference r) ≡ performed sc w p (effects.Fixes r)
+  fixes r = under ((process_at w p).todo)
+    where
+      under :
+          (parts : List Part)
+          → does_of sc w p (process_at w p) parts (deeds.tests test.Fix) (reference r) (deed (deeds.tests test.Fix) p (event_at w (reference r)))
+          ≡ performed_by sc w p (process_at w p) parts (effects.Fixes r)
+      under [] = refl
+      under (part ∷ outer) = refl
+
+  pub waits :
+      (rs : List Reference) → is_nil ((process_at w p).todo) ≡ false
+      → chosen actions.WaitAny (waiting_for w p (map reference rs)) ≡ performed sc w p (effects.Waits rs)
+  waits rs has = under ((process_at w p).todo) has
+    where
+      under : (parts : List Part) → is_nil parts ≡ false → chosen actions.WaitAny (waiting_for w p (map reference rs)) ≡ performed_by sc w p (process_at w p) parts (effects.Waits rs)
+      under [] h = cc
+      under (part ∷ outer) h = refl
+
+  pub wakes :
+      (v : Value) → is_nil ((process_at w p).todo) ≡ false
+      → chosen actions.Woke (waking sc w p (rest.value (value v))) ≡ performed sc w p (effects.Wakes v)
+  wakes v has = under ((process_at w p).todo) has
+    where
+      under : (parts : List Part) → is_nil parts ≡ false → chosen actions.Woke (world.with_process w p (record (process_at w p) { todo = resumed sc parts (rest.value (value v)); woken = 0 })) ≡ performed_by sc w p (process_at w p) parts (effects.Wakes v)
+      under [] h = cc
+      under (part ∷ outer) h = refl
 
   pub writes : (l : List ℕ) → is_nil ((process_at w p).todo) ≡ false → chosen actions.Line (going sc (record w { output = w.output ++ l ∷ [] }) p rest.done) ≡ performed sc w p (effects.Writes l)
   writes l has = under ((process_at w p).todo) has

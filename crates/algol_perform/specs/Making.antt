@@ -39,4 +39,4 @@ module _ (sc : Scopes) where
 -- one more process, with that part only
 abbrev pub with_process_of : World → Part → Option ℕ → Option Reference → World
 with_process_of w part critical task =
-    record w { processes = w.processes ++ record { todo = part ∷ []; critical = critical; task = task; state = world.able } ∷ [] }
+    record w { processes = w.processes ++ record { todo = part ∷ []; critical = critical; task = task; state = world.able; woken = 0 } ∷ [] }

@@ -11,8 +11,9 @@ ghost use Rattle.algol_perform.specs.Performing.{performed};
 use crate::going::{perform_event, perform_go_to};
 use crate::making::{perform_block, perform_enter};
 use crate::performing::{
-    perform_act, perform_arrays, perform_evaluation, perform_fault, perform_goes, perform_leaving,
-    perform_line, perform_store, perform_store_element,
+    perform_act, perform_arrays, perform_evaluation, perform_fault, perform_fix, perform_goes,
+    perform_leaving, perform_line, perform_store, perform_store_element, perform_wait,
+    perform_waking,
 };
 use crate::starting::perform_start;
 use algol_effect::Effect;
@@ -56,6 +57,9 @@ pub fn perform<'p>(
             perform_start(world, alloc, process, block, parent, given, task)
         }
         Effect::Acts(act, r) => perform_act(world, alloc, process, act, r),
+        Effect::Fixes(r) => perform_fix(world, alloc, process, r),
+        Effect::Waits(rs) => perform_wait(world, alloc, process, rs),
+        Effect::Wakes(v) => perform_waking(world, alloc, process, v),
         Effect::Writes(line) => perform_line(world, alloc, process, line),
         Effect::MakesArrays(cells) => perform_arrays(world, alloc, process, cells),
         Effect::MakesEvent(n) => perform_event(world, alloc, process, n),

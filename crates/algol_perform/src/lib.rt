@@ -16,7 +16,8 @@ pub use joining::perform;
 pub use making::{perform_block, perform_enter};
 pub use parts::part_under;
 pub use performing::{
-    perform_act, perform_arrays, perform_evaluation, perform_fault, perform_goes, perform_leaving,
-    perform_line, perform_store, perform_store_element,
+    perform_act, perform_arrays, perform_evaluation, perform_fault, perform_fix, perform_goes,
+    perform_leaving, perform_line, perform_store, perform_store_element, perform_wait,
+    perform_waking,
 };
 pub use starting::perform_start;

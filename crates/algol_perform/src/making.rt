@@ -147,6 +147,7 @@ pub fn add_process<'p>(
         critical,
         task,
         state: State::Able,
+        woken: 0,
     };
     append(&mut world.processes, process)
 }

@@ -118,6 +118,51 @@ pub fn perform_act<'p>(
     world.act(alloc, process, act, r)
 }
 
+/// An event is taken, where it is available, by a process that is able.
+pub fn perform_fix<'p>(
+    world: &mut World<'p>,
+    alloc: Global,
+    process: usize,
+    r: Reference<'p>,
+) -> Result<Acted, AllocError>
+    requires able { (process_of world.old process).state ≡ plain.able }
+    requires acts { is_nil ((process_of world.old process).todo) ≡ false }
+    ensures performed { IfOk result (λ a. acted_choice a (world_of world.new) ≡ performed (scoped world.old.scopes) (world_of world.old) process (effects.Fixes r.entry)) }
+    ensures same { world.new.scopes ≡ world.old.scopes }
+{
+    world.fix(alloc, process, r)
+}
+
+/// The process waits for several events.
+pub fn perform_wait<'p>(
+    world: &mut World<'p>,
+    alloc: Global,
+    process: usize,
+    rs: List<Reference<'p>>,
+) -> Result<Acted, AllocError>
+    requires acts { is_nil ((process_of world.old process).todo) ≡ false }
+    ensures performed { IfOk result (λ a. acted_choice a (world_of world.new) ≡ performed (scoped world.old.scopes) (world_of world.old) process (effects.Waits rs.entry)) }
+    ensures same { world.new.scopes ≡ world.old.scopes }
+{
+    world.wait_any(alloc, process, rs)
+}
+
+/// The innermost part of a process goes on with this value, which one of several events released.
+#[tactic(auto, using(crate::proofs::Effects::wakes))]
+pub fn perform_waking<'p>(
+    world: &mut World<'p>,
+    alloc: Global,
+    process: usize,
+    v: Value,
+) -> Result<Acted, AllocError>
+    requires acts { is_nil ((process_of world.old process).todo) ≡ false }
+    ensures performed { IfOk result (λ a. acted_choice a (world_of world.new) ≡ performed (scoped world.old.scopes) (world_of world.old) process (effects.Wakes v)) }
+    ensures same { world.new.scopes ≡ world.old.scopes }
+{
+    let went = world.wakes(alloc, process, Answer::Value(v));
+    went.and(Ok(Acted::alone(alloc, Letter::Woke)))
+}
+
 /// A line is written.
 #[tactic(auto, using(crate::proofs::Effects::writes))]
 pub fn perform_line<'p>(

@@ -10,7 +10,7 @@ use Rattle.algol_meaning.specs.Rest as plain
 use Rattle.algol_meaning.specs.Asks as asks
 use Rattle.algol_meaning.specs.SeenTree.{stmt, stmts, body, pairs}
 use Rattle.algol_cells.specs.SeenValue.{value}
-use Rattle.algol_rest_expr.specs.SeenExpression.{place, all_done}
+use Rattle.algol_rest_expr.specs.SeenExpression.{place, all_done, names_of}
 use Rattle.algol_rest.specs.SeenStatement.{rest_of}
 use Rattle.algol_rest.specs.declared.rest.Rest.{Rest}
 use Rattle.algol_rest.specs.declared.ask.Ask.{Ask}
@@ -24,7 +24,7 @@ asked ask.Nothing = asks.nothing
 asked (ask.Reads n) = asks.reads n.now
 asked (ask.ReadsElement n ks v) = asks.reads_element n.now ks.now (value v)
 asked (ask.Indexes n ks v) = asks.indexes n.now ks.now (value v)
-asked (ask.Tests test n) = asks.event_deed (deeds.tests test) (n.now ∷ [])
+asked (ask.Tests test es) = asks.event_deed (deeds.tests test) (names_of es.now)
 asked (ask.Fails fault) = asks.fails fault
 asked (ask.Enters n gs) = asks.enters n.now (all_done gs.now)
 asked (ask.Passes n) = asks.passes n.now

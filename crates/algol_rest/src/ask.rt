@@ -13,7 +13,7 @@ ghost use Rattle.algol_rest.specs.declared.statement.Next.{Next};
 use crate::statement::{Deed, Last, Point, Target};
 use algol_cells::Value;
 use algol_rest_expr::{Given, Head, Place};
-use algol_tree::{Body, EventAct, EventTest, Kind, Line, Named, Pair, PhraseText, Stmt};
+use algol_tree::{Body, EventAct, EventName, EventTest, Kind, Line, Named, Pair, PhraseText, Stmt};
 use b67_num::NumFault;
 
 /// What the head of a part asks for. Lists are those of the part.
@@ -27,8 +27,8 @@ pub enum Ask<'a, 'p> {
     ReadsElement(&'p Named, &'a [usize], Value),
     /// A subscript that others follow, or that is a place's: those before it, and its value.
     Indexes(&'p Named, &'a [usize], Value),
-    /// What is asked of an event.
-    Tests(EventTest, &'p Named),
+    /// What is asked of these events.
+    Tests(EventTest, &'p [EventName]),
     /// The fault of an operator.
     Fails(NumFault),
     /// The entry of a procedure with its actuals.
@@ -67,7 +67,7 @@ fn ask_head<'a, 'p>(head: &'a Head<'p>) -> Ask<'a, 'p>
         Head::Read(n) => Ask::Reads(*n),
         Head::Element(n, ks, v) => Ask::ReadsElement(*n, ks.items(), *v),
         Head::Index(n, ks, v, _, _) => Ask::Indexes(*n, ks.items(), *v),
-        Head::Tests(test, n) => Ask::Tests(*test, *n),
+        Head::Tests(test, es) => Ask::Tests(*test, *es),
         Head::Broken(_, _, _, fault) => Ask::Fails(*fault),
         Head::Enter(n, gs) => Ask::Enters(*n, gs.items()),
         Head::Pass(_, _, m, _) => Ask::Passes(*m),

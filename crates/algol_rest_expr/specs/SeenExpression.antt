@@ -5,6 +5,7 @@ use Rattle.algol_tree.specs.Plain.{PExpr, PVariable, PCall, PExprs}
 use Rattle.algol_tree.specs.Sorts.{Sort}
 use Rattle.algol_tree.specs.Scopes.{Scopes}
 use Rattle.algol_tree.specs.declared.tree.Named.{Named}
+use Rattle.algol_tree.specs.declared.tree.EventName.{EventName}
 use Rattle.algol_meaning.specs.Rest as rest
 use Rattle.algol_meaning.specs.Rest.{Hole, Half, val, busy, HalfGiven, given, wants}
 use Rattle.algol_meaning.specs.Settle.{sorts_of, callee, settle, settle_actuals, left_of, right_of, negated_of, inverted_of, condition_of, subscripted_of, called_of, valued_of}
@@ -47,6 +48,10 @@ answered answers.Entered = rest.entered
 
 -- ---- heads and frames
 
+-- the names of events
+abbrev pub names_of : List EventName → List Named
+names_of es = map (λ (e : EventName). e.name) es
+
 abbrev pub done : Given → rest.Given
 done (givens.Valued v) = rest.valued (seen.value v)
 done (givens.Passed c) = rest.passed (cell c)
@@ -69,7 +74,7 @@ module _ (sc : Scopes) where
   hole (head.Read n) = rest.read n.now
   hole (head.Element n ks v) = rest.element n.now ks (seen.value v)
   hole (head.Index n ks v e es) = rest.index n.now ks (seen.value v) (expr e.now) (exprs es.now)
-  hole (head.Tests test n) = rest.tests test (n.now ∷ [])
+  hole (head.Tests test es) = rest.tests test (names_of es.now)
   hole (head.Broken op v w fault) = rest.broken op (seen.value v) (seen.value w) fault
   hole (head.Enter n gs) = rest.enter n.now (all_done gs)
   hole (head.Pass n gs m es) = rest.argument n.now (rest.pass (all_done gs) m.now (sorts_after n.now gs) (exprs es.now))

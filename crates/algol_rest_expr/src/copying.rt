@@ -56,7 +56,7 @@ pub fn copy_head<'p>(alloc: Global, head: &Head<'p>) -> Result<Head<'p>, AllocEr
         Head::Read(n) => Ok(Head::Read(*n)),
         Head::Element(n, ks, v) => Ok(Head::Element(*n, copy_list(alloc, ks)?, *v)),
         Head::Index(n, ks, v, e, es) => { Ok(Head::Index(*n, copy_list(alloc, ks)?, *v, *e, *es)) }
-        Head::Tests(test, n) => Ok(Head::Tests(*test, *n)),
+        Head::Tests(test, es) => Ok(Head::Tests(*test, *es)),
         Head::Broken(op, v, w, fault) => Ok(Head::Broken(*op, *v, *w, *fault)),
         Head::Enter(n, gs) => Ok(Head::Enter(*n, copy_givens(alloc, gs)?)),
         Head::Pass(n, gs, m, es) => { Ok(Head::Pass(*n, copy_givens(alloc, gs)?, *m, *es)) }

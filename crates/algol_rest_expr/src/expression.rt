@@ -21,6 +21,7 @@ use algol_cells::{Cell, Scopes, Stack, Value, inverted, negated, result_of, trut
 use algol_tree::{Call, EventTest, Expr, List, Named, Op, Variable, Whole};
 use b67_list::discard;
 use std::alloc::{AllocError, Global};
+use std::slice;
 
 /// A name by itself: a call where it names a procedure.
 pub fn alone<'p>(alloc: Global, scopes: &Scopes<'p>, n: &'p Named) -> Head<'p>
@@ -262,9 +263,22 @@ pub fn eval<'p>(
         Expr::Truth(b, _) => Ok(Control::Value(Value::Truth(*b))),
         Expr::Variable(v) => variable(alloc, scopes, &v.name, v.subs.items(), frames),
         Expr::Call(c) => first_call(alloc, scopes, &c.name, c.actuals.items(), frames),
-        Expr::Happened(event, _) => {
-            Ok(Control::Found(Head::Tests(EventTest::Happened, &event.name)))
-        }
+        Expr::Happened(event, _) => Ok(Control::Found(Head::Tests(
+            EventTest::Happened,
+            slice::from_ref(event),
+        ))),
+        Expr::Available(event, _) => Ok(Control::Found(Head::Tests(
+            EventTest::Available,
+            slice::from_ref(event),
+        ))),
+        Expr::Fix(event, _) => Ok(Control::Found(Head::Tests(
+            EventTest::Fix,
+            slice::from_ref(event),
+        ))),
+        Expr::WaitAny(events, _) => Ok(Control::Found(Head::Tests(
+            EventTest::WaitAny,
+            events.items().as_slice(),
+        ))),
         Expr::Paren(e, _) | Expr::Plus(e, _) => Ok(Control::Eval(e)),
         Expr::Neg(e, _) => {
             surround(frames, Frame::Negated)?;

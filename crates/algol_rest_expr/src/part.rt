@@ -1,7 +1,7 @@
 //! What a part has still to do: where its head is, what is around the head, and what follows.
 
 use algol_cells::{Cell, Reference, Value};
-use algol_tree::{EventTest, Expr, List, Named, Op};
+use algol_tree::{EventName, EventTest, Expr, List, Named, Op};
 use b67_num::NumFault;
 
 /// What can be stored to.
@@ -34,8 +34,8 @@ pub enum Head<'p> {
     Element(&'p Named, List<usize>, Value),
     /// A subscript that others follow: the next one, and those after it.
     Index(&'p Named, List<usize>, Value, &'p Expr, &'p [Expr]),
-    /// What is asked of an event.
-    Tests(EventTest, &'p Named),
+    /// What is asked of these events.
+    Tests(EventTest, &'p [EventName]),
     /// An operator that has no result but this fault.
     Broken(Op, Value, Value, NumFault),
     Enter(&'p Named, List<Given<'p>>),

@@ -33,6 +33,7 @@ able_is_some w (suc k) e = some_able_at w.processes k e
 able_state : (s : State) (b : Bool) → (is_able s && b) ≡ true → s ≡ world.able
 able_state world.able b e = refl
 able_state (world.waits_for r) b e = cc
+able_state (world.waits_any rs) b e = cc
 able_state (world.procures r) b e = cc
 able_state world.ended b e = cc
 

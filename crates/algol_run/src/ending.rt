@@ -28,6 +28,7 @@ fn can_go(q: &Process<'_>) -> bool
     match q.state {
         State::Able => true,
         State::WaitsFor(_) => false,
+        State::WaitsAny(_) => false,
         State::Procures(_) => false,
         State::Ended => false,
     }
@@ -40,6 +41,7 @@ fn is_alive(q: &Process<'_>) -> bool
     match q.state {
         State::Able => true,
         State::WaitsFor(_) => true,
+        State::WaitsAny(_) => true,
         State::Procures(_) => true,
         State::Ended => false,
     }

@@ -3,3 +3,4 @@ pub mod Parameters
 pub mod Cases
 pub mod Elements
 pub mod Walking
+pub mod Waiting

@@ -1,8 +1,7 @@
-//! What the heads of expressions and places do: subscripts, elements, events and names.
+//! What the heads of expressions and places do: subscripts, elements and names.
 
 ghost use Rattle.std.specs.Prelude.{◌≡◌, ◌++◌, ◌∷◌, [], IfOk};
 ghost use Rattle.algol_meaning.specs.World as plain;
-ghost use Rattle.b67_deeds.specs.Deeds.{tests};
 ghost use Rattle.algol_meaning.specs.Asks as asks;
 ghost use Rattle.algol_meaning.specs.Choice as choices;
 ghost use Rattle.algol_meaning.specs.SeenTree.{expr};
@@ -19,8 +18,8 @@ use algol_effect::Effect;
 use algol_instances::{cell_at, element_at, subscript_place};
 use algol_rest::Rest;
 use algol_rest_expr::{Answer, Place};
-use algol_tree::{EventTest, Expr, List, Named};
-use algol_world::{Part, Purpose, World, has_happened};
+use algol_tree::{Expr, List, Named};
+use algol_world::{Part, Purpose, World};
 use b67_deeds::Letter;
 use b67_num::FaultKind;
 use std::alloc::{AllocError, Global};
@@ -98,25 +97,6 @@ pub fn decide_index<'p>(
             let all = with_last(alloc, before, k)?;
             Ok(Effect::Goes(Letter::Index, Answer::Place(Place::ElementOf(r, all))))
         }
-    }
-}
-
-/// The test of an event.
-pub fn decide_test<'p>(
-    world: &World<'p>,
-    process: usize,
-    part: &Part<'p>,
-    test: EventTest,
-    n: &'p Named,
-) -> Effect<'p>
-    ensures { asked_choice world.now process part.now (asks.event_deed (tests test) (n.now ∷ [])) ≡ effect_choice world.now process part.now result }
-{
-    let cell = cell_at(&world.instances, followed(world, here(world, part, n)));
-    match test {
-        EventTest::Happened => Effect::Goes(
-            Letter::Happened,
-            Answer::Value(Value::Truth(has_happened(cell))),
-        ),
     }
 }
 

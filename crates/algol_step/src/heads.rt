@@ -9,21 +9,20 @@ ghost use Rattle.algol_effect.specs.Effects.{asked_choice, effect_choice};
 use crate::calling::{decide_enter, decide_start};
 use crate::deciding::{decide_read, decide_read_result};
 use crate::entering::{decide_enter_block, decide_select};
-use crate::evaluating::{
-    decide_index, decide_pass, decide_read_element, decide_resolve, decide_test,
-};
+use crate::evaluating::{decide_index, decide_pass, decide_read_element, decide_resolve};
 use crate::lists::held;
 use crate::making::decide_arrays;
 use crate::stating::{
     decide_act, decide_event, decide_fault, decide_giving, decide_giving_place, decide_go_to,
     decide_leaving, decide_store, decide_turn,
 };
+use crate::testing::decide_test;
 use crate::writing::decide_line;
 use algol_cells::Value;
 use algol_effect::Effect;
 use algol_rest::Ask;
 use algol_rest_expr::{Given, Place};
-use algol_tree::{Body, Line, Named, Pair, PhraseText, Stmt};
+use algol_tree::{Body, EventName, Line, Named, Pair, PhraseText, Stmt};
 use algol_world::{Part, World};
 use std::alloc::{AllocError, Global};
 
@@ -44,7 +43,7 @@ pub fn decide<'p>(
             decide_read_element(world, alloc, process, part, *n, *ks, *v)
         }
         Ask::Indexes(n, ks, v) => decide_index(world, alloc, process, part, *n, *ks, *v),
-        Ask::Tests(test, n) => Ok(decide_test(world, process, part, *test, *n)),
+        Ask::Tests(test, es) => decide_test(world, alloc, process, part, *test, *es),
         Ask::Fails(fault) => Ok(decide_fault(world, process, part, *fault)),
         Ask::Enters(n, gs) => decide_enter(world, alloc, process, part, *n, held(gs)),
         Ask::Passes(n) => decide_pass(world, alloc, process, part, *n),
@@ -78,6 +77,7 @@ type Asked<'a, 'p> = (
     &'p [Pair],
     &'p [PhraseText],
     &'p [Named],
+    &'p [EventName],
     &'p Line,
 );
 

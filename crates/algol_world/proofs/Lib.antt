@@ -1,4 +1,5 @@
 pub mod Processes
+pub mod Several
 pub mod Releasing
 pub mod Deeds
 pub mod Innermosts

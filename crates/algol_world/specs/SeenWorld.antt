@@ -28,6 +28,7 @@ purpose purposes.Started = world.started
 abbrev pub state : State → world.State
 state states.Able = world.able
 state (states.WaitsFor r) = world.waits_for (reference r)
+state (states.WaitsAny rs) = world.waits_any (map reference rs)
 state (states.Procures r) = world.procures (reference r)
 state states.Ended = world.ended
 
@@ -44,7 +45,7 @@ module _ (sc : scoping.Scopes) where
   part x = record { instance = x.instance; purpose = purpose x.purpose; rest = rest sc x.rest }
 
   abbrev pub process : Process → world.Process
-  process q = record { todo = map part q.todo; critical = q.critical; task = task q.task; state = state q.state }
+  process q = record { todo = map part q.todo; critical = q.critical; task = task q.task; state = state q.state; woken = q.woken }
 
   abbrev pub processes : List Process → List world.Process
   processes qs = map process qs

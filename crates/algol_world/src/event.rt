@@ -1,6 +1,6 @@
 //! What the event actions do to an event, and whom they release.
 
-ghost use Rattle.std.specs.Prelude.{◌≡◌, ℕ, Some, IfOk};
+ghost use Rattle.std.specs.Prelude.{◌≡◌, ℕ, map, Some, IfOk};
 ghost use Rattle.b67_deeds.specs.declared.EventAct.TheVariants as act;
 ghost use Rattle.b67_deeds.specs.Deeds.{acts};
 ghost use Rattle.b67_deeds.specs.Events.{joined, queued, taken};
@@ -8,15 +8,31 @@ ghost use Rattle.algol_meaning.specs.World as world;
 ghost use Rattle.algol_meaning.specs.Events as events;
 ghost use Rattle.algol_cells.specs.SeenCell as seen;
 ghost use Rattle.algol_cells.specs.SeenCell.{reference};
-ghost use Rattle.algol_instances.specs.SeenInstance.{zero_cell};
+ghost use Rattle.algol_instances.specs.SeenInstance.{holding, instance, zero_cell};
 ghost use Rattle.algol_world.specs.SeenWorld.{world_of};
-ghost use Rattle.algol_world.specs.Going.{done_with};
+ghost use Rattle.algol_world.specs.Going.{done_with, letting_go};
 
 use crate::world::World;
 use algol_cells::{Cell, EventCell, Reference, append};
-use algol_instances::{no_items, one_item, take_first};
+use algol_instances::{Instances, no_items, one_item, take_first};
 use algol_tree::List;
 use std::alloc::{AllocError, Global};
+
+/// An event, out of its cell; one that has not happened where it is none.
+pub fn take_event<'p>(instances: &mut Instances<'p>, alloc: Global, r: Reference<'p>) -> EventCell
+    ensures value { seen.event result ≡ events.event_at (holding (map instance instances.old)) (reference r.entry) }
+    ensures after { map instance instances.new ≡ (world.set_cell (holding (map instance instances.old)) (reference r.entry) zero_cell).instances }
+{
+    match instances.take_cell(r) {
+        Cell::Event(event) => event,
+        _ => EventCell {
+            happened: false,
+            available: false,
+            waiters: no_items(alloc),
+            procurers: no_items(alloc),
+        },
+    }
+}
 
 impl<'p> World<'p> {
     /// Another content of a cell, nothing where there is no such cell.
@@ -33,22 +49,15 @@ impl<'p> World<'p> {
         ensures after { world_of self.new ≡ world.set_cell (world_of self.old) (reference r.entry) zero_cell }
         ensures same { self.new.scopes ≡ self.old.scopes }
     {
-        match self.instances.take_cell(r) {
-            Cell::Event(event) => event,
-            _ => EventCell {
-                happened: false,
-                available: false,
-                waiters: no_items(alloc),
-                procurers: no_items(alloc),
-            },
-        }
+        take_event(&mut self.instances, alloc, r)
     }
 
-    /// CAUSE: the event has happened, and all who waited for it are released, in their order.
+    /// The event has happened or not, and all who waited for it are released, in their order: they wait for no other event
+    /// either.
     #[tactic(auto, using(algol_instances::proofs::Setting::setting))]
-    pub fn cause(&mut self, alloc: Global, r: Reference<'p>) -> List<usize>
-        ensures released { (p : ℕ) → result ≡ (done_with (world_of self.old) p (acts act.Cause) (reference r.entry)).processes }
-        ensures after { (p : ℕ) → world_of self.new ≡ (done_with (world_of self.old) p (acts act.Cause) (reference r.entry)).world }
+    pub fn let_go(&mut self, alloc: Global, r: Reference<'p>, happened: bool) -> List<usize>
+        ensures released { result ≡ (letting_go (world_of self.old) (reference r.entry) happened).processes }
+        ensures after { world_of self.new ≡ (letting_go (world_of self.old) (reference r.entry) happened).world }
         ensures same { self.new.scopes ≡ self.old.scopes }
     {
         let EventCell {
@@ -58,12 +67,13 @@ impl<'p> World<'p> {
             happened: _,
         } = self.take_event(alloc, r);
         let event = EventCell {
-            happened: true,
+            happened,
             available,
             waiters: no_items(alloc),
             procurers,
         };
         self.set_cell(r, Cell::Event(event));
+        self.withdraw_all(alloc, r, waiters.items());
         self.release(waiters.items());
         waiters
     }

@@ -86,7 +86,7 @@ impl<'p> World<'p> {
     {
         match task {
             None => no_items(alloc),
-            Some(r) => self.cause(alloc, r),
+            Some(r) => self.let_go(alloc, r, true),
         }
     }
 

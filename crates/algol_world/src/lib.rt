@@ -1,4 +1,4 @@
-//! The world of a run, and its changes: processes, events, stores and the leaving of parts.
+//! The world of a run, and its changes: processes, events, waits for several of them, stores and the leaving of parts.
 #![tactic(auto)]
 
 mod acted;
@@ -9,10 +9,11 @@ mod leaving;
 mod process;
 mod saving;
 mod storing;
+mod waiting;
 mod world;
 
 pub use acted::Acted;
-pub use eventful::has_happened;
+pub use eventful::{has_happened, is_available};
 pub use leaving::is_evaluation;
 pub use saving::Saved;
 pub use world::{Part, Process, Purpose, State, World, WorldFault};

@@ -6,7 +6,7 @@ ghost use Rattle.algol_meaning.specs.World as world;
 ghost use Rattle.algol_cells.specs.SeenScope.{scoped};
 ghost use Rattle.algol_rest_expr.specs.SeenExpression.{answered};
 ghost use Rattle.algol_world.specs.SeenWorld.{part, process, state, world_of};
-ghost use Rattle.algol_world.specs.Going.{resumed, going, stopping, opening};
+ghost use Rattle.algol_world.specs.Going.{resumed, going, stopping, waking, standing, opening};
 
 use crate::world::{Part, Process, State, World};
 use algol_cells::Scopes;
@@ -74,11 +74,25 @@ impl<'p> Process<'p> {
         Ok(())
     }
 
-    /// It is able to go on.
-    fn release(&mut self, scopes: &Scopes<'p>)
-        ensures { process (scoped scopes.now) self.new ≡ record (process (scoped scopes.now) self.old) { state = world.able } }
+    /// It goes on with this answer, and is not woken any more.
+    fn wake(
+        &mut self,
+        alloc: Global,
+        scopes: &Scopes<'p>,
+        answer: Answer<'p>,
+    ) -> Result<(), AllocError>
+        ensures { IfOk result (λ _. process (scoped scopes.now) self.new ≡ record (process (scoped scopes.now) self.old) { todo = resumed (scoped scopes.now) ((process (scoped scopes.now) self.old).todo) (answered answer.entry); woken = 0 }) }
     {
-        self.state = State::Able;
+        self.go_on(alloc, scopes, answer)?;
+        self.woken = 0;
+        Ok(())
+    }
+
+    /// It is in this state.
+    fn stand(&mut self, scopes: &Scopes<'p>, becomes: State<'p>)
+        ensures { process (scoped scopes.now) self.new ≡ record (process (scoped scopes.now) self.old) { state = state becomes.entry } }
+    {
+        self.state = becomes;
     }
 }
 
@@ -119,10 +133,41 @@ impl<'p> World<'p> {
         ensures same { self.new.scopes ≡ self.old.scopes }
     {
         match place(number) {
-            None => Ok(()),
+            None => {
+                discard(until);
+                Ok(())
+            }
             Some(at) => match self.processes.items_mut().get_mut(at) {
-                None => Ok(()),
+                None => {
+                    discard(until);
+                    Ok(())
+                }
                 Some(q) => q.stop(alloc, &self.scopes, until),
+            },
+        }
+    }
+
+    /// A process that was released by one of several events goes on with this answer.
+    pub fn wakes(
+        &mut self,
+        alloc: Global,
+        number: usize,
+        answer: Answer<'p>,
+    ) -> Result<(), AllocError>
+        ensures went { IfOk result (λ _. world_of self.new ≡ waking (scoped self.old.scopes) (world_of self.old) number (answered answer.entry)) }
+        ensures same { self.new.scopes ≡ self.old.scopes }
+    {
+        match place(number) {
+            None => {
+                discard(answer);
+                Ok(())
+            }
+            Some(at) => match self.processes.items_mut().get_mut(at) {
+                None => {
+                    discard(answer);
+                    Ok(())
+                }
+                Some(q) => q.wake(alloc, &self.scopes, answer),
             },
         }
     }
@@ -147,15 +192,17 @@ impl<'p> World<'p> {
         }
     }
 
-    /// A process is able to go on.
-    fn set_able(&mut self, number: usize)
-        ensures went { world_of self.new ≡ world.set_able (world_of self.old) number }
+    /// A process is in this state.
+    pub fn stands(&mut self, number: usize, becomes: State<'p>)
+        ensures went { world_of self.new ≡ standing (world_of self.old) number (state becomes.entry) }
         ensures same { self.new.scopes ≡ self.old.scopes }
     {
-        if let Some(at) = place(number) {
-            if let Some(q) = self.processes.items_mut().get_mut(at) {
-                q.release(&self.scopes);
-            }
+        match place(number) {
+            None => discard(becomes),
+            Some(at) => match self.processes.items_mut().get_mut(at) {
+                None => discard(becomes),
+                Some(q) => q.stand(&self.scopes, becomes),
+            },
         }
     }
 
@@ -165,7 +212,7 @@ impl<'p> World<'p> {
         ensures same { self.new.scopes ≡ self.old.scopes }
     {
         'releasing: for number in numbers {
-            self.set_able(*number);
+            self.stands(*number, State::Able);
         }
     }
 }

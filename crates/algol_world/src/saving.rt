@@ -7,8 +7,8 @@ ghost use Rattle.algol_world.specs.SeenWorld as views;
 ghost use Rattle.algol_world.specs.SeenWorld.{world_of};
 ghost use Rattle.algol_world.specs.Saving.{saved_in};
 
-use crate::world::{Part, Process, World, WorldFault};
-use algol_cells::Stack;
+use crate::world::{Part, Process, State, World, WorldFault};
+use algol_cells::{Stack, copy_list};
 use algol_instances::Instances;
 use algol_tree::{Line, List};
 use b67_list::discard;
@@ -59,15 +59,30 @@ fn copy_parts<'p>(alloc: Global, parts: &Stack<Part<'p>>) -> Result<Stack<Part<'
     Ok(Stack::of(copies))
 }
 
+/// A copy of what a process waits for.
+fn copy_state<'p>(alloc: Global, state: &State<'p>) -> Result<State<'p>, AllocError>
+    ensures { IfOk result (λ copy. copy ≡ state.now) }
+{
+    match state {
+        State::Able => Ok(State::Able),
+        State::WaitsFor(r) => Ok(State::WaitsFor(*r)),
+        State::WaitsAny(rs) => Ok(State::WaitsAny(copy_list(alloc, rs)?)),
+        State::Procures(r) => Ok(State::Procures(*r)),
+        State::Ended => Ok(State::Ended),
+    }
+}
+
 /// A copy of a process.
 fn copy_process<'p>(alloc: Global, q: &Process<'p>) -> Result<Process<'p>, AllocError>
     ensures { IfOk result (λ copy. (sc : scoping.Scopes) → views.process sc copy ≡ views.process sc q.now) }
 {
+    let state = copy_state(alloc, &q.state)?;
     Ok(Process {
         todo: copy_parts(alloc, &q.todo)?,
         critical: q.critical,
         task: q.task,
-        state: q.state,
+        state,
+        woken: q.woken,
     })
 }
 

@@ -28,20 +28,24 @@ pub struct Part<'p> {
 }
 
 /// Whether a process can go on, and what it waits for.
-#[derive(Clone, Copy)]
+#[derive(Drop)]
 pub enum State<'p> {
     Able,
     WaitsFor(Reference<'p>),
+    /// For several events, in the order in which they are named, with repeats.
+    WaitsAny(List<Reference<'p>>),
     Procures(Reference<'p>),
     Ended,
 }
 
-/// A process: its parts with the innermost newest, the instance on whose life it depends, and its task.
+/// A process: its parts with the innermost newest, the instance on whose life it depends, its task, and the place, from 1, of the
+/// event that released it among those for which it waited, 0 where it has gone on since.
 pub struct Process<'p> {
     pub todo: Stack<Part<'p>>,
     pub critical: Option<usize>,
     pub task: Option<Reference<'p>>,
     pub state: State<'p>,
+    pub woken: usize,
 }
 
 /// A process is let go by a call, so that the proofs of the crates above do not go through its parts.
@@ -51,7 +55,8 @@ impl<'p> Drop for Process<'p> {
             todo: _todo,
             critical: _,
             task: _,
-            state: _,
+            state: _state,
+            woken: _,
         } = self;
     }
 }

@@ -103,3 +103,30 @@ returns-in-MakesArrays-clause-performed c =
 
 pub returns-in-MakesArrays-clause-same : goal.returns-in-MakesArrays-clause-same
 returns-in-MakesArrays-clause-same c = c.perform_arrays.ensures.same
+
+pub returns-in-Fixes-clause-performed : goal.returns-in-Fixes-clause-performed
+returns-in-Fixes-clause-performed c =
+    subst (λ e. IfOk c.perform_fix.result (λ a. acted_choice a (world_of c.perform_fix.new.world)
+    ≡ performed (scoped c.args.world.now.scopes) (world_of c.args.world.now) c.args.process e))
+    (sym c.in-Fixes.is) c.perform_fix.ensures.performed
+
+pub returns-in-Fixes-clause-same : goal.returns-in-Fixes-clause-same
+returns-in-Fixes-clause-same c = c.perform_fix.ensures.same
+
+pub returns-in-Waits-clause-performed : goal.returns-in-Waits-clause-performed
+returns-in-Waits-clause-performed c =
+    subst (λ e. IfOk c.perform_wait.result (λ a. acted_choice a (world_of c.perform_wait.new.world)
+    ≡ performed (scoped c.args.world.now.scopes) (world_of c.args.world.now) c.args.process e))
+    (sym c.in-Waits.is) c.perform_wait.ensures.performed
+
+pub returns-in-Waits-clause-same : goal.returns-in-Waits-clause-same
+returns-in-Waits-clause-same c = c.perform_wait.ensures.same
+
+pub returns-in-Wakes-clause-performed : goal.returns-in-Wakes-clause-performed
+returns-in-Wakes-clause-performed c =
+    subst (λ e. IfOk c.perform_waking.result (λ a. acted_choice a (world_of c.perform_waking.new.world)
+    ≡ performed (scoped c.args.world.now.scopes) (world_of c.args.world.now) c.args.process e))
+    (sym c.in-Wakes.is) c.perform_waking.ensures.performed
+
+pub returns-in-Wakes-clause-same : goal.returns-in-Wakes-clause-same
+returns-in-Wakes-clause-same c = c.perform_waking.ensures.same

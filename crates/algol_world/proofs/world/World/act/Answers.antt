@@ -1,4 +1,4 @@
-use Rattle.std.proofs.Common.{◌≡◌, ap, sym, subst, ◌∙◌, IfOk, ℕ, List}
+use Rattle.std.proofs.Common.{◌≡◌, ap, sym, subst, ◌∙◌, IfOk, ℕ, true, false, List}
 use Rattle.b67_deeds.specs.declared.EventAct.{EventAct}
 use Rattle.b67_deeds.specs.declared.EventAct.TheVariants as act
 use Rattle.b67_deeds.specs.declared.Letter.TheVariants as actions
@@ -8,8 +8,8 @@ use Rattle.algol_cells.specs.SeenScope.{scoped}
 use Rattle.algol_cells.specs.SeenCell.{reference}
 use Rattle.algol_world.specs.SeenWorld.{world_of}
 use Rattle.algol_world.specs.SeenActed.{acted_choice}
-use Rattle.algol_world.specs.Going.{releasing, done_with, does_by}
-use Rattle.algol_world.proofs.Deeds.{causes, resets, liberates}
+use Rattle.algol_world.specs.Going.{releasing, letting_go, done_with, does_by}
+use Rattle.algol_world.proofs.Deeds.{causes, causes_and_resets, resets, liberates}
 use Rattle.algol_world.proofs.world.World.act.Goals as goal
 
 pub returns-in-Cause-clause-acted : goal.returns-in-Cause-clause-acted
@@ -18,15 +18,31 @@ returns-in-Cause-clause-acted c =
     let w = world_of c.args.self.now in
     let n = c.args.number in
     let r = reference c.args.r in
-    let ps = c.cause-released.result in
-    let after = world_of c.cause-released.new.self in
+    let ps = c.let_go-released.result in
+    let after = world_of c.let_go-released.new.self in
     subst (λ x. IfOk c.goes_releasing.result (λ a. acted_choice a (world_of c.goes_releasing.new.self) ≡ x))
-    (ap (λ s. releasing (scoped s) actions.Cause after n ps) c.cause-released.ensures.same
-    ∙ ap (λ (v : World). releasing sc actions.Cause v n ps) (c.cause-released.ensures.after n)
-    ∙ ap (λ (qs : List ℕ). releasing sc actions.Cause ((done_with w n (acts act.Cause) r).world) n qs) (c.cause-released.ensures.released n)
+    (ap (λ s. releasing (scoped s) actions.Cause after n ps) c.let_go-released.ensures.same
+    ∙ ap (λ (v : World). releasing sc actions.Cause v n ps) c.let_go-released.ensures.after
+    ∙ ap (λ (qs : List ℕ). releasing sc actions.Cause ((letting_go w r true).world) n qs) c.let_go-released.ensures.released
     ∙ causes sc w n c.requires.able c.requires.acts r
     ∙ ap (λ (x : EventAct). does_by sc w n (acts x) r) (sym c.in-Cause.is))
     c.goes_releasing.ensures.acted
+
+pub returns-in-CauseAndReset-clause-acted : goal.returns-in-CauseAndReset-clause-acted
+returns-in-CauseAndReset-clause-acted c =
+    let sc = scoped c.args.self.now.scopes in
+    let w = world_of c.args.self.now in
+    let n = c.args.number in
+    let r = reference c.args.r in
+    let ps = c.let_go-released-in-CauseAndReset.result in
+    let after = world_of c.let_go-released-in-CauseAndReset.new.self in
+    subst (λ x. IfOk c.goes_releasing-in-CauseAndReset.result (λ a. acted_choice a (world_of c.goes_releasing-in-CauseAndReset.new.self) ≡ x))
+    (ap (λ s. releasing (scoped s) actions.CauseAndReset after n ps) c.let_go-released-in-CauseAndReset.ensures.same
+    ∙ ap (λ (v : World). releasing sc actions.CauseAndReset v n ps) c.let_go-released-in-CauseAndReset.ensures.after
+    ∙ ap (λ (qs : List ℕ). releasing sc actions.CauseAndReset ((letting_go w r false).world) n qs) c.let_go-released-in-CauseAndReset.ensures.released
+    ∙ causes_and_resets sc w n c.requires.able c.requires.acts r
+    ∙ ap (λ (x : EventAct). does_by sc w n (acts x) r) (sym c.in-CauseAndReset.is))
+    c.goes_releasing-in-CauseAndReset.ensures.acted
 
 pub returns-in-Reset-clause-acted : goal.returns-in-Reset-clause-acted
 returns-in-Reset-clause-acted c =

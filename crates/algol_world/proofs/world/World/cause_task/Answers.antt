@@ -6,8 +6,8 @@ use Rattle.algol_world.proofs.world.World.cause_task.Goals as goal
 
 pub returns-in-Some-clause-released : goal.returns-in-Some-clause-released
 returns-in-Some-clause-released c = λ p.
-    c.cause.ensures.released p ∙ ap (λ t. (caused_by_end (world_of c.args.self.now) p (views.task t)).processes) (sym c.in-Some.is)
+    c.let_go.ensures.released ∙ ap (λ t. (caused_by_end (world_of c.args.self.now) p (views.task t)).processes) (sym c.in-Some.is)
 
 pub returns-in-Some-clause-after : goal.returns-in-Some-clause-after
 returns-in-Some-clause-after c = λ p.
-    c.cause.ensures.after p ∙ ap (λ t. (caused_by_end (world_of c.args.self.now) p (views.task t)).world) (sym c.in-Some.is)
+    c.let_go.ensures.after ∙ ap (λ t. (caused_by_end (world_of c.args.self.now) p (views.task t)).world) (sym c.in-Some.is)

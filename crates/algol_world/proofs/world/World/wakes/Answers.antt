@@ -1,17 +1,20 @@
 use Rattle.std.proofs.Common.{◌≤◌, length, ap}
 use Rattle.algol_meaning.specs.World as world
 use Rattle.algol_cells.specs.SeenScope.{scoped}
+use Rattle.algol_rest_expr.specs.SeenExpression.{answered}
+use Rattle.algol_world.specs.Going.{resumed}
 use Rattle.algol_world.specs.SeenWorld.{world_of}
 use Rattle.algol_instances.proofs.Numbering.{unchanged}
 use Rattle.algol_world.specs.SeenWorld.{process}
-use Rattle.algol_world.proofs.Processes.{changed}
-use Rattle.algol_world.proofs.world.World.set_able.Goals as goal
+use Rattle.algol_world.proofs.Processes.{if_ok, changed}
+use Rattle.algol_world.proofs.world.World.wakes.Goals as goal
 
 pub returns-in-Some-get_mut-clause-went : goal.returns-in-Some-get_mut-clause-went
 returns-in-Some-get_mut-clause-went c =
     let sc = scoped c.args.self.now.scopes in
     let item = c.in-Some-get_mut.ensures.item in
-    rw (← c.items_mut.ensures.shows)
+    if_ok c.wake.result
+    (λ _ gone. rw (← c.items_mut.ensures.shows)
     (ap (λ (qs : _). record (world_of c.args.self.now) { processes = qs })
     (changed
     sc
@@ -19,17 +22,18 @@ returns-in-Some-get_mut-clause-went c =
     c.args.number
     c.in-Some.at
     c.in-Some-get_mut.q.now
-    c.release.new.self
-    (λ (q : world.Process). record q { state = world.able })
+    c.wake.new.self
+    (λ (q : world.Process). record q { todo = resumed sc q.todo (answered c.args.answer); woken = 0 })
     c.in-Some.ensures
     item.3.0
     (item.3.1 c.in-Some-get_mut.q.now)
-    c.release.ensures))
+    gone)))
+    c.wake.ensures
 
-pub returns-in_default-get_mut-clause-went : goal.returns-in_default-get_mut-clause-went
-returns-in_default-get_mut-clause-went c =
+pub returns-in-None-get_mut-clause-went : goal.returns-in-None-get_mut-clause-went
+returns-in-None-get_mut-clause-went c =
     let qs = c.args.self.now.processes in
-    let past : length qs ≤ c.in-Some.at = rw (← c.items_mut.ensures.shows) c.in_default-get_mut.ensures.item.3 in
+    let past : length qs ≤ c.in-Some.at = rw (← c.items_mut.ensures.shows) c.in-None-get_mut.ensures.item.3 in
     rw c.items_mut.ensures.shows
     (ap (λ (all : _). record (world_of c.args.self.now) { processes = all })
     (unchanged qs (process (scoped c.args.self.now.scopes)) c.args.number c.in-Some.at _ c.in-Some.ensures past))

@@ -1,0 +1,35 @@
+use Rattle.std.proofs.Common.{◌≤◌, length, ap}
+use Rattle.algol_meaning.specs.World as world
+use Rattle.algol_cells.specs.SeenScope.{scoped}
+use Rattle.algol_world.specs.SeenWorld.{state, world_of}
+use Rattle.algol_instances.proofs.Numbering.{unchanged}
+use Rattle.algol_world.specs.SeenWorld.{process}
+use Rattle.algol_world.proofs.Processes.{changed}
+use Rattle.algol_world.proofs.world.World.stands.Goals as goal
+
+pub returns-in-Some-get_mut-clause-went : goal.returns-in-Some-get_mut-clause-went
+returns-in-Some-get_mut-clause-went c =
+    let sc = scoped c.args.self.now.scopes in
+    let item = c.in-Some-get_mut.ensures.item in
+    rw (← c.items_mut.ensures.shows)
+    (ap (λ (qs : _). record (world_of c.args.self.now) { processes = qs })
+    (changed
+    sc
+    c.items_mut.result.now.items
+    c.args.number
+    c.in-Some.at
+    c.in-Some-get_mut.q.now
+    c.stand.new.self
+    (λ (q : world.Process). record q { state = state c.args.becomes })
+    c.in-Some.ensures
+    item.3.0
+    (item.3.1 c.in-Some-get_mut.q.now)
+    c.stand.ensures))
+
+pub returns-in-None-get_mut-clause-went : goal.returns-in-None-get_mut-clause-went
+returns-in-None-get_mut-clause-went c =
+    let qs = c.args.self.now.processes in
+    let past : length qs ≤ c.in-Some.at = rw (← c.items_mut.ensures.shows) c.in-None-get_mut.ensures.item.3 in
+    rw c.items_mut.ensures.shows
+    (ap (λ (all : _). record (world_of c.args.self.now) { processes = all })
+    (unchanged qs (process (scoped c.args.self.now.scopes)) c.args.number c.in-Some.at _ c.in-Some.ensures past))
