@@ -1,5 +1,5 @@
 -- What a part has still to do fits, whatever its head has answered that fits; and what the head asks for.
-use Rattle.std.proofs.Common.{◌≡◌, ℕ, zero, suc, Bool, true, false, List, [], ◌∷◌, ◌++◌}
+use Rattle.std.proofs.Common.{arith, ◌≡◌, ℕ, zero, suc, Bool, true, false, List, [], ◌∷◌, ◌++◌}
 use Rattle.std.specs.Prelude.{if◌then◌else◌, nat_abs}
 use Rattle.algol_tree.specs.declared.tree.Named.{Named}
 use Rattle.algol_tree.specs.Plain as tree
@@ -12,7 +12,7 @@ use Rattle.algol_meaning.specs.Rest.{Given, Hole, read, element, index, tests, b
 use Rattle.algol_meaning.specs.Settle.{sort_at, is_typed, settle, half_of, put, put_actuals, put_place}
 use Rattle.algol_meaning.specs.Statements.{items, decls_items, ending, items_of, is_labelled, stmts_from, items_from, settle_line, settle_bounds, settle_stmt, run_and, turn_and, counted_body, settle_items}
 use Rattle.algol_meaning.specs.Asks.{ask_hole, ask_actuals, ask_aim, ask, evaluated_of, located_of, nth_stmt, inside_or_after, called, resume}
-use Rattle.algol_calls.specs.Fits.{IsTold, wanted, NextThen, PassFits, GivenThen, HoleFits, ActualsLeft, AimFits, StmtFits, StmtsFit, ItemsFit, RestFits, AskFits, AnswerFits}
+use Rattle.algol_calls.specs.Fits.{AreFew, IsTold, wanted, NextThen, PassFits, GivenThen, HoleFits, ActualsLeft, AimFits, StmtFits, StmtsFit, ItemsFit, RestFits, AskFits, AnswerFits}
 use Rattle.algol_calls.specs.Laws.{CallsFit}
 use Rattle.algol_calls.proofs.Expressions.{HalfFits, HalfPlaceFits, half_fits, settle_fits, put_fits, put_actuals_fit, put_place_fits}
 use Rattle.algol_calls.proofs.Statements.{assigned_fits, aimed_fits, chosen_fits, looped_fits, checked_fits, counted_fits, selected_fits, called_fits, prepared_fits, item_fits, bound_fits, line_fits, bounds_fit, stmt_fits, counted_body_fits, tested_fits, differed_fits, settled_fits}
@@ -93,6 +93,9 @@ module _ (sc : Scopes) where
   next_told (g ∷ gs) [] sorts n i = absurd i
   next_told (g ∷ gs) (s ∷ all) sorts n i = next_told gs all sorts n i.1
 
+  one_is_few : (n : Named) → AreFew (n ∷ [])
+  one_is_few n = (omega (arith), omega (arith))
+
   mutual
     hole_asks : (h : Hole) → HoleFits sc h → AskFits sc (ask_hole h)
     hole_asks (read n) i = i
@@ -132,7 +135,7 @@ module _ (sc : Scopes) where
   rest_asks (entering_block b k) i = tt
   rest_asks (entering n gs k) i = (i.0, i.1)
   rest_asks (starting n gs task k) i = (i.0, i.1, i.2)
-  rest_asks (acting act n k) i = (i.0, tt)
+  rest_asks (acting act n k) i = ((i.0, tt), one_is_few n)
   rest_asks (line phrases vs k) i = tt
   rest_asks (arrays kind ns pairs vs k) i = tt
   rest_asks (event n k) i = tt

@@ -1,6 +1,7 @@
 -- What a text calls and gives: each call names a procedure and has an actual that fits for each parameter, and what is stored to, acted on
 -- and referred to is no cell that a parameter has of its own to lead elsewhere.
-use Rattle.std.specs.Prelude.{◌≡◌, ℕ, ◌<◌, if◌then◌else◌, Bool, true, false, List, [], ◌∷◌, length, map, Option, Some, None}
+use Rattle.std.specs.Prelude.{◌≡◌, ℕ, ◌<◌, ◌≤◌, if◌then◌else◌, Bool, true, false, List, [], ◌∷◌, length, map, Option, Some, None}
+use Rattle.b67_limits.specs.declared.TheConstants.{MOST_EVENTS}
 use Rattle.algol_tree.specs.declared.tree.Kind.{Kind}
 use Rattle.algol_tree.specs.declared.tree.Named.{Named}
 use Rattle.algol_tree.specs.declared.tree.EventName.{EventName}
@@ -62,6 +63,10 @@ abbrev pub NextThen : (Sort → Type 0) → List Sort → List Sort → Type 0
 NextThen F after [] = ⊥
 NextThen F after (s ∷ sorts) = F s × (sorts ≡ after)
 
+-- as many events as something can be done with at once
+abbrev pub AreFew : List Named → Type 0
+AreFew ns = (1 ≤ length ns) × (length ns ≤ MOST_EVENTS)
+
 module _ (sc : Scopes) where
   -- ---- names
 
@@ -122,7 +127,7 @@ module _ (sc : Scopes) where
     ExprFits (tree.variable (tree.subscripted n tree.none)) = AloneFits (procedure_in (sort_at sc n)) n
     ExprFits (tree.variable (tree.subscripted n (tree.more e es))) = Leads n × ExprFits e × ExprsFit es
     ExprFits (tree.call (tree.called n es)) = IsCallee n × ActualsFit es (wanted n)
-    ExprFits (tree.tested x es spot) = AllByRecursion Leads (map (λ (e : EventName). e.name) es)
+    ExprFits (tree.tested x es spot) = AllByRecursion Leads (map (λ (e : EventName). e.name) es) × AreFew (map (λ (e : EventName). e.name) es)
     ExprFits (tree.paren e spot) = ExprFits e
     ExprFits (tree.plus e spot) = ExprFits e
     ExprFits (tree.neg e spot) = ExprFits e
@@ -188,7 +193,7 @@ module _ (sc : Scopes) where
     HoleFits (read n) = IsTold n
     HoleFits (element n ks v) = Leads n
     HoleFits (index n ks v e es) = Leads n × ExprFits e × ExprsFit es
-    HoleFits (tests x ns) = AllByRecursion Leads ns
+    HoleFits (tests x ns) = AllByRecursion Leads ns × AreFew ns
     HoleFits (enter n gs) = IsCallee n × GivensFit gs (wanted n)
     HoleFits (subscript n ks h es) = Leads n × HoleFits h × ExprsFit es
     HoleFits (argument n x) = IsCallee n × ActualsLeft x (wanted n)
@@ -320,7 +325,7 @@ module _ (sc : Scopes) where
   AskFits (asks.resolves n) = IsTold n × (is_by_name (sort_at sc n) ≡ true)
   AskFits (asks.stores p v) = PlaceFits p
   AskFits (asks.goes_to n) = IsLabel n
-  AskFits (asks.event_deed x ns) = AllByRecursion Leads ns
+  AskFits (asks.event_deed x ns) = AllByRecursion Leads ns × AreFew ns
   AskFits (asks.leaves (place p)) = PlaceFits p
   AskFits _ = Unit {0}
 

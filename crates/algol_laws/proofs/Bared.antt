@@ -1,14 +1,15 @@
 -- What the changes of a world do to it but for what its cells hold.
-use Rattle.std.proofs.Common.{◌≡◌, refl, sym, ap, ◌∙◌, ℕ, zero, suc, ◌+◌, List, [], ◌∷◌, ◌++◌, Option, Some, None, Bool, true, map, length}
+use Rattle.std.proofs.Common.{◌≡◌, refl, sym, ap, ◌∙◌, ℕ, zero, suc, ◌+◌, List, [], ◌∷◌, ◌++◌, Option, Some, None, Bool, true, false, map, length}
 use Rattle.std.specs.Prelude.{slice_get, slice_set, if◌then◌else◌, ◌&&◌, ◌||◌, ◌==◌, not}
 use Rattle.b67_list.specs.Numbered.{numbered, set_numbered}
 use Rattle.algol_meaning.specs.Value.{Reference, Cell, event}
-use Rattle.b67_deeds.specs.Events.{EventState}
-use Rattle.algol_meaning.specs.World.{NamedCell, Instance, no_instance, or_no_instance, instance_at, able, World, ancestor, cell_in, cell_at, cells_with, with_instance, set_cell, add_cells, or_no_process, process_at, set_able, set_all_able}
+use Rattle.b67_deeds.specs.declared.EventTest.TheVariants as test
+use Rattle.b67_deeds.specs.Events.{EventState, left_by, joined}
+use Rattle.algol_meaning.specs.World.{NamedCell, Instance, no_instance, or_no_instance, instance_at, able, Process, World, ancestor, cell_in, cell_at, cells_with, with_instance, set_cell, add_cells, or_no_process, process_at, set_able, set_all_able}
 use Rattle.algol_meaning.specs.Critical.{is_this, is_one_of, NumberedInstance, newest_first, first_on_path}
 use Rattle.algol_meaning.specs.Instances.{leave}
-use Rattle.algol_meaning.specs.Events.{event_at, set_event, change_event, released}
-use Rattle.b67_deeds.specs.Deeds.{Deed}
+use Rattle.algol_meaning.specs.Events.{event_at, set_event, change_event, is_among, joined_all, list_in, forgotten, woken_by, withdrawn, all_withdrawn, released}
+use Rattle.b67_deeds.specs.Deeds.{tests, Deed, deed}
 use Rattle.algol_laws.specs.Reading.{Outline, outline, Bare, bare}
 
 -- ---- outlines
@@ -86,6 +87,10 @@ bare_marked u i =
     (outlines_set u.instances i (record (instance_at u i) { left = true })
     ∙ ap (λ (o : Outline). set_numbered (map outline u.instances) i (record o { left = true })) (outline_numbered u.instances i))
 
+pub leave_processes : (w : World) (is : List ℕ) → (leave w is).processes ≡ w.processes
+leave_processes w [] = refl
+leave_processes w (i ∷ is) = leave_processes (with_instance w i (record (instance_at w i) { left = true })) is
+
 pub leave_alike : (is : List ℕ) (u v : World) → bare v ≡ bare u → bare (leave v is) ≡ bare (leave u is)
 leave_alike [] u v e = e
 leave_alike (i ∷ is) u v e =
@@ -106,8 +111,48 @@ change_alike : (u v : World) (r : Reference) (c : Option (EventState → EventSt
 change_alike u v r None h = h
 change_alike u v r (Some change) h = event_alike u v r (change (event_at u r)) (change (event_at v r)) h
 
+-- ---- who waits for several events
+
+abbrev waiting_in : Bare → ℕ → Process
+waiting_in b p = or_no_process (numbered b.processes p)
+
+abbrev put : Bare → ℕ → Process → Bare
+put b p q = record b { processes = set_numbered b.processes p q }
+
+abbrev woken_then : Reference → Process → Process
+woken_then r q = record q { woken = woken_by r q }
+
+forgotten_alike : (rs : List Reference) (p : ℕ) (u v : World) → bare v ≡ bare u → bare (forgotten v p rs) ≡ bare (forgotten u p rs)
+forgotten_alike [] p u v h = h
+forgotten_alike (r ∷ rs) p u v h =
+    forgotten_alike rs p (change_event u r (Some (left_by p))) (change_event v r (Some (left_by p))) (change_alike u v r (Some (left_by p)) h)
+
+one_withdrawn_alike : (u v : World) (r : Reference) (p : ℕ) → bare v ≡ bare u → bare (withdrawn v r p) ≡ bare (withdrawn u r p)
+one_withdrawn_alike u v r p h =
+    ap (λ (b : Bare). put (bare (forgotten v p (list_in (waiting_in b p).state))) p (woken_then r (waiting_in b p))) h
+    ∙ ap (λ (b : Bare). put b p (woken_then r (process_at u p))) (forgotten_alike (list_in (process_at u p).state) p u v h)
+
+withdrawn_alike : (ps : List ℕ) (u v : World) (r : Reference) → bare v ≡ bare u → bare (all_withdrawn v r ps) ≡ bare (all_withdrawn u r ps)
+withdrawn_alike [] u v r h = h
+withdrawn_alike (p ∷ ps) u v r h = withdrawn_alike ps (withdrawn u r p) (withdrawn v r p) r (one_withdrawn_alike u v r p h)
+
 pub released_alike : (u v : World) (r : Reference) (d : Deed) → bare v ≡ bare u → bare (released v r d).world ≡ bare (released u r d).world
-released_alike u v r d h = able_alike d.frees (change_event u r d.change) (change_event v r d.change) (change_alike u v r d.change h)
+released_alike u v r d h =
+    able_alike d.frees (all_withdrawn (change_event u r d.change) r d.withdraws) (all_withdrawn (change_event v r d.change) r d.withdraws)
+    (withdrawn_alike d.withdraws (change_event u r d.change) (change_event v r d.change) r (change_alike u v r d.change h))
+
+-- who joins those who wait changes only what cells hold
+pub joined_bare : (u : World) (p : ℕ) (seen rs : List Reference) → bare (joined_all u p seen rs) ≡ bare u
+joined_bare u p seen [] = refl
+joined_bare u p seen (r ∷ rs) = by (is_among seen r) (joined_bare u p (r ∷ seen) rs) (joined_bare next p (r ∷ seen) rs)
+  where
+    next : World
+    next = change_event u r (deed (tests test.WaitAny) p (event_at u r)).change
+
+    by : (b : Bool) → bare (joined_all u p (r ∷ seen) rs) ≡ bare u → bare (joined_all next p (r ∷ seen) rs) ≡ bare next →
+        bare (if b then joined_all u p (r ∷ seen) rs else (joined_all next p (r ∷ seen) rs)) ≡ bare u
+    by true f g = f
+    by false f g = g ∙ bare_set u r (event (joined p (event_at u r)))
 
 -- ---- cells
 

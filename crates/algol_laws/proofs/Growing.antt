@@ -7,7 +7,7 @@ use Rattle.algol_meaning.specs.Value.{Reference}
 use Rattle.algol_meaning.specs.World.{World}
 use Rattle.algol_meaning.specs.Choice.{choice}
 use Rattle.algol_meaning.specs.Run.{may_go, after_entry, run_from}
-use Rattle.algol_laws.specs.Kept.{Kept, Grown, EachRunGrows, stored_cells}
+use Rattle.algol_laws.specs.Kept.{Freed, Kept, freed_by, Grown, EachRunGrows, stored_cells}
 use Rattle.algol_laws.proofs.Keeping.{instance_grown, process_grown, lines_after}
 use Rattle.algol_laws.proofs.Choices.{each_keeps}
 
@@ -19,7 +19,7 @@ stays w =
       output = ([], sym (append-nil w.output));
     }
 
-grown_by : (p : ℕ) (rs : List ℕ) (s : List Reference) (w after : World) → Kept p rs s w after → Grown w after
+grown_by : (p : ℕ) (rs : Freed) (s : List Reference) (w after : World) → Kept p rs s w after → Grown w after
 grown_by p rs s w after f =
     record {
       instances = λ i x e. let m = f.instances i x e in (m.0, m.1, m.2.grown);
@@ -48,5 +48,5 @@ each_grows sc (p ∷ h) w after e = by (may_go w p) e (λ f. each_grows sc h ((c
         (run_from sc h (Some ((choice sc w p).world)) ≡ Some after → Grown ((choice sc w p).world) after) → Grown w after
     by true f g =
         grown_after w ((choice sc w p).world) after
-        (grown_by p ((choice sc w p).released) (stored_cells sc w p) w ((choice sc w p).world) (each_keeps sc w p)) (g f)
+        (grown_by p (freed_by sc w p) (stored_cells sc w p) w ((choice sc w p).world) (each_keeps sc w p)) (g f)
     by false f g = absurd (none_left sc h after f)

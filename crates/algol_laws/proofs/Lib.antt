@@ -3,6 +3,7 @@ pub mod Heads
 pub mod Cells
 pub mod Parents
 pub mod Keeping
+pub mod Releasing
 pub mod Choices
 pub mod Growing
 pub mod Storing

@@ -1,27 +1,28 @@
 -- What an action comes to depends on no cell but those that it reads.
-use Rattle.std.proofs.Common.{◌≡◌, refl, sym, ap, ◌∙◌, ℕ, ◌+◌, List, [], ◌∷◌, ◌++◌, Option, Some, None, Bool, true, false, map, length}
-use Rattle.std.specs.Prelude.{if◌then◌else◌, ◌*◌, ◌==◌, nat_lt}
+use Rattle.std.proofs.Common.{◌≡◌, refl, sym, ap, ◌∙◌, ℕ, zero, suc, ◌+◌, List, [], ◌∷◌, ◌++◌, Option, Some, None, Bool, true, false, map, length}
+use Rattle.std.specs.Prelude.{pos, if◌then◌else◌, ◌*◌, ◌==◌, nat_lt}
 use Rattle.b67_list.specs.Numbered.{set_numbered}
 use Rattle.algol_tree.specs.declared.tree.Kind.{Kind}
 use Rattle.algol_tree.specs.declared.tree.Named.{Named}
 use Rattle.b67_deeds.specs.declared.EventAct.TheVariants as act
+use Rattle.b67_deeds.specs.declared.EventTest.TheVariants as test
 use Rattle.algol_tree.specs.Blocks.{Block, spot_of, block_numbered, number_at}
 use Rattle.algol_tree.specs.Scopes.{Scopes, use_of}
 use Rattle.b67_num.specs.declared.FaultKind.{FaultKind}
 use Rattle.b67_num.specs.declared.FaultKind.TheVariants as fault
 use Rattle.b67_num.specs.Whole.{fault_of}
 use Rattle.algol_meaning.specs.declared.TheConstants.{MOST_STARTED, MOST_ELEMENTS}
-use Rattle.algol_meaning.specs.Value.{Value, whole_of, Reference, Bounds, ArrayCell, Cell, simple, event, array, named, reference}
+use Rattle.algol_meaning.specs.Value.{Value, number, whole_of, Reference, Bounds, ArrayCell, Cell, simple, event, array, named, reference}
 use Rattle.b67_deeds.specs.Events.{fresh_state}
 use Rattle.b67_deeds.specs.Deeds as deeds
-use Rattle.b67_deeds.specs.Deeds.{EventDeed, Deed, Next, deed}
+use Rattle.b67_deeds.specs.Deeds.{EventDeed, Deed, Next, answers, deed}
 use Rattle.algol_meaning.specs.Rest.{Place, own, there, element_of, Given, valued, passed, refers, names, Answer, done, value, cell, place, entered}
 use Rattle.algol_meaning.specs.Settle.{block_of, settle, settle_actual_place}
 use Rattle.algol_meaning.specs.Statements.{settle_items, items_of, items_from}
-use Rattle.algol_meaning.specs.World.{NamedCell, Instance, Purpose, block, procedure, name_read, name_place, started, Part, State, able, waits_for, procures, ended, Process, World, instance_at, cell_at, set_cell, add_cells, by_cell, followed, value_in, array_in, event_in, process_at}
+use Rattle.algol_meaning.specs.World.{NamedCell, Instance, Purpose, block, procedure, name_read, name_place, started, Part, State, able, waits_for, procures, waits_any, ended, Process, World, instance_at, cell_at, set_cell, add_cells, by_cell, followed, value_in, array_in, event_in, process_at}
 use Rattle.algol_meaning.specs.Critical.{some_depends, some_depends_on_any, is_evaluation, own_instances, newest_first, first_on_path, referred_by, referred_by_task}
 use Rattle.algol_meaning.specs.Arrays.{subscript_place, element_at, with_element, elements_of, live_elements, new_arrays, has_wrong_size, has_no_room, bounds_of}
-use Rattle.algol_meaning.specs.Events.{event_at, Released, released, caused_by_end}
+use Rattle.algol_meaning.specs.Events.{event_at, first_that, first_happened, Released, released, caused_by_end}
 use Rattle.algol_meaning.specs.Lines.{line_of}
 use Rattle.algol_meaning.specs.Instances.{fresh_cells, leave, Cut, cut_at}
 use Rattle.b67_deeds.specs.declared.Letter.TheVariants as actions
@@ -29,10 +30,10 @@ use Rattle.b67_deeds.specs.declared.Letter.{Letter}
 use Rattle.algol_meaning.specs.Asks as asks
 use Rattle.algol_meaning.specs.Asks.{Ask, ask, resume, evaluated_of, located_of}
 use Rattle.algol_meaning.specs.Choice as choices
-use Rattle.algol_meaning.specs.Choice.{Choice, choice, choice_in, choice_of, chosen, answered, goes, goes_releasing, stops, opens, fails, home, here, read_of, is_subscripted, resolved_of, indexed_at, element_read_at, stored, given_cell, given_cells, with_new_instance, new_part, left_with, ended_releasing, left_or_ended, left, gone, gone_to, goes_to, task_of, with_started, next_process, starts, did, does, does_with, made_arrays, nth_exists}
+use Rattle.algol_meaning.specs.Choice.{Choice, choice, choice_in, choice_of, chosen, answered, goes, goes_releasing, stops, opens, fails, home, here, read_of, is_subscripted, resolved_of, indexed_at, element_read_at, stored, given_cell, given_cells, with_new_instance, new_part, left_with, ended_releasing, left_or_ended, left, gone, gone_to, goes_to, task_of, with_started, next_process, starts, did, does, does_with_first, all_followed, waits_for_any, wakes_or_waits, does_with, made_arrays, nth_exists}
 use Rattle.algol_laws.specs.Kept.{if_any}
-use Rattle.algol_laws.specs.Reading.{Outline, outline, Bare, bare, Told, told, with_cells_of, read_by_leaving, read_by_deed, read_by, read_in, read_cells, SameCells, EachActionReads}
-use Rattle.algol_laws.proofs.Bared.{outlines_added, same_count, outline_alike, ancestor_alike, bare_set, bare_added, leave_alike, released_alike, cell_left, path_alike}
+use Rattle.algol_laws.specs.Reading.{Outline, outline, Bare, bare, Told, told, with_cells_of, read_by_leaving, read_by_first, all_led_to, read_by_several, read_by_deed, read_by, read_in, read_cells, SameCells, EachActionReads}
+use Rattle.algol_laws.proofs.Bared.{outlines_added, same_count, outline_alike, ancestor_alike, bare_set, bare_added, leave_alike, released_alike, joined_bare, cell_left, path_alike}
 
 abbrev telling : Letter → List ℕ → Option ℕ → Bare → Told
 telling action processes process after = record { action = action; released = processes; started = process; after = after }
@@ -258,7 +259,7 @@ module _ (sc : Scopes) (w : World) (xs : List Instance) (p : ℕ) (q : Process) 
   task_alike (Some n) = ap (λ (r : Reference). Some r) (here_alike n)
 
   abbrev new_process : Part → ℕ → Option Reference → Process
-  new_process first critical task = record { todo = first ∷ []; critical = Some critical; task = task; state = able }
+  new_process first critical task = record { todo = first ∷ []; critical = Some critical; task = task; state = able; woken = 0 }
 
   abbrev starting : Process → Bare → Told
   starting r b =
@@ -292,16 +293,61 @@ module _ (sc : Scopes) (w : World) (xs : List Instance) (p : ℕ) (q : Process) 
   did_alike x r d deeds.procures =
       stops_alike (deeds.letter_of x) (released w r d).world (released v r d).world (procures r) (released_alike w v r d alike)
 
-  does_alike : (x : EventDeed) (ns : List Named) → SameCells w v (read_by_deed sc w p q part outer ns) →
-      told (does_with sc v p q part outer x ns) ≡ told (does_with sc w p q part outer x ns)
-  does_alike x [] cells = ap (λ (b : Bare). telling actions.Fault [] None b) alike
-  does_alike x (n ∷ ns) cells =
+  first_alike : (x : EventDeed) (ns : List Named) → SameCells w v (read_by_first sc w p q part outer ns) →
+      told (does_with_first sc v p q part outer x ns) ≡ told (does_with_first sc w p q part outer x ns)
+  first_alike x [] cells = ap (λ (b : Bare). telling actions.Fault [] None b) alike
+  first_alike x (n ∷ ns) cells =
       ap (λ (s : Reference). told (does sc v p q part outer x s (deed x p (event_at v s)))) (led_alike n cells.0)
       ∙ ap (λ (c : Cell). told (does sc v p q part outer x r (deed x p (event_in c)))) cells.1.0
       ∙ did_alike x r (deed x p (event_at w r)) ((deed x p (event_at w r)).next)
     where
       r : Reference
       r = followed w (here sc w p q part outer n)
+
+  -- ---- several events
+
+  all_alike : (ns : List Named) → SameCells w v (all_led_to sc w p q part outer ns) → all_followed sc v p q part outer ns ≡ all_followed sc w p q part outer ns
+  all_alike [] cells = refl
+  all_alike (n ∷ ns) cells =
+      ap (λ (r : Reference). r ∷ all_followed sc v p q part outer ns) (led_alike n cells.0)
+      ∙ ap (λ (rs : List Reference). followed w (here sc w p q part outer n) ∷ rs) (all_alike ns cells.1.1)
+
+  happened_alike : (k : ℕ) (ns : List Named) → SameCells w v (all_led_to sc w p q part outer ns) →
+      first_that (λ r. answers test.WaitAny (event_at v r)) k (all_followed sc w p q part outer ns)
+      ≡ first_that (λ r. answers test.WaitAny (event_at w r)) k (all_followed sc w p q part outer ns)
+  happened_alike k [] cells = refl
+  happened_alike k (n ∷ ns) cells =
+      ap (λ (c : Cell). if answers test.WaitAny (event_in c) then Some k
+      else first_that (λ r. answers test.WaitAny (event_at v r)) (k + 1) (all_followed sc w p q part outer ns)) cells.1.0
+      ∙ ap (λ (o : Option ℕ). if answers test.WaitAny (event_at w (followed w (here sc w p q part outer n))) then Some k else o)
+      (happened_alike (k + 1) ns cells.1.1)
+
+  waits_for_any_alike : (rs : List Reference) (o : Option ℕ) → told (waits_for_any sc v p q part outer rs o) ≡ told (waits_for_any sc w p q part outer rs o)
+  waits_for_any_alike rs None =
+      ap (λ (b : Bare). telling actions.WaitAny [] None (processes_put p (record q { state = waits_any rs }) b))
+      (joined_bare v p [] rs ∙ alike ∙ sym (joined_bare w p [] rs))
+  waits_for_any_alike rs (Some k) = goes_alike actions.WaitAny w v (value (number (pos k))) (value (number (pos k))) alike refl
+
+  several_alike : (woken : ℕ) (ns : List Named) → SameCells w v (read_by_several sc w p q part outer woken ns) →
+      told (wakes_or_waits sc v p q part outer woken (all_followed sc v p q part outer ns))
+      ≡ told (wakes_or_waits sc w p q part outer woken (all_followed sc w p q part outer ns))
+  several_alike zero ns cells =
+      let rs = all_followed sc w p q part outer ns in
+      ap (λ (xs : List Reference). told (waits_for_any sc v p q part outer xs (first_happened v xs))) (all_alike ns cells)
+      ∙ ap (λ (o : Option ℕ). told (waits_for_any sc v p q part outer rs o)) (happened_alike 1 ns cells)
+      ∙ waits_for_any_alike rs (first_happened w rs)
+  several_alike (suc k) ns cells =
+      ap (λ (b : Bare). telling actions.Woke [] None (processes_put p (record q { todo = answered sc w p q part outer (value (number (pos (suc k)))) ∷ outer; woken = 0 }) b)) alike
+
+  does_alike : (x : EventDeed) (ns : List Named) → SameCells w v (read_by_deed sc w p q part outer x ns) →
+      told (does_with sc v p q part outer x ns) ≡ told (does_with sc w p q part outer x ns)
+  does_alike x ns = by (deeds.is_of_several x)
+    where
+      by : (b : Bool) → SameCells w v (if b then read_by_several sc w p q part outer q.woken ns else read_by_first sc w p q part outer ns) →
+          told (if b then wakes_or_waits sc v p q part outer q.woken (all_followed sc v p q part outer ns) else (does_with_first sc v p q part outer x ns))
+          ≡ told (if b then wakes_or_waits sc w p q part outer q.woken (all_followed sc w p q part outer ns) else (does_with_first sc w p q part outer x ns))
+      by true cells = several_alike q.woken ns cells
+      by false cells = first_alike x ns cells
 
   -- ---- arrays
 

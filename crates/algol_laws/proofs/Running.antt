@@ -1,6 +1,6 @@
 -- Each action leaves every part standing.
 use Rattle.std.proofs.Common.{◌≡◌, refl, sym, ap, subst, ◌∙◌, ℕ, zero, suc, List, [], ◌∷◌, ◌++◌, length, Option, Some, None, Bool, true, false}
-use Rattle.std.specs.Prelude.{if◌then◌else◌, nat_lt, ◌==◌, slice_get}
+use Rattle.std.specs.Prelude.{pos, if◌then◌else◌, nat_lt, ◌==◌, slice_get}
 use Rattle.b67_list.specs.Numbered.{numbered}
 use Rattle.b67_num.specs.declared.FaultKind.TheVariants as fault
 use Rattle.algol_tree.specs.declared.tree.Kind.{Kind}
@@ -11,7 +11,7 @@ use Rattle.algol_tree.specs.Plain.{PExpr, PProgram}
 use Rattle.algol_tree.specs.Blocks.{Block, block_numbered, number_at, spot_of}
 use Rattle.algol_tree.specs.Scopes.{Scopes, scopes_of, use_of}
 use Rattle.algol_meaning.specs.declared.TheConstants.{MOST_STARTED}
-use Rattle.algol_meaning.specs.Value.{Value, whole_of, Reference, Bounds, ArrayCell, Cell, simple, event, array, named, reference}
+use Rattle.algol_meaning.specs.Value.{Value, number, whole_of, Reference, Bounds, ArrayCell, Cell, simple, event, array, named, reference}
 use Rattle.b67_deeds.specs.Events.{EventState, fresh_state}
 use Rattle.b67_deeds.specs.Deeds as deeds
 use Rattle.b67_deeds.specs.Deeds.{EventDeed, Deed, Next, deed}
@@ -19,30 +19,27 @@ use Rattle.algol_meaning.specs.Rest as rests
 use Rattle.algol_meaning.specs.Rest.{HalfPlace, Place, own, there, element_of, Rest, Answer, done, value, cell, place, entered}
 use Rattle.algol_meaning.specs.Settle.{block_of, settle, settle_actual_place}
 use Rattle.algol_meaning.specs.Statements.{settle_items, items_of, items_from}
-use Rattle.algol_meaning.specs.World.{State, Purpose, able, started, waits_for, procures, ended, block, procedure, name_read, name_place, add_cells, Part, Process, World, instance_at, cell_at, set_cell, followed, process_at, with_process, value_in, array_in, with_instance}
+use Rattle.algol_meaning.specs.World.{State, Purpose, able, started, waits_for, procures, waits_any, ended, block, procedure, name_read, name_place, add_cells, Part, Process, World, instance_at, cell_at, set_cell, followed, process_at, with_process, value_in, array_in}
 use Rattle.algol_meaning.specs.Critical.{some_depends, some_depends_on_any, is_evaluation, own_instances, newest_first, first_on_path, referred_by, referred_by_task}
 use Rattle.algol_meaning.specs.Instances.{leave, Cut, cut_at}
 use Rattle.algol_meaning.specs.Arrays.{has_wrong_size, has_no_room, bounds_of, subscript_place, element_at, with_element, new_arrays}
-use Rattle.algol_meaning.specs.Events.{event_at, change_event, released, caused_by_end}
+use Rattle.algol_meaning.specs.Events.{event_at, change_event, first_happened, joined_all, all_withdrawn, released, caused_by_end}
 use Rattle.algol_meaning.specs.Lines.{line_of}
 use Rattle.b67_deeds.specs.declared.Letter.TheVariants as actions
 use Rattle.b67_deeds.specs.declared.Letter.{Letter}
 use Rattle.algol_meaning.specs.Asks as asks
 use Rattle.algol_meaning.specs.Asks.{Ask, ask, resume, evaluated_of, located_of}
-use Rattle.algol_meaning.specs.Choice.{Choice, choice, choice_in, choice_of, nth_exists, is_subscripted, answered, goes, stops, opens, fails, home, here, read_of, resolved_of, indexed_at, element_read_at, stored, given_cells, with_new_instance, new_part, left_with, left_or_ended, left, gone, gone_to, goes_to, task_of, with_started, next_process, starts, told, did, does_with, made_arrays}
+use Rattle.algol_meaning.specs.Choice.{Choice, choice, choice_in, choice_of, nth_exists, is_subscripted, answered, goes, stops, opens, fails, home, here, read_of, resolved_of, indexed_at, element_read_at, stored, given_cells, with_new_instance, new_part, left_with, left_or_ended, left, gone, gone_to, goes_to, task_of, with_started, next_process, starts, told, did, does_with_first, all_followed, waits_for_any, wakes_or_waits, does_with, made_arrays}
 use Rattle.algol_meaning.specs.Run.{start, may_go, after_entry, run_from, run}
 use Rattle.algol_laws.proofs.Growing.{none_left}
+use Rattle.algol_laws.proofs.Releasing.{joined_processes}
+use Rattle.algol_laws.proofs.Bared.{leave_processes}
 use Rattle.algol_laws.specs.Heads.{EachPartActs}
 use Rattle.algol_laws.proofs.Heads.{acts_rest, is_answer, is_place, awaits_place_in, settle_acts, place_acts, evaluated_acts, located_acts, items_act, resume_acts}
-use Rattle.algol_laws.proofs.Standing.{is_place_purpose, gives_place, gives_still, leaves_answer, leaves_place, answers, places, asks_place, awaiting_asks, opens_plain, opened, Shaped, Around, Stands, AllStand, Target, all_numbered, all_more, all_at, all_able, cut_stands}
-
--- the instances of a world may change under its processes
-leave_processes : (w : World) (is : List ℕ) → (leave w is).processes ≡ w.processes
-leave_processes w [] = refl
-leave_processes w (i ∷ is) = leave_processes (with_instance w i (record (instance_at w i) { left = true })) is
+use Rattle.algol_laws.proofs.Standing.{is_place_purpose, gives_place, gives_still, leaves_answer, leaves_place, answers, places, asks_place, awaiting_asks, opens_plain, opened, Shaped, Around, Stands, AllStand, Target, all_numbered, all_more, all_at, all_able, all_woken, cut_stands}
 
 module _ (sc : Scopes) (w : World) (p : ℕ) (q : Process) (part : Part) (outer : List Part) (all : AllStand sc w.processes)
-    (ready : acts_rest part.rest ≡ true) (shaped : Shaped sc part) (around : Around sc part.purpose outer) where
+    (its : Stands sc q.todo) (ready : acts_rest part.rest ≡ true) (shaped : Shaped sc part) (around : Around sc part.purpose outer) where
   abbrev Good : Choice → Type 0
   Good c = AllStand sc c.world.processes
 
@@ -155,7 +152,9 @@ module _ (sc : Scopes) (w : World) (p : ℕ) (q : Process) (part : Part) (outer 
   changed_good before r (Some change) f = f
 
   released_good : (before : World) (r : Reference) (d : Deed) → AllStand sc before.processes → AllStand sc ((released before r d).world.processes)
-  released_good before r d f = all_able sc (change_event before r d.change) d.frees (changed_good before r d.change f)
+  released_good before r d f =
+      all_able sc (all_withdrawn (change_event before r d.change) r d.withdraws) d.frees
+      (all_woken sc (change_event before r d.change) r d.withdraws (changed_good before r d.change f))
 
   by_end_good : (before : World) (o : Option Reference) → AllStand sc before.processes → AllStand sc ((caused_by_end before p o).world.processes)
   by_end_good before None f = f
@@ -214,6 +213,7 @@ module _ (sc : Scopes) (w : World) (p : ℕ) (q : Process) (part : Part) (outer 
         critical = Some (first_on_path w (newest_first 1 w.instances []) p (parent ∷ referred_by cells ++ referred_by_task task));
         task = task;
         state = able;
+        woken = 0;
       }) all (new_part_ready j started, (λ f. cc), record {})) refl n
 
   -- ---- events
@@ -226,10 +226,27 @@ module _ (sc : Scopes) (w : World) (p : ℕ) (q : Process) (part : Part) (outer 
   did_good x r d deeds.waits n = stops_good (deeds.letter_of x) (released w r d).world (waits_for r) (released_good w r d all) (λ f. absurd (n f))
   did_good x r d deeds.procures n = stops_good (deeds.letter_of x) (released w r d).world (procures r) (released_good w r d all) (λ f. absurd (n f))
 
-  does_good : (x : EventDeed) (ns : List Named) → Plain → Good (does_with sc w p q part outer x ns)
-  does_good x [] n = all
-  does_good x (m ∷ ns) n =
+  first_good : (x : EventDeed) (ns : List Named) → Plain → Good (does_with_first sc w p q part outer x ns)
+  first_good x [] n = all
+  first_good x (m ∷ ns) n =
       let r = followed w (here sc w p q part outer m) in did_good x r (deed x p (event_at w r)) ((deed x p (event_at w r)).next) n
+
+  -- who waits for several has to do what it had
+  waits_for_any_good : (rs : List Reference) (o : Option ℕ) → Plain → Good (waits_for_any sc w p q part outer rs o)
+  waits_for_any_good rs None n =
+      sets (joined_all w p [] rs) (record q { state = waits_any rs }) (subst (λ qs. AllStand sc qs) (sym (joined_processes w p [] rs)) all) its
+  waits_for_any_good rs (Some k) n = goes_plain actions.WaitAny w (value (number (pos k))) all refl n
+
+  several_good : (woken : ℕ) (rs : List Reference) → Plain → Good (wakes_or_waits sc w p q part outer woken rs)
+  several_good zero rs n = waits_for_any_good rs (first_happened w rs) n
+  several_good (suc k) rs n =
+      sets w (record q { todo = answered sc w p q part outer (value (number (pos (suc k)))) ∷ outer; woken = 0 }) all
+      (on (value (number (pos (suc k)))) refl (λ g. absurd (n g)))
+
+  does_good : (x : EventDeed) (ns : List Named) → Plain → Good (does_with sc w p q part outer x ns)
+  does_good x ns n =
+      either (deeds.is_of_several x) (wakes_or_waits sc w p q part outer q.woken (all_followed sc w p q part outer ns)) (does_with_first sc w p q part outer x ns)
+      (several_good q.woken (all_followed sc w p q part outer ns) n) (first_good x ns n)
 
   -- ---- arrays and events
   arrays_good : (kind : Kind) (ns : List Named) (bs : List Bounds) → Plain → Good (made_arrays sc w p q part outer kind ns bs)
@@ -285,13 +302,13 @@ module _ (sc : Scopes) (w : World) (p : ℕ) (q : Process) (part : Part) (outer 
       goes_plain actions.MakeEvent (add_cells w part.instance (record { name = n.name; cell = event fresh_state } ∷ [])) done all refl (plain (asks.makes_event n) e refl)
 
 -- ---- runs
-in_good : (sc : Scopes) (w : World) (p : ℕ) (q : Process) (parts : List Part) → AllStand sc w.processes → Stands sc parts → AllStand sc ((choice_in sc w p q parts).world.processes)
-in_good sc w p q [] all f = all
-in_good sc w p q (part ∷ outer) all f = choice_good sc w p q part outer all f.0 f.1 f.2 (ask part.rest) refl
+in_good : (sc : Scopes) (w : World) (p : ℕ) (q : Process) (parts : List Part) → AllStand sc w.processes → Stands sc q.todo → Stands sc parts → AllStand sc ((choice_in sc w p q parts).world.processes)
+in_good sc w p q [] all its f = all
+in_good sc w p q (part ∷ outer) all its f = choice_good sc w p q part outer all its f.0 f.1 f.2 (ask part.rest) refl
 
 action_good : (sc : Scopes) (w : World) (p : ℕ) → AllStand sc w.processes → AllStand sc ((choice sc w p).world.processes)
 unfolding choice
-action_good sc w p all = in_good sc w p (process_at w p) ((process_at w p).todo) all (all_at sc w p all)
+action_good sc w p all = in_good sc w p (process_at w p) ((process_at w p).todo) all (all_at sc w p all) (all_at sc w p all)
 
 run_good : (sc : Scopes) (h : List ℕ) (w after : World) → AllStand sc w.processes → run_from sc h (Some w) ≡ Some after → AllStand sc after.processes
 unfolding after_entry

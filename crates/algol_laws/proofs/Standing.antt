@@ -1,5 +1,5 @@
 -- In each world of a run every part has a head that asks for an action, and every part around it waits for what the inner one gives.
-use Rattle.std.proofs.Common.{◌≡◌, refl, ap, ◌∙◌, ℕ, zero, suc, List, [], ◌∷◌, ◌++◌, Option, Bool, true, false}
+use Rattle.std.proofs.Common.{◌≡◌, refl, sym, subst, ap, ◌∙◌, ℕ, zero, suc, List, [], ◌∷◌, ◌++◌, Option, Bool, true, false}
 use Rattle.std.specs.Prelude.{if◌then◌else◌, ◌==◌, slice_get, slice_set, ℤ}
 use Rattle.b67_list.specs.Numbered.{set_numbered}
 use Rattle.algol_tree.specs.declared.tree.Kind.{Kind}
@@ -10,7 +10,7 @@ use Rattle.algol_tree.specs.Plain.{PExpr, PExprs, PPair, PStmt, PStmts, PProgram
 use Rattle.algol_tree.specs.declared.tree.PhraseText.{PhraseText}
 use Rattle.algol_tree.specs.Scopes.{Scopes}
 use Rattle.algol_tree.specs.Sorts.{Sort}
-use Rattle.algol_meaning.specs.Value.{Value}
+use Rattle.algol_meaning.specs.Value.{Value, Reference}
 use Rattle.algol_meaning.specs.Rest as rests
 use Rattle.algol_meaning.specs.Rest.{Place, own, there, element_of, Given, Hole, Actuals, Half, val, busy, HalfGiven, given, wants, Aim, HalfPlace, at, aims, Loop, Item, Rest, Answer, done, value, cell, place, entered}
 use Rattle.algol_meaning.specs.Settle.{is_typed, subscripted_of, called_of, valued_of, left_of, right_of, condition_of, negated_of, inverted_of, aimed_of, settle, settle_actuals, put, put_actuals, put_place}
@@ -18,9 +18,11 @@ use Rattle.algol_meaning.specs.Statements.{assigned_of, aimed_at, chosen_of, loo
 use Rattle.algol_meaning.specs.World.{Purpose, able, started, set_able, set_all_able, block, procedure, name_read, name_place, Part, Process, World, process_at, or_no_process}
 use Rattle.algol_meaning.specs.Critical.{is_evaluation}
 use Rattle.algol_meaning.specs.Instances.{cut_at, is_part_of}
+use Rattle.algol_meaning.specs.Events.{list_in, woken_by, withdrawn, all_withdrawn}
 use Rattle.algol_meaning.specs.Asks as asks
 use Rattle.algol_meaning.specs.Asks.{Ask, ask_hole, ask_actuals, ask_aim, ask, resume, called, evaluated_of, located_of}
 use Rattle.algol_laws.proofs.Heads.{acts_rest, is_answer, is_place, awaits_place, awaits_place_in}
+use Rattle.algol_laws.proofs.Releasing.{forgotten_processes}
 
 -- ---- what a head leaves, and whether it awaits a place
 
@@ -366,6 +368,14 @@ module _ (sc : Scopes) where
   pub all_able : (w : World) (rs : List ℕ) → AllStand w.processes → AllStand ((set_all_able w rs).processes)
   all_able w [] f = f
   all_able w (i ∷ rs) f = all_able (set_able w i) rs (all_numbered w.processes i (record (process_at w i) { state = able }) f (all_at w i f))
+
+  pub all_woken : (w : World) (r : Reference) (ps : List ℕ) → AllStand w.processes → AllStand ((all_withdrawn w r ps).processes)
+  all_woken w r [] f = f
+  all_woken w r (i ∷ ps) f =
+      all_woken (withdrawn w r i) r ps
+      (subst (λ qs. AllStand (set_numbered qs i (record (process_at w i) { woken = woken_by r (process_at w i) })))
+      (sym (forgotten_processes w i (list_in (process_at w i).state)))
+      (all_numbered w.processes i (record (process_at w i) { woken = woken_by r (process_at w i) }) f (all_at w i f)))
 
   -- ---- GO TO: what is left when newer parts have ended
 

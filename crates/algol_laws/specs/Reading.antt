@@ -1,7 +1,8 @@
 -- What one action reads.
-use Rattle.std.specs.Prelude.{◌≡◌, ℕ, Bool, List, [], ◌∷◌, Option, map}
+use Rattle.std.specs.Prelude.{◌≡◌, ℕ, zero, suc, Bool, if◌then◌else◌, List, [], ◌∷◌, Option, map}
 use Rattle.algol_tree.specs.declared.tree.Named.{Named}
 use Rattle.algol_tree.specs.Scopes.{Scopes}
+use Rattle.b67_deeds.specs.Deeds.{EventDeed, is_of_several}
 use Rattle.algol_meaning.specs.Value.{Reference}
 use Rattle.algol_meaning.specs.World.{Instance, Part, Process, WorldFault, World, cell_at, followed, process_at}
 use Rattle.algol_meaning.specs.Arrays.{live_elements}
@@ -59,10 +60,22 @@ module _ (sc : Scopes) (w : World) (p : ℕ) (q : Process) (part : Part) (outer 
   read_by_leaving [] = if_any q.task
   read_by_leaving (next ∷ parts) = []
 
-  -- a deed reads the event with which it is done
-  abbrev pub read_by_deed : List Named → List Reference
-  read_by_deed [] = []
-  read_by_deed (n ∷ ns) = led_to (here sc w p q part outer n)
+  abbrev pub read_by_first : List Named → List Reference
+  read_by_first [] = []
+  read_by_first (n ∷ ns) = led_to (here sc w p q part outer n)
+
+  abbrev pub all_led_to : List Named → List Reference
+  all_led_to [] = []
+  all_led_to (n ∷ ns) = here sc w p q part outer n ∷ followed w (here sc w p q part outer n) ∷ all_led_to ns
+
+  -- who was released goes on by its woken number, and reads no event
+  abbrev pub read_by_several : ℕ → List Named → List Reference
+  read_by_several zero ns = all_led_to ns
+  read_by_several (suc n) ns = []
+
+  -- a deed reads the event with which it is done, or all of several
+  abbrev pub read_by_deed : EventDeed → List Named → List Reference
+  read_by_deed x ns = if is_of_several x then read_by_several q.woken ns else read_by_first ns
 
   abbrev pub read_by : Ask → List Reference
   read_by (asks.reads n) = led_to (here sc w p q part outer n)
@@ -72,7 +85,7 @@ module _ (sc : Scopes) (w : World) (p : ℕ) (q : Process) (part : Part) (outer 
   read_by (asks.resolves n) = here sc w p q part outer n ∷ []
   read_by (asks.reads_result name) = record { instance = part.instance; name = name } ∷ []
   read_by (asks.leaves a) = read_by_leaving outer
-  read_by (asks.event_deed x ns) = read_by_deed ns
+  read_by (asks.event_deed x ns) = read_by_deed x ns
   read_by _ = []
 
 abbrev pub read_in : Scopes → World → ℕ → Process → List Part → List Reference

@@ -9,13 +9,14 @@ ghost use Rattle.algol_laws.specs.Reading.{EachActionReads};
 
 /// Law: an action leaves the world as it is but for what it names. Instances, processes, cells and lines only
 /// come to be; other processes keep their parts, their critical instances and their tasks, and those that are
-/// released are able; of the cells that are there only those change that are stored.
+/// released are able, with the woken number that their event tells them; of the cells that are there only those
+/// change that are stored.
 pub fn each_action_keeps()
     ensures { EachActionKeeps }
 {}
 
 /// Law: the letter of an action says whether a cell is stored. An action with another letter than S, T, w, c,
-/// r, p, l and X leaves every cell that is there as it is.
+/// r, p, l, a, d, f and X leaves every cell that is there as it is.
 pub fn only_stores_store()
     ensures { OnlyStoresStore }
 {}

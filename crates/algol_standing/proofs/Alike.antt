@@ -36,6 +36,17 @@ pub record ProcessAlike (x y : Process) : Type 0 where
 pub instance_self : (x : Instance) → InstanceAlike x x
 instance_self x = record { block = refl; parent = refl; process = refl; left = refl; refs = λ r n. n; names = λ n m. m }
 
+pub instance_then : (x y z : Instance) → InstanceAlike x y → InstanceAlike y z → InstanceAlike x z
+instance_then x y z f g =
+    record {
+      block = g.block ∙ f.block;
+      parent = g.parent ∙ f.parent;
+      process = g.process ∙ f.process;
+      left = g.left ∙ f.left;
+      refs = λ r n. f.refs r (g.refs r n);
+      names = λ n m. f.names n (g.names n m);
+    }
+
 pub process_self : (x : Process) → ProcessAlike x x
 process_self x = record { own = refl; owned = λ i n. n; critical = refl; task = refl; lives = refl }
 
@@ -196,6 +207,7 @@ module _ (w v : World) (instances : AllPairs InstanceAlike w.instances v.instanc
           heads = k.heads;
           gives = k.gives;
           awaited = λ r n. path_on _ r.instance (k.awaited r n);
+          few = k.few;
         }
 
     placed_too : (x y : Instance) → InstanceAlike x y → IsPlaced sc w x → IsPlaced sc v y

@@ -137,6 +137,7 @@ module _ (sc : Scopes) (texts : KeepToTexts sc) (w : World) (ok : IsSound sc IsW
         heads = λ l. record { part = inner; outer = []; is = refl; acts = first_acts sc items; wait = λ x n. absurd n };
         gives = (items_hold IsPlain simple_plain false sc items).1;
         awaited = λ t n. absurd n;
+        few = (omega (arith), omega (arith));
       }
     where
       parts : (x : Part) → IsAmong (inner ∷ []) x → PartOk sc IsWhole v x
@@ -287,6 +288,7 @@ module _ (sc : Scopes) (texts : KeepToTexts sc) (w : World) (ok : IsSound sc IsW
             subst (λ t. Awaits t r) (sym (state_before k ((process_at w k).state) refl (λ f. awaits_ended ((process_at w k).state) r (l.waiters k n) (sym f)))) (l.waiters k n);
         procurers = λ k n. state_before k (procures r) (l.procurers k n) (λ f. ended_procures r f);
         once = l.once;
+        once_waiting = l.once_waiting;
       }
 
   listed_then : (r : Reference) (e : EventState) → IsStanding v r.instance → cell_at v r ≡ event e → AreListed v r e

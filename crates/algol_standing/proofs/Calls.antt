@@ -1,4 +1,4 @@
--- What is called: a procedure's name leads to its block, and what is passed on is no event.
+-- What is called: a procedure's name leads to its block, and what is passed on is no event; and with how many events something is done.
 use Rattle.std.specs.Prelude.{◌≡◌, List, [], ◌∷◌}
 use Rattle.algol_tree.specs.Scopes.{Scopes}
 use Rattle.algol_meaning.specs.Value.{Cell, event}
@@ -7,7 +7,7 @@ use Rattle.algol_meaning.specs.Rest.{Given, passed}
 use Rattle.algol_meaning.specs.World.{Part}
 use Rattle.algol_meaning.specs.Asks as asks
 use Rattle.algol_meaning.specs.Asks.{Ask, ask}
-use Rattle.algol_calls.specs.Fits.{IsCallee}
+use Rattle.algol_calls.specs.Fits.{AreFew, IsCallee}
 
 -- the cell is no event
 abbrev pub IsNoEvent : Cell → Type 0
@@ -22,6 +22,7 @@ PassNoEvents (_ ∷ gs) = PassNoEvents gs
 abbrev pub CallFits : Scopes → Ask → Type 0
 CallFits sc (asks.enters n gs) = IsCallee sc n × PassNoEvents gs
 CallFits sc (asks.starts n gs task) = IsCallee sc n × PassNoEvents gs
+CallFits sc (asks.event_deed x ns) = AreFew ns
 CallFits sc _ = Unit {0}
 
 -- where the innermost part asks for a call

@@ -5,7 +5,7 @@ use Rattle.b67_list.specs.Numbered.{numbered}
 use Rattle.algol_tree.specs.Blocks.{around}
 use Rattle.algol_tree.specs.Scopes.{Scopes}
 use Rattle.algol_meaning.specs.Value.{Reference, NameCell, Cell, simple, event, array, named, reference}
-use Rattle.algol_meaning.specs.World.{NamedCell, Instance, instance_at, Part, Process, State, able, waits_for, procures, ended, lives, World}
+use Rattle.algol_meaning.specs.World.{NamedCell, Instance, instance_at, Part, Process, State, able, waits_for, procures, waits_any, ended, lives, World}
 use Rattle.algol_meaning.specs.Critical.{referred_in, referred_by}
 use Rattle.algol_paths.specs.Blocks.{IsSeen, IsSeenAround}
 use Rattle.algol_paths.specs.Texts.{InExpr, InRest}
@@ -41,6 +41,7 @@ awaited_lives : (s : State) (r : Reference) → IsAwaited s r → lives s ≡ tr
 awaited_lives able r n = absurd n
 awaited_lives (waits_for t) r n = refl
 awaited_lives (procures t) r n = refl
+awaited_lives (waits_any rs) r n = refl
 awaited_lives ended r n = absurd n
 
 module _ (sc : Scopes) (w v : World) (ok : IsSound sc IsWhole w) (after : SkeletonOk (skeleton v))
@@ -94,6 +95,7 @@ module _ (sc : Scopes) (w v : World) (ok : IsSound sc IsWhole w) (after : Skelet
         heads = before.heads;
         gives = before.gives;
         awaited = λ r n. awaited r n (before.heads (awaited_lives y.state r n));
+        few = before.few;
       }
     where
       before : ProcessOk sc IsWhole w y

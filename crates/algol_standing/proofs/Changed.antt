@@ -1,18 +1,19 @@
 -- A cell that is set or added, and a process that is set: instances stay alike, and no event but that of the cell changes.
-use Rattle.std.proofs.Common.{◌≡◌, ◌⊎◌, ℕ, List, [], ◌∷◌, ◌++◌, Some, Bool, true, false, refl, sym, ap, ◌∙◌, subst}
+use Rattle.std.proofs.Common.{◌≡◌, ◌⊎◌, ℕ, List, [], ◌∷◌, ◌++◌, Option, None, Some, Bool, true, false, refl, sym, ap, ◌∙◌, subst}
 use Rattle.std.specs.Prelude.{if◌then◌else◌}
 use Rattle.b67_list.specs.Numbered.{numbered, set_numbered}
 use Rattle.algol_tree.specs.Sorts.{same_name}
 use Rattle.algol_meaning.specs.Value.{Reference, NameCell, Cell, event}
 use Rattle.b67_deeds.specs.Events.{EventState}
 use Rattle.algol_meaning.specs.World.{NamedCell, Instance, or_no_instance, instance_at, cell_in, cell_at, cells_with, with_instance, set_cell, add_cells, Process, State, able, procures, or_no_process, process_at, World}
+use Rattle.algol_meaning.specs.Events.{event_at, change_event}
 use Rattle.algol_meaning.specs.Critical.{referred_in}
 use Rattle.algol_standing.specs.Skeleton.{IsIn}
 use Rattle.algol_standing.specs.Worlds.{parent_in, referred_in_cells, IsNameIn, IsNameAmong, Awaits, AreListed}
 use Rattle.algol_standing.proofs.Awaiting.{awaits_able}
 use Rattle.algol_standing.proofs.Calls.{IsNoEvent}
 use Rattle.algol_standing.proofs.Seen.{in_front, in_back, in_either}
-use Rattle.algol_standing.proofs.Pairs.{AllPairs, pairs_set, set_or}
+use Rattle.algol_standing.proofs.Pairs.{AllPairs, pairs_self, pairs_set, set_or}
 use Rattle.algol_standing.proofs.Alike.{InstanceAlike, instance_self}
 
 -- the cell refers to nothing, and is no name
@@ -200,13 +201,22 @@ event_before w i name d r e g = by (set_or w.instances i r.instance y)
     by (◌⊎◌.inl h) = ◌⊎◌.inl (ap (λ o. cell_in ((or_no_instance o).cells) r.name) (sym h) ∙ g)
     by (◌⊎◌.inr h) = moved h.0 (event_added ((instance_at w i).cells) name r.name d e (ap (λ o. cell_in ((or_no_instance o).cells) r.name) (sym h.1) ∙ g))
 
+-- ---- an event that changes
+
+pub event_plain : (e : EventState) → IsPlain (event e)
+event_plain e = (λ i n. absurd n, λ m n. absurd n)
+
+pub changed_alike : (w : World) (r : Reference) (c : Option (EventState → EventState)) → AllPairs InstanceAlike w.instances (change_event w r c).instances
+changed_alike w r None = pairs_self InstanceAlike instance_self w.instances
+changed_alike w r (Some change) = set_alike w r (event (change (event_at w r))) (event_plain (change (event_at w r)))
+
 -- ---- who is listed
 
 -- where only an able process changes and events do not, who is listed still waits
 pub listed_still : (w v : World) (p : ℕ) (q after : Process) → numbered w.processes p ≡ Some q → q.state ≡ able → v.processes ≡ set_numbered w.processes p after →
     (r : Reference) (e : EventState) → AreListed w r e → AreListed v r e
 listed_still w v p q after is able_is same r e l =
-    record { waiters = λ k n. waiting k (l.waiters k n); procurers = λ k n. still k (procures r) (l.procurers k n) (procures_waits r); once = l.once }
+    record { waiters = λ k n. waiting k (l.waiters k n); procurers = λ k n. still k (procures r) (l.procurers k n) (procures_waits r); once = l.once; once_waiting = l.once_waiting }
   where
     procures_waits : (r : Reference) → procures r ≡ able → ⊥
     procures_waits r f = cc

@@ -1,6 +1,8 @@
 -- Each choice keeps what worlds are.
-use Rattle.std.proofs.Common.{◌≡◌, ℕ, List, [], ◌∷◌, ◌++◌, length, Option, Some, None, Bool, true, refl, sym, ap, subst}
-use Rattle.std.specs.Prelude.{if◌then◌else◌, nat_lt}
+use Rattle.std.proofs.Common.{◌≡◌, ◌⊎◌, ℕ, zero, suc, ◌≤◌, List, [], ◌∷◌, ◌++◌, length, Option, Some, None, Bool, true, false, refl, sym, ap, ◌∙◌, subst}
+use Rattle.std.specs.Prelude.{pos, if◌then◌else◌, nat_lt}
+use Rattle.std.specs.List.{AllByRecursion}
+use Rattle.b67_limits.specs.declared.TheConstants.{MOST_EVENTS}
 use Rattle.b67_list.specs.Numbered.{numbered}
 use Rattle.b67_num.specs.declared.FaultKind.{FaultKind}
 use Rattle.b67_num.specs.declared.FaultKind.TheVariants as fault
@@ -8,21 +10,23 @@ use Rattle.b67_num.specs.Whole.{fault_of}
 use Rattle.algol_tree.specs.declared.tree.Named.{Named}
 use Rattle.algol_tree.specs.Scopes.{Scopes, use_of}
 use Rattle.algol_meaning.specs.declared.TheConstants.{MOST_STARTED}
-use Rattle.algol_meaning.specs.Value.{whole_of}
-use Rattle.algol_meaning.specs.Rest.{Answer, done, cell}
+use Rattle.algol_meaning.specs.Value.{number, whole_of, Reference}
+use Rattle.algol_meaning.specs.Rest.{Answer, done, value, cell}
 use Rattle.algol_meaning.specs.Settle.{block_of}
-use Rattle.algol_meaning.specs.World.{instance_at, cell_at, followed, value_in, array_in, Part, Process, State, able, waits_for, procures, ended, is_able, lives, or_no_process, process_at, World}
+use Rattle.algol_meaning.specs.World.{instance_at, cell_at, followed, value_in, array_in, Part, Process, State, able, waits_for, procures, waits_any, ended, is_able, lives, or_no_process, process_at, World}
 use Rattle.algol_meaning.specs.Arrays.{subscript_place, bounds_of}
-use Rattle.algol_meaning.specs.Events.{event_at}
+use Rattle.algol_meaning.specs.Events.{event_at, same_reference, is_among, first_happened}
 use Rattle.algol_meaning.specs.Lines.{line_of}
 use Rattle.b67_deeds.specs.declared.Letter.TheVariants as actions
 use Rattle.algol_meaning.specs.Asks as asks
 use Rattle.algol_meaning.specs.Asks.{Ask, nothing, ask, resume}
-use Rattle.algol_meaning.specs.Choice.{Choice, choice, choice_in, choice_of, nth_exists, goes, fails, home, here, given_cells, task_of, starts, told, does_with}
+use Rattle.algol_meaning.specs.Choice.{Choice, choice, choice_in, choice_of, nth_exists, goes, fails, home, here, given_cells, task_of, starts, told, does_with_first, all_followed, waits_for_any, wakes_or_waits, does_with}
+use Rattle.b67_deeds.specs.Deeds as deeds
 use Rattle.b67_deeds.specs.Deeds.{EventDeed, deed}
 use Rattle.algol_meaning.specs.Run.{End, end_of, goes_on, may_go}
-use Rattle.algol_standing.specs.Worlds.{newest_own, HasHead, IsWhole, IsSound}
+use Rattle.algol_standing.specs.Worlds.{newest_own, IsOnPath, HasHead, IsWhole, IsSound}
 use Rattle.algol_paths.specs.Blocks.{IsSeen, IsInner}
+use Rattle.algol_calls.specs.Fits.{AreFew}
 use Rattle.algol_calls.specs.Texts.{KeepToTexts}
 use Rattle.algol_standing.proofs.Calls.{CallFits, HeadFits}
 use Rattle.algol_standing.proofs.Alike.{instance_self, InstanceAlike}
@@ -30,12 +34,15 @@ use Rattle.algol_standing.proofs.Pairs.{pairs_self}
 use Rattle.algol_standing.proofs.Seen.{CellOk, cell_here}
 use Rattle.algol_standing.proofs.Asking.{Sees, Suits}
 use Rattle.algol_standing.proofs.Acting.{heads_act}
+use Rattle.algol_standing.proofs.Lists.{false_true}
+use Rattle.algol_standing.proofs.EventCells.{same_is, same_or_not, among_more}
 use Rattle.algol_standing.proofs.Events.{deed_done}
+use Rattle.algol_standing.proofs.Waiting.{waits_ok}
 use Rattle.algol_standing.proofs.Leaves.{left_keeps}
 use Rattle.algol_standing.proofs.Jumping.{jump_keeps}
 use Rattle.algol_standing.proofs.Calling.{procedure_enters, block_enters}
 use Rattle.algol_standing.proofs.Starting.{process_starts}
-use Rattle.algol_standing.proofs.Quiet.{Keeps, either, fails_keeps, at_followed, sees, suited, value_goes, done_goes, same_goes, goes_ok, read_keeps, resolved_keeps, indexed_keeps, element_keeps, stored_keeps, arrays_keep, event_keeps}
+use Rattle.algol_standing.proofs.Quiet.{Keeps, either, fails_keeps, at_followed, sees, suited, value_goes, done_goes, same_goes, woken_goes, goes_ok, read_keeps, resolved_keeps, indexed_keeps, element_keeps, stored_keeps, arrays_keep, event_keeps}
 
 module _ (sc : Scopes) (texts : KeepToTexts sc) (w : World) (ok : IsSound sc IsWhole w) (p : ℕ) (q : Process) (part : Part) (outer : List Part) (is : numbered w.processes p ≡ Some q)
     (todo : q.todo ≡ part ∷ outer) (able_is : q.state ≡ able) where
@@ -63,14 +70,58 @@ module _ (sc : Scopes) (texts : KeepToTexts sc) (w : World) (ok : IsSound sc IsW
   told_suits x ns None = tt
   told_suits x ns (Some b) = tt
 
-  deed_keeps : (x : EventDeed) (ns : List Named) → ask part.rest ≡ asks.event_deed x ns → KeepsHere (does_with sc w p q part outer x ns)
-  deed_keeps x [] e = ok
-  deed_keeps x (n ∷ ns) e =
+  first_keeps : (x : EventDeed) (ns : List Named) → ask part.rest ≡ asks.event_deed x ns → KeepsHere (does_with_first sc w p q part outer x ns)
+  first_keeps x [] e = ok
+  first_keeps x (n ∷ ns) e =
       let r = followed w (here sc w p q part outer n) in
       let a = told sc w p q part outer (deed x p (event_at w r)).answer in
       deed_done sc (heads_act sc) w ok p q part outer is todo able_is r
       (at_followed sc (heads_act sc) w ok p q part outer is todo able_is n (seen_by (asks.event_deed x (n ∷ ns)) e).0) x
       (suits_by (asks.event_deed x (n ∷ ns)) e a (told_suits x (n ∷ ns) (deed x p (event_at w r)).answer)) (suits_by (asks.event_deed x (n ∷ ns)) e done tt)
+
+  -- ---- several events
+
+  abbrev all : List Named → List Reference
+  all ns = all_followed sc w p q part outer ns
+
+  abbrev SeenHere : Named → Type 0
+  SeenHere n = IsSeen sc ((instance_at w part.instance).block) n
+
+  -- each of them lies on the path
+  on_path : (ns : List Named) → AllByRecursion SeenHere ns → (r : Reference) → is_among (all ns) r ≡ true → IsOnPath w (newest_own (part ∷ outer)) r.instance
+  on_path [] s r m = false_true m
+  on_path (n ∷ ns) s r m = by (same_or_not t r) (λ f. on_path ns s.1 r (sym (among_more t (all ns) r f) ∙ m))
+    where
+      t : Reference
+      t = followed w (here sc w p q part outer n)
+
+      by : (same_reference t r ≡ true) ⊎ (same_reference t r ≡ false) → (same_reference t r ≡ false → IsOnPath w (newest_own (part ∷ outer)) r.instance) →
+          IsOnPath w (newest_own (part ∷ outer)) r.instance
+      by (◌⊎◌.inl f) go =
+          subst (λ (u : Reference). IsOnPath w (newest_own (part ∷ outer)) u.instance) (same_is t r f)
+          (at_followed sc (heads_act sc) w ok p q part outer is todo able_is n s.0)
+      by (◌⊎◌.inr f) go = go f
+
+  as_many : (ns : List Named) → length (all ns) ≡ length ns
+  as_many [] = refl
+  as_many (n ∷ ns) = ap suc (as_many ns)
+
+  module _ (x : EventDeed) (ns : List Named) (e : ask part.rest ≡ asks.event_deed x ns) (few : AreFew ns) where
+    waits_keep : (o : Option ℕ) → KeepsHere (waits_for_any sc w p q part outer (all ns) o)
+    waits_keep None =
+        waits_ok sc w ok p q part outer is todo able_is (all ns) (on_path ns (seen_by (asks.event_deed x ns) e))
+        (subst (λ k. k ≤ MOST_EVENTS) (sym (as_many ns)) few.1)
+    waits_keep (Some n) =
+        value_goes sc (heads_act sc) w ok p q part outer is todo able_is (asks.event_deed x ns) e actions.WaitAny (number (pos n)) tt
+
+    several_keep : (woken : ℕ) → KeepsHere (wakes_or_waits sc w p q part outer woken (all ns))
+    several_keep zero = waits_keep (first_happened w (all ns))
+    several_keep (suc n) =
+        woken_goes sc (heads_act sc) w ok p q part outer is todo able_is (number (pos (suc n))) (suits_by (asks.event_deed x ns) e (value (number (pos (suc n)))) tt)
+
+    deed_keeps : KeepsHere (does_with sc w p q part outer x ns)
+    deed_keeps =
+        one_of (deeds.is_of_several x) (wakes_or_waits sc w p q part outer q.woken (all ns)) (does_with_first sc w p q part outer x ns) (several_keep q.woken) (first_keeps x ns e)
 
   choice_keeps : (x : Ask) → ask part.rest ≡ x → CallFits sc x → KeepsHere (choice_of sc w p q part outer x)
   choice_keeps asks.nothing e fits = ok
@@ -105,9 +156,9 @@ module _ (sc : Scopes) (texts : KeepToTexts sc) (w : World) (ok : IsSound sc IsW
       one_of (nat_lt MOST_STARTED (length w.processes)) (fails sc w p q part outer fault.ProcessLimit)
       (starts sc w p q part outer (block_of ((use_of sc n).sort)) (home sc w p q part outer n) (given_cells sc w p q part outer gs) (task_of sc w p q part outer task))
       (fails_or fault.ProcessLimit) (process_starts sc texts w ok p q part outer is todo able_is n gs task e fits.0 fits.1)
-  choice_keeps (asks.event_deed x ns) e fits = deed_keeps x ns e
+  choice_keeps (asks.event_deed x ns) e fits = deed_keeps x ns e fits
   choice_keeps (asks.writes phrases vs) e fits =
-      goes_ok sc (heads_act sc) w ok p q part outer is todo able_is done tt tt (suits_by (asks.writes phrases vs) e done tt)
+      goes_ok sc (heads_act sc) w ok p q part outer is todo able_is q.woken (ok.processes p q is).few done tt tt (suits_by (asks.writes phrases vs) e done tt)
       (record w { output = w.output ++ line_of phrases vs ∷ [] }) (pairs_self InstanceAlike instance_self w.instances) refl (λ r d g. g)
   choice_keeps (asks.makes_arrays kind ns pairs vs) e fits =
       arrays_keep sc (heads_act sc) w ok p q part outer is todo able_is (asks.makes_arrays kind ns pairs vs) e tt kind ns (bounds_of pairs vs)
@@ -119,6 +170,7 @@ pub able_by : (s : State) → is_able s ≡ true → s ≡ able
 able_by able e = refl
 able_by (waits_for r) e = cc
 able_by (procures r) e = cc
+able_by (waits_any rs) e = cc
 able_by ended e = cc
 
 pub found : (o : Option Process) → is_able ((or_no_process o).state) ≡ true → o ≡ Some (or_no_process o)

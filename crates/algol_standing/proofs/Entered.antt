@@ -151,6 +151,7 @@ module _ (sc : Scopes) (texts : KeepToTexts sc) (w : World) (ok : IsSound sc IsW
           fine_around.given,
         );
         awaited = λ t n. absurd (not_awaited t n);
+        few = (ok.processes p q is).few;
       }
     where
       not_awaited : (t : Reference) → IsAwaited q.state t → ⊥

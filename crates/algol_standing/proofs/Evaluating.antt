@@ -157,6 +157,7 @@ module _ (sc : Scopes) (w : World) (ok : IsSound sc IsWhole w) (p : ℕ) (q : Pr
           heads = λ l. record { part = inner; outer = around ∷ outer; is = refl; acts = acts; wait = wait };
           gives = given;
           awaited = λ t n. absurd (not_awaited t n);
+          few = (ok.processes p q is).few;
         }
       where
         not_awaited : (t : Reference) → IsAwaited q.state t → ⊥

@@ -34,7 +34,7 @@ module _ (sc : Scopes) (o : HasOuterBlock sc) (acts : ask (settle_items sc (item
   part = record { instance = 1; purpose = block; rest = rest }
 
   abbrev process : Process
-  process = record { todo = part ∷ []; critical = None; task = None; state = able }
+  process = record { todo = part ∷ []; critical = None; task = None; state = able; woken = 0 }
 
   abbrev instance : Instance
   instance = record { block = 0; parent = 0; process = 1; cells = fresh_cells (block_numbered sc.blocks 0) []; left = false }
@@ -113,6 +113,7 @@ module _ (sc : Scopes) (o : HasOuterBlock sc) (acts : ask (settle_items sc (item
         heads = λ live. record { part = part; outer = []; is = refl; acts = acts; wait = λ x n. absurd n };
         gives = (items_hold IsPlain simple_plain false sc (items_of (block_numbered sc.blocks 0))).1;
         awaited = λ r n. absurd n;
+        few = (omega (arith), omega (arith));
       }
     where
       parts : (x : Part) → IsAmong (part ∷ []) x → PartOk sc IsWhole first x

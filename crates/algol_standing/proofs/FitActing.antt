@@ -4,9 +4,10 @@ use Rattle.std.specs.Prelude.{if◌then◌else◌}
 use Rattle.b67_list.specs.Numbered.{numbered}
 use Rattle.b67_num.specs.declared.FaultKind.{FaultKind}
 use Rattle.algol_tree.specs.Scopes.{Scopes}
-use Rattle.algol_meaning.specs.Value.{Value, simple}
+use Rattle.algol_meaning.specs.Value.{Value, Reference, simple}
 use Rattle.algol_meaning.specs.Rest.{Answer, entered}
 use Rattle.algol_meaning.specs.World.{Part, Process, State, with_process, World}
+use Rattle.algol_meaning.specs.Events.{is_among, list_in}
 use Rattle.algol_meaning.specs.Critical.{is_evaluation}
 use Rattle.algol_meaning.specs.Asks.{Ask, ask, resume}
 use Rattle.algol_meaning.specs.Choice.{Choice, fails, opens}
@@ -52,9 +53,19 @@ module _ (sc : Scopes) (w : World) (ok : IsSound sc IsWhole w) (fits : WorldFits
   fine : Fine sc w (part ∷ outer)
   fine = subst (λ ps. Fine sc w ps) todo (fine_of sc w ok p q is)
 
+  -- in this state it has no other events in its list
+  abbrev pub NoOthers : State → Type 0
+  NoOthers s = (r : Reference) → is_among (list_in s) r ≡ true → is_among (list_in q.state) r ≡ true
+
   -- the process has these parts in a world with more instances
-  pub parts_fit : (v : World) → Extends w v → (parts : List Part) → ((x : Part) → IsAmong parts x → PartFits sc v x) → (s : State) → ProcessFits sc v (record q { todo = parts; state = s })
-  parts_fit v more parts f s = record { parts = f; task = λ r e. plain_too sc w v more r ((fits.processes p q is).task r e) }
+  pub parts_fit : (v : World) → Extends w v → (parts : List Part) → ((x : Part) → IsAmong parts x → PartFits sc v x) → (s : State) → NoOthers s →
+      ProcessFits sc v (record q { todo = parts; state = s })
+  parts_fit v more parts f s none =
+      record {
+        parts = f;
+        task = λ r e. plain_too sc w v more r ((fits.processes p q is).task r e);
+        waits = λ r e. plain_too sc w v more r ((fits.processes p q is).waits r (none r e));
+      }
 
   pub outer_fits : (v : World) → Extends w v → (x : Part) → IsAmong outer x → PartFits sc v x
   outer_fits v more x n = part_too sc w v more x (each_fits x (◌⊎◌.inr n))
@@ -63,26 +74,33 @@ module _ (sc : Scopes) (w : World) (ok : IsSound sc IsWhole w) (fits : WorldFits
     pub answered_fits : PartFits sc w (record part { rest = resume sc part.rest a })
     answered_fits = goes_on_fits sc w part a here_fits (no_own part outer fine.given) (subst (λ y. AnswerFits sc y a) (sym e) fit) brings foreign
 
+    pub answered_process : ProcessFits sc w (record q { todo = record part { rest = resume sc part.rest a } ∷ outer })
+    answered_process = parts_fit w (extends_self w w refl) (record part { rest = resume sc part.rest a } ∷ outer) each q.state (λ r f. f)
+      where
+        each : (y : Part) → IsAmong (record part { rest = resume sc part.rest a } ∷ outer) y → PartFits sc w y
+        each y (◌⊎◌.inl f) = subst (λ z. PartFits sc w z) f answered_fits
+        each y (◌⊎◌.inr n) = each_fits y (◌⊎◌.inr n)
+
     -- the part goes on in this world
-    pub goes_fits : (v : World) → Extends w v → WorldFits sc v → (s : State) →
+    pub goes_fits : (v : World) → Extends w v → WorldFits sc v → (s : State) → NoOthers s →
         WorldFits sc (with_process v p (record q { todo = record part { rest = resume sc part.rest a } ∷ outer; state = s }))
-    goes_fits v more h s =
+    goes_fits v more h s none =
         process_fits sc v p (record q { todo = record part { rest = resume sc part.rest a } ∷ outer; state = s }) h
-        (parts_fit v more (record part { rest = resume sc part.rest a } ∷ outer) each s)
+        (parts_fit v more (record part { rest = resume sc part.rest a } ∷ outer) each s none)
       where
         each : (y : Part) → IsAmong (record part { rest = resume sc part.rest a } ∷ outer) y → PartFits sc v y
         each y (◌⊎◌.inl f) = subst (λ z. PartFits sc v z) f (part_too sc w v more (record part { rest = resume sc part.rest a }) answered_fits)
         each y (◌⊎◌.inr n) = outer_fits v more y n
 
     pub stays_fits : WorldFits sc (with_process w p (record q { todo = record part { rest = resume sc part.rest a } ∷ outer }))
-    stays_fits = goes_fits w (extends_self w w refl) fits q.state
+    stays_fits = goes_fits w (extends_self w w refl) fits q.state (λ r f. f)
 
   -- a part comes to be inside
   module _ (x : Ask) (e : ask part.rest ≡ x) (fit : AnswerFits sc x entered) (v : World) (more : Extends w v) (h : WorldFits sc v) (inner : Part) (inner_fits : PartFits sc v inner) where
     pub opens_fits : WorldFits sc (opens sc w p q part outer v inner).world
     opens_fits =
         process_fits sc v p (record q { todo = inner ∷ record part { rest = resume sc part.rest entered } ∷ outer }) h
-        (parts_fit v more (inner ∷ record part { rest = resume sc part.rest entered } ∷ outer) each q.state)
+        (parts_fit v more (inner ∷ record part { rest = resume sc part.rest entered } ∷ outer) each q.state (λ r f. f))
       where
         each : (y : Part) → IsAmong (inner ∷ record part { rest = resume sc part.rest entered } ∷ outer) y → PartFits sc v y
         each y (◌⊎◌.inl f) = subst (λ z. PartFits sc v z) f inner_fits

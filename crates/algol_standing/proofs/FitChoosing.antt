@@ -1,6 +1,7 @@
 -- Each choice keeps calls fitting.
-use Rattle.std.proofs.Common.{◌≡◌, ℕ, List, [], ◌∷◌, ◌++◌, length, Option, Some, None, Bool, true, false, refl, subst}
-use Rattle.std.specs.Prelude.{if◌then◌else◌, nat_lt}
+use Rattle.std.proofs.Common.{◌≡◌, ◌⊎◌, ℕ, zero, suc, List, [], ◌∷◌, ◌++◌, length, Option, Some, None, Bool, true, false, refl, sym, ◌∙◌, subst}
+use Rattle.std.specs.Prelude.{pos, if◌then◌else◌, nat_lt}
+use Rattle.std.specs.List.{AllByRecursion}
 use Rattle.b67_list.specs.Numbered.{numbered}
 use Rattle.b67_num.specs.declared.FaultKind.TheVariants as fault
 use Rattle.b67_num.specs.Whole.{fault_of}
@@ -10,39 +11,45 @@ use Rattle.algol_tree.specs.Plain.{PPair}
 use Rattle.algol_tree.specs.Sorts.{is_by_name}
 use Rattle.algol_tree.specs.Scopes.{Scopes, use_of}
 use Rattle.algol_meaning.specs.declared.TheConstants.{MOST_STARTED}
-use Rattle.algol_meaning.specs.Value.{Value, whole_of, Reference, Bounds, ArrayCell, Cell, simple, event, array, named, reference}
+use Rattle.algol_meaning.specs.Value.{Value, number, whole_of, Reference, Bounds, ArrayCell, Cell, simple, event, array, named, reference}
 use Rattle.b67_deeds.specs.Events.{fresh_state}
 use Rattle.b67_deeds.specs.Deeds as deeds
 use Rattle.b67_deeds.specs.Deeds.{EventDeed, Deed, Next, deed}
 use Rattle.algol_meaning.specs.Rest.{Place, own, there, element_of, Answer, done, value, cell, place}
 use Rattle.algol_meaning.specs.Settle.{block_of, sort_at, settle_actual_place}
-use Rattle.algol_meaning.specs.World.{instance_at, cell_in, cell_at, set_cell, add_cells, followed, value_in, array_in, name_place, Part, Process, State, able, waits_for, procures, with_process, World}
+use Rattle.algol_meaning.specs.World.{instance_at, cell_in, cell_at, set_cell, add_cells, followed, value_in, array_in, name_place, Part, Process, State, able, waits_for, procures, waits_any, with_process, World}
 use Rattle.algol_meaning.specs.Arrays.{subscript_place, element_at, with_element, new_array, new_arrays, has_wrong_size, has_no_room, bounds_of}
-use Rattle.algol_meaning.specs.Events.{event_at, released}
+use Rattle.algol_meaning.specs.Events.{event_at, same_reference, joined_all, first_happened, released}
 use Rattle.algol_meaning.specs.Lines.{line_of}
 use Rattle.b67_deeds.specs.declared.Letter.TheVariants as actions
 use Rattle.algol_meaning.specs.Asks as asks
 use Rattle.algol_meaning.specs.Asks.{Ask, ask, resume, located_of}
-use Rattle.algol_meaning.specs.Choice.{Choice, choice_of, is_subscripted, nth_exists, goes, opens, fails, home, here, read_of, resolved_of, indexed_at, element_read_at, stored, made_arrays, given_cells, task_of, starts, told, did, does_with}
+use Rattle.algol_meaning.specs.Choice.{Choice, choice_of, is_subscripted, nth_exists, goes, opens, fails, home, here, read_of, resolved_of, indexed_at, element_read_at, stored, made_arrays, given_cells, task_of, starts, told, did, does_with_first, all_followed, waits_for_any, wakes_or_waits, does_with}
 use Rattle.algol_paths.specs.Blocks.{IsSeenAround, IsInner}
-use Rattle.algol_calls.specs.Fits.{CallsFitInTexts, IsLink, AskFits, AnswerFits}
+use Rattle.algol_calls.specs.Fits.{CallsFitInTexts, IsLink, Leads, AskFits, AnswerFits}
 use Rattle.algol_calls.proofs.Sorts.{by_name_formal}
 use Rattle.algol_standing.specs.Worlds.{held_in_rest, held_in_answer, IsWhole, IsSound}
-use Rattle.algol_standing.specs.Fitting.{IsPlainAt, LeadsRight, AllLeadRight, WorldFits}
+use Rattle.algol_standing.specs.Fitting.{IsPlainAt, LeadsRight, AllLeadRight, ProcessFits, WorldFits}
+use Rattle.algol_standing.proofs.Lists.{false_true}
+use Rattle.algol_standing.proofs.EventCells.{same_is, same_or_not, among_more}
 use Rattle.algol_standing.proofs.Holding.{IsForeign}
 use Rattle.algol_standing.proofs.Seen.{part_ok}
 use Rattle.algol_standing.proofs.Asking.{Sees, AskHolds, rest_sees, rest_asks}
 use Rattle.algol_standing.proofs.FitCells.{finds_none, finds_first}
-use Rattle.algol_standing.proofs.FitWorlds.{Extends, extends_self, right_all, set_cell_fits, set_cell_extends, add_cells_fits, add_cells_extends}
+use Rattle.algol_standing.proofs.FitWorlds.{Extends, extends_self, right_all, plain_too, process_too, process_fits, set_cell_fits, set_cell_extends, add_cells_fits, add_cells_extends}
 use Rattle.algol_standing.proofs.FitNames.{Seen, plain_here, link_here, right_here, followed_here}
-use Rattle.algol_standing.proofs.FitActing.{simple_right, same_fits, here_fits, asked, goes_fits, stays_fits, KeepsFit, either_fit, fails_fit}
+use Rattle.algol_standing.proofs.FitActing.{simple_right, same_fits, here_fits, asked, NoOthers, answered_process, goes_fits, stays_fits, KeepsFit, either_fit, fails_fit}
 use Rattle.algol_standing.proofs.FitEntering.{procedure_fits, start_fits, block_fits, read_fits, place_fits}
-use Rattle.algol_standing.proofs.FitLeaving.{deed_fits, leaves_fit, jump_fits}
+use Rattle.algol_standing.proofs.FitReleasing.{ArePlain, deed_fits, joined_fits}
+use Rattle.algol_standing.proofs.FitLeaving.{leaves_fit, jump_fits}
 
 module _ (sc : Scopes) (texts : CallsFitInTexts sc) (w : World) (ok : IsSound sc IsWhole w) (fits : WorldFits sc w) (p : ℕ) (q : Process) (part : Part) (outer : List Part)
     (is : numbered w.processes p ≡ Some q) (todo : q.todo ≡ part ∷ outer) (able_is : q.state ≡ able) where
   abbrev Keeps : Choice → Type 0
   Keeps = KeepsFit sc w ok fits p q part outer is todo
+
+  abbrev NoOthersHere : State → Type 0
+  NoOthersHere = NoOthers sc w ok fits p q part outer is todo
 
   abbrev SeenHere : Named → Type 0
   SeenHere = Seen sc w ok fits p q part outer is todo
@@ -75,14 +82,14 @@ module _ (sc : Scopes) (texts : CallsFitInTexts sc) (w : World) (ok : IsSound sc
     stays a f b g = stays_fits sc w ok fits p q part outer is todo x e a f b g
 
     -- .. and the world is another
-    goes_to_answer : (a : Answer) → AnswerFits sc x a → AllLeadRight sc w (held_in_answer a) → IsForeign a → (v : World) → Extends w v → WorldFits sc v → (s : State) →
+    goes_to_answer : (a : Answer) → AnswerFits sc x a → AllLeadRight sc w (held_in_answer a) → IsForeign a → (v : World) → Extends w v → WorldFits sc v → (s : State) → NoOthersHere s →
         WorldFits sc (with_process v p (record q { todo = record part { rest = resume sc part.rest a } ∷ outer; state = s }))
-    goes_to_answer a f b g v more h s = goes_fits sc w ok fits p q part outer is todo x e a f b g v more h s
+    goes_to_answer a f b g v more h s none = goes_fits sc w ok fits p q part outer is todo x e a f b g v more h s none
 
     -- .. and nothing is answered
-    goes_in : AnswerFits sc x done → (v : World) → Extends w v → WorldFits sc v → (s : State) →
+    goes_in : AnswerFits sc x done → (v : World) → Extends w v → WorldFits sc v → (s : State) → NoOthersHere s →
         WorldFits sc (with_process v p (record q { todo = record part { rest = resume sc part.rest done } ∷ outer; state = s }))
-    goes_in f v more h s = goes_fits sc w ok fits p q part outer is todo x e done f tt tt v more h s
+    goes_in f v more h s none = goes_fits sc w ok fits p q part outer is todo x e done f tt tt v more h s none
 
   -- ---- reads and places
 
@@ -122,7 +129,7 @@ module _ (sc : Scopes) (texts : CallsFitInTexts sc) (w : World) (ok : IsSound sc
     set_kept : (r : Reference) (c : Cell) → IsPlainAt sc w r → LeadsRight sc w c →
         WorldFits sc (with_process (set_cell w r c) p (record q { todo = record part { rest = resume sc part.rest done } ∷ outer }))
     set_kept r c plain right =
-        goes_in (asks.stores x v) e tt (set_cell w r c) (set_cell_extends sc w fits r c plain right) (set_cell_fits sc w fits r c plain right) q.state
+        goes_in (asks.stores x v) e tt (set_cell w r c) (set_cell_extends sc w fits r c plain right) (set_cell_fits sc w fits r c plain right) q.state (λ r f. f)
 
   stored_kept : (x : Place) (v : Value) (e : ask part.rest ≡ asks.stores x v) → Keeps (stored sc w p q part outer x v)
   stored_kept (own n) v e =
@@ -155,17 +162,61 @@ module _ (sc : Scopes) (texts : CallsFitInTexts sc) (w : World) (ok : IsSound sc
       by : (m : Next) → Keeps (did sc w p q part outer x r d m)
       by deeds.goes =
           goes_to_answer (asks.event_deed x ns) e (told sc w p q part outer d.answer) (told_fits x ns d.answer) (told_right d.answer) (told_foreign d.answer) (released w r d).world h.1 h.0
-          q.state
-      by deeds.waits = goes_in (asks.event_deed x ns) e tt (released w r d).world h.1 h.0 (waits_for r)
-      by deeds.procures = goes_in (asks.event_deed x ns) e tt (released w r d).world h.1 h.0 (procures r)
+          q.state (λ r f. f)
+      by deeds.waits = goes_in (asks.event_deed x ns) e tt (released w r d).world h.1 h.0 (waits_for r) (λ t f. false_true f)
+      by deeds.procures = goes_in (asks.event_deed x ns) e tt (released w r d).world h.1 h.0 (procures r) (λ t f. false_true f)
 
-  does_kept : (x : EventDeed) (ns : List Named) → ask part.rest ≡ asks.event_deed x ns → Keeps (does_with sc w p q part outer x ns)
-  does_kept x [] e = fits
-  does_kept x (n ∷ ns) e =
+  first_kept : (x : EventDeed) (ns : List Named) → ask part.rest ≡ asks.event_deed x ns → Keeps (does_with_first sc w p q part outer x ns)
+  first_kept x [] e = fits
+  first_kept x (n ∷ ns) e =
       let r = followed w (at_name n) in
       did_kept x (n ∷ ns) e r
-      (followed_here sc w ok fits p q part outer is todo n (seen_of (asks.event_deed x (n ∷ ns)) e).0 (wanted_of (asks.event_deed x (n ∷ ns)) e).0)
+      (followed_here sc w ok fits p q part outer is todo n (seen_of (asks.event_deed x (n ∷ ns)) e).0 ((wanted_of (asks.event_deed x (n ∷ ns)) e).0).0)
       (deed x p (event_at w r)) ((deed x p (event_at w r)).next)
+
+  -- ---- several events
+
+  abbrev all : List Named → List Reference
+  all ns = all_followed sc w p q part outer ns
+
+  all_plain : (ns : List Named) → AllByRecursion SeenHere ns → AllByRecursion (Leads sc) ns → ArePlain sc w (all ns)
+  all_plain [] s l r m = false_true m
+  all_plain (n ∷ ns) s l r m = by (same_or_not t r) (λ f. all_plain ns s.1 l.1 r (sym (among_more t (all ns) r f) ∙ m))
+    where
+      t : Reference
+      t = followed w (at_name n)
+
+      by : (same_reference t r ≡ true) ⊎ (same_reference t r ≡ false) → (same_reference t r ≡ false → IsPlainAt sc w r) → IsPlainAt sc w r
+      by (◌⊎◌.inl f) go = subst (λ (u : Reference). IsPlainAt sc w u) (same_is t r f) (followed_here sc w ok fits p q part outer is todo n s.0 l.0)
+      by (◌⊎◌.inr f) go = go f
+
+  module _ (x : EventDeed) (ns : List Named) (e : ask part.rest ≡ asks.event_deed x ns) where
+    plain : ArePlain sc w (all ns)
+    plain = all_plain ns (seen_of (asks.event_deed x ns) e) (wanted_of (asks.event_deed x ns) e).0
+
+    old : ProcessFits sc w q
+    old = fits.processes p q is
+
+    waits_kept : (o : Option ℕ) → Keeps (waits_for_any sc w p q part outer (all ns) o)
+    waits_kept None =
+        let f = joined_fits sc (all ns) [] w p fits plain in
+        let v = joined_all w p [] (all ns) in
+        let g = process_too sc w v f.1 q old in
+        process_fits sc v p (record q { state = waits_any (all ns) }) f.0
+        (record { parts = g.parts; task = g.task; waits = λ r m. plain_too sc w v f.1 r (plain r m) })
+    waits_kept (Some n) = stays (asks.event_deed x ns) e (value (number (pos n))) tt tt tt
+
+    several_kept : (woken : ℕ) → Keeps (wakes_or_waits sc w p q part outer woken (all ns))
+    several_kept zero = waits_kept (first_happened w (all ns))
+    several_kept (suc n) =
+        let a = value (number (pos (suc n))) in
+        let r : Process = record q { todo = record part { rest = resume sc part.rest a } ∷ outer } in
+        let g = answered_process sc w ok fits p q part outer is todo (asks.event_deed x ns) e a tt tt tt in
+        process_fits sc w p (record r { woken = 0 }) fits (record { parts = g.parts; task = g.task; waits = g.waits })
+
+    does_kept : Keeps (does_with sc w p q part outer x ns)
+    does_kept =
+        one_of (deeds.is_of_several x) (wakes_or_waits sc w p q part outer q.woken (all ns)) (does_with_first sc w p q part outer x ns) (several_kept q.woken) (first_kept x ns e)
 
   -- ---- arrays and events that are made
 
@@ -188,7 +239,7 @@ module _ (sc : Scopes) (texts : CallsFitInTexts sc) (w : World) (ok : IsSound sc
       by false false =
           goes_in (asks.makes_arrays kind ns pairs vs) e tt (add_cells w part.instance (new_arrays kind bs ns))
           (add_cells_extends sc w fits part.instance (new_arrays kind bs ns) (arrays_right kind bs ns))
-          (add_cells_fits sc w fits part.instance (new_arrays kind bs ns) (arrays_right kind bs ns)) q.state
+          (add_cells_fits sc w fits part.instance (new_arrays kind bs ns) (arrays_right kind bs ns)) q.state (λ r f. f)
 
   -- ---- by what the head asks for
 
@@ -235,10 +286,10 @@ module _ (sc : Scopes) (texts : CallsFitInTexts sc) (w : World) (ok : IsSound sc
   choice_kept (asks.event_deed x ns) e = does_kept x ns e
   choice_kept (asks.writes phrases vs) e =
       goes_in (asks.writes phrases vs) e tt (record w { output = w.output ++ line_of phrases vs ∷ [] }) (extends_self w (record w { output = w.output ++ line_of phrases vs ∷ [] }) refl)
-      (same_fits sc w (record w { output = w.output ++ line_of phrases vs ∷ [] }) fits refl refl) q.state
+      (same_fits sc w (record w { output = w.output ++ line_of phrases vs ∷ [] }) fits refl refl) q.state (λ r f. f)
   choice_kept (asks.makes_arrays kind ns pairs vs) e = arrays_kept kind ns pairs vs e (bounds_of pairs vs)
   choice_kept (asks.makes_event n) e =
       let right = finds_first (LeadsRight sc w) (simple_right sc w) (record { name = n.name; cell = event fresh_state }) [] tt (finds_none (LeadsRight sc w) (simple_right sc w)) in
       goes_in (asks.makes_event n) e tt (add_cells w part.instance (record { name = n.name; cell = event fresh_state } ∷ []))
       (add_cells_extends sc w fits part.instance (record { name = n.name; cell = event fresh_state } ∷ []) right)
-      (add_cells_fits sc w fits part.instance (record { name = n.name; cell = event fresh_state } ∷ []) right) q.state
+      (add_cells_fits sc w fits part.instance (record { name = n.name; cell = event fresh_state } ∷ []) right) q.state (λ r f. f)

@@ -154,6 +154,7 @@ module _ (sc : Scopes) (texts : CallsFitInTexts sc) (w : World) (ok : IsSound sc
             critical = Some (first_on_path w (newest_first 1 w.instances []) p (home sc w p q part outer n ∷ referred_by cells ++ referred_by_task task_is));
             task = task_is;
             state = able;
+            woken = 0;
           }
 
       more : Extends w with_instance
@@ -169,7 +170,7 @@ module _ (sc : Scopes) (texts : CallsFitInTexts sc) (w : World) (ok : IsSound sc
       begun_fits : WorldFits sc begun
       begun_fits =
           more_process sc with_instance begun new_process (after_fits j (home sc w p q part outer n) next callee.known cells all_are_right first_fit)
-          (record { parts = each; task = λ r g. task_plain task task_fits task_seen r g }) refl refl
+          (record { parts = each; task = λ r g. task_plain task task_fits task_seen r g; waits = λ r g. false_true g }) refl refl
         where
           each : (x : Part) → IsAmong (new_part sc w p q part outer j begins.started ∷ []) x → PartFits sc with_instance x
           each x (◌⊎◌.inl f) =
@@ -180,7 +181,7 @@ module _ (sc : Scopes) (texts : CallsFitInTexts sc) (w : World) (ok : IsSound sc
       pub start_fits : WorldFits sc (starts sc w p q part outer j (home sc w p q part outer n) cells task_is).world
       start_fits =
           goes_fits sc w ok fits p q part outer is todo (asks.starts n gs task) e done tt tt tt begun (extends_then w with_instance begun more (extends_self with_instance begun refl)) begun_fits
-          q.state
+          q.state (λ r f. f)
 
   pub block_fits : (x : PBody) → ask part.rest ≡ asks.enters_block x → number_at sc.blocks (spot_of x) < length sc.blocks →
       (block_numbered sc.blocks (number_at sc.blocks (spot_of x))).parameters ≡ [] → WorldFits sc (entered_block sc w p q part outer (number_at sc.blocks (spot_of x))).world

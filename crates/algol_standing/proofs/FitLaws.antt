@@ -18,7 +18,7 @@ use Rattle.algol_calls.proofs.Statements.{settled_fits}
 use Rattle.algol_standing.specs.Worlds.{held_in_rest, IsAmong, HasHead, IsWhole, IsSound}
 use Rattle.algol_standing.specs.Fitting.{ParametersFit, LeadsRight, InstanceFits, PartFits, ProcessFits, WorldFits}
 use Rattle.algol_standing.proofs.Calls.{IsNoEvent, PassNoEvents, CallFits, HeadFits}
-use Rattle.algol_standing.proofs.Lists.{none_some}
+use Rattle.algol_standing.proofs.Lists.{none_some, false_true}
 use Rattle.algol_standing.proofs.Holding.{items_hold}
 use Rattle.algol_standing.proofs.Choosing.{able_by, found, may_go_able}
 use Rattle.algol_standing.proofs.FitCells.{finds_fresh, parameters_more}
@@ -46,6 +46,7 @@ passes_none sc X (names e ∷ gs) (s ∷ all) i = passes_none sc X gs all i.1
 call_fits : (sc : Scopes) (x : Ask) → AskFits sc x → CallFits sc x
 call_fits sc (asks.enters n gs) f = (f.0, passes_none sc (λ after. after ≡ []) gs (wanted sc n) f.1)
 call_fits sc (asks.starts n gs task) f = (f.0, passes_none sc (λ after. after ≡ []) gs (wanted sc n) f.1)
+call_fits sc (asks.event_deed x ns) f = f.1
 call_fits sc _ f = tt
 
 -- ---- a process that may go
@@ -84,7 +85,7 @@ module _ (sc : Scopes) (text : ItemsFit sc (items_of (block_numbered sc.blocks 0
   part = record { instance = 1; purpose = block; rest = rest }
 
   abbrev process : Process
-  process = record { todo = part ∷ []; critical = None; task = None; state = able }
+  process = record { todo = part ∷ []; critical = None; task = None; state = able; woken = 0 }
 
   abbrev b : Block
   b = block_numbered sc.blocks 0
@@ -103,7 +104,7 @@ module _ (sc : Scopes) (text : ItemsFit sc (items_of (block_numbered sc.blocks 0
       }
 
   process_first : ProcessFits sc first process
-  process_first = record { parts = parts; task = λ r e. none_some e }
+  process_first = record { parts = parts; task = λ r e. none_some e; waits = λ r e. false_true e }
     where
       parts : (x : Part) → IsAmong (part ∷ []) x → PartFits sc first x
       parts x (◌⊎◌.inl e) = subst (λ y. PartFits sc first y) e part_first

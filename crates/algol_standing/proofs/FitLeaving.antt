@@ -6,16 +6,15 @@ use Rattle.b67_num.specs.declared.FaultKind.TheVariants as fault
 use Rattle.algol_tree.specs.declared.tree.Named.{Named}
 use Rattle.algol_tree.specs.Blocks.{Block, block_numbered}
 use Rattle.algol_tree.specs.Scopes.{Scopes}
-use Rattle.algol_meaning.specs.Value.{Reference, event}
+use Rattle.algol_meaning.specs.Value.{Reference}
 use Rattle.b67_deeds.specs.declared.EventAct.TheVariants as act
-use Rattle.b67_deeds.specs.Events.{EventState}
-use Rattle.b67_deeds.specs.Deeds.{Deed, acts, deed}
+use Rattle.b67_deeds.specs.Deeds.{acts, deed}
 use Rattle.algol_meaning.specs.Rest.{Answer, done, value, cell, place, entered}
 use Rattle.algol_meaning.specs.Statements.{items_from, settle_items}
-use Rattle.algol_meaning.specs.World.{Instance, instance_at, Part, Process, able, ended, lives, set_all_able, with_process, World}
+use Rattle.algol_meaning.specs.World.{Instance, instance_at, Part, Process, able, ended, lives, with_process, World}
 use Rattle.algol_meaning.specs.Critical.{some_depends, some_depends_on_any, is_evaluation, own_instances}
 use Rattle.algol_meaning.specs.Instances.{leave, Cut, cut_at}
-use Rattle.algol_meaning.specs.Events.{event_at, change_event, released, caused_by_end}
+use Rattle.algol_meaning.specs.Events.{event_at, released, caused_by_end}
 use Rattle.algol_meaning.specs.Asks as asks
 use Rattle.algol_meaning.specs.Asks.{nothing, ask, resume}
 use Rattle.algol_meaning.specs.Choice.{fails, left_with, ended_releasing, left_or_ended, left, gone, goes_to}
@@ -27,11 +26,12 @@ use Rattle.algol_standing.specs.Fitting.{IsPlainAt, LeadsRight, AllLeadRight, Pa
 use Rattle.algol_standing.proofs.Holding.{IsForeign, items_hold}
 use Rattle.algol_standing.proofs.Fine.{Fine, fine_of, fine_tail, part_stands_in}
 use Rattle.algol_standing.proofs.Seen.{there, instance_is}
-use Rattle.algol_standing.proofs.Listed.{able_instances}
+use Rattle.algol_standing.proofs.Lists.{false_true}
 use Rattle.algol_standing.proofs.LeavesWith.{leaves_foreign, leaves_held}
 use Rattle.algol_standing.proofs.Resumed.{others_wait, no_own}
 use Rattle.algol_standing.proofs.Jumping.{cut_all, cut_target, target_is}
-use Rattle.algol_standing.proofs.FitWorlds.{Extends, extends_self, extends_then, all_right, right_all, plain_too, part_too, process_fits, leave_fits, set_cell_fits, set_cell_extends, able_fits}
+use Rattle.algol_standing.proofs.FitWorlds.{Extends, extends_self, extends_then, all_right, right_all, plain_too, part_too, process_fits, leave_fits}
+use Rattle.algol_standing.proofs.FitReleasing.{deed_fits}
 use Rattle.algol_standing.proofs.FitActing.{simple_right, goes_on_fits, each_fits, here_fits, asked, parts_fit, outer_fits, fails_fit}
 
 -- what a part leaves with fits where another waits
@@ -41,21 +41,6 @@ waiting sc done f = tt
 waiting sc (value v) f = tt
 waiting sc (cell c) f = tt
 waiting sc entered f = tt
-
-changed_fits : (sc : Scopes) (w : World) (r : Reference) (c : Option (EventState → EventState)) → WorldFits sc w → IsPlainAt sc w r →
-    WorldFits sc (change_event w r c) × Extends w (change_event w r c)
-changed_fits sc w r None fits plain = (fits, extends_self w w refl)
-changed_fits sc w r (Some change) fits plain =
-    let e = event (change (event_at w r)) in (set_cell_fits sc w fits r e plain tt, set_cell_extends sc w fits r e plain tt)
-
--- a deed
-pub deed_fits : (sc : Scopes) (w : World) (r : Reference) (d : Deed) → WorldFits sc w → IsPlainAt sc w r → WorldFits sc (released w r d).world × Extends w (released w r d).world
-deed_fits sc w r d fits plain =
-    let v = change_event w r d.change in
-    let f = changed_fits sc w r d.change fits plain in (
-      able_fits sc d.frees v f.0,
-      extends_then w v (set_all_able v d.frees) f.1 (extends_self v (set_all_able v d.frees) (able_instances v d.frees)),
-    )
 
 module _ (sc : Scopes) (texts : CallsFitInTexts sc) (w : World) (ok : IsSound sc IsWhole w) (fits : WorldFits sc w) (p : ℕ) (q : Process) (part : Part) (outer : List Part)
     (is : numbered w.processes p ≡ Some q) (todo : q.todo ≡ part ∷ outer) (able_is : q.state ≡ able) where
@@ -89,7 +74,7 @@ module _ (sc : Scopes) (texts : CallsFitInTexts sc) (w : World) (ok : IsSound sc
     left_with_fits v more h [] below = h
     left_with_fits v more h (next ∷ parts) below =
         process_fits sc v p (record q { todo = record next { rest = resume sc next.rest a } ∷ parts }) h
-        (parts_fit sc w ok fits p q part outer is todo v more (record next { rest = resume sc next.rest a } ∷ parts) each q.state)
+        (parts_fit sc w ok fits p q part outer is todo v more (record next { rest = resume sc next.rest a } ∷ parts) each q.state (λ r f. f))
       where
         each : (x : Part) → IsAmong (record next { rest = resume sc next.rest a } ∷ parts) x → PartFits sc v x
         each x (◌⊎◌.inl f) = subst (λ z. PartFits sc v z) f (part_too sc w v more (record next { rest = resume sc next.rest a }) (next_fits next parts below))
@@ -104,7 +89,7 @@ module _ (sc : Scopes) (texts : CallsFitInTexts sc) (w : World) (ok : IsSound sc
     -- the process ends
     ends_fits : (v : World) → Extends w v → WorldFits sc v → WorldFits sc (with_process v p (record q { todo = []; state = ended }))
     ends_fits v more h =
-        process_fits sc v p (record q { todo = []; state = ended }) h (parts_fit sc w ok fits p q part outer is todo v more [] (λ x n. absurd n) ended)
+        process_fits sc v p (record q { todo = []; state = ended }) h (parts_fit sc w ok fits p q part outer is todo v more [] (λ x n. absurd n) ended (λ r f. false_true f))
 
     ended_by : (o : Option Reference) → q.task ≡ o → WorldFits sc (ended_releasing sc w p q part outer (caused_by_end without p o)).world
     ended_by None e = ends_fits without gone_fits.1 gone_fits.0
@@ -170,7 +155,7 @@ module _ (sc : Scopes) (texts : CallsFitInTexts sc) (w : World) (ok : IsSound sc
 
       target_fits : WorldFits sc (gone sc w p q part outer (own_instances newer) b n (target ∷ parts)).world
       target_fits =
-          process_fits sc v p (record q { todo = there_on ∷ parts }) away.0 (parts_fit sc w ok fits p q part outer is todo v away.1 (there_on ∷ parts) each q.state)
+          process_fits sc v p (record q { todo = there_on ∷ parts }) away.0 (parts_fit sc w ok fits p q part outer is todo v away.1 (there_on ∷ parts) each q.state (λ r f. f))
 
     abbrev cut : Cut
     cut = cut_at [] (part ∷ outer) i

@@ -5,12 +5,12 @@ use Rattle.b67_list.specs.Numbered.{numbered, set_numbered}
 use Rattle.algol_tree.specs.Sorts.{is_formal}
 use Rattle.algol_tree.specs.Scopes.{Scopes}
 use Rattle.algol_meaning.specs.Value.{Reference, Cell, simple, event, array, named, reference}
-use Rattle.algol_meaning.specs.World.{NamedCell, Instance, or_no_instance, instance_at, cell_in, cells_with, with_instance, set_cell, add_cells, Part, Process, State, able, no_process, or_no_process, process_at, with_process, set_able, set_all_able, World}
+use Rattle.algol_meaning.specs.World.{NamedCell, Instance, or_no_instance, instance_at, cell_in, cells_with, with_instance, set_cell, add_cells, Part, Process, able, or_no_process, process_at, with_process, set_able, set_all_able, World}
 use Rattle.algol_meaning.specs.Instances.{leave}
 use Rattle.algol_calls.specs.Fits.{parameter_sort}
-use Rattle.algol_standing.specs.Worlds.{held_in_rest, IsAmong}
+use Rattle.algol_standing.specs.Worlds.{held_in_rest}
 use Rattle.algol_standing.specs.Fitting.{ParametersFit, parameters_at, IsPlainAt, LeadsRight, AllLeadRight, InstanceFits, PartFits, ProcessFits, WorldFits}
-use Rattle.algol_standing.proofs.Lists.{none_some, some_same, get-front, get-last}
+use Rattle.algol_standing.proofs.Lists.{none_some, some_same, false_true, get-front, get-last}
 use Rattle.algol_standing.proofs.Pairs.{set_or}
 use Rattle.algol_standing.proofs.Holding.{AreAll}
 use Rattle.algol_standing.proofs.FitCells.{finds_with, finds_more, parameters_with, parameters_more}
@@ -77,7 +77,8 @@ module _ (sc : Scopes) where
     part_too part h = record { rest = h.rest; holds = all_too (held_in_rest part.rest) h.holds }
 
     pub process_too : (q : Process) → ProcessFits sc w q → ProcessFits sc v q
-    process_too q h = record { parts = λ part n. part_too part (h.parts part n); task = λ r e. plain_too r (h.task r e) }
+    process_too q h =
+        record { parts = λ part n. part_too part (h.parts part n); task = λ r e. plain_too r (h.task r e); waits = λ r e. plain_too r (h.waits r e) }
 
     -- the processes are the same
     pub same_processes : WorldFits sc w → v.processes ≡ w.processes → ((i : ℕ) (y : Instance) → numbered v.instances i ≡ Some y → InstanceFits sc v y) → WorldFits sc v
@@ -228,20 +229,19 @@ module _ (sc : Scopes) where
           by (◌⊎◌.inl f) = fits.processes k y (sym f ∙ e)
           by (◌⊎◌.inr f) = subst (λ z. ProcessFits sc w z) (some_same f.1 e) h
 
-  -- a process with the same parts and the same task
-  state_fits : (w : World) (o : Option Process) (p : ℕ) (s : State) → WorldFits sc w → numbered w.processes p ≡ o → ProcessFits sc w (record (process_at w p) { state = s })
-  state_fits w (Some q) p s fits e =
-      let h = subst (λ z. ProcessFits sc w z) (sym (ap or_no_process e)) (fits.processes p q e) in
-      record { parts = h.parts; task = h.task }
-  state_fits w None p s fits e =
-      let same : process_at w p ≡ no_process = ap or_no_process e in
-      record {
-        parts = λ x n. absurd (subst (λ (z : Process). IsAmong z.todo x) same n);
-        task = λ r f. none_some (subst (λ (z : Process). z.task ≡ Some r) same f);
-      }
+  -- a process that is there, or not
+  pub its_fits : (w : World) (o : Option Process) (p : ℕ) → WorldFits sc w → numbered w.processes p ≡ o → ProcessFits sc w (process_at w p)
+  its_fits w (Some q) p fits e = subst (λ z. ProcessFits sc w z) (sym (ap or_no_process e)) (fits.processes p q e)
+  its_fits w None p fits e =
+      subst (λ z. ProcessFits sc w z) (sym (ap or_no_process e))
+      (record { parts = λ x n. absurd n; task = λ r f. none_some f; waits = λ r f. false_true f })
+
+  -- .. and is able
+  able_one : (w : World) (p : ℕ) → WorldFits sc w → WorldFits sc (set_able w p)
+  able_one w p fits =
+      let h = its_fits w (numbered w.processes p) p fits refl in
+      process_fits w p (record (process_at w p) { state = able }) fits (record { parts = h.parts; task = h.task; waits = λ r f. false_true f })
 
   pub able_fits : (ps : List ℕ) (w : World) → WorldFits sc w → WorldFits sc (set_all_able w ps)
   able_fits [] w fits = fits
-  able_fits (p ∷ ps) w fits =
-      able_fits ps (set_able w p)
-      (process_fits w p (record (process_at w p) { state = able }) fits (state_fits w (numbered w.processes p) p able fits refl))
+  able_fits (p ∷ ps) w fits = able_fits ps (set_able w p) (able_one w p fits)

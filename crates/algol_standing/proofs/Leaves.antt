@@ -14,7 +14,7 @@ use Rattle.algol_meaning.specs.Rest.{Answer}
 use Rattle.algol_meaning.specs.World.{Instance, cell_in, cell_at, Part, Process, able, ended, lives, with_process, process_at, set_all_able, World}
 use Rattle.algol_meaning.specs.Critical.{some_depends, some_depends_on_any, is_evaluation, own_instances}
 use Rattle.algol_meaning.specs.Instances.{leave}
-use Rattle.algol_meaning.specs.Events.{event_at, change_event, caused_by_end}
+use Rattle.algol_meaning.specs.Events.{event_at, change_event, all_withdrawn, caused_by_end}
 use Rattle.algol_meaning.specs.Asks as asks
 use Rattle.algol_meaning.specs.Asks.{Ask, ask_hole, ask_actuals, ask_aim, ask, resume}
 use Rattle.algol_meaning.specs.Choice.{fails, left_with, ended_releasing, left_or_ended, left}
@@ -22,23 +22,23 @@ use Rattle.algol_laws.proofs.Cells.{numbered_set}
 use Rattle.algol_laws.proofs.Heads.{resume_acts}
 use Rattle.algol_paths.specs.Arrays.{all_to_make}
 use Rattle.algol_standing.specs.Skeleton.{IsIn}
-use Rattle.algol_standing.specs.Worlds.{held_in_answer, newest_own, stack_of, IsStanding, IsOwn, IsAmong, AreListed, IsAwaited, GivesNoOwn, HasHead, IsWhole, IsSound}
+use Rattle.algol_standing.specs.Worlds.{held_in_answer, newest_own, stack_of, IsStanding, IsOwn, IsAmong, Awaits, AreListed, IsAwaited, GivesNoOwn, HasHead, IsWhole, IsSound}
 use Rattle.algol_standing.proofs.Lists.{false_true}
 use Rattle.algol_standing.proofs.Holding.{AreAll, IsForeign}
 use Rattle.algol_standing.proofs.Pairs.{AllPairs, pairs_map, pairs_set_both, stack_forth}
 use Rattle.algol_standing.proofs.Alike.{InstanceAlike, process_self}
-use Rattle.algol_standing.proofs.Seen.{CellOk, there}
+use Rattle.algol_standing.proofs.Seen.{CellOk}
 use Rattle.algol_standing.proofs.Fine.{Fine, fine_of, fine_tail}
 use Rattle.algol_standing.proofs.Unmoved.{Unmoved, unmoved_self}
 use Rattle.algol_standing.proofs.Acted.{IsStillMade, still_self, acted_ok}
 use Rattle.algol_standing.proofs.Resumed.{others_wait, no_own, fine_holds, answered, answered_fine, answered_still}
 use Rattle.algol_standing.proofs.Awaiting.{awaits_procures}
-use Rattle.algol_standing.proofs.Listed.{able_instances, now_listed, WaitsAt, happened, still_procures, listed_then}
-use Rattle.algol_standing.proofs.Events.{changed_alike, changed_unmoved}
+use Rattle.algol_standing.proofs.Listed.{now_listed, WaitsAt, happened, still_procures, listed_then}
+use Rattle.algol_standing.proofs.Events.{changed_unmoved, released_instances}
 use Rattle.algol_standing.proofs.Quiet.{same_ok}
 use Rattle.algol_standing.proofs.Acting.{acting}
 use Rattle.algol_standing.proofs.Left.{task}
-use Rattle.algol_standing.proofs.Stacks.{leave_same, leave_forth}
+use Rattle.algol_standing.proofs.Stacks.{leave_same}
 use Rattle.algol_standing.proofs.LeavesWith.{leaves_foreign, leaves_held, leaves_answer, leaves_place, leaves_nothing, waits}
 use Rattle.algol_standing.proofs.Leaving.{stood, left_ok}
 
@@ -191,7 +191,7 @@ module _ (sc : Scopes) (w : World) (ok : IsSound sc IsWhole w) (p : ℕ) (q : Pr
       listed_before : (r : Reference) (e : EventState) → IsStanding w r.instance → cell_at before r ≡ event e → AreListed before r e
       listed_before r e st f =
           let l = ok.listed r e st (sym (cells_same r) ∙ f) in
-          record { waiters = l.waiters; procurers = l.procurers; once = l.once }
+          record { waiters = l.waiters; procurers = l.procurers; once = l.once; once_waiting = l.once_waiting }
 
       -- its task's event is caused
       module _ (r : Reference) (task_is : q.task ≡ Some r) where
@@ -207,24 +207,28 @@ module _ (sc : Scopes) (w : World) (ok : IsSound sc IsWhole w) (p : ℕ) (q : Pr
         free_now : (k : ℕ) → IsListed d.frees k → WaitsAt before r k
         free_now k n = ◌⊎◌.inl (listed_now.waiters k n)
 
+        also : (k : ℕ) → IsListed d.frees k → Awaits ((process_at before k).state) r → IsListed d.withdraws k
+        also k n a = n
+
         abbrev v : World
-        v = happened before p q over is able_is r d.change d.frees free_now
+        v = happened before p q over is able_is r d.change d.withdraws d.frees free_now also
 
         instances : AllPairs InstanceAlike closed.instances v.instances
-        instances = subst (λ xs. AllPairs InstanceAlike before.instances xs) (sym (able_instances (change_event before r d.change) d.frees)) (changed_alike before r d.change)
+        instances = released_instances before r d
 
         processes : AllPairs Unmoved closed.processes v.processes
         processes =
-            pairs_set_both Unmoved before.processes (set_all_able (change_event before r d.change) d.frees).processes p over (unmoved_self over) (changed_unmoved before r d free_now)
+            pairs_set_both Unmoved before.processes (set_all_able (all_withdrawn (change_event before r d.change) r d.withdraws) d.frees).processes p over (unmoved_self over) (changed_unmoved before r d free_now)
 
         here : AreListed v r (after_change d.change (event_at before r))
         here =
             record {
               waiters = λ k n. absurd n;
               procurers = λ k n.
-                  still_procures before p q over is able_is r d.change d.frees free_now k r (listed_now.procurers k n)
+                  still_procures before p q over is able_is r d.change d.withdraws d.frees free_now also k r (listed_now.procurers k n)
                   (λ m. awaits_procures ((process_at before k).state) r r (listed_now.waiters k m) (listed_now.procurers k n));
               once = listed_now.once;
+              once_waiting = tt;
             }
 
         at_p : numbered closed.processes p ≡ Some over
@@ -232,12 +236,10 @@ module _ (sc : Scopes) (w : World) (ok : IsSound sc IsWhole w) (p : ℕ) (q : Pr
 
         task_caused : IsSound sc IsWhole v
         task_caused =
-            let x = there sc IsWhole w ok r.instance stands in
-            let y = leave_forth w (part.instance ∷ []) r.instance x.0 x.1 in
             acted_ok sc closed closed_ok p over at_p over (process_self over) (closed_ok.processes p over at_p)
             (λ e n. closed_ok.skeleton_ok.evaluates p (stack_of over) e (stack_forth closed p over at_p) n) (still_self []) v instances
             (pairs_map Unmoved (λ x z. ((x ≡ over) × (z ≡ over)) ⊎ Unmoved x z) (λ x z f. ◌⊎◌.inr f) closed.processes v.processes processes)
-            (λ s e st f. listed_then before p q over is able_is r d.change d.frees free_now y.0 y.1 here s e (listed_before s e (closed_stood s.instance st)) f)
+            (λ s e st f. listed_then before p q over is able_is r d.change d.withdraws d.frees free_now also here s e (λ d g. listed_before s d (closed_stood s.instance st) g) f)
 
       ends : (o : Option Reference) → q.task ≡ o → IsSound sc IsWhole (ended_releasing sc w p q part outer (caused_by_end before p o)).world
       ends None e = closed_ok

@@ -1,6 +1,7 @@
 -- A process leaves the newest instances of its stack, and goes on with the parts below, or ends.
-use Rattle.std.proofs.Common.{◌≡◌, ◌⊎◌, ℕ, zero, suc, ◌<◌, ◌≤◌, List, [], ◌∷◌, ◌++◌, length, Some, Bool, true, false, refl, sym, ap, ◌∙◌, subst}
+use Rattle.std.proofs.Common.{◌≡◌, ◌⊎◌, ℕ, zero, suc, ◌<◌, ◌≤◌, List, [], ◌∷◌, ◌++◌, length, Some, Bool, true, false, refl, sym, ap, ◌∙◌, subst, arith}
 use Rattle.std.specs.Prelude.{slice_get, ◌&&◌}
+use Rattle.b67_limits.specs.declared.TheConstants.{MOST_EVENTS}
 use Rattle.b67_list.specs.Numbered.{numbered, set_numbered}
 use Rattle.algol_tree.specs.Scopes.{Scopes}
 use Rattle.algol_meaning.specs.Value.{Reference}
@@ -20,6 +21,7 @@ use Rattle.algol_standing.proofs.Acted.{IsStillMade}
 use Rattle.algol_standing.proofs.Carried.{part_kept, unmoved_kept, tasks_kept, instance_kept}
 use Rattle.algol_standing.proofs.Dropped.{dropped, dropped_stood, dropped_stands, dropped_ok, dropped_path, ended_ok, ended_path}
 use Rattle.algol_standing.proofs.PathOrder.{or_left, or_right, and_true}
+use Rattle.algol_standing.proofs.Awaiting.{no_list}
 use Rattle.algol_standing.proofs.Stacks.{numbered_cases, skeleton_with, leave_processes, leave_homes, leave_length, leave_same, IsLeftAs, leave_back}
 
 -- ---- no live process depends on them
@@ -202,6 +204,7 @@ module _ (sc : Scopes) (w : World) (ok : IsSound sc IsWhole w) (p : ℕ) (q : Pr
         heads = heads;
         gives = fine.given;
         awaited = λ r n. absurd (awaits_none r n);
+        few = (((ok.processes p q is).few).0, subst (λ rs. length rs ≤ MOST_EVENTS) (sym (no_list s awaits_none)) (omega (arith)));
       }
 
   process_then : (k : ℕ) (y : Process) → numbered left_world.processes k ≡ Some y → ProcessOk sc IsWhole left_world y

@@ -23,7 +23,12 @@ pub mod Acting
 pub mod Carried
 pub mod Quiet
 pub mod Awaiting
+pub mod EventCells
+pub mod Withdrawn
+pub mod Joined
 pub mod Listed
+pub mod Waiting
+pub mod Steps
 pub mod Events
 pub mod Left
 pub mod Leaving
@@ -50,6 +55,7 @@ pub mod FitWorlds
 pub mod FitNames
 pub mod FitActing
 pub mod FitEntering
+pub mod FitReleasing
 pub mod FitLeaving
 pub mod FitChoosing
 pub mod FitLaws

@@ -1,109 +1,21 @@
--- An event that is set, processes that are released, and one that acts: who is listed still waits.
-use Rattle.std.proofs.Common.{◌≡◌, ◌⊎◌, ℕ, List, [], ◌∷◌, Option, None, Some, Bool, true, false, refl, sym, ap, ◌∙◌, subst}
-use Rattle.std.specs.Prelude.{if◌then◌else◌}
+-- An event that changes, processes that are released, and one that acts: who is listed still waits.
+use Rattle.std.proofs.Common.{◌≡◌, ◌⊎◌, ℕ, List, [], ◌∷◌, Option, None, Some, Bool, true, refl, sym, ap, ◌∙◌, subst}
 use Rattle.b67_list.specs.Numbered.{numbered, set_numbered}
-use Rattle.algol_tree.specs.Sorts.{same_name}
 use Rattle.algol_meaning.specs.Value.{Reference, Cell, simple, event, array, named, reference}
 use Rattle.b67_deeds.specs.Events.{EventState}
 use Rattle.b67_deeds.specs.Deeds.{after_change}
-use Rattle.b67_deeds.specs.Listed.{IsListed}
-use Rattle.algol_meaning.specs.World.{NamedCell, Instance, or_no_instance, instance_at, cell_in, cell_at, cells_with, Process, State, able, procures, or_no_process, process_at, lives, with_process, set_able, set_all_able, event_in, World}
-use Rattle.algol_meaning.specs.Events.{event_at, set_event, change_event}
-use Rattle.algol_laws.proofs.Cells.{numbered_set, numbered_other, same_name_is, same_name_refl, with_other}
+use Rattle.b67_deeds.specs.Listed.{IsListed, AreOnce}
+use Rattle.algol_meaning.specs.World.{or_no_instance, cell_in, cell_at, Process, State, able, procures, or_no_process, process_at, lives, with_process, set_able, set_all_able, event_in, World}
+use Rattle.algol_meaning.specs.Events.{event_at, change_event, is_among, list_in, all_withdrawn}
+use Rattle.algol_laws.proofs.Releasing.{changed_processes, able_instances, all_withdrawn_state}
 use Rattle.algol_standing.specs.Worlds.{Awaits, AreListed}
-use Rattle.algol_standing.proofs.Awaiting.{awaits_able, awaits_procures, awaits_lives, awaits_one}
-use Rattle.algol_standing.proofs.Lists.{same_or_other}
+use Rattle.algol_standing.proofs.Awaiting.{awaits_able, awaits_procures, awaits_lives, awaits_two}
 use Rattle.algol_standing.proofs.Pairs.{AllPairs, numbered_forth, pairs_then_set, set_or}
 use Rattle.algol_standing.proofs.Unmoved.{Unmoved, unmoved_able}
-
--- ---- the cell that is set
-
-event_with : (cells : List NamedCell) (n : List ℕ) (e d : EventState) → cell_in (cells_with cells n (event e)) n ≡ event d → d ≡ e
-event_with [] n e d f = cc
-event_with (x ∷ cells) n e d f = by (same_name x.name n) refl (λ g. event_with cells n e d g) f
-  where
-    same : event e ≡ event d → d ≡ e
-    same g = cc
-
-    by : (b : Bool) → same_name x.name n ≡ b → (cell_in (cells_with cells n (event e)) n ≡ event d → d ≡ e) →
-        cell_in (if b then record x { cell = event e } ∷ cells else x ∷ cells_with cells n (event e)) n ≡ event d → d ≡ e
-    by true s h g = same (subst (λ b. (if b then event e else cell_in cells n) ≡ event d) s g)
-    by false s h g = h (subst (λ b. (if b then x.cell else cell_in (cells_with cells n (event e)) n) ≡ event d) s g)
-
-pub reference_same : (r s : Reference) → r.instance ≡ s.instance → r.name ≡ s.name → r ≡ s
-reference_same r s e f = ap (λ (i : ℕ). record { instance = i; name = r.name }) e ∙ ap (λ (n : List ℕ). record { instance = s.instance; name = n }) f
-
-false_true : (b : Bool) → b ≡ false → b ≡ true → ⊥
-false_true b e f = let no : false ≡ true = sym e ∙ f in cc
-
-pub event_set : (w : World) (r s : Reference) (e d : EventState) (y : Instance) → numbered w.instances r.instance ≡ Some y → cell_at (set_event w r e) s ≡ event d →
-    ((r ≡ s) × (d ≡ e)) ⊎ ((r ≡ s → ⊥) × (cell_at w s ≡ event d))
-event_set w r s e d y there f = by (same_or_other r.instance s.instance)
-  where
-    z : Instance
-    z = record (instance_at w r.instance) { cells = cells_with ((instance_at w r.instance).cells) r.name (event e) }
-
-    inside : r.instance ≡ s.instance → cell_in (cells_with ((instance_at w r.instance).cells) r.name (event e)) s.name ≡ event d
-    inside same =
-        ap (λ o. cell_in ((or_no_instance o).cells) s.name) (sym (numbered_set w.instances r.instance y z there))
-        ∙ (ap (λ i. cell_in ((or_no_instance (numbered (set_numbered w.instances r.instance z) i)).cells) s.name) same ∙ f)
-
-    named_by : (b : Bool) → same_name r.name s.name ≡ b → r.instance ≡ s.instance → ((r ≡ s) × (d ≡ e)) ⊎ ((r ≡ s → ⊥) × (cell_at w s ≡ event d))
-    named_by true n same =
-        let name : r.name ≡ s.name = same_name_is r.name s.name n in
-        ◌⊎◌.inl (
-          reference_same r s same name,
-          event_with ((instance_at w r.instance).cells) r.name e d
-              (subst (λ m. cell_in (cells_with ((instance_at w r.instance).cells) r.name (event e)) m ≡ event d) (sym name) (inside same)),
-        )
-    named_by false n same = ◌⊎◌.inr (
-      λ g. other (ap (λ (t : Reference). t.name) g),
-      ap (λ i. cell_in ((instance_at w i).cells) s.name) (sym same)
-          ∙ (sym (with_other ((instance_at w r.instance).cells) r.name s.name (event e) other) ∙ inside same),
-    )
-      where
-        other : r.name ≡ s.name → ⊥
-        other g = false_true (same_name r.name s.name) n (subst (λ m. same_name r.name m ≡ true) g (same_name_refl r.name))
-
-    by : (r.instance ≡ s.instance) ⊎ (r.instance ≡ s.instance → ⊥) → ((r ≡ s) × (d ≡ e)) ⊎ ((r ≡ s → ⊥) × (cell_at w s ≡ event d))
-    by (◌⊎◌.inl same) = named_by (same_name r.name s.name) refl same
-    by (◌⊎◌.inr other) = ◌⊎◌.inr (
-      λ g. other (ap (λ (t : Reference). t.instance) g),
-      ap (λ o. cell_in ((or_no_instance o).cells) s.name) (sym (numbered_other w.instances r.instance s.instance z other)) ∙ f,
-    )
-
-references : (r s : Reference) → (r ≡ s) ⊎ (r ≡ s → ⊥)
-references r s = by (same_or_other r.instance s.instance)
-  where
-    named_by : (b : Bool) → same_name r.name s.name ≡ b → r.instance ≡ s.instance → (r ≡ s) ⊎ (r ≡ s → ⊥)
-    named_by true n same = ◌⊎◌.inl (reference_same r s same (same_name_is r.name s.name n))
-    named_by false n same =
-        ◌⊎◌.inr
-        (λ g. false_true (same_name r.name s.name) n (subst (λ m. same_name r.name m ≡ true) (ap (λ (t : Reference). t.name) g) (same_name_refl r.name)))
-
-    by : (r.instance ≡ s.instance) ⊎ (r.instance ≡ s.instance → ⊥) → (r ≡ s) ⊎ (r ≡ s → ⊥)
-    by (◌⊎◌.inl same) = named_by (same_name r.name s.name) refl same
-    by (◌⊎◌.inr other) = ◌⊎◌.inr (λ g. other (ap (λ (t : Reference). t.instance) g))
-
--- .. that changes, or not
-event_changed : (w : World) (r s : Reference) (c : Option (EventState → EventState)) (d : EventState) (y : Instance) → numbered w.instances r.instance ≡ Some y →
-    cell_at (change_event w r c) s ≡ event d → ((r ≡ s) × (d ≡ after_change c (event_at w r))) ⊎ ((r ≡ s → ⊥) × (cell_at w s ≡ event d))
-event_changed w r s (Some change) d y there f = event_set w r s (change (event_at w r)) d y there f
-event_changed w r s None d y there f = by (references r s)
-  where
-    by : (r ≡ s) ⊎ (r ≡ s → ⊥) → ((r ≡ s) × (d ≡ event_at w r)) ⊎ ((r ≡ s → ⊥) × (cell_at w s ≡ event d))
-    by (◌⊎◌.inl same) = ◌⊎◌.inl (same, ap event_in (sym f ∙ ap (λ t. cell_at w t) (sym same)))
-    by (◌⊎◌.inr other) = ◌⊎◌.inr (other, f)
-
-pub changed_processes : (w : World) (r : Reference) (c : Option (EventState → EventState)) → (change_event w r c).processes ≡ w.processes
-changed_processes w r None = refl
-changed_processes w r (Some change) = refl
+use Rattle.algol_standing.proofs.EventCells.{references, cell_apart, event_back}
+use Rattle.algol_standing.proofs.Withdrawn.{thinned, thinner, gone, thinned_listed, has_in_list, withdrawn_event}
 
 -- ---- processes that are released
-
-pub able_instances : (w : World) (ps : List ℕ) → (set_all_able w ps).instances ≡ w.instances
-able_instances w [] = refl
-able_instances w (p ∷ ps) = able_instances (set_able w p) ps
 
 pub able_unmoved : (w v : World) (ps : List ℕ) → AllPairs Unmoved w.processes v.processes → ((k : ℕ) → IsListed ps k → lives ((process_at w k).state) ≡ true) →
     AllPairs Unmoved w.processes (set_all_able v ps).processes
@@ -120,7 +32,7 @@ able_unmoved w v (p ∷ ps) m live = able_unmoved w (set_able v p) ps one (λ k 
         pairs_then_set Unmoved Unmoved (λ x y f. f) w.processes v.processes p (record (process_at v p) { state = able }) m
         (λ x e. able_now x e (numbered_forth Unmoved w.processes v.processes p x m e))
 
-state_kept : (w : World) (ps : List ℕ) (k : ℕ) (s : State) → (process_at w k).state ≡ s → (IsListed ps k → ⊥) → (process_at (set_all_able w ps) k).state ≡ s
+pub state_kept : (w : World) (ps : List ℕ) (k : ℕ) (s : State) → (process_at w k).state ≡ s → (IsListed ps k → ⊥) → (process_at (set_all_able w ps) k).state ≡ s
 state_kept w [] k s e n = e
 state_kept w (p ∷ ps) k s e n = state_kept (set_able w p) ps k s (one (set_or w.processes p k (record (process_at w p) { state = able }))) (λ m. n (◌⊎◌.inr m))
   where
@@ -144,10 +56,15 @@ now_listed w r f = by (cell_at w r) refl
   where
     by : (c : Cell) → cell_at w r ≡ c → AreListed w r (event_in c)
     by (event e) g = f e g
-    by (simple v) g = record { waiters = λ k n. absurd n; procurers = λ k n. absurd n; once = tt }
-    by (array a) g = record { waiters = λ k n. absurd n; procurers = λ k n. absurd n; once = tt }
-    by (named m) g = record { waiters = λ k n. absurd n; procurers = λ k n. absurd n; once = tt }
-    by (reference s) g = record { waiters = λ k n. absurd n; procurers = λ k n. absurd n; once = tt }
+    by (simple v) g = record { waiters = λ k n. absurd n; procurers = λ k n. absurd n; once = tt; once_waiting = tt }
+    by (array a) g = record { waiters = λ k n. absurd n; procurers = λ k n. absurd n; once = tt; once_waiting = tt }
+    by (named m) g = record { waiters = λ k n. absurd n; procurers = λ k n. absurd n; once = tt; once_waiting = tt }
+    by (reference s) g = record { waiters = λ k n. absurd n; procurers = λ k n. absurd n; once = tt; once_waiting = tt }
+
+-- the event of another cell is as it was
+changed_apart : (w : World) (r s : Reference) (c : Option (EventState → EventState)) → (r ≡ s → ⊥) → event_at (change_event w r c) s ≡ event_at w s
+changed_apart w r s None other = refl
+changed_apart w r s (Some change) other = ap (λ (x : Cell). event_in x) (cell_apart w r s (change (event_at w r)) other)
 
 -- who waits for that event
 abbrev pub WaitsAt : World → Reference → ℕ → Type 0
@@ -157,25 +74,49 @@ pub waits_live : (w : World) (r : Reference) (k : ℕ) → WaitsAt w r k → liv
 waits_live w r k (◌⊎◌.inl n) = awaits_lives ((process_at w k).state) r n
 waits_live w r k (◌⊎◌.inr e) = ap lives e
 
-module _ (w : World) (p : ℕ) (q after : Process) (is : numbered w.processes p ≡ Some q) (able_is : q.state ≡ able) (r : Reference) (c : Option (EventState → EventState)) (ps : List ℕ)
-    (freed : (k : ℕ) → IsListed ps k → WaitsAt w r k) where
-  -- the world in which the event has changed so, these are released, and the process has acted
+-- the event after a change is that, or there is none
+changed_event : (w : World) (r : Reference) (c : Option (EventState → EventState)) →
+    (event_at (change_event w r c) r ≡ after_change c (event_at w r)) ⊎ (event_at (change_event w r c) r ≡ event_in (cell_in [] []))
+changed_event w r None = ◌⊎◌.inl refl
+changed_event w r (Some change) = by (cell_at (change_event w r (Some change)) r) refl
+  where
+    by : (x : Cell) → cell_at (change_event w r (Some change)) r ≡ x →
+        (event_at (change_event w r (Some change)) r ≡ change (event_at w r)) ⊎ (event_at (change_event w r (Some change)) r ≡ event_in (cell_in [] []))
+    by (event d) f = which (event_back w r r (change (event_at w r)) d f)
+      where
+        which : ((r ≡ r) × (d ≡ change (event_at w r))) ⊎ ((r ≡ r → ⊥) × (cell_at w r ≡ event d)) →
+            (event_at (change_event w r (Some change)) r ≡ change (event_at w r)) ⊎ (event_at (change_event w r (Some change)) r ≡ event_in (cell_in [] []))
+        which (◌⊎◌.inl g) = ◌⊎◌.inl (ap (λ (x : Cell). event_in x) f ∙ g.1)
+        which (◌⊎◌.inr g) = absurd (g.0 refl)
+    by (simple v) f = ◌⊎◌.inr (ap (λ (x : Cell). event_in x) f)
+    by (array a) f = ◌⊎◌.inr (ap (λ (x : Cell). event_in x) f)
+    by (named m) f = ◌⊎◌.inr (ap (λ (x : Cell). event_in x) f)
+    by (reference s) f = ◌⊎◌.inr (ap (λ (x : Cell). event_in x) f)
+
+-- who is freed, and waits for the event to happen, waits for no other event either
+module _ (w : World) (p : ℕ) (q after : Process) (is : numbered w.processes p ≡ Some q) (able_is : q.state ≡ able) (r : Reference) (c : Option (EventState → EventState)) (ws ps : List ℕ)
+    (freed : (k : ℕ) → IsListed ps k → WaitsAt w r k) (also : (k : ℕ) → IsListed ps k → Awaits ((process_at w k).state) r → IsListed ws k) where
+  abbrev thin : World
+  thin = all_withdrawn (change_event w r c) r ws
+
+  -- the world in which the event has changed so, those wait for no other event, these are released, and the process has acted
   abbrev pub happened : World
-  happened = with_process (set_all_able (change_event w r c) ps) p after
+  happened = with_process (set_all_able thin ps) p after
+
+  state_thin : (k : ℕ) → (process_at thin k).state ≡ (process_at w k).state
+  state_thin k = all_withdrawn_state (change_event w r c) r ws k ∙ ap (λ qs. (or_no_process (numbered qs k)).state) (changed_processes w r c)
 
   -- who is not released still waits
   pub still_waits : (k : ℕ) → ((process_at w k).state ≡ able → ⊥) → (IsListed ps k → ⊥) → (process_at happened k).state ≡ (process_at w k).state
-  still_waits k other n = by (set_or (set_all_able (change_event w r c) ps).processes p k after)
+  still_waits k other n = by (set_or (set_all_able thin ps).processes p k after)
     where
       able_at : p ≡ k → (process_at w k).state ≡ able
       able_at g = ap (λ j. (process_at w j).state) (sym g) ∙ (ap (λ o. (or_no_process o).state) is ∙ able_is)
 
-      by : (numbered (set_numbered (set_all_able (change_event w r c) ps).processes p after) k ≡ numbered (set_all_able (change_event w r c) ps).processes k)
-          ⊎ ((p ≡ k) × (numbered (set_numbered (set_all_able (change_event w r c) ps).processes p after) k ≡ Some after)) →
+      by : (numbered (set_numbered (set_all_able thin ps).processes p after) k ≡ numbered (set_all_able thin ps).processes k)
+          ⊎ ((p ≡ k) × (numbered (set_numbered (set_all_able thin ps).processes p after) k ≡ Some after)) →
           (process_at happened k).state ≡ (process_at w k).state
-      by (◌⊎◌.inl h) =
-          ap (λ o. (or_no_process o).state) h
-          ∙ state_kept (change_event w r c) ps k ((process_at w k).state) (ap (λ qs. (or_no_process (numbered qs k)).state) (changed_processes w r c)) n
+      by (◌⊎◌.inl h) = ap (λ o. (or_no_process o).state) h ∙ state_kept thin ps k ((process_at w k).state) (state_thin k) n
       by (◌⊎◌.inr h) = absurd (other (able_at h.0))
 
   pub still_awaits : (k : ℕ) (s : Reference) → Awaits ((process_at w k).state) s → (IsListed ps k → ⊥) → Awaits ((process_at happened k).state) s
@@ -184,30 +125,57 @@ module _ (w : World) (p : ℕ) (q after : Process) (is : numbered w.processes p 
   pub still_procures : (k : ℕ) (s : Reference) → (process_at w k).state ≡ procures s → (IsListed ps k → ⊥) → (process_at happened k).state ≡ procures s
   still_procures k s f n = still_waits k (λ e. procures_able s (sym f ∙ e)) n ∙ f
 
+  -- the events
+  abbrev leaves : Reference → ℕ → Bool
+  leaves s k = has_in_list (change_event w r c) s k
+
+  leaves_so : (s : Reference) (k : ℕ) → is_among (list_in (process_at w k).state) s ≡ true → leaves s k ≡ true
+  leaves_so s k e = ap (λ qs. is_among (list_in (or_no_process (numbered qs k)).state) s) (changed_processes w r c) ∙ e
+
+  event_then : (s : Reference) → event_at happened s ≡ thinned (leaves s) ws (event_at (change_event w r c) s)
+  event_then s =
+      ap (λ xs. event_in (cell_in ((or_no_instance (numbered xs s.instance)).cells) s.name)) (able_instances thin ps) ∙ withdrawn_event (change_event w r c) r s ws
+
   -- another event's list
-  elsewhere : (s : Reference) (d : EventState) → (r ≡ s → ⊥) → AreListed w s d → AreListed happened s d
-  elsewhere s d other l =
+  elsewhere : (s : Reference) → (r ≡ s → ⊥) → AreListed w s (event_at w s) → AreListed happened s (thinned (leaves s) ws (event_at w s))
+  elsewhere s other l =
       record {
-        waiters = λ k n. still_awaits k s (l.waiters k n) (λ m. waiting k (l.waiters k n) (freed k m));
-        procurers = λ k n. still_procures k s (l.procurers k n) (λ m. procuring k (l.procurers k n) (freed k m));
-        once = l.once;
+        waiters = λ k n.
+            let m = l.waiters k ((thinner (leaves s) ws (event_at w s)).waiters k n) in still_awaits k s m (λ i. waiting k n m i (freed k i));
+        procurers = λ k n.
+            let m = l.procurers k (subst (λ xs. IsListed xs k) ((thinner (leaves s) ws (event_at w s)).procurers) n) in
+            still_procures k s m (λ i. procuring k m (freed k i));
+        once = subst (λ xs. AreOnce xs) (sym ((thinner (leaves s) ws (event_at w s)).procurers)) l.once;
+        once_waiting = (thinner (leaves s) ws (event_at w s)).once l.once_waiting;
       }
     where
-      waiting : (k : ℕ) → Awaits ((process_at w k).state) s → WaitsAt w r k → ⊥
-      waiting k m (◌⊎◌.inl n) = other (awaits_one ((process_at w k).state) r s n m)
-      waiting k m (◌⊎◌.inr g) = awaits_procures ((process_at w k).state) s r m g
+      -- who waits there and is freed has the event in its list, and has left it
+      waiting : (k : ℕ) → IsListed (thinned (leaves s) ws (event_at w s)).waiters k → Awaits ((process_at w k).state) s → IsListed ps k → WaitsAt w r k → ⊥
+      waiting k n m i (◌⊎◌.inl a) =
+          gone (leaves s) ws (event_at w s) k (also k i a) (leaves_so s k (awaits_two ((process_at w k).state) r s other a m)) n
+      waiting k n m i (◌⊎◌.inr g) = awaits_procures ((process_at w k).state) s r m g
 
       procuring : (k : ℕ) → (process_at w k).state ≡ procures s → WaitsAt w r k → ⊥
       procuring k f (◌⊎◌.inl n) = awaits_procures ((process_at w k).state) r s n f
       procuring k f (◌⊎◌.inr g) = other (procures_same r s (sym g ∙ f))
 
-  pub listed_then : (y : Instance) → numbered w.instances r.instance ≡ Some y → AreListed happened r (after_change c (event_at w r)) → (s : Reference) (d : EventState) →
-      (cell_at w s ≡ event d → AreListed w s d) → cell_at happened s ≡ event d → AreListed happened s d
-  listed_then y there here s d before f = by (event_changed w r s c d y there at_set)
+  pub listed_then : AreListed happened r (after_change c (event_at w r)) → (s : Reference) (d : EventState) →
+      ((e : EventState) → cell_at w s ≡ event e → AreListed w s e) → cell_at happened s ≡ event d → AreListed happened s d
+  listed_then here s d before f = subst (λ x. AreListed happened s x) (sym is_it) (by (references r s))
     where
-      at_set : cell_at (change_event w r c) s ≡ event d
-      at_set = ap (λ xs. cell_in ((or_no_instance (numbered xs s.instance)).cells) s.name) (sym (able_instances (change_event w r c) ps)) ∙ f
+      is_it : d ≡ thinned (leaves s) ws (event_at (change_event w r c) s)
+      is_it = ap (λ (x : Cell). event_in x) (sym f) ∙ event_then s
 
-      by : ((r ≡ s) × (d ≡ after_change c (event_at w r))) ⊎ ((r ≡ s → ⊥) × (cell_at w s ≡ event d)) → AreListed happened s d
-      by (◌⊎◌.inl g) = subst (λ t. AreListed happened t d) g.0 (subst (λ x. AreListed happened r x) (sym g.1) here)
-      by (◌⊎◌.inr g) = elsewhere s d g.0 (before g.1)
+      nobody : AreListed happened r (event_in (cell_in [] []))
+      nobody = record { waiters = λ k n. absurd n; procurers = λ k n. absurd n; once = tt; once_waiting = tt }
+
+      at_r : (event_at (change_event w r c) r ≡ after_change c (event_at w r)) ⊎ (event_at (change_event w r c) r ≡ event_in (cell_in [] [])) →
+          AreListed happened r (thinned (leaves r) ws (event_at (change_event w r c) r))
+      at_r (◌⊎◌.inl g) = thinned_listed happened r (leaves r) ws (event_at (change_event w r c) r) (subst (λ x. AreListed happened r x) (sym g) here)
+      at_r (◌⊎◌.inr g) = thinned_listed happened r (leaves r) ws (event_at (change_event w r c) r) (subst (λ x. AreListed happened r x) (sym g) nobody)
+
+      by : (r ≡ s) ⊎ (r ≡ s → ⊥) → AreListed happened s (thinned (leaves s) ws (event_at (change_event w r c) s))
+      by (◌⊎◌.inl g) =
+          subst (λ t. AreListed happened t (thinned (leaves t) ws (event_at (change_event w r c) t))) g (at_r (changed_event w r c))
+      by (◌⊎◌.inr g) =
+          subst (λ x. AreListed happened s (thinned (leaves s) ws x)) (sym (changed_apart w r s c g)) (elsewhere s g (now_listed w s before))

@@ -59,13 +59,17 @@ module _ (sc : Scopes) (w : World) (ok : IsSound sc IsWhole w) (p : ℕ) (q : Pr
     answered_low = goes_on_low part (◌⊎◌.inl refl) (no_own part outer given) a brings foreign
 
     -- in this world
+    each : PartsLow sc b i X (record part { rest = resume sc part.rest a } ∷ outer)
+    each y (◌⊎◌.inl f) = subst (λ z. GoesLow sc b i X z) f answered_low
+    each y (◌⊎◌.inr n) = old_part y (◌⊎◌.inr n)
+
     pub goes_low : (v : World) → LowIf sc b i X v → (s : State) →
         LowIf sc b i X (with_process v p (record q { todo = record part { rest = resume sc part.rest a } ∷ outer; state = s }))
     goes_low v l s = process_low sc b i X v p (record q { todo = record part { rest = resume sc part.rest a } ∷ outer; state = s }) l each task_low
-      where
-        each : PartsLow sc b i X (record part { rest = resume sc part.rest a } ∷ outer)
-        each y (◌⊎◌.inl f) = subst (λ z. GoesLow sc b i X z) f answered_low
-        each y (◌⊎◌.inr n) = old_part y (◌⊎◌.inr n)
+
+    -- .. and has no woken number then
+    pub woken_low : LowIf sc b i X (with_process w p (record q { todo = record part { rest = resume sc part.rest a } ∷ outer; woken = 0 }))
+    woken_low = process_low sc b i X w p (record q { todo = record part { rest = resume sc part.rest a } ∷ outer; woken = 0 }) h.low each task_low
 
     pub stays_low : LowIf sc b i X (with_process w p (record q { todo = record part { rest = resume sc part.rest a } ∷ outer }))
     stays_low = goes_low w h.low q.state

@@ -1,6 +1,6 @@
 -- Each choice: nobody comes to more of an instance.
-use Rattle.std.proofs.Common.{◌≡◌, ◌⊎◌, ℕ, List, [], ◌∷◌, ◌++◌, length, Option, Some, None, Bool, true, false, refl, subst}
-use Rattle.std.specs.Prelude.{if◌then◌else◌, nat_lt}
+use Rattle.std.proofs.Common.{◌≡◌, ◌⊎◌, ℕ, zero, suc, List, [], ◌∷◌, ◌++◌, length, Option, Some, None, Bool, true, false, refl, subst}
+use Rattle.std.specs.Prelude.{pos, if◌then◌else◌, nat_lt}
 use Rattle.b67_list.specs.Numbered.{numbered}
 use Rattle.b67_num.specs.declared.FaultKind.{FaultKind}
 use Rattle.b67_num.specs.declared.FaultKind.TheVariants as fault
@@ -9,20 +9,20 @@ use Rattle.algol_tree.specs.declared.tree.Kind.{Kind}
 use Rattle.algol_tree.specs.declared.tree.Named.{Named}
 use Rattle.algol_tree.specs.Scopes.{Scopes, use_of}
 use Rattle.algol_meaning.specs.declared.TheConstants.{MOST_STARTED}
-use Rattle.algol_meaning.specs.Value.{Value, whole_of, Reference, Bounds, ArrayCell, Cell, simple, event, array, named, reference}
+use Rattle.algol_meaning.specs.Value.{Value, number, whole_of, Reference, Bounds, ArrayCell, Cell, simple, event, array, named, reference}
 use Rattle.b67_deeds.specs.Events.{fresh_state}
 use Rattle.b67_deeds.specs.Deeds as deeds
 use Rattle.b67_deeds.specs.Deeds.{EventDeed, Deed, Next, deed}
 use Rattle.algol_meaning.specs.Rest.{Place, own, there, element_of, Answer, done, value, cell, place}
 use Rattle.algol_meaning.specs.Settle.{block_of, settle_actual_place}
-use Rattle.algol_meaning.specs.World.{instance_at, cell_at, set_cell, add_cells, followed, value_in, array_in, name_place, Part, Process, State, waits_for, procures, with_process, World}
+use Rattle.algol_meaning.specs.World.{instance_at, cell_at, set_cell, add_cells, followed, value_in, array_in, name_place, Part, Process, State, waits_for, procures, waits_any, with_process, World}
 use Rattle.algol_meaning.specs.Arrays.{subscript_place, element_at, with_element, new_arrays, has_wrong_size, has_no_room, bounds_of}
-use Rattle.algol_meaning.specs.Events.{event_at, released}
+use Rattle.algol_meaning.specs.Events.{event_at, joined_all, first_happened, released}
 use Rattle.algol_meaning.specs.Lines.{line_of}
 use Rattle.b67_deeds.specs.declared.Letter.TheVariants as actions
 use Rattle.algol_meaning.specs.Asks as asks
 use Rattle.algol_meaning.specs.Asks.{Ask, ask, resume, located_of}
-use Rattle.algol_meaning.specs.Choice.{Choice, choice_of, is_subscripted, nth_exists, goes, opens, fails, home, here, read_of, resolved_of, indexed_at, element_read_at, stored, made_arrays, given_cells, task_of, starts, told, did, does_with}
+use Rattle.algol_meaning.specs.Choice.{Choice, choice_of, is_subscripted, nth_exists, goes, opens, fails, home, here, read_of, resolved_of, indexed_at, element_read_at, stored, made_arrays, given_cells, task_of, starts, told, did, does_with_first, all_followed, waits_for_any, wakes_or_waits, does_with}
 use Rattle.algol_paths.specs.Blocks.{IsSeen, IsSeenAround, IsInner}
 use Rattle.algol_calls.specs.Fits.{wanted, AskFits}
 use Rattle.algol_standing.specs.Worlds.{held_in_rest, held_in_answer, IsNoBlock, IsWhole, IsSound}
@@ -33,9 +33,9 @@ use Rattle.algol_standing.proofs.Holding.{AreAll, IsForeign}
 use Rattle.algol_standing.proofs.Seen.{part_ok}
 use Rattle.algol_standing.proofs.Asking.{Sees, AskHolds, rest_sees, rest_asks}
 use Rattle.algol_standing.proofs.FitActing.{asked}
-use Rattle.algol_standing.proofs.LowWorlds.{Low, all_low, LowIf, same_low, set_cell_low, add_cells_low}
+use Rattle.algol_standing.proofs.LowWorlds.{Low, all_low, LowIf, same_low, process_low, joined_low, set_cell_low, add_cells_low}
 use Rattle.algol_standing.proofs.LowNames.{Near, leads_here, cell_here_low, followed_low}
-use Rattle.algol_standing.proofs.LowActing.{old_part, goes_low, stays_low, KeepsLow, either_low, fails_low}
+use Rattle.algol_standing.proofs.LowActing.{old_part, task_low, goes_low, woken_low, stays_low, KeepsLow, either_low, fails_low}
 use Rattle.algol_standing.proofs.LowEntering.{told_of, procedure_low, start_low, block_low, read_low, place_low}
 use Rattle.algol_standing.proofs.LowLeaving.{deed_low, leaves_low, jump_low}
 
@@ -145,9 +145,24 @@ module _ (sc : Scopes) (texts : KeepToTexts sc) (w : World) (ok : IsSound sc IsW
       by deeds.waits = goes_in (released w r d).world low (waits_for r)
       by deeds.procures = goes_in (released w r d).world low (procures r)
 
+  first_kept : (x : EventDeed) (ns : List Named) → Keeps (does_with_first sc w p q part outer x ns)
+  first_kept x [] = h.low
+  first_kept x (n ∷ ns) = let r = followed w (at_name n) in did_kept x r (deed x p (event_at w r)) ((deed x p (event_at w r)).next)
+
+  waits_kept : (rs : List Reference) (o : Option ℕ) → Keeps (waits_for_any sc w p q part outer rs o)
+  waits_kept rs None =
+      process_low sc b i X (joined_all w p [] rs) p (record q { state = waits_any rs }) (joined_low sc b i X rs [] w p h.low) (λ y n. h.low.parts p q y is n)
+      (task_low sc w ok p q part outer is todo b i X h)
+  waits_kept rs (Some n) = stays (value (number (pos n))) tt tt
+
+  several_kept : (woken : ℕ) (rs : List Reference) → Keeps (wakes_or_waits sc w p q part outer woken rs)
+  several_kept zero rs = waits_kept rs (first_happened w rs)
+  several_kept (suc n) rs = woken_low sc w ok p q part outer is todo b i X h (value (number (pos (suc n)))) tt tt
+
   does_kept : (x : EventDeed) (ns : List Named) → Keeps (does_with sc w p q part outer x ns)
-  does_kept x [] = h.low
-  does_kept x (n ∷ ns) = let r = followed w (at_name n) in did_kept x r (deed x p (event_at w r)) ((deed x p (event_at w r)).next)
+  does_kept x ns =
+      one_of (deeds.is_of_several x) (wakes_or_waits sc w p q part outer q.woken (all_followed sc w p q part outer ns)) (does_with_first sc w p q part outer x ns)
+      (several_kept q.woken (all_followed sc w p q part outer ns)) (first_kept x ns)
 
   -- ---- arrays and events that are made
 

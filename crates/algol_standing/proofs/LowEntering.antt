@@ -149,6 +149,7 @@ module _ (sc : Scopes) (w : World) (ok : IsSound sc IsWhole w) (p : ℕ) (q : Pr
             critical = Some (first_on_path w (newest_first 1 w.instances []) p (parent ∷ referred_by cells ++ referred_by_task task_is));
             task = task_is;
             state = able;
+            woken = 0;
           }
 
       in_task : (o : Option Named) → TaskFits sc o → InName Seen o → (X → part.instance ≡ i → InName (IsSeenAround sc b) o) → (r : Reference) → task_of sc w p q part outer o ≡ Some r → X →

@@ -6,16 +6,15 @@ use Rattle.b67_num.specs.declared.FaultKind.TheVariants as fault
 use Rattle.algol_tree.specs.declared.tree.Named.{Named}
 use Rattle.algol_tree.specs.Blocks.{Block, block_numbered}
 use Rattle.algol_tree.specs.Scopes.{Scopes}
-use Rattle.algol_meaning.specs.Value.{Reference, event}
+use Rattle.algol_meaning.specs.Value.{Reference}
 use Rattle.b67_deeds.specs.declared.EventAct.TheVariants as act
-use Rattle.b67_deeds.specs.Events.{EventState}
 use Rattle.b67_deeds.specs.Deeds.{Deed, acts, deed}
 use Rattle.algol_meaning.specs.Rest.{Answer}
 use Rattle.algol_meaning.specs.Statements.{items_from, settle_items}
 use Rattle.algol_meaning.specs.World.{Instance, instance_at, Part, Process, ended, with_process, World}
 use Rattle.algol_meaning.specs.Critical.{some_depends, some_depends_on_any, is_evaluation, own_instances}
 use Rattle.algol_meaning.specs.Instances.{leave, Cut, cut_at}
-use Rattle.algol_meaning.specs.Events.{event_at, change_event, released, caused_by_end}
+use Rattle.algol_meaning.specs.Events.{event_at, change_event, all_withdrawn, released, caused_by_end}
 use Rattle.algol_meaning.specs.Asks as asks
 use Rattle.algol_meaning.specs.Asks.{ask, resume}
 use Rattle.algol_meaning.specs.Choice.{fails, left_with, ended_releasing, left_or_ended, left, gone, goes_to}
@@ -29,19 +28,16 @@ use Rattle.algol_standing.proofs.Seen.{there, instance_is}
 use Rattle.algol_standing.proofs.LeavesWith.{leaves_foreign, leaves_held}
 use Rattle.algol_standing.proofs.Resumed.{no_own}
 use Rattle.algol_standing.proofs.Jumping.{cut_all, cut_target, target_is}
-use Rattle.algol_standing.proofs.LowWorlds.{Low, plain_low, low_all, all_low, GoesLow, LowIf, PartsLow, process_low, able_low, set_cell_low, leave_low}
+use Rattle.algol_standing.proofs.LowWorlds.{Low, plain_low, low_all, all_low, GoesLow, LowIf, PartsLow, process_low, able_low, changed_low, withdrawn_low, leave_low}
 use Rattle.algol_standing.proofs.LowNames.{Near}
 use Rattle.algol_standing.proofs.LowActing.{old_part, given, task_low, goes_on_low, fails_low}
 
 module _ (sc : Scopes) (texts : KeepToTexts sc) (w : World) (ok : IsSound sc IsWhole w) (p : ℕ) (q : Process) (part : Part) (outer : List Part)
     (is : numbered w.processes p ≡ Some q) (todo : q.todo ≡ part ∷ outer) (b i : ℕ) (X : Type 0) (h : Near sc b i X w part) where
-  changed_low : (v : World) (r : Reference) (c : Option (EventState → EventState)) → LowIf sc b i X v → LowIf sc b i X (change_event v r c)
-  changed_low v r None l = l
-  changed_low v r (Some change) l = set_cell_low sc b i X v r (event (change (event_at v r))) (λ t. tt) l
-
-  -- a deed
   pub deed_low : (v : World) (r : Reference) (d : Deed) → LowIf sc b i X v → LowIf sc b i X (released v r d).world
-  deed_low v r d l = able_low sc b i X d.frees (change_event v r d.change) (changed_low v r d.change l)
+  deed_low v r d l =
+      able_low sc b i X d.frees (all_withdrawn (change_event v r d.change) r d.withdraws)
+      (withdrawn_low sc b i X d.withdraws (change_event v r d.change) r (changed_low sc b i X v r d.change l))
 
   -- ---- leaving
 

@@ -2,6 +2,9 @@
 use Rattle.std.proofs.Common.{◌≡◌, ◌⊎◌, ℕ, suc, List, [], ◌∷◌, ◌++◌, length, Option, Some, None, Bool, true, false, refl, sym, ap, ◌∙◌, subst}
 use Rattle.std.specs.Prelude.{if◌then◌else◌}
 use Rattle.b67_list.specs.Numbered.{numbered, set_numbered}
+use Rattle.b67_deeds.specs.declared.EventTest.TheVariants as test
+use Rattle.b67_deeds.specs.Events.{EventState, left_by}
+use Rattle.b67_deeds.specs.Deeds.{tests, deed}
 use Rattle.algol_tree.specs.declared.tree.Kind.{Kind}
 use Rattle.algol_tree.specs.declared.tree.Named.{Named}
 use Rattle.algol_tree.specs.Plain as tree
@@ -9,8 +12,9 @@ use Rattle.algol_tree.specs.Plain.{PDecls}
 use Rattle.algol_tree.specs.Blocks.{Block}
 use Rattle.algol_tree.specs.Sorts.{Parameter, same_name}
 use Rattle.algol_tree.specs.Scopes.{Scopes}
-use Rattle.algol_meaning.specs.Value.{Value, Reference, Cell, simple}
+use Rattle.algol_meaning.specs.Value.{Value, Reference, Cell, simple, event}
 use Rattle.algol_meaning.specs.World.{NamedCell, Instance, or_no_instance, instance_at, cell_in, cells_with, with_instance, set_cell, add_cells, Part, Process, able, no_process, or_no_process, process_at, with_process, set_able, set_all_able, World}
+use Rattle.algol_meaning.specs.Events.{event_at, set_event, change_event, is_among, joined_all, list_in, forgotten, woken_by, withdrawn, all_withdrawn}
 use Rattle.algol_meaning.specs.Critical.{is_evaluation}
 use Rattle.algol_meaning.specs.Instances.{parameter_cells, initial_cells, result_cells, variable_cells, fresh_cells, leave}
 use Rattle.algol_paths.specs.Arrays.{all_to_make}
@@ -175,6 +179,40 @@ module _ (sc : Scopes) (b i : ℕ) (X : Type 0) where
   pub set_cell_low : (w : World) (r : Reference) (c : Cell) → Low c → LowIf w → LowIf (set_cell w r c)
   set_cell_low w r c l h =
       cells_low w r.instance (cells_with ((instance_at w r.instance).cells) r.name c) h (λ t m. cells_with_low sc b i ((instance_at w r.instance).cells) r.name c (l t) m)
+
+  -- ---- events
+
+  event_low : (w : World) (r : Reference) (e : EventState) → LowIf w → LowIf (set_event w r e)
+  event_low w r e h = set_cell_low w r (event e) (λ t. tt) h
+
+  pub changed_low : (w : World) (r : Reference) (c : Option (EventState → EventState)) → LowIf w → LowIf (change_event w r c)
+  changed_low w r None h = h
+  changed_low w r (Some change) h = event_low w r (change (event_at w r)) h
+
+  forgotten_low : (rs : List Reference) (w : World) (p : ℕ) → LowIf w → LowIf (forgotten w p rs)
+  forgotten_low [] w p h = h
+  forgotten_low (r ∷ rs) w p h = forgotten_low rs (change_event w r (Some (left_by p))) p (changed_low w r (Some (left_by p)) h)
+
+  pub withdrawn_low : (ps : List ℕ) (w : World) (r : Reference) → LowIf w → LowIf (all_withdrawn w r ps)
+  withdrawn_low [] w r h = h
+  withdrawn_low (p ∷ ps) w r h =
+      let its = state_low w p (numbered w.processes p) h refl in
+      withdrawn_low ps (withdrawn w r p) r
+      (process_low (forgotten w p (list_in (process_at w p).state)) p (record (process_at w p) { woken = woken_by r (process_at w p) })
+      (forgotten_low (list_in (process_at w p).state) w p h) its.0 its.1)
+
+  pub joined_low : (rs seen : List Reference) (w : World) (p : ℕ) → LowIf w → LowIf (joined_all w p seen rs)
+  joined_low [] seen w p h = h
+  joined_low (r ∷ rs) seen w p h =
+      by (is_among seen r) (joined_low rs (r ∷ seen) w p h) (joined_low rs (r ∷ seen) v p (changed_low w r (deed (tests test.WaitAny) p (event_at w r)).change h))
+    where
+      v : World
+      v = change_event w r (deed (tests test.WaitAny) p (event_at w r)).change
+
+      by : (d : Bool) → LowIf (joined_all w p (r ∷ seen) rs) → LowIf (joined_all v p (r ∷ seen) rs) →
+          LowIf (if d then joined_all w p (r ∷ seen) rs else (joined_all v p (r ∷ seen) rs))
+      by true f g = f
+      by false f g = g
 
   pub add_cells_low : (w : World) (j : ℕ) (more : List NamedCell) → CellsLow sc b i more → LowIf w → LowIf (add_cells w j more)
   add_cells_low w j more l h = cells_low w j ((instance_at w j).cells ++ more) h (λ t m. more_low sc b i ((instance_at w j).cells) more m l)

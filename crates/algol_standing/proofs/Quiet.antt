@@ -1,6 +1,6 @@
 -- Actions that change no stack of instances and no event keep what worlds are: reads, stores, places, evaluations of names, lines, loops, choices, arrays and
 -- faults.
-use Rattle.std.proofs.Common.{◌≡◌, ◌⊎◌, ℕ, List, [], ◌∷◌, ◌++◌, Option, Some, None, Bool, true, false, refl, sym, ap, ◌∙◌, subst}
+use Rattle.std.proofs.Common.{arith, ◌≡◌, ◌⊎◌, ℕ, List, [], ◌∷◌, ◌++◌, Option, Some, None, Bool, true, false, refl, sym, ap, ◌∙◌, subst}
 use Rattle.std.specs.Prelude.{if◌then◌else◌}
 use Rattle.b67_list.specs.Numbered.{numbered, set_numbered}
 use Rattle.b67_num.specs.declared.FaultKind.{FaultKind}
@@ -21,7 +21,7 @@ use Rattle.algol_meaning.specs.Asks.{Ask, nothing, ask, resume, located_of}
 use Rattle.algol_meaning.specs.Choice.{Choice, is_subscripted, goes, opens, fails, home, here, read_of, resolved_of, indexed_at, element_read_at, stored, made_arrays, made_event}
 use Rattle.algol_paths.specs.Blocks.{IsSeen, IsSeenAround, IsInner}
 use Rattle.algol_standing.specs.Skeleton.{IsIn}
-use Rattle.algol_standing.specs.Worlds.{held_in_answer, newest_own, stack_of, IsStanding, IsOnPath, IsAwaited, AreListed, IsWhole, IsSound}
+use Rattle.algol_standing.specs.Worlds.{held_in_answer, newest_own, stack_of, IsStanding, IsOnPath, IsAwaited, IsFew, AreListed, IsWhole, IsSound}
 use Rattle.algol_standing.proofs.Calls.{IsNoEvent}
 use Rattle.algol_standing.proofs.Lists.{some_same}
 use Rattle.algol_standing.proofs.Holding.{AreAll, IsForeign}
@@ -67,7 +67,7 @@ same_ok sc w v ok e f =
 
     listed : (r : Reference) (x : EventState) → AreListed w r x → AreListed v r x
     listed r x l = subst (λ qs. AreListed (record w { instances = v.instances; processes = qs; output = v.output; fault = v.fault }) r x) (sym f)
-        (record { waiters = l.waiters; procurers = l.procurers; once = l.once })
+        (record { waiters = l.waiters; procurers = l.procurers; once = l.once; once_waiting = l.once_waiting })
 
 module _ (sc : Scopes) (heads_act : (r : Rest) (a : Answer) → Suits (ask r) a → ask (resume sc r a) ≡ nothing → ⊥) (w : World) (ok : IsSound sc IsWhole w) (p : ℕ) (q : Process) (part : Part) (outer : List Part)
     (is : numbered w.processes p ≡ Some q) (todo : q.todo ≡ part ∷ outer) (able_is : q.state ≡ able) where
@@ -80,19 +80,22 @@ module _ (sc : Scopes) (heads_act : (r : Rest) (a : Answer) → Suits (ask r) a 
   pub waits_not : (r : Reference) → IsAwaited q.state r → IsOnPath w (newest_own (part ∷ outer)) r.instance
   waits_not r n = absurd (subst (λ s. IsAwaited s r) able_is n)
 
+  pub its_few : IsFew q.woken q.state
+  its_few = (ok.processes p q is).few
+
   -- ---- the part goes on with an answer
 
-  module _ (a : Answer) (foreign : IsForeign a) (brings : AreAll Held (held_in_answer a)) (suits : Suits (ask part.rest) a) (after : World)
+  module _ (woken : ℕ) (few : IsFew woken q.state) (a : Answer) (foreign : IsForeign a) (brings : AreAll Held (held_in_answer a)) (suits : Suits (ask part.rest) a) (after : World)
       (instances : AllPairs InstanceAlike w.instances after.instances) (same : after.processes ≡ w.processes)
       (events : (r : Reference) (e : EventState) → cell_at after r ≡ event e → cell_at w r ≡ event e) where
     pub acts : ask (resume sc part.rest a) ≡ nothing → ⊥
     acts = heads_act part.rest a suits
 
     abbrev moved : Process
-    moved = resumed sc w ok p q part outer is todo live a foreign brings acts q.state live waits_not
+    moved = resumed sc w ok p q part outer is todo live a foreign brings acts q.state live waits_not woken few
 
     abbrev MovedHere : Process → Process → Type 0
-    MovedHere = Moved sc w ok p q part outer is todo live a foreign brings acts q.state live waits_not
+    MovedHere = Moved sc w ok p q part outer is todo live a foreign brings acts q.state live waits_not woken few
 
     processes : AllPairs MovedHere w.processes (set_numbered after.processes p moved)
     processes =
@@ -102,7 +105,7 @@ module _ (sc : Scopes) (heads_act : (r : Rest) (a : Answer) → Suits (ask r) a 
 
     pub goes_ok : IsSound sc IsWhole (with_process after p moved)
     goes_ok =
-        resumed_ok sc w ok p q part outer is todo live a foreign brings acts q.state live waits_not (with_process after p moved) instances processes
+        resumed_ok sc w ok p q part outer is todo live a foreign brings acts q.state live waits_not woken few (with_process after p moved) instances processes
         (λ r e st f. listed_still w (with_process after p moved) p q moved is able_is (ap (λ qs. set_numbered qs p moved) same) r e (ok.listed r e st (events r e f)))
 
   -- .. where an event comes to be, for which nobody waits
@@ -114,24 +117,29 @@ module _ (sc : Scopes) (heads_act : (r : Rest) (a : Answer) → Suits (ask r) a 
     acts_then = heads_act part.rest done suits
 
     abbrev moved_then : Process
-    moved_then = resumed sc w ok p q part outer is todo live done tt tt acts_then q.state live waits_not
+    moved_then = resumed sc w ok p q part outer is todo live done tt tt acts_then q.state live waits_not q.woken its_few
 
     pub event_goes : IsSound sc IsWhole (with_process made p moved_then)
     event_goes =
-        resumed_ok sc w ok p q part outer is todo live done tt tt acts_then q.state live waits_not (with_process made p moved_then)
+        resumed_ok sc w ok p q part outer is todo live done tt tt acts_then q.state live waits_not q.woken its_few (with_process made p moved_then)
         (add_alike w part.instance (record { name = name; cell = event fresh_state } ∷ []) ((λ i n. absurd n, λ m n. absurd n), tt))
-        (pairs_then_set Unmoved (Moved sc w ok p q part outer is todo live done tt tt acts_then q.state live waits_not) (λ x y f. ◌⊎◌.inr f) w.processes w.processes p moved_then
+        (pairs_then_set Unmoved (Moved sc w ok p q part outer is todo live done tt tt acts_then q.state live waits_not q.woken its_few) (λ x y f. ◌⊎◌.inr f) w.processes w.processes p moved_then
         (pairs_self Unmoved unmoved_self w.processes) (λ x e. ◌⊎◌.inl (some_same e is, refl)))
         (λ r e st f. by r e st (event_before w part.instance name fresh_state r e f))
       where
         by : (r : Reference) (e : EventState) → IsStanding w r.instance → (cell_at w r ≡ event e) ⊎ (e ≡ fresh_state) → AreListed (with_process made p moved_then) r e
         by r e st (◌⊎◌.inl g) = listed_still w (with_process made p moved_then) p q moved_then is able_is refl r e (ok.listed r e st g)
         by r e st (◌⊎◌.inr g) =
-            subst (λ d. AreListed (with_process made p moved_then) r d) (sym g) (record { waiters = λ k n. absurd n; procurers = λ k n. absurd n; once = tt })
+            subst (λ d. AreListed (with_process made p moved_then) r d) (sym g) (record { waiters = λ k n. absurd n; procurers = λ k n. absurd n; once = tt; once_waiting = tt })
 
   -- .. where no cell changes
   pub same_goes : (a : Answer) → IsForeign a → AreAll Held (held_in_answer a) → Suits (ask part.rest) a → IsSound sc IsWhole (with_process w p (record q { todo = record part { rest = resume sc part.rest a } ∷ outer }))
-  same_goes a f b s = goes_ok a f b s w (pairs_self InstanceAlike instance_self w.instances) refl (λ r e g. g)
+  same_goes a f b s = goes_ok q.woken its_few a f b s w (pairs_self InstanceAlike instance_self w.instances) refl (λ r e g. g)
+
+  -- who was released goes on by its woken number, and has none then
+  pub woken_goes : (v : Value) → Suits (ask part.rest) (value v) →
+      IsSound sc IsWhole (with_process w p (record q { todo = record part { rest = resume sc part.rest (value v) } ∷ outer; woken = 0 }))
+  woken_goes v s = goes_ok 0 (omega (arith), its_few.1) (value v) tt tt s w (pairs_self InstanceAlike instance_self w.instances) refl (λ r e g. g)
 
   -- ---- choices
 
@@ -222,7 +230,7 @@ module _ (sc : Scopes) (heads_act : (r : Rest) (a : Answer) → Suits (ask r) a 
 
   module _ (x : Place) (v : Value) (e : ask part.rest ≡ asks.stores x v) where
     set_goes : (r : Reference) (c : Cell) → IsPlain c → IsNoEvent c → IsSound sc IsWhole (with_process (set_cell w r c) p (record q { todo = record part { rest = resume sc part.rest done } ∷ outer }))
-    set_goes r c plain without = goes_ok done tt tt (suited (asks.stores x v) e done tt) (set_cell w r c) (set_alike w r c plain) refl (set_event_before w r c without)
+    set_goes r c plain without = goes_ok q.woken its_few done tt tt (suited (asks.stores x v) e done tt) (set_cell w r c) (set_alike w r c plain) refl (set_event_before w r c without)
 
   pub stored_keeps : (x : Place) (v : Value) → ask part.rest ≡ asks.stores x v → Keeps (stored sc w p q part outer x v)
   stored_keeps (own n) v e = set_goes (own n) v e (here sc w p q part outer n) (simple v) (simple_plain v) (simple_no_event v)
@@ -238,7 +246,7 @@ module _ (sc : Scopes) (heads_act : (r : Rest) (a : Answer) → Suits (ask r) a 
       (fails_keeps fault.ArraySize)
       (either (has_no_room w bs ns) (fails sc w p q part outer fault.CoreFull)
       (goes sc w p q part outer actions.MakeArrays (add_cells w part.instance (new_arrays kind bs ns)) done) (fails_keeps fault.CoreFull)
-      (goes_ok done tt tt (suited x e done s) (add_cells w part.instance (new_arrays kind bs ns)) (add_alike w part.instance (new_arrays kind bs ns) (arrays_plain kind bs ns)) refl
+      (goes_ok q.woken its_few done tt tt (suited x e done s) (add_cells w part.instance (new_arrays kind bs ns)) (add_alike w part.instance (new_arrays kind bs ns) (arrays_plain kind bs ns)) refl
       (add_event_before w part.instance (new_arrays kind bs ns) (arrays_no_events kind bs ns))))
 
   pub event_keeps : (n : Named) → ask part.rest ≡ asks.makes_event n → Keeps (made_event sc w p q part outer n)

@@ -18,7 +18,7 @@ use Rattle.algol_paths.specs.Arrays.{Made, made_in, to_come, all_to_make, all_le
 use Rattle.algol_paths.proofs.Rests.{resumed_keeps}
 use Rattle.algol_paths.proofs.Making.{all_is_made_in_order}
 use Rattle.algol_standing.specs.Skeleton.{Evaluation, IsEvaluated, IsIn}
-use Rattle.algol_standing.specs.Worlds.{held_in_rest, held_in_answer, newest_own, held_by, IsStanding, IsOnPath, IsOwn, IsAmong, AreListed, IsAwaited, IsNoBlock, GivesNoOwn, GivesPlace, AreGiven, HasHead, IsWhole, PartOk, ProcessOk, IsSound}
+use Rattle.algol_standing.specs.Worlds.{held_in_rest, held_in_answer, newest_own, held_by, IsStanding, IsOnPath, IsOwn, IsAmong, AreListed, IsAwaited, IsFew, IsNoBlock, GivesNoOwn, GivesPlace, AreGiven, HasHead, IsWhole, PartOk, ProcessOk, IsSound}
 use Rattle.algol_standing.proofs.Holding.{AreAll, IsForeign, RestHolds, PlaceGivable, put_place_givable, resumed_holds}
 use Rattle.algol_standing.proofs.Pairs.{AllPairs}
 use Rattle.algol_standing.proofs.Alike.{InstanceAlike, ProcessAlike}
@@ -172,7 +172,8 @@ module _ (sc : Scopes) (w : World) (ok : IsSound sc IsWhole w) (part : Part) (ou
 
 module _ (sc : Scopes) (w : World) (ok : IsSound sc IsWhole w) (p : ℕ) (q : Process) (part : Part) (outer : List Part) (is : numbered w.processes p ≡ Some q) (todo : q.todo ≡ part ∷ outer)
     (live : lives q.state ≡ true) (a : Answer) (foreign : IsForeign a) (brings : AreAll (CellOk sc IsWhole w ok (newest_own (part ∷ outer))) (held_in_answer a))
-    (acts : ask (resume sc part.rest a) ≡ nothing → ⊥) (s : State) (lives_on : lives s ≡ true) (awaits : (r : Reference) → IsAwaited s r → IsOnPath w (newest_own (part ∷ outer)) r.instance) where
+    (acts : ask (resume sc part.rest a) ≡ nothing → ⊥) (s : State) (lives_on : lives s ≡ true) (awaits : (r : Reference) → IsAwaited s r → IsOnPath w (newest_own (part ∷ outer)) r.instance)
+    (woken : ℕ) (few : IsFew woken s) where
   fine_here : Fine sc w (part ∷ outer)
   fine_here = subst (λ ps. Fine sc w ps) todo (fine_of sc w ok p q is)
 
@@ -181,7 +182,7 @@ module _ (sc : Scopes) (w : World) (ok : IsSound sc IsWhole w) (p : ℕ) (q : Pr
 
   -- the process after the answer
   abbrev pub resumed : Process
-  resumed = record q { todo = acted ∷ outer; state = s }
+  resumed = record q { todo = acted ∷ outer; state = s; woken = woken }
 
   fine_then : Fine sc w (acted ∷ outer)
   fine_then = answered_fine sc w ok part outer fine_here a foreign brings
@@ -190,7 +191,7 @@ module _ (sc : Scopes) (w : World) (ok : IsSound sc IsWhole w) (p : ℕ) (q : Pr
   head_then = record { part = acted; outer = outer; is = refl; acts = acts; wait = λ x n. others_wait q part outer ((ok.processes p q is).heads live) todo x n }
 
   process_then : ProcessOk sc IsWhole w resumed
-  process_then = record { parts = fine_then.each; heads = λ l. head_then; gives = fine_then.given; awaited = awaits }
+  process_then = record { parts = fine_then.each; heads = λ l. head_then; gives = fine_then.given; awaited = awaits; few = few }
 
   alike_then : ProcessAlike q resumed
   alike_then =

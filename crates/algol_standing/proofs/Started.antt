@@ -58,7 +58,7 @@ module _ (sc : Scopes) (texts : KeepToTexts sc) (w : World) (ok : IsSound sc IsW
   inner = new_part sc w p q part outer j started
 
   abbrev pub starter : Process
-  starter = record { todo = inner ∷ []; critical = Some critical; task = task; state = able }
+  starter = record { todo = inner ∷ []; critical = Some critical; task = task; state = able; woken = 0 }
 
   abbrev pub v : World
   v = with_started sc w p q part outer (with_new_instance sc w p q part outer j parent (next_process sc w p q part outer) cells) j cells task parent

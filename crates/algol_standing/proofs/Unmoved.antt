@@ -1,10 +1,10 @@
--- A process whose parts stay: at most its state changes, to able.
-use Rattle.std.proofs.Common.{◌≡◌, ◌⊎◌, ℕ, true, refl, sym, ap, ◌∙◌, subst}
+-- A process whose parts stay: at most its state changes, to able, and its woken number.
+use Rattle.std.proofs.Common.{arith, ◌≡◌, ◌⊎◌, ℕ, true, refl, sym, ap, ◌∙◌, subst}
 use Rattle.algol_tree.specs.Scopes.{Scopes}
 use Rattle.algol_meaning.specs.Value.{Reference}
 use Rattle.algol_meaning.specs.World.{Process, able, lives, World}
 use Rattle.algol_meaning.specs.Critical.{own_instances}
-use Rattle.algol_standing.specs.Worlds.{newest_own, IsOnPath, IsOwn, IsAmong, IsAwaited, AreGiven, HasHead, ProcessOk}
+use Rattle.algol_standing.specs.Worlds.{newest_own, IsOnPath, IsOwn, IsAmong, IsAwaited, IsFew, AreGiven, HasHead, ProcessOk}
 use Rattle.algol_standing.proofs.Alike.{ProcessAlike}
 
 pub record Unmoved (x y : Process) : Type 0 where
@@ -12,9 +12,10 @@ pub record Unmoved (x y : Process) : Type 0 where
   pub critical : y.critical ≡ x.critical
   pub task : y.task ≡ x.task
   pub state : (y.state ≡ x.state) ⊎ ((y.state ≡ able) × (lives x.state ≡ true))
+  pub few : IsFew x.woken x.state → IsFew y.woken y.state
 
 pub unmoved_self : (x : Process) → Unmoved x x
-unmoved_self x = record { todo = refl; critical = refl; task = refl; state = ◌⊎◌.inl refl }
+unmoved_self x = record { todo = refl; critical = refl; task = refl; state = ◌⊎◌.inl refl; few = λ f. f }
 
 pub unmoved_lives : (x y : Process) → Unmoved x y → lives y.state ≡ lives x.state
 unmoved_lives x y f = by f.state
@@ -25,7 +26,7 @@ unmoved_lives x y f = by f.state
 
 -- once more made able
 pub unmoved_able : (x y : Process) → lives x.state ≡ true → Unmoved x y → Unmoved x (record y { state = able })
-unmoved_able x y live f = record { todo = f.todo; critical = f.critical; task = f.task; state = ◌⊎◌.inr (refl, live) }
+unmoved_able x y live f = record { todo = f.todo; critical = f.critical; task = f.task; state = ◌⊎◌.inr (refl, live); few = λ h. ((f.few h).0, omega (arith)) }
 
 pub unmoved_alike : (x y : Process) → Unmoved x y → ProcessAlike x y
 unmoved_alike x y f =
@@ -44,6 +45,7 @@ unmoved_ok sc Whole w x y f k =
       heads = λ live. subst (λ ps. HasHead ps) (sym f.todo) (k.heads (sym (unmoved_lives x y f) ∙ live));
       gives = subst (λ ps. AreGiven ps) (sym f.todo) k.gives;
       awaited = λ r n. by r n f.state;
+      few = f.few k.few;
     }
   where
     by : (r : Reference) → IsAwaited y.state r → (y.state ≡ x.state) ⊎ ((y.state ≡ able) × (lives x.state ≡ true)) → IsOnPath w (newest_own y.todo) r.instance

@@ -1,11 +1,12 @@
 -- Worlds in which calls fit: the own cells of parameters lead elsewhere, and what leads elsewhere leads to no such cell.
-use Rattle.std.specs.Prelude.{◌≡◌, ℕ, false, List, [], ◌∷◌, Some}
+use Rattle.std.specs.Prelude.{◌≡◌, ℕ, true, false, List, [], ◌∷◌, Some}
 use Rattle.b67_list.specs.Numbered.{numbered}
 use Rattle.algol_tree.specs.Blocks.{block_numbered}
 use Rattle.algol_tree.specs.Sorts.{is_formal, Parameter}
 use Rattle.algol_tree.specs.Scopes.{Scopes}
 use Rattle.algol_meaning.specs.Value.{Reference, Cell, named, reference}
 use Rattle.algol_meaning.specs.World.{NamedCell, Instance, Part, Process, World, cell_in}
+use Rattle.algol_meaning.specs.Events.{is_among, list_in}
 use Rattle.algol_calls.specs.Fits.{CellFits, parameter_sort, ExprFits, RestFits}
 use Rattle.algol_standing.specs.Worlds.{held_in_rest, IsAmong, IsSound}
 use Rattle.algol_standing.specs.Lows.{IsLow, IsMaking}
@@ -47,6 +48,7 @@ module _ (sc : Scopes) where
     pub record ProcessFits (q : Process) : Type 0 where
       pub parts : (part : Part) → IsAmong q.todo part → PartFits part
       pub task : (r : Reference) → q.task ≡ Some r → IsPlainAt r
+      pub waits : (r : Reference) → is_among (list_in q.state) r ≡ true → IsPlainAt r
 
     pub record WorldFits : Type 0 where
       pub instances : (i : ℕ) (x : Instance) → numbered w.instances i ≡ Some x → InstanceFits x

@@ -1,5 +1,6 @@
 -- Facts of worlds only: what stands, what is referred to, and that all of it lies on the path.
 use Rattle.std.specs.Prelude.{◌≡◌, ◌⊎◌, ◌↔◌, ℕ, zero, suc, ◌<◌, ◌≤◌, Bool, true, false, if◌then◌else◌, List, [], ◌∷◌, ◌++◌, length, map, Some, None}
+use Rattle.b67_limits.specs.declared.TheConstants.{MOST_EVENTS}
 use Rattle.b67_list.specs.Numbered.{numbered}
 use Rattle.algol_tree.specs.Plain.{PBody}
 use Rattle.algol_tree.specs.Blocks.{around}
@@ -8,8 +9,9 @@ use Rattle.algol_meaning.specs.Value.{Reference, NameCell, Cell, event, named, r
 use Rattle.b67_deeds.specs.Events.{EventState}
 use Rattle.b67_deeds.specs.Listed.{IsListed, AreOnce}
 use Rattle.algol_meaning.specs.Rest.{Place, own, there, element_of, Given, passed, Hole, enter, subscript, argument, left, right, negated, inverted, condition, Actuals, pass, in_value, Aim, place_subscript, Rest, giving_place, store, entering, starting, evaluating, locating, aiming, storing, choosing, looping, checking, counting, differing, stepping, selecting, calling, preparing, writing, bounding, inside_place, Answer, cell, place}
-use Rattle.algol_meaning.specs.World.{NamedCell, Instance, Part, Process, State, waits_for, procures, lives, World, instance_at, process_at, cell_at}
+use Rattle.algol_meaning.specs.World.{NamedCell, Instance, Part, Process, State, waits_for, procures, waits_any, lives, World, instance_at, process_at, cell_at}
 use Rattle.algol_meaning.specs.Critical.{is_evaluation, own_instances, referred_in, referred_by}
+use Rattle.algol_meaning.specs.Events.{is_among, list_in}
 use Rattle.algol_meaning.specs.Asks.{nothing, ask}
 use Rattle.algol_paths.specs.Blocks.{IsSeen, IsSeenAround}
 use Rattle.algol_paths.specs.Texts.{InExpr, InRest}
@@ -138,22 +140,29 @@ pub data IsPlaced (sc : Scopes) (w : World) (x : Instance) : Type 0 where
 
 -- ---- waiting
 
--- who waits in this state, waits for that event to happen
+-- who waits in this state, waits for that event to happen, by itself or among several
 abbrev pub Awaits : State → Reference → Type 0
 Awaits (waits_for s) r = s ≡ r
+Awaits (waits_any rs) r = is_among rs r ≡ true
 Awaits _ r = ⊥
 
--- who is in an event's list lives and waits for that event; nobody waits twice to procure it
+-- who is in an event's list lives and waits for that event; nobody waits there twice
 pub record AreListed (w : World) (r : Reference) (e : EventState) : Type 0 where
   pub waiters : (p : ℕ) → IsListed e.waiters p → Awaits ((process_at w p).state) r
   pub procurers : (p : ℕ) → IsListed e.procurers p → (process_at w p).state ≡ procures r
   pub once : AreOnce e.procurers
+  pub once_waiting : AreOnce e.waiters
 
 -- what a state waits for
 abbrev pub IsAwaited : State → Reference → Type 0
 IsAwaited (waits_for s) r = s ≡ r
 IsAwaited (procures s) r = s ≡ r
+IsAwaited (waits_any rs) r = is_among rs r ≡ true
 IsAwaited _ r = ⊥
+
+-- no more events are waited for than may be, and the woken number is the place of one of so many
+abbrev pub IsFew : ℕ → State → Type 0
+IsFew woken s = (woken ≤ MOST_EVENTS) × (length (list_in s) ≤ MOST_EVENTS)
 
 -- ---- actuals that are kept
 
@@ -254,8 +263,9 @@ module _ (sc : Scopes) (Whole : World → ℕ → Type 0) (w : World) where
     pub heads : lives q.state ≡ true → HasHead q.todo
     -- each part waits for what the one inside it gives
     pub gives : AreGiven q.todo
-    -- who waits, waits for an event on its path
+    -- who waits, waits for events on its path
     pub awaited : (r : Reference) → IsAwaited q.state r → IsOnPath w (newest_own q.todo) r.instance
+    pub few : IsFew q.woken q.state
 
   -- the parent of an instance is whole; the actuals that an instance keeps while it stands, keep to their texts
   pub record InstanceOk (i : ℕ) (x : Instance) : Type 0 where
