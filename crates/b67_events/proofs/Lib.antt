@@ -1,7 +1,12 @@
 pub mod Listed
 pub mod Places
 pub mod Shown
+pub mod Numbers
 pub mod Queued
+pub mod Marks
+pub mod Leaving
+pub mod Joined
+pub mod OfSeveral
 pub mod Steps
 pub mod EventLaws
 pub mod OnceLaws

@@ -1,17 +1,23 @@
 -- How often a process waits, before and after each action.
-use Rattle.std.proofs.Common.{◌≡◌, ℕ, ◌+◌, ◌≤◌, Bool, true, false, cond, not, eqb, List, [], ◌∷◌, ◌++◌, All, take, drop, Option, Some, None, refl, sym, ap, ◌∙◌, subst, inl, inr, arith}
-use Rattle.std.specs.Prelude.{filter}
+use Rattle.std.proofs.Common.{◌≡◌, ℕ, ◌+◌, ◌≤◌, Bool, true, false, cond, not, eqb, List, [], ◌∷◌, ◌++◌, All, take, drop, Some, None, refl, sym, ap, ◌∙◌, inl, inr, arith}
+use Rattle.std.specs.Prelude.{filter, map}
 use Rattle.std.specs.List.{list_any}
-use Rattle.std.proofs.lemmas.List.Elements.{All-nil, All-cons, All-head, All-tail, All-filter}
-use Rattle.std.proofs.lemmas.Bool.{cases_Bool, cond-true, cond-false, both_ways, false_from_ne_true, eqb-true, eq-eqb, or_cases, or_parts}
+use Rattle.std.proofs.lemmas.List.Elements.{All-nil, All-cons, All-head, All-tail, All-weaker, All-map, All-filter}
+use Rattle.std.proofs.lemmas.Bool.{cases_Bool, cond-true, cond-false, both_ways, false_from_ne_true, not_from_true, not_from_false, eqb-true, or_cases, or_parts, or_from}
 use Rattle.b67_word.specs.declared.Place.{Place}
 use Rattle.b67_deeds.specs.declared.EventAct.TheVariants as act
-use Rattle.b67_deeds.specs.Events.{EventState, caused, joined, queued, taken, served, passed_on}
-use Rattle.b67_deeds.specs.Deeds.{EventDeed, acts, tests, Next, goes, waits, procures}
-use Rattle.b67_events.specs.Events.{Event, same_place, event_at, is_open, is_from, state_of, waiters_at, procurers_at, happened_at, available_at, is_waiting, changed, with_state, changed_by, deed_at, done_at, fresh, is_before, placed, opened}
+use Rattle.b67_deeds.specs.declared.EventTest.TheVariants as test
+use Rattle.b67_deeds.specs.Events.{EventState, caused, let_go, left_by, joined, queued, taken, served, passed_on}
+use Rattle.b67_deeds.specs.Deeds.{EventDeed, acts, tests, goes, waits, procures}
+use Rattle.b67_events.specs.Events.{Event, same_place, event_at, is_open, is_from, state_of, waiters_at, procurers_at, happened_at, available_at, is_waiting, changed, with_state, changed_by, deed_at, done_at, fresh, is_before, placed, is_one_of, is_among, withdrawn, joined_all}
 use Rattle.b67_events.specs.Laws.{AreApart}
-use Rattle.b67_events.specs.Once.{times_in, times, waiters_of, procurers_of, all_of, EachOnce, MayWait, EachWaitsOnce, ReleasedWaitNowhere}
+use Rattle.b67_events.specs.Once.{times_in, times, waiters_of, procurers_of, is_waiter, WaitsOneWay, EachOnce, MayWait, EachWaitsOnce, ReleasedWaitNowhere}
 use Rattle.b67_events.proofs.Listed.{same_place-true}
+use Rattle.b67_events.proofs.Queued.{any-filter}
+
+-- all lists of an event
+abbrev all_of : EventState → List ℕ
+all_of e = e.waiters ++ e.procurers
 
 abbrev one_if : Bool → ℕ
 one_if b = cond b 1 0
@@ -84,6 +90,11 @@ module _ (lists : EventState → List ℕ) (p : ℕ) where
       ] in
       omega arith
 
+  times-mapped : (change : Event → Event) → ((e : Event) → times_in p (lists (change e).state) ≤ times_in p (lists e.state))
+      → (es : List Event) → times lists p (map change es) ≤ times lists p es
+  times-mapped change less [] = omega arith
+  times-mapped change less (e ∷ es) = let rest = times-mapped change less es in let head = less e in omega arith
+
   times-filter : (r : Event → Bool) (es : List Event) → times lists p (filter r es) ≤ times lists p es
   times-filter r [] = omega arith
   times-filter r (e ∷ es) =
@@ -128,6 +139,15 @@ queued-more p q at (e ∷ es) apart =
           ap (λ x. times procurers_of q (x ∷ rest)) (cond-false b (more e) e h) in
           let tail = queued-more p q at es apart.1 in
           omega arith
+    ]
+
+times_in-filter : (p : ℕ) (r : ℕ → Bool) (xs : List ℕ) → times_in p (filter r xs) ≤ times_in p xs
+times_in-filter p r [] = omega arith
+times_in-filter p r (x ∷ xs) =
+    let rest = times_in-filter p r xs in
+    elim (cases_Bool (r x)) [
+      | inl e ↦ let is : times_in p (filter r (x ∷ xs)) ≡ times_in p (x ∷ filter r xs) = ap (times_in p) (cond-true (r x) (x ∷ filter r xs) (filter r xs) e) in omega arith
+      | inr e ↦ let is : times_in p (filter r (x ∷ xs)) ≡ times_in p (filter r xs) = ap (times_in p) (cond-false (r x) (x ∷ filter r xs) (filter r xs) e) in omega arith
     ]
 
 times_in-drop : (p : ℕ) (xs : List ℕ) → times_in p (drop 1 xs) ≤ times_in p xs
@@ -224,8 +244,57 @@ once-passed : (at : Place) (xs : List ℕ) (es : List Event) → EachOnce es →
 once-passed at [] es h = once-fewer at (passed_on []) (λ q s. omega arith) (λ q s. omega arith) es h
 once-passed at (x ∷ xs) es h = once-fewer at (passed_on (x ∷ xs)) (λ q s. omega arith) (λ q s. times_in-drop q s.procurers) es h
 
+-- ---- every event is changed alike
+
+once-everywhere : (change : Event → Event) → ((q : ℕ) (e : Event) → times_in q (change e).state.waiters ≤ times_in q e.state.waiters)
+    → ((q : ℕ) (e : Event) → times_in q (change e).state.procurers ≤ times_in q e.state.procurers)
+    → (es : List Event) → EachOnce es → EachOnce (map change es)
+once-everywhere change fewer less es h = record {
+  waiting = λ q. All-map (StandsOnce q) change es (All-weaker (StandsOnce q) (λ e. StandsOnce q (change e)) (λ e k. let f = fewer q e in omega arith) es (h.waiting q));
+  procuring = λ q. let f = times-mapped procurers_of q change (less q) es in let k = h.procuring q in omega arith;
+}
+
+-- who is withdrawn leaves all events
+once-withdrawn : (ps : List ℕ) (es : List Event) → EachOnce es → EachOnce (withdrawn ps es)
+once-withdrawn [] es h = h
+once-withdrawn (p ∷ ps) es h =
+    once-withdrawn ps (map (with_state (left_by p)) es)
+    (once-everywhere (with_state (left_by p)) (λ q e. times_in-filter q (λ k. not (eqb p k)) e.state.waiters) (λ q e. omega arith) es h)
+
+-- a process joins several events
+several-once : (p q : ℕ) (places : List Place) (es : List Event) → is_waiting p es ≡ false → All (StandsOnce q) es → All (StandsOnce q) (joined_all places p es)
+several-once p q places [] idle h = h
+several-once p q places (e ∷ es) idle h =
+    let parts = or_parts (list_any (eqb p) (e.state.waiters ++ e.state.procurers)) (is_waiting p es) idle in
+    let stays = all-joined p q (e ∷ es) idle in
+    All-cons (StandsOnce q) _ (joined_all places p es)
+    (by_test (All-head (StaysOnce q (joined p)) e es stays) (All-head (StandsOnce q) e es h) (is_among places e.place))
+    (several-once p q places es parts.1 (All-tail (StandsOnce q) e es h))
+  where
+    by_test : StaysOnce q (joined p) e → StandsOnce q e → (b : Bool) → StandsOnce q (cond b (with_state (joined p) e) e)
+    by_test stays one true = stays one
+    by_test stays one false = one
+
+several-procures : (p q : ℕ) (places : List Place) (es : List Event) → times procurers_of q (joined_all places p es) ≤ times procurers_of q es
+several-procures p q places es =
+    times-mapped procurers_of q (λ e. cond (is_among places e.place) (with_state (joined p) e) e)
+    (λ e. by_test e (is_among places e.place)) es
+  where
+    by_test : (e : Event) (b : Bool) → times_in q (cond b (with_state (joined p) e) e).state.procurers ≤ times_in q e.state.procurers
+    by_test e true = omega arith
+    by_test e false = omega arith
+
+once-several : (places : List Place) (p : ℕ) (es : List Event) → is_waiting p es ≡ false → EachOnce es → EachOnce (joined_all places p es)
+once-several places p es idle h = record {
+  waiting = λ q. several-once p q places es idle (h.waiting q);
+  procuring = λ q. let f = several-procures p q places es in let k = h.procuring q in omega arith;
+}
+
 once-deed : (x : EventDeed) (p : ℕ) (at : Place) (es : List Event) → MayWait (deed_at x p at es).next p es → EachOnce es → EachOnce (done_at x p at es)
-once-deed (acts act.Cause) p at es may h = once-fewer at caused (λ q s. omega arith) (λ q s. omega arith) es h
+once-deed (acts act.Cause) p at es may h =
+    once-withdrawn (waiters_at at es) (changed at (with_state caused) es) (once-fewer at caused (λ q s. omega arith) (λ q s. omega arith) es h)
+once-deed (acts act.CauseAndReset) p at es may h =
+    once-withdrawn (waiters_at at es) (changed at (with_state let_go) es) (once-fewer at let_go (λ q s. omega arith) (λ q s. omega arith) es h)
 once-deed (acts act.Reset) p at es may h = once-fewer at _ (λ q s. omega arith) (λ q s. omega arith) es h
 once-deed (acts act.Wait) p at es may h = by_flag (happened_at at es) may
   where
@@ -238,11 +307,19 @@ once-deed (acts act.Procure) p at es may h = by_flag (available_at at es) may
     by_flag true m = once-fewer at taken (λ q s. omega arith) (λ q s. omega arith) es h
     by_flag false m = once-queued at p es m.0 m.1 h
 once-deed (acts act.Liberate) p at es may h = once-passed at (procurers_at at es) es h
-once-deed (tests t) p at es may h = h
+once-deed (tests test.Happened) p at es may h = h
+once-deed (tests test.Available) p at es may h = h
+once-deed (tests test.Fix) p at es may h = by_flag (available_at at es)
+  where
+    by_flag : (b : Bool) → EachOnce (changed_by (cond b (Some taken) None) at es)
+    by_flag true = once-fewer at taken (λ q s. omega arith) (λ q s. omega arith) es h
+    by_flag false = h
+once-deed (tests test.WaitAny) p at es may h = once-joined at p es may.1 h
 
 pub waits_once : EachWaitsOnce
 waits_once = record {
   by_deed = once-deed;
+  by_several = once-several;
   by_opening = λ at es h. record {
     waiting = λ p.
         all-placed p (fresh at) (filter (λ e. not (same_place e.place at)) es) (omega arith) (all-filter p (λ e. not (same_place e.place at)) es (h.waiting p));
@@ -260,62 +337,176 @@ waits_once = record {
 
 -- ---- who is released waits nowhere
 
--- the change takes those who are released out of the event's lists
-module _ (q : ℕ) (at : Place) (change : EventState → EventState) (frees : EventState → List ℕ)
-    (less : (s : EventState) → times_in q (all_of (change s)) + times_in q (frees s) ≤ times_in q (all_of s)) (none : frees (state_of None) ≡ []) where
-  freed-times : (es : List Event) → times all_of q (changed at (with_state change) es) + times_in q (frees (state_of (event_at at es))) ≤ times all_of q es
-  freed-times [] = let nobody : times_in q (frees (state_of None)) ≡ 0 = ap (times_in q) none in omega arith
-  freed-times (e ∷ es) =
-      let b = same_place e.place at in
-      let rest = changed at (with_state change) es in
-      elim (cases_Bool b) [
-        | inl h ↦
-            let is : times all_of q (changed at (with_state change) (e ∷ es)) ≡ times all_of q (with_state change e ∷ rest) =
-            ap (λ x. times all_of q (x ∷ rest)) (cond-true b (with_state change e) e h) in
-            let here : times_in q (frees (state_of (event_at at (e ∷ es)))) ≡ times_in q (frees e.state) =
-            ap (λ o. times_in q (frees (state_of o))) (cond-true b (Some e) (event_at at es) h) in
-            let head = less e.state in
-            let fewer = times-fewer all_of q at change (λ s. let l = less s in omega arith) es in
-            omega arith
-        | inr h ↦
-            let is : times all_of q (changed at (with_state change) (e ∷ es)) ≡ times all_of q (e ∷ rest) =
-            ap (λ x. times all_of q (x ∷ rest)) (cond-false b (with_state change e) e h) in
-            let here : times_in q (frees (state_of (event_at at (e ∷ es)))) ≡ times_in q (frees (state_of (event_at at es))) =
-            ap (λ o. times_in q (frees (state_of o))) (cond-false b (Some e) (event_at at es) h) in
-            let tail = freed-times es in
-            omega arith
-      ]
+-- who is not among those who wait for an event to happen, nor to procure one, waits nowhere
+waiters-none : (p : ℕ) (es : List Event) → is_waiter p es ≡ false → times waiters_of p es ≡ 0
+waiters-none p [] h = refl
+waiters-none p (e ∷ es) h =
+    let parts = or_parts (list_any (eqb p) e.state.waiters) (is_waiter p es) h in
+    let here = times_in-none p e.state.waiters parts.0 in
+    let rest = waiters-none p es parts.1 in
+    omega arith
 
-  freed-nowhere : (es : List Event) → times all_of q es ≤ 1 → list_any (eqb q) (frees (state_of (event_at at es))) ≡ true
-      → is_waiting q (changed at (with_state change) es) ≡ false
-  freed-nowhere es once is =
-      let less = freed-times es in
-      let some = times_in-some q (frees (state_of (event_at at es))) is in
-      waiting-none q (changed at (with_state change) es) (omega arith)
+both-none : (p : ℕ) (es : List Event) → times waiters_of p es ≡ 0 → times procurers_of p es ≡ 0 → is_waiting p es ≡ false
+both-none p es unwaited unprocured = waiting-none p es (sum es unwaited unprocured)
+  where
+    sum : (xs : List Event) → times waiters_of p xs ≡ 0 → times procurers_of p xs ≡ 0 → times all_of p xs ≡ 0
+    sum [] h k = refl
+    sum (e ∷ xs) h k =
+        let both = times_in-join p e.state.waiters e.state.procurers in
+        let rest = sum xs (omega arith) (omega arith) in
+        omega arith
+
+-- a process that leaves stands there no more, and no other comes
+no_more : (p q : ℕ) (xs : List ℕ) → eqb q p ≡ true → list_any (eqb q) (filter (λ k. not (eqb p k)) xs) ≡ false
+no_more p q [] h = refl
+no_more p q (x ∷ xs) h =
+    let rest = filter (λ k. not (eqb p k)) xs in
+    elim (cases_Bool (eqb p x)) [
+      | inl e ↦ ap (list_any (eqb q)) (cond-false (not (eqb p x)) (x ∷ rest) rest (not_from_true (eqb p x) e)) ∙ no_more p q xs h
+      | inr e ↦
+          let other : eqb q x ≡ false = false_from_ne_true (eqb q x) (λ k. both_ways (eqb p x) e (ap (λ m. eqb m x) (sym (eqb-true q p h)) ∙ k)) in
+          ap (list_any (eqb q)) (cond-true (not (eqb p x)) (x ∷ rest) rest (not_from_false (eqb p x) e))
+          ∙ or_from (eqb q x) (list_any (eqb q) rest) other (no_more p q xs h)
+    ]
+
+no_other : (q : ℕ) (r : ℕ → Bool) (xs : List ℕ) → list_any (eqb q) xs ≡ false → list_any (eqb q) (filter r xs) ≡ false
+no_other q r xs h = any-filter (eqb q) r xs h
+
+left-none : (p q : ℕ) (es : List Event) → eqb q p ≡ true → is_waiter q (map (with_state (left_by p)) es) ≡ false
+left-none p q [] h = refl
+left-none p q (e ∷ es) h =
+    or_from (list_any (eqb q) (filter (λ k. not (eqb p k)) e.state.waiters)) (is_waiter q (map (with_state (left_by p)) es))
+    (no_more p q e.state.waiters h) (left-none p q es h)
+
+left-stays : (p q : ℕ) (es : List Event) → is_waiter q es ≡ false → is_waiter q (map (with_state (left_by p)) es) ≡ false
+left-stays p q [] h = refl
+left-stays p q (e ∷ es) h =
+    let parts = or_parts (list_any (eqb q) e.state.waiters) (is_waiter q es) h in
+    or_from (list_any (eqb q) (filter (λ k. not (eqb p k)) e.state.waiters)) (is_waiter q (map (with_state (left_by p)) es))
+    (no_other q (λ k. not (eqb p k)) e.state.waiters parts.0) (left-stays p q es parts.1)
+
+withdrawn-stays : (ps : List ℕ) (q : ℕ) (es : List Event) → is_waiter q es ≡ false → is_waiter q (withdrawn ps es) ≡ false
+withdrawn-stays [] q es h = h
+withdrawn-stays (p ∷ ps) q es h = withdrawn-stays ps q (map (with_state (left_by p)) es) (left-stays p q es h)
+
+withdrawn-none : (ps : List ℕ) (q : ℕ) (es : List Event) → is_one_of ps q ≡ true → is_waiter q (withdrawn ps es) ≡ false
+withdrawn-none [] q es h = cc
+withdrawn-none (p ∷ ps) q es h = elim (or_cases (eqb q p) (is_one_of ps q) h) [
+  | inl e ↦ withdrawn-stays ps q (map (with_state (left_by p)) es) (left-none p q es e)
+  | inr e ↦ withdrawn-none ps q (map (with_state (left_by p)) es) e
+]
+
+-- nobody waits to procure more by that
+withdrawn-procures : (ps : List ℕ) (q : ℕ) (es : List Event) → times procurers_of q (withdrawn ps es) ≤ times procurers_of q es
+withdrawn-procures [] q es = omega arith
+withdrawn-procures (p ∷ ps) q es =
+    let rest = withdrawn-procures ps q (map (with_state (left_by p)) es) in
+    let here = times-mapped procurers_of q (with_state (left_by p)) (λ e. omega arith) es in
+    omega arith
+
+-- who stands in a list of the event at a place stands in such lists
+there-counted : (lists : EventState → List ℕ) (q : ℕ) (at : Place) → lists (state_of None) ≡ [] → (es : List Event)
+    → times_in q (lists (state_of (event_at at es))) ≤ times lists q es
+there-counted lists q at none [] = let nobody : times_in q (lists (state_of None)) ≡ 0 = ap (times_in q) none in omega arith
+there-counted lists q at none (e ∷ es) =
+    let b = same_place e.place at in
+    elim (cases_Bool b) [
+      | inl h ↦
+          let here : times_in q (lists (state_of (event_at at (e ∷ es)))) ≡ times_in q (lists e.state) =
+          ap (λ o. times_in q (lists (state_of o))) (cond-true b (Some e) (event_at at es) h) in omega arith
+      | inr h ↦
+          let here : times_in q (lists (state_of (event_at at (e ∷ es)))) ≡ times_in q (lists (state_of (event_at at es))) =
+          ap (λ o. times_in q (lists (state_of o))) (cond-false b (Some e) (event_at at es) h) in
+          let rest = there-counted lists q at none es in omega arith
+    ]
+
+-- all who wait for an event are released
+released-nowhere : (q : ℕ) (at : Place) (change : EventState → EventState) → ((s : EventState) → (change s).procurers ≡ s.procurers) → (es : List Event)
+    → WaitsOneWay q es → is_one_of (waiters_at at es) q ≡ true → is_waiting q (withdrawn (waiters_at at es) (changed at (with_state change) es)) ≡ false
+released-nowhere q at change same es one is =
+    let ps = waiters_at at es in
+    let after = changed at (with_state change) es in
+    let some = times_in-some q ps is in
+    let counted = there-counted waiters_of q at refl es in
+    let before : times procurers_of q es ≡ 0 = elim one [
+      | inl none ↦ none
+      | inr both ↦ let none = both.0 in absurd (omega (arith, some, counted, none))
+    ] in
+    let fewer = times-fewer procurers_of q at change (λ s. let is : times_in q (change s).procurers ≡ times_in q s.procurers = ap (times_in q) (same s) in omega arith) es in
+    let left = withdrawn-procures ps q after in
+    both-none q (withdrawn ps after) (waiters-none q (withdrawn ps after) (withdrawn-none ps q after is)) (omega arith)
 
 pub times_in-first : (p : ℕ) (xs : List ℕ) → times_in p (drop 1 xs) + times_in p (take 1 xs) ≤ times_in p xs
 times_in-first p [] = omega arith
 times_in-first p (x ∷ xs) = omega arith
 
-served-nowhere : (q : ℕ) (at : Place) (es : List Event) → times all_of q es ≤ 1 → list_any (eqb q) (take 1 (procurers_at at es)) ≡ true
+-- the first procurer is served
+served-less : (q : ℕ) (at : Place) (es : List Event)
+    → times procurers_of q (changed at (with_state served) es) + times_in q (take 1 (procurers_at at es)) ≤ times procurers_of q es
+served-less q at [] = omega arith
+served-less q at (e ∷ es) =
+    let b = same_place e.place at in
+    let rest = changed at (with_state served) es in
+    elim (cases_Bool b) [
+      | inl h ↦
+          let is : times procurers_of q (changed at (with_state served) (e ∷ es)) ≡ times procurers_of q (with_state served e ∷ rest) =
+          ap (λ x. times procurers_of q (x ∷ rest)) (cond-true b (with_state served e) e h) in
+          let here : times_in q (take 1 (procurers_at at (e ∷ es))) ≡ times_in q (take 1 e.state.procurers) =
+          ap (λ o. times_in q (take 1 (state_of o).procurers)) (cond-true b (Some e) (event_at at es) h) in
+          let head = times_in-first q e.state.procurers in
+          let fewer = times-fewer procurers_of q at served (λ s. times_in-drop q s.procurers) es in
+          omega arith
+      | inr h ↦
+          let is : times procurers_of q (changed at (with_state served) (e ∷ es)) ≡ times procurers_of q (e ∷ rest) =
+          ap (λ x. times procurers_of q (x ∷ rest)) (cond-false b (with_state served e) e h) in
+          let here : times_in q (take 1 (procurers_at at (e ∷ es))) ≡ times_in q (take 1 (procurers_at at es)) =
+          ap (λ o. times_in q (take 1 (state_of o).procurers)) (cond-false b (Some e) (event_at at es) h) in
+          let tail = served-less q at es in
+          omega arith
+    ]
+
+served-nowhere : (q : ℕ) (at : Place) (es : List Event) → WaitsOneWay q es → is_one_of (take 1 (procurers_at at es)) q ≡ true
     → is_waiting q (changed at (with_state (passed_on (procurers_at at es))) es) ≡ false
-served-nowhere q at es once is = by_list (procurers_at at es) refl
+served-nowhere q at es one is = by_list (procurers_at at es) refl
   where
     by_list : (xs : List ℕ) → procurers_at at es ≡ xs → is_waiting q (changed at (with_state (passed_on xs)) es) ≡ false
-    by_list [] e = let no : list_any (eqb q) (take 1 (procurers_at at es)) ≡ false = ap (λ ys. list_any (eqb q) (take 1 ys)) e in absurd (both_ways (list_any (eqb q) (take 1 (procurers_at at es))) no is)
+    by_list [] e = let no : is_one_of (take 1 (procurers_at at es)) q ≡ false = ap (λ ys. is_one_of (take 1 ys) q) e in absurd (both_ways (is_one_of (take 1 (procurers_at at es)) q) no is)
     by_list (x ∷ xs) e =
-        freed-nowhere q at served (λ s. take 1 s.procurers)
-        (λ s.
-        let after = times_in-join q s.waiters (drop 1 s.procurers) in
-        let before = times_in-join q s.waiters s.procurers in
-        let first = times_in-first q s.procurers in omega arith)
-        refl es once is
+        let some = times_in-some q (take 1 (procurers_at at es)) is in
+        let less = served-less q at es in
+        let fewer = times-fewer waiters_of q at served (λ s. omega arith) es in
+        elim one [
+          | inl none ↦ absurd (omega (arith, some, less, none))
+          | inr both ↦
+              let no = both.0 in
+              let once = both.1 in
+              both-none q (changed at (with_state served) es) (omega (arith, fewer, no)) (omega (arith, less, some, once))
+        ]
+
+nobody_withdrawn : (x : EventDeed) (p q : ℕ) (at : Place) (es : List Event) → is_one_of (deed_at x p at es).withdraws q ≡ true → is_waiter q (done_at x p at es) ≡ false
+nobody_withdrawn (acts act.Cause) p q at es is = withdrawn-none (waiters_at at es) q (changed at (with_state caused) es) is
+nobody_withdrawn (acts act.CauseAndReset) p q at es is = withdrawn-none (waiters_at at es) q (changed at (with_state let_go) es) is
+nobody_withdrawn (acts act.Reset) p q at es is = cc
+nobody_withdrawn (acts act.Wait) p q at es is = cc
+nobody_withdrawn (acts act.Procure) p q at es is = cc
+nobody_withdrawn (acts act.Liberate) p q at es is = cc
+nobody_withdrawn (tests test.Happened) p q at es is = cc
+nobody_withdrawn (tests test.Available) p q at es is = cc
+nobody_withdrawn (tests test.Fix) p q at es is = cc
+nobody_withdrawn (tests test.WaitAny) p q at es is = cc
+
+freed_nowhere : (x : EventDeed) (p q : ℕ) (at : Place) (es : List Event) → WaitsOneWay q es → is_one_of (deed_at x p at es).frees q ≡ true
+    → is_waiting q (done_at x p at es) ≡ false
+freed_nowhere (acts act.Cause) p q at es one is = released-nowhere q at caused (λ s. refl) es one is
+freed_nowhere (acts act.CauseAndReset) p q at es one is = released-nowhere q at let_go (λ s. refl) es one is
+freed_nowhere (acts act.Reset) p q at es one is = cc
+freed_nowhere (acts act.Wait) p q at es one is = cc
+freed_nowhere (acts act.Procure) p q at es one is = cc
+freed_nowhere (acts act.Liberate) p q at es one is = served-nowhere q at es one is
+freed_nowhere (tests test.Happened) p q at es one is = cc
+freed_nowhere (tests test.Available) p q at es one is = cc
+freed_nowhere (tests test.Fix) p q at es one is = cc
+freed_nowhere (tests test.WaitAny) p q at es one is = cc
 
 pub wait_nowhere : ReleasedWaitNowhere
-wait_nowhere (acts act.Cause) p q at es once is =
-    freed-nowhere q at caused (λ s. s.waiters) (λ s. let before = times_in-join q s.waiters s.procurers in omega arith) refl es once is
-wait_nowhere (acts act.Reset) p q at es once is = cc
-wait_nowhere (acts act.Wait) p q at es once is = cc
-wait_nowhere (acts act.Procure) p q at es once is = cc
-wait_nowhere (acts act.Liberate) p q at es once is = served-nowhere q at es once is
-wait_nowhere (tests t) p q at es once is = cc
+wait_nowhere = record { withdrawn = nobody_withdrawn; freed = freed_nowhere }

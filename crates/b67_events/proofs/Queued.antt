@@ -1,19 +1,19 @@
--- Each process that waits is known, waits once, and waits for an event that is open.
-use Rattle.std.proofs.Common.{◌≡◌, ℕ, ◌+◌, ◌<◌, ◌≤◌, Bool, true, false, cond, ◌&&◌, ◌||◌, eqb, List, [], ◌∷◌, ◌++◌, length, map, refl, sym, ap, ◌∙◌, subst, inl, inr, arith}
+-- Each process that waits is known, stands once in each of its lists, and waits for events that are open.
+use Rattle.std.proofs.Common.{◌≡◌, ℕ, ◌+◌, ◌≤◌, Bool, true, false, cond, ◌&&◌, ◌||◌, eqb, List, [], ◌∷◌, ◌++◌, length, map, refl, sym, ap, ◌∙◌, subst, inl, inr, arith}
 use Rattle.std.specs.Prelude.{filter}
-use Rattle.std.specs.List.{list_any, IsDistinct, AllByRecursion}
-use Rattle.std.proofs.lemmas.Bool.{cases_Bool, cond-true, cond-false, and_parts, and_from, both_ways, false_from_ne_true, eqb-true, eq-eqb, ne_eqb, or_cases, or_parts, or_from, or_left, or_right}
+use Rattle.std.specs.List.{list_any}
+use Rattle.std.proofs.lemmas.Bool.{cases_Bool, cond-true, cond-false, and_parts, and_from, and_left, both_ways, false_from_ne_true, eqb-true, eq-eqb, or_cases, or_parts, or_from, or_left, or_right}
 use Rattle.std.proofs.lemmas.List.Folds.{list_any-append}
-use Rattle.std.proofs.lemmas.List.{length-map}
-use Rattle.std.proofs.lemmas.Map.Steps.{length-le_from_distinct_below}
 use Rattle.b67_word.specs.declared.Place.{Place}
 use Rattle.b67_events.specs.Events.{same_place, is_before, is_waiting}
-use Rattle.b67_events.specs.Kept.{same_queue, stands_in, listed, Entry, events_of, has_flags, set_flags, put, without_first, among, AreQueued}
+use Rattle.b67_events.specs.Kept.{same_queue, stands_in, listed, Entry, events_of, has_flags, set_flags, put, without_first, among, is_same, stands_again, AreQueued, numbers_of}
+use Rattle.b67_events.specs.Once.{times_in}
 use Rattle.b67_events.specs.declared.Flags.{Flags}
 use Rattle.b67_events.specs.declared.Queue.{Queue}
 use Rattle.b67_events.specs.declared.Queue.TheVariants.{Waiters, Procurers}
 use Rattle.b67_events.specs.declared.Waiting.{Waiting}
 use Rattle.b67_events.proofs.Listed.{same_place-true, same_place-self}
+use Rattle.b67_events.proofs.Numbers.{one_if, AreFrom, times-none, times-bound}
 
 module _ {X : Type 0} where
   pub any-filter : (t r : X → Bool) (xs : List X) → list_any t xs ≡ false → list_any t (filter r xs) ≡ false
@@ -46,7 +46,7 @@ queued-filter fs gs n r stays (w ∷ ws) h =
     elim (cases_Bool (r w)) [
       | inl e ↦
           subst (AreQueued gs n) (sym (cond-true (r w) (w ∷ filter r ws) (filter r ws) e))
-          (h.0, h.1, stays w e h.2, any-filter (λ v. eqb w.process v.process) r ws h.3, rest)
+          (h.0, h.1, stays w e h.2, any-filter (is_same w) r ws h.3, rest)
       | inr e ↦ subst (AreQueued gs n) (sym (cond-false (r w) (w ∷ filter r ws) (filter r ws) e)) rest
     ]
 
@@ -63,22 +63,30 @@ queued-first fs gs n u stays (w ∷ ws) h = elim (cases_Bool (u w)) [
   | inl e ↦ subst (AreQueued gs n) (sym (cond-true (u w) ws (w ∷ without_first u ws) e)) (queued-flags fs gs n stays ws h.4)
   | inr e ↦
       subst (AreQueued gs n) (sym (cond-false (u w) ws (w ∷ without_first u ws) e))
-      (h.0, h.1, stays w.place h.2, any-first (λ v. eqb w.process v.process) u ws h.3, queued-first fs gs n u stays ws h.4)
+      (h.0, h.1, stays w.place h.2, any-first (is_same w) u ws h.3, queued-first fs gs n u stays ws h.4)
 ]
 
-eqb-turn : (a b : ℕ) → eqb a b ≡ false → eqb b a ≡ false
-eqb-turn a b h = false_from_ne_true (eqb b a) (λ k. both_ways (eqb a b) h (eq-eqb a b (sym (eqb-true b a k))))
-
+-- one more waits, who does not stand there yet
 pub queued-push : (fs : List Entry) (n : ℕ) (w : Waiting) → 1 ≤ w.process → w.process ≤ n → has_flags w.place fs ≡ true
-    → (ws : List Waiting) → among w.process ws ≡ false → AreQueued fs n ws → AreQueued fs n (ws ++ w ∷ [])
+    → (ws : List Waiting) → list_any (λ v. is_same v w) ws ≡ false → AreQueued fs n ws → AreQueued fs n (ws ++ w ∷ [])
 queued-push fs n w low high stays [] idle h = (low, high, stays, refl, tt)
 queued-push fs n w low high stays (v ∷ ws) idle h =
-    let parts = or_parts (eqb w.process v.process) (among w.process ws) idle in
-    let apart : eqb v.process w.process ≡ false = eqb-turn w.process v.process parts.0 in
-    let once : among v.process (ws ++ w ∷ []) ≡ false =
-    list_any-append (λ u. eqb v.process u.process) ws (w ∷ [])
-    ∙ or_from (among v.process ws) (among v.process (w ∷ [])) h.3 (or_from (eqb v.process w.process) false apart refl) in
+    let parts = or_parts (is_same v w) (list_any (λ u. is_same u w) ws) idle in
+    let once : stands_again v (ws ++ w ∷ []) ≡ false =
+    list_any-append (is_same v) ws (w ∷ [])
+    ∙ or_from (stands_again v ws) (stands_again v (w ∷ [])) h.3 (or_from (is_same v w) false parts.0 refl) in
     (h.0, h.1, h.2, once, queued-push fs n w low high stays ws parts.1 h.4)
+
+-- who is not among those who wait does not stand there
+pub apart-none : (w : Waiting) (ws : List Waiting) → among w.process ws ≡ false → list_any (λ v. is_same v w) ws ≡ false
+apart-none w [] h = refl
+apart-none w (v ∷ ws) h =
+    let parts = or_parts (eqb w.process v.process) (among w.process ws) h in
+    let other : eqb v.process w.process ≡ false = false_from_ne_true (eqb v.process w.process) (λ k. both_ways (eqb w.process v.process) parts.0 (eq-eqb w.process v.process (sym (eqb-true v.process w.process k)))) in
+    or_from (is_same v w) (list_any (λ u. is_same u w) ws) (and_left (eqb v.process w.process) (stands_in v.queue v.place w) other) (apart-none w ws parts.1)
+
+pub among-none : (p : ℕ) (ws : List Waiting) → among p ws ≡ false → times_in p (numbers_of ws) ≡ 0
+among-none p ws h = times-none (λ w. w.process) p ws h
 
 -- flags that are set, and events that are closed elsewhere, leave events open
 pub open-set : (at : Place) (change : Flags → Flags) (fs : List Entry) (p : Place) → has_flags p (set_flags at change fs) ≡ has_flags p fs
@@ -138,62 +146,78 @@ open-less r (f ∷ fs) p h =
       | inr e ↦ or_right (same_place f.0 p) (has_flags p fs) (open-less r fs p (sym (ap (has_flags p) (cond-false (r f.0) (f ∷ rest) rest e)) ∙ h))
     ]
 
--- the numbers of those who wait are apart, and from 1 to n
-processes : List Waiting → List ℕ
-processes ws = map (λ w. w.process) ws
+-- the numbers of those who wait are from 1 to n
+pub queued-known : (fs : List Entry) (n : ℕ) (ws : List Waiting) → AreQueued fs n ws → AreFrom n (numbers_of ws)
+queued-known fs n [] h = tt
+queued-known fs n (w ∷ ws) h = (h.0, h.1, queued-known fs n ws h.4)
 
-apart_from : (p : ℕ) (ws : List Waiting) → among p ws ≡ false → AllByRecursion (λ q. eqb p q ≡ false) (processes ws)
-unfolding processes
-apart_from p [] h = tt
-apart_from p (w ∷ ws) h = let parts = or_parts (eqb p w.process) (among p ws) h in (parts.0, apart_from p ws parts.1)
+pub listed-known : (fs : List Entry) (n : ℕ) (queue : Queue) (at : Place) (ws : List Waiting) → AreQueued fs n ws → AreFrom n (listed queue at ws)
+listed-known fs n queue at [] h = tt
+listed-known fs n queue at (w ∷ ws) h =
+    let rest = listed-known fs n queue at ws h.4 in
+    let t = stands_in queue at w in
+    let more = filter (stands_in queue at) ws in
+    elim (cases_Bool t) [
+      | inl e ↦ subst (λ vs. AreFrom n (numbers_of vs)) (sym (cond-true t (w ∷ more) more e)) (h.0, h.1, rest)
+      | inr e ↦ subst (λ vs. AreFrom n (numbers_of vs)) (sym (cond-false t (w ∷ more) more e)) rest
+    ]
 
-all_distinct : (fs : List Entry) (n : ℕ) (ws : List Waiting) → AreQueued fs n ws → IsDistinct eqb (processes ws)
-unfolding processes IsDistinct
-all_distinct fs n [] h = tt
-all_distinct fs n (w ∷ ws) h = (apart_from w.process ws h.3, all_distinct fs n ws h.4)
+-- who does not stand in a list of an event is not listed there
+abbrev waits_there : Queue → Place → ℕ → Waiting → Bool
+waits_there queue at p v = eqb p v.process && stands_in queue at v
 
-all_below : (fs : List Entry) (n : ℕ) (ws : List Waiting) → AreQueued fs n ws → (q : ℕ) → list_any (eqb q) (processes ws) ≡ true → q < n + 1
-unfolding processes
-all_below fs n [] h q k = cc
-all_below fs n (w ∷ ws) h q k = elim (or_cases (eqb q w.process) (list_any (eqb q) (processes ws)) k) [
-  | inl e ↦ let same : q ≡ w.process = eqb-true q w.process e in let top : w.process ≤ n = h.1 in omega arith
-  | inr e ↦ all_below fs n ws h.4 q e
-]
+times-unlisted : (queue : Queue) (at : Place) (p : ℕ) (ws : List Waiting) → list_any (waits_there queue at p) ws ≡ false → times_in p (listed queue at ws) ≡ 0
+times-unlisted queue at p [] h = refl
+times-unlisted queue at p (w ∷ ws) h =
+    let parts = or_parts (waits_there queue at p w) (list_any (waits_there queue at p) ws) h in
+    let rest = times-unlisted queue at p ws parts.1 in
+    let t = stands_in queue at w in
+    let more = filter (stands_in queue at) ws in
+    elim (cases_Bool t) [
+      | inl e ↦
+          let other : eqb p w.process ≡ false = false_from_ne_true (eqb p w.process) (λ k. both_ways (waits_there queue at p w) parts.0 (and_from (eqb p w.process) t k e)) in
+          let head : one_if (eqb p w.process) ≡ 0 = cond-false (eqb p w.process) 1 0 other in
+          let is : times_in p (numbers_of (w ∷ more)) ≡ 0 = omega arith in
+          ap (λ vs. times_in p (numbers_of vs)) (cond-true t (w ∷ more) more e) ∙ is
+      | inr e ↦ ap (λ vs. times_in p (numbers_of vs)) (cond-false t (w ∷ more) more e) ∙ rest
+    ]
 
-none_is_zero : (fs : List Entry) (n : ℕ) (ws : List Waiting) → AreQueued fs n ws → among 0 ws ≡ false
-none_is_zero fs n [] h = refl
-none_is_zero fs n (w ∷ ws) h =
-    let low : 1 ≤ w.process = h.0 in
-    or_from (eqb 0 w.process) (among 0 ws) (ne_eqb 0 w.process (λ e. omega arith)) (none_is_zero fs n ws h.4)
+same_queue-true : (a b : Queue) → same_queue a b ≡ true → a ≡ b
+same_queue-true Waiters Waiters h = refl
+same_queue-true Waiters Procurers h = cc
+same_queue-true Procurers Waiters h = cc
+same_queue-true Procurers Procurers h = refl
 
--- there is room for one more who waits
-pub room-more : (fs : List Entry) (n : ℕ) (ws : List Waiting) (p : ℕ) → AreQueued fs n ws → 1 ≤ p → p ≤ n → among p ws ≡ false → length ws < n
-unfolding processes IsDistinct
-room-more fs n ws p h low high idle =
-    let all = 0 ∷ p ∷ processes ws in
-    let first : eqb 0 p ≡ false = ne_eqb 0 p (λ e. omega arith) in
-    let distinct : IsDistinct eqb all =
-    ((first, apart_from 0 ws (none_is_zero fs n ws h)), (apart_from p ws idle, all_distinct fs n ws h)) in
-    let below : (q : ℕ) → list_any (eqb q) all ≡ true → q < n + 1 = λ q k. elim (or_cases (eqb q 0) (eqb q p || list_any (eqb q) (processes ws)) k) [
-      | inl e ↦ let same : q ≡ 0 = eqb-true q 0 e in omega arith
-      | inr e ↦ elim (or_cases (eqb q p) (list_any (eqb q) (processes ws)) e) [
-        | inl t ↦ let same : q ≡ p = eqb-true q p t in omega arith
-        | inr t ↦ all_below fs n ws h q t
-      ]
-    ] in
-    omega (arith, length-le_from_distinct_below all (n + 1) distinct below, length-map ws (λ w. w.process))
+-- each stands in a list of an event once
+listed-once : (fs : List Entry) (n : ℕ) (queue : Queue) (at : Place) (p : ℕ) (ws : List Waiting) → AreQueued fs n ws → times_in p (listed queue at ws) ≤ 1
+listed-once fs n queue at p [] h = omega arith
+listed-once fs n queue at p (w ∷ ws) h =
+    let rest = listed-once fs n queue at p ws h.4 in
+    let t = stands_in queue at w in
+    let more = filter (stands_in queue at) ws in
+    elim (cases_Bool t) [
+      | inl e ↦
+          let parts = and_parts (same_place at w.place) (same_queue queue w.queue) e in
+          let place : at ≡ w.place = same_place-true at w.place parts.0 in
+          let kind : queue ≡ w.queue = same_queue-true queue w.queue parts.1 in
+          let is : times_in p (listed queue at (w ∷ ws)) ≡ one_if (eqb p w.process) + times_in p (listed queue at ws) = ap (λ vs. times_in p (numbers_of vs)) (cond-true t (w ∷ more) more e) in
+          elim (cases_Bool (eqb p w.process)) [
+            | inl k ↦
+                let none : list_any (waits_there queue at p) ws ≡ false =
+                ap (λ m. list_any (waits_there queue at m) ws) (eqb-true p w.process k)
+                ∙ ap (λ b. list_any (waits_there queue b w.process) ws) place ∙ ap (λ b. list_any (waits_there b w.place w.process) ws) kind ∙ h.3 in
+                let zero = times-unlisted queue at p ws none in
+                let head : one_if (eqb p w.process) ≡ 1 = cond-true (eqb p w.process) 1 0 k in omega arith
+            | inr k ↦ let head : one_if (eqb p w.process) ≡ 0 = cond-false (eqb p w.process) 1 0 k in omega arith
+          ]
+      | inr e ↦ let is : times_in p (listed queue at (w ∷ ws)) ≡ times_in p (listed queue at ws) = ap (λ vs. times_in p (numbers_of vs)) (cond-false t (w ∷ more) more e) in omega arith
+    ]
 
--- no more wait than there are processes
-pub room-all : (fs : List Entry) (n : ℕ) (ws : List Waiting) → AreQueued fs n ws → length ws ≤ n
-unfolding processes IsDistinct
-room-all fs n ws h =
-    let all = 0 ∷ processes ws in
-    let distinct : IsDistinct eqb all = (apart_from 0 ws (none_is_zero fs n ws h), all_distinct fs n ws h) in
-    let below : (q : ℕ) → list_any (eqb q) all ≡ true → q < n + 1 = λ q k. elim (or_cases (eqb q 0) (list_any (eqb q) (processes ws)) k) [
-      | inl e ↦ let same : q ≡ 0 = eqb-true q 0 e in omega arith
-      | inr t ↦ all_below fs n ws h q t
-    ] in
-    omega (arith, length-le_from_distinct_below all (n + 1) distinct below, length-map ws (λ w. w.process))
+-- no more wait for an event than there are processes
+pub room-one : (fs : List Entry) (n : ℕ) (queue : Queue) (at : Place) (ws : List Waiting) → AreQueued fs n ws → length (listed queue at ws) ≤ n
+room-one fs n queue at ws h =
+    let few = times-bound n 1 (listed queue at ws) (listed-known fs n queue at ws h) (λ p. listed-once fs n queue at p ws h) in
+    omega arith
 
 -- a process that no event shows does not wait
 abbrev waits_so : Queue → Place → ℕ → Waiting → Bool

@@ -1,23 +1,33 @@
 -- What each call leaves, over plain lists.
-use Rattle.std.proofs.Common.{◌≡◌, ℕ, ◌<◌, ◌≤◌, Bool, true, false, not, cond, List, [], ◌∷◌, ◌++◌, take, length, refl, sym, ap, ◌∙◌, subst, inl, inr, arith}
-use Rattle.std.specs.Prelude.{filter, slice_get, Option, Some, None}
-use Rattle.std.proofs.lemmas.Bool.{cond-true, cond-false, or_cases, or_right}
+use Rattle.std.proofs.Common.{◌≡◌, ℕ, ◌+◌, ◌*◌, ◌<◌, ◌≤◌, Bool, true, false, not, cond, eqb, List, [], ◌∷◌, ◌++◌, take, length, refl, sym, ap, ◌∙◌, subst, inl, inr, arith}
+use Rattle.std.specs.Prelude.{filter, slice_get, All, Option, Some, None}
+use Rattle.std.proofs.lemmas.Bool.{cases_Bool, cond-true, cond-false, eqb-true, or_cases, or_right}
+use Rattle.std.proofs.lemmas.List.{length-map, map-append}
+use Rattle.std.proofs.lemmas.List.Elements.{All-weaker}
+use Rattle.b67_limits.specs.declared.TheConstants.{MOST_EVENTS}
 use Rattle.b67_word.specs.declared.Place.{Place}
 use Rattle.b67_deeds.specs.declared.EventAct.TheVariants as act
 use Rattle.b67_deeds.specs.Events.{EventState, joined, taken, queued, served, freed, passed_on}
-use Rattle.b67_deeds.specs.Deeds.{acts, Next, goes, waits, procures}
-use Rattle.b67_events.specs.Events.{Event, Events, same_place, event_at, is_open, state_of, happened_at, available_at, waiters_at, procurers_at, is_waiting, changed, with_state, changed_by, done_at, took}
-use Rattle.b67_events.specs.Kept.{stands_in, listed, Entry, events_of, has_flags, set_flags, put, with_available, without_first, IsKept}
+use Rattle.b67_deeds.specs.declared.EventTest.TheVariants as test
+use Rattle.b67_deeds.specs.Deeds.{acts, tests, Next, goes}
+use Rattle.b67_events.specs.Events.{Event, Events, same_place, event_at, is_open, state_of, happened_at, available_at, waiters_at, procurers_at, is_waiting, changed, with_state, changed_by, done_at, took, withdrawn, with_list, unlisted}
+use Rattle.b67_events.specs.Kept.{stands_in, listed, Entry, events_of, has_flags, set_flags, put, with_happened, with_available, without_first, nobody_marked, marked, is_leaving, without_waiters, numbers_of, joiners, IsKept, AreListed}
+use Rattle.b67_events.specs.Once.{times_in}
 use Rattle.b67_events.specs.declared.Took.TheVariants.{Went, Waits}
 use Rattle.b67_events.specs.declared.Flags.{Flags}
 use Rattle.b67_events.specs.declared.Queue.TheVariants.{Waiters, Procurers}
 use Rattle.b67_events.specs.declared.Waiting.{Waiting}
 use Rattle.b67_events.proofs.Listed.{same_place-true}
 use Rattle.b67_events.proofs.Shown.{events-joined, events-queued, events-served, events-freed, events-flags, open-shown, list_of, list-shown}
-use Rattle.b67_events.proofs.Queued.{queued-filter, queued-first, queued-flags, queued-push, open-set, open-filter, open-less, open-put, room-more, room-all, idle-is_not_among}
+use Rattle.b67_events.proofs.Queued.{queued-filter, queued-first, queued-flags, queued-push, open-set, open-filter, open-less, open-put, apart-none, among-none, queued-known, listed-known, room-one, idle-is_not_among}
+use Rattle.b67_events.proofs.Numbers.{one_if, AreFrom, times-join, times-room, times-filter, times-first}
+use Rattle.b67_events.proofs.Marks.{unmarked-again}
+use Rattle.b67_events.proofs.Leaving.{events-released}
+use Rattle.b67_events.proofs.Joined.{queued-any, joiners-few}
+use Rattle.b67_events.proofs.OfSeveral.{list-length, unlisted-length}
 
-abbrev pub held : List Event → ℕ → Events
-held es n = record { events = es; room = n }
+abbrev pub held : List Event → List (List Place) → ℕ → Events
+held es ls n = record { events = es; lists = ls; room = n }
 
 -- what changes by a test that passes, and by one that fails
 changed-true : (b : Bool) (x y : Option (EventState → EventState)) (at : Place) (es : List Event) → b ≡ true
@@ -55,45 +65,134 @@ pub procure-waits : (at : Place) (p : ℕ) (fs : List Entry) (ws : List Waiting)
 procure-waits at p fs ws h =
     let es = events_of fs ws in events-queued at p fs ws ∙ one-false (available_at at es) taken (queued p) at es h
 
+pub fix-takes : (at : Place) (fs : List Entry) (ws : List Waiting) → available_at at (events_of fs ws) ≡ true
+    → events_of (set_flags at (with_available false) fs) ws ≡ done_at (tests test.Fix) 0 at (events_of fs ws)
+fix-takes at fs ws h =
+    let es = events_of fs ws in
+    events-flags at (with_available false) (with_state taken) ws (λ x. refl) fs ∙ changed-true (available_at at es) (Some taken) None at es h
+
+pub fix-leaves : (at : Place) (es : List Event) → available_at at es ≡ false → es ≡ done_at (tests test.Fix) 0 at es
+fix-leaves at es h = changed-false (available_at at es) (Some taken) None at es h
+
+-- there is room for one more who waits, for as many events as one can
 pub kept-room : (fs : List Entry) (ws : List Waiting) (n capacity p : ℕ) → IsKept fs ws n capacity → 1 ≤ p → p ≤ n
-    → is_waiting p (events_of fs ws) ≡ false → length ws < capacity
+    → is_waiting p (events_of fs ws) ≡ false → length ws + MOST_EVENTS ≤ capacity
 kept-room fs ws n capacity p k low high idle =
-    let less = room-more fs n ws p k.queued low high (idle-is_not_among fs n ws p k.queued idle) in
-    let room : n ≤ capacity = k.room in omega arith
+    let none = among-none p ws (idle-is_not_among fs n ws p k.queued idle) in
+    let less = times-room n MOST_EVENTS p (numbers_of ws) low high (queued-known fs n ws k.queued) k.few none in
+    let long : length (numbers_of ws) ≡ length ws = length-map ws (λ w. w.process) in
+    let room : n * MOST_EVENTS ≤ capacity = k.room in omega (arith, less, long, room)
 
 pub kept-push : (fs : List Entry) (ws : List Waiting) (n capacity : ℕ) (w : Waiting) → IsKept fs ws n capacity → 1 ≤ w.process → w.process ≤ n
     → is_open w.place (events_of fs ws) ≡ true → is_waiting w.process (events_of fs ws) ≡ false → IsKept fs (ws ++ w ∷ []) n capacity
-kept-push fs ws n capacity w k low high here idle = record {
-  room = k.room;
-  queued = queued-push fs n w low high (sym (open-shown w.place fs ws) ∙ here) ws (idle-is_not_among fs n ws w.process k.queued idle) k.queued;
-  within = k.within;
-}
+kept-push fs ws n capacity w k low high here idle =
+    let free = idle-is_not_among fs n ws w.process k.queued idle in
+    record {
+      room = k.room;
+      queued = queued-push fs n w low high (sym (open-shown w.place fs ws) ∙ here) ws (apart-none w ws free) k.queued;
+      few = λ q.
+          let is : times_in q (numbers_of (ws ++ w ∷ [])) ≡ times_in q (numbers_of ws) + times_in q (w.process ∷ []) =
+          ap (times_in q) (map-append (λ v. v.process) ws (w ∷ [])) ∙ times-join q (numbers_of ws) (w.process ∷ []) in
+          elim (cases_Bool (eqb q w.process)) [
+            | inl e ↦
+                let head : one_if (eqb q w.process) ≡ 1 = cond-true (eqb q w.process) 1 0 e in
+                let none : times_in q (numbers_of ws) ≡ 0 = ap (λ m. times_in m (numbers_of ws)) (eqb-true q w.process e) ∙ among-none w.process ws free in
+                omega arith
+            | inr e ↦
+                let head : one_if (eqb q w.process) ≡ 0 = cond-false (eqb q w.process) 1 0 e in
+                let before = k.few q in
+                omega arith
+          ];
+      within = k.within;
+    }
+
+-- a process joins those who wait for several events
+pub kept-any : (fs : List Entry) (ws : List Waiting) (n capacity p : ℕ) (places : List Place) → IsKept fs ws n capacity → 1 ≤ p → p ≤ n
+    → length places ≤ MOST_EVENTS → All (λ (a : Place). is_open a (events_of fs ws) ≡ true) places → is_waiting p (events_of fs ws) ≡ false
+    → IsKept fs (ws ++ joiners p [] places) n capacity
+kept-any fs ws n capacity p places k low high few_places open_all idle =
+    let free = idle-is_not_among fs n ws p k.queued idle in
+    let there = All-weaker (λ (a : Place). is_open a (events_of fs ws) ≡ true) (λ (a : Place). has_flags a fs ≡ true) (λ a e. sym (open-shown a fs ws) ∙ e) places open_all in
+    record {
+      room = k.room;
+      queued = queued-any fs n p low high places there ws free k.queued;
+      few = λ q.
+          let is : times_in q (numbers_of (ws ++ joiners p [] places)) ≡ times_in q (numbers_of ws) + times_in q (numbers_of (joiners p [] places)) =
+          ap (times_in q) (map-append (λ v. v.process) ws (joiners p [] places)) ∙ times-join q (numbers_of ws) (numbers_of (joiners p [] places)) in
+          let joined = joiners-few p q [] places in
+          elim (cases_Bool (eqb q p)) [
+            | inl e ↦
+                let none : times_in q (numbers_of ws) ≡ 0 = ap (λ m. times_in m (numbers_of ws)) (eqb-true q p e) ∙ among-none p ws free in
+                let most = joined.0 in
+                omega (arith, is, none, most, few_places)
+            | inr e ↦
+                let other = joined.1 e in
+                let before = k.few q in
+                omega (arith, is, other, before)
+          ];
+      within = k.within;
+    }
 
 pub kept-wider : (fs : List Entry) (ws : List Waiting) (n capacity more : ℕ) → IsKept fs ws n capacity → capacity ≤ more → IsKept fs ws n more
-kept-wider fs ws n capacity more k wide = record { room = (let room : n ≤ capacity = k.room in omega arith); queued = k.queued; within = k.within }
+kept-wider fs ws n capacity more k wide =
+    record { room = (let room : n * MOST_EVENTS ≤ capacity = k.room in omega (arith, room, wide)); queued = k.queued; few = k.few; within = k.within }
 
-pub kept-all : (fs : List Entry) (ws : List Waiting) (n capacity : ℕ) → IsKept fs ws n capacity → length ws ≤ n
-kept-all fs ws n capacity k = room-all fs n ws k.queued
+-- no more wait for one event to happen than there are processes, and each is one of them
+pub kept-one : (fs : List Entry) (ws : List Waiting) (n capacity : ℕ) (at : Place) → IsKept fs ws n capacity → length (listed Waiters at ws) ≤ n
+kept-one fs ws n capacity at k = room-one fs n Waiters at ws k.queued
+
+pub kept-known : (fs : List Entry) (ws : List Waiting) (n capacity : ℕ) (at : Place) → IsKept fs ws n capacity → AreFrom n (listed Waiters at ws)
+kept-known fs ws n capacity at k = listed-known fs n Waiters at ws k.queued
+
+-- ---- the lists of those who wait for several, and the marks
+
+pub lists-wider : (ls : List (List Place)) (ms : List Bool) (n capacity more : ℕ) → AreListed ls ms n capacity → capacity ≤ more → AreListed ls ms n more
+lists-wider ls ms n capacity more k wide =
+    record { room = (let room : n ≤ capacity = k.room in omega (arith, room, wide)); known = k.known; unmarked = k.unmarked }
+
+pub lists-with : (ls : List (List Place)) (ms : List Bool) (n capacity p : ℕ) (places : List Place) → AreListed ls ms n capacity → p ≤ n
+    → AreListed (with_list ls p places) ms n capacity
+lists-with ls ms n capacity p places k high = record { room = k.room; known = list-length n ls p places high k.known; unmarked = k.unmarked }
+
+pub lists-without : (ls : List (List Place)) (ms : List Bool) (n capacity : ℕ) (ps : List ℕ) → AreListed ls ms n capacity → AreFrom n ps
+    → AreListed (unlisted ps ls) (marked false ps (marked true ps ms)) n capacity
+lists-without ls ms n capacity ps k known = record {
+  room = k.room;
+  known = (let long = unlisted-length ps ls in let short : length ls ≤ n = k.known in omega (arith, long, short));
+  unmarked = ap (λ bs. marked false ps (marked true ps bs)) k.unmarked ∙ unmarked-again n ps known;
+}
 
 pub kept-set : (at : Place) (change : Flags → Flags) (fs : List Entry) (ws : List Waiting) (n capacity : ℕ) → IsKept fs ws n capacity
     → IsKept (set_flags at change fs) ws n capacity
 kept-set at change fs ws n capacity k = record {
   room = k.room;
   queued = queued-flags fs (set_flags at change fs) n (λ p h. open-set at change fs p ∙ h) ws k.queued;
+  few = k.few;
   within = λ p h. k.within p (sym (open-set at change fs p) ∙ h);
 }
 
 pub kept-filter : (r : Waiting → Bool) (fs : List Entry) (ws : List Waiting) (n capacity : ℕ) → IsKept fs ws n capacity → IsKept fs (filter r ws) n capacity
-kept-filter r fs ws n capacity k = record { room = k.room; queued = queued-filter fs fs n r (λ w s h. h) ws k.queued; within = k.within }
+kept-filter r fs ws n capacity k = record {
+  room = k.room;
+  queued = queued-filter fs fs n r (λ w s h. h) ws k.queued;
+  few = λ p. let less = times-filter (λ (w : Waiting). w.process) p r ws in let before = k.few p in omega arith;
+  within = k.within;
+}
 
 pub kept-first : (r : Waiting → Bool) (fs : List Entry) (ws : List Waiting) (n capacity : ℕ) → IsKept fs ws n capacity → IsKept fs (without_first r ws) n capacity
-kept-first r fs ws n capacity k = record { room = k.room; queued = queued-first fs fs n r (λ p h. h) ws k.queued; within = k.within }
+kept-first r fs ws n capacity k = record {
+  room = k.room;
+  queued = queued-first fs fs n r (λ p h. h) ws k.queued;
+  few = λ p. let less = times-first (λ (w : Waiting). w.process) p r ws in let before = k.few p in omega arith;
+  within = k.within;
+}
 
 pub kept-closed : (r : Place → Bool) (fs : List Entry) (ws : List Waiting) (n capacity : ℕ) → IsKept fs ws n capacity
     → IsKept (filter (λ f. r f.0) fs) (filter (λ w. r w.place) ws) n capacity
 kept-closed r fs ws n capacity k = record {
   room = k.room;
   queued = queued-filter fs (filter (λ f. r f.0) fs) n (λ w. r w.place) (λ w s h. open-filter r fs w.place s h) ws k.queued;
+  few = λ p. let less = times-filter (λ (w : Waiting). w.process) p (λ w. r w.place) ws in let before = k.few p in omega arith;
   within = λ p h. k.within p (open-less r fs p h);
 }
 
@@ -106,6 +205,7 @@ kept-opened at flags fs ws n capacity low k =
     record {
       room = k.room;
       queued = queued-flags gs (put (at, flags) gs) n (λ p h. open-put (at, flags) gs p ∙ or_right (same_place at p) (has_flags p gs) h) vs less.queued;
+      few = less.few;
       within = λ p h. elim (or_cases (same_place at p) (has_flags p gs) (sym (open-put (at, flags) gs p) ∙ h)) [
         | inl e ↦ subst (λ (q : Place). q.at < 65536) (same_place-true at p e) low
         | inr e ↦ less.within p e
@@ -129,6 +229,14 @@ pub procurers-shown : (at : Place) (fs : List Entry) (ws : List Waiting) → is_
     → listed Procurers at ws ≡ procurers_at at (events_of fs ws)
 procurers-shown at fs ws h =
     sym (list-shown Procurers at fs ws h) ∙ procurers_is (event_at at (events_of fs ws))
+
+-- all who wait for an event are released, and leave all events
+pub event-released : (at : Place) (b : Bool) (fs : List Entry) (ws : List Waiting) (n capacity : ℕ) → IsKept fs ws n capacity → is_open at (events_of fs ws) ≡ true
+    → events_of (set_flags at (with_happened b) fs) (filter (λ w. not (is_leaving (marked true (listed Waiters at ws) (nobody_marked n)) w)) ws)
+    ≡ withdrawn (waiters_at at (events_of fs ws)) (changed at (with_state (without_waiters b)) (events_of fs ws))
+event-released at b fs ws n capacity k here =
+    events-released at b n fs ws (kept-known fs ws n capacity at k)
+    ∙ ap (λ ps. withdrawn ps (changed at (with_state (without_waiters b)) (events_of fs ws))) (woken-shown at fs ws here)
 
 passed-served : (xs : List ℕ) (p : ℕ) → slice_get xs 0 ≡ Some p → passed_on xs ≡ served
 passed-served [] p h = cc

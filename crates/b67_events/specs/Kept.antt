@@ -1,9 +1,13 @@
--- How events are kept: the flags of each at its place, and one list of all who wait, in order of arrival.
-use Rattle.std.specs.Prelude.{◌≡◌, ℕ, ◌<◌, ◌≤◌, Bool, true, false, ◌&&◌, ◌==◌, Option, Some, None, List, [], ◌∷◌, map, filter, if◌then◌else◌, cond}
+-- How events are kept: the flags of each at its place, one list of all who wait, in order of arrival, and the places of those who wait for
+-- several.
+use Rattle.std.specs.Prelude.{◌≡◌, ℕ, ◌+◌, ◌*◌, ◌<◌, ◌≤◌, Bool, true, false, ◌&&◌, ◌==◌, Option, Some, None, List, [], ◌∷◌, ◌++◌, map, filter, length, replicate, slice_get, slice_set, if◌then◌else◌, cond}
 use Rattle.std.specs.List.{list_any}
 use Rattle.std.specs.Map.{lookup}
 use Rattle.b67_word.specs.declared.Place.{Place}
-use Rattle.b67_events.specs.Events.{Event, same_place, is_before}
+use Rattle.b67_limits.specs.declared.TheConstants.{MOST_EVENTS}
+use Rattle.b67_deeds.specs.Events.{EventState}
+use Rattle.b67_events.specs.Events.{Event, same_place, is_before, is_among}
+use Rattle.b67_events.specs.Once.{times_in}
 use Rattle.b67_events.specs.declared.Flags.{Flags}
 use Rattle.b67_events.specs.declared.Queue.{Queue}
 use Rattle.b67_events.specs.declared.Queue.TheVariants.{Waiters, Procurers}
@@ -76,15 +80,64 @@ without_first test (x ∷ xs) = cond (test x) xs (x ∷ without_first test xs)
 abbrev pub among : ℕ → List Waiting → Bool
 among process ws = list_any (λ w. process == w.process) ws
 
--- Each who waits is a process from 1 to n, waits once, and waits for an event that is open.
+-- whether one stands among those who wait as another does: the same process in the same list of the same event
+abbrev pub is_same : Waiting → Waiting → Bool
+is_same w v = w.process == v.process && stands_in w.queue w.place v
+
+abbrev pub stands_again : Waiting → List Waiting → Bool
+stands_again w ws = list_any (is_same w) ws
+
+-- Each who waits is a process from 1 to n, waits for an event that is open, and stands in each of its lists once.
 abbrev pub AreQueued : List Entry → ℕ → List Waiting → Type 0
 AreQueued fs n [] = Unit {0}
 AreQueued fs n (w ∷ ws) =
     (1 ≤ w.process) × (w.process ≤ n) × (has_flags w.place fs ≡ true)
-    × (among w.process ws ≡ false) × AreQueued fs n ws
+    × (stands_again w ws ≡ false) × AreQueued fs n ws
 
--- There is room for all n processes to wait, and events are open at places of stacks.
+abbrev pub numbers_of : List Waiting → List ℕ
+numbers_of ws = map (λ w. w.process) ws
+
+-- There is room for all n processes to wait, each for as many events as one can, and events are open at places of stacks.
 pub record IsKept (fs : List Entry) (ws : List Waiting) (n capacity : ℕ) : Type 0 where
-  pub room : n ≤ capacity
+  pub room : n * MOST_EVENTS ≤ capacity
   pub queued : AreQueued fs n ws
+  pub few : (p : ℕ) → times_in p (numbers_of ws) ≤ MOST_EVENTS
   pub within : AreWithin fs
+
+-- ---- several events
+
+-- an event that lets all go who wait for it has happened, or has not
+abbrev pub without_waiters : Bool → EventState → EventState
+without_waiters b e = record e { happened = b; waiters = [] }
+
+-- A process that waits for these places joins the waiters of each, but of those that are among the ones seen before.
+abbrev pub joiners : ℕ → List Place → List Place → List Waiting
+joiners p seen [] = []
+joiners p seen (at ∷ places) =
+    if is_among seen at then joiners p (seen ++ at ∷ []) places
+    else record { process = p; place = at; queue = Waiters } ∷ joiners p (seen ++ at ∷ []) places
+
+-- by the processes' numbers, whom an event releases
+abbrev pub nobody_marked : ℕ → List Bool
+nobody_marked n = replicate (n + 1) false
+
+abbrev pub or_false : Option Bool → Bool
+or_false None = false
+or_false (Some b) = b
+
+abbrev pub is_marked : List Bool → ℕ → Bool
+is_marked marks p = or_false (slice_get marks p)
+
+abbrev pub marked : Bool → List ℕ → List Bool → List Bool
+marked mark [] marks = marks
+marked mark (p ∷ ps) marks = marked mark ps (slice_set marks p mark)
+
+-- whether one who waits for an event to happen is marked
+abbrev pub is_leaving : List Bool → Waiting → Bool
+is_leaving marks w = same_queue Waiters w.queue && is_marked marks w.process
+
+-- There is room for the places of all n processes, and nobody is marked.
+pub record AreListed (lists : List (List Place)) (marks : List Bool) (n capacity : ℕ) : Type 0 where
+  pub room : n ≤ capacity
+  pub known : length lists ≤ n
+  pub unmarked : marks ≡ nobody_marked n

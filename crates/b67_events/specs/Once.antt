@@ -1,10 +1,10 @@
 -- Each process stands once in each list, whatever is done to the events; and who is released waits nowhere.
-use Rattle.std.specs.Prelude.{◌≡◌, ℕ, ◌+◌, ◌≤◌, ◌==◌, true, false, All, List, [], ◌∷◌, ◌++◌, if◌then◌else◌}
+use Rattle.std.specs.Prelude.{◌≡◌, ◌⊎◌, ℕ, ◌+◌, ◌≤◌, ◌==◌, Bool, true, false, All, List, [], ◌∷◌, if◌then◌else◌}
 use Rattle.std.specs.List.{list_any}
 use Rattle.b67_word.specs.declared.Place.{Place}
 use Rattle.b67_deeds.specs.Events.{EventState}
-use Rattle.b67_deeds.specs.Deeds.{EventDeed, Deed, Next, goes, waits, procures}
-use Rattle.b67_events.specs.Events.{Event, is_waiting, opened, closed_from, deed_at, done_at}
+use Rattle.b67_deeds.specs.Deeds.{EventDeed, Next, goes, waits, procures}
+use Rattle.b67_events.specs.Events.{Event, is_waiting, is_one_of, opened, closed_from, deed_at, done_at, joined_all}
 use Rattle.b67_events.specs.Laws.{AreApart}
 
 -- how often a process stands in a list
@@ -24,9 +24,6 @@ waiters_of e = e.waiters
 abbrev pub procurers_of : EventState → List ℕ
 procurers_of e = e.procurers
 
-abbrev pub all_of : EventState → List ℕ
-all_of e = e.waiters ++ e.procurers
-
 -- a process waits once, at the most, for each event to happen; and it waits to procure one event, at the most, and once
 pub record EachOnce (es : List Event) : Type 0 where
   pub waiting : (p : ℕ) → All (λ e. times_in p e.state.waiters ≤ 1) es
@@ -41,11 +38,23 @@ MayWait procures p es = AreApart es × (is_waiting p es ≡ false)
 pub record EachWaitsOnce : Type 0 where
   pub by_deed : (x : EventDeed) (p : ℕ) (at : Place) (es : List Event) → MayWait (deed_at x p at es).next p es → EachOnce es
       → EachOnce (done_at x p at es)
+  -- where it joins several events
+  pub by_several : (places : List Place) (p : ℕ) (es : List Event) → is_waiting p es ≡ false → EachOnce es → EachOnce (joined_all places p es)
   pub by_opening : (at : Place) (es : List Event) → EachOnce es → EachOnce (opened at es)
   pub by_closing : (stack low : ℕ) (es : List Event) → EachOnce es → EachOnce (closed_from stack low es)
 
--- who waited once in all, and is released by what another process does, waits nowhere
-abbrev pub ReleasedWaitNowhere : Type 0
-ReleasedWaitNowhere =
-    (x : EventDeed) (p q : ℕ) (at : Place) (es : List Event) → times all_of q es ≤ 1 → list_any (λ r. q == r) (deed_at x p at es).frees ≡ true
-    → is_waiting q (done_at x p at es) ≡ false
+-- whether a process waits for some event to happen
+abbrev pub is_waiter : ℕ → List Event → Bool
+is_waiter p es = list_any (λ e. list_any (λ q. p == q) e.state.waiters) es
+
+-- a process waits in one way: to procure nothing, or once to procure and for nothing to happen
+abbrev pub WaitsOneWay : ℕ → List Event → Type 0
+WaitsOneWay p es = (times procurers_of p es ≡ 0) ⊎ ((times waiters_of p es ≡ 0) × (times procurers_of p es ≤ 1))
+
+pub record ReleasedWaitNowhere : Type 0 where
+  -- who is withdrawn by a deed waits for no event to happen any more, for however many it waited
+  pub withdrawn : (x : EventDeed) (p q : ℕ) (at : Place) (es : List Event) → is_one_of (deed_at x p at es).withdraws q ≡ true
+      → is_waiter q (done_at x p at es) ≡ false
+  -- who waited in one way, and is freed by a deed, waits nowhere
+  pub freed : (x : EventDeed) (p q : ℕ) (at : Place) (es : List Event) → WaitsOneWay q es → is_one_of (deed_at x p at es).frees q ≡ true
+      → is_waiting q (done_at x p at es) ≡ false

@@ -1,20 +1,26 @@
 //! The events of the machine: who waits for them to happen, and who waits to procure them.
 //!
-//! The actions are those of the B6700's Extended ALGOL on events: CAUSE, RESET, WAIT, HAPPENED, PROCURE and
-//! LIBERATE. That processes are released in the order in which they came is this project's profile.
+//! The actions are those of the B6700's Extended ALGOL on events: CAUSE, RESET, WAIT, HAPPENED, PROCURE, LIBERATE,
+//! CAUSEANDRESET, AVAILABLE, FIX, and WAIT with a list. That processes are released in the order in which they came,
+//! and what a list gives, is this project's profile.
 #![tactic(auto)]
 
-ghost use Rattle.std.specs.Prelude.{◌≡◌, ℕ, ◌+◌, ◌<◌, ◌≤◌, not, [], ◌∷◌, ◌++◌, filter, length, slice_get, vec_capacity, IfOk, IfSome, IfNone, OnOk, OnErr, IsTrue, IsFalse};
+ghost use Rattle.std.specs.Prelude.{◌≡◌, ℕ, ◌+◌, ◌*◌, ◌<◌, ◌≤◌, true, false, not, [], ◌∷◌, ◌++◌, All, map, filter, length, replicate, slice_get, vec_capacity, IfOk, IfSome, IfNone, OnOk, OnErr, IsTrue, IsFalse};
 ghost use Rattle.std.specs.BTreeMap.{insert_entry};
 ghost use Rattle.b67_deeds.specs.declared.EventAct.TheVariants as act;
 ghost use Rattle.b67_deeds.specs.declared.EventTest.TheVariants as test;
-ghost use Rattle.b67_deeds.specs.Deeds.{acts, answers};
-ghost use Rattle.b67_events.specs.Events.{same_place, is_open, is_from, state_at, is_waiting, opened, closed_from, deed_at, done_at, took};
-ghost use Rattle.b67_events.specs.Kept.{same_queue, stands_in, listed, flags_at, flag_of, has_flags, set_flags, with_happened, with_available, AreWithin, without_first};
+ghost use Rattle.b67_deeds.specs.Deeds.{acts, tests, answers};
+ghost use Rattle.b67_events.specs.Events.{same_place, is_open, is_from, state_at, waiters_at, is_waiting, is_listed, changed, with_state, withdrawn, opened, closed_from, deed_at, done_at, took, unlisted, number_of, position_of, first_that, first_happened, waited_any, took_any};
+ghost use Rattle.b67_events.specs.Kept.{same_queue, stands_in, listed, flags_at, flag_of, has_flags, set_flags, with_happened, with_available, AreWithin, without_first, joiners, nobody_marked, is_marked, marked, is_leaving, without_waiters};
 ghost use Rattle.b67_events.specs.Laws.{OneEventChanges, EventsStayApart};
 ghost use Rattle.b67_events.specs.Once.{EachWaitsOnce, ReleasedWaitNowhere};
+ghost use Rattle.b67_events.specs.Worked.{TwoEventsAtWork};
 ghost use Rattle.b67_events.specs.declared.Queue.TheVariants.{Waiters, Procurers};
 
+mod several;
+
+use crate::several::{Several, is_among, locate, unlist_all, with_list};
+use b67_limits::MOST_EVENTS;
 use b67_word::Place;
 use std::alloc::{AllocError, Global};
 use std::collections::BTreeMap;
@@ -27,10 +33,20 @@ pub enum Took {
     Waits,
 }
 
-/// The processes that an event released, in the order in which they came to wait.
+/// What became of a process that waits for several events: it goes on by the one at this position, from 1, or it
+/// waits for all of them.
+#[derive(Clone, Copy)]
+pub enum TookAny {
+    Went { position: u32 },
+    Waits,
+}
+
+/// The processes that an event released, in the order in which they came to wait, and for each the event's position
+/// among those for which it waited, from 1: 0 for one that waited for this event only.
 #[derive(Drop)]
 pub struct Woken {
     pub processes: Vec<u32>,
+    pub positions: Vec<u32>,
 }
 
 // Whether an event has happened, and whether it is available.
@@ -58,27 +74,32 @@ struct Waiting {
 /// The events that are open, each at its place, and the processes that wait for them.
 ///
 /// Contracts see a kernel as the list of its events, each with its place, whether it has happened, whether it
-/// is available, and the processes that wait for it to happen and to procure it, both in order of arrival, and
-/// as the number of processes that it has room for. Processes are numbered from 1.
+/// is available, and the processes that wait for it to happen and to procure it, both in order of arrival; as the
+/// places of the events for which each process waits, where it waits for several; and as the number of processes that
+/// it has room for. Processes are numbered from 1.
 #[derive(Drop)]
 pub struct Kernel {
     // In the order of their places.
     events: BTreeMap<Place, Flags>,
-    // All who wait, in order of arrival; an event's lists are what it shows of this one.
+    // All who wait, in order of arrival, once for each event; an event's lists are what it shows of this one.
     waiting: Vec<Waiting>,
+    // By the processes' numbers from 1, as far as some process has waited for several.
+    lists: Vec<Several>,
+    // By the processes' numbers, whom an event releases: nobody, between two calls.
+    marks: Vec<bool>,
     processes: u32,
 }
 
 impl Model for Kernel {
     ghost use Rattle.std.specs.Prelude.{vec_capacity};
     ghost use Rattle.b67_events.specs.Events.{Events};
-    ghost use Rattle.b67_events.specs.Kept.{events_of, IsKept};
+    ghost use Rattle.b67_events.specs.Kept.{events_of, IsKept, AreListed};
 
     ghost Value = { Events };
 
-    ghost view = { λ k. record { events = events_of k.events.entries k.waiting.items; room = k.processes } };
+    ghost view = { λ k. record { events = events_of k.events.entries k.waiting.items; lists = k.lists.items; room = k.processes } };
 
-    ghost invariant = { λ k. IsKept k.events.entries k.waiting.items k.processes (vec_capacity k.waiting) };
+    ghost invariant = { λ k. IsKept k.events.entries k.waiting.items k.processes (vec_capacity k.waiting) × AreListed k.lists.items k.marks.items k.processes (vec_capacity k.lists) };
 }
 
 // Tests that two places are one.
@@ -107,6 +128,16 @@ impl Waiting {
                 (Queue::Procurers, Queue::Waiters) => false,
                 (Queue::Procurers, Queue::Procurers) => true,
             }
+    }
+
+    // Tests that it waits for an event to happen.
+    fn is_waiter(&self) -> bool
+        ensures { result ≡ same_queue Waiters self.now.queue }
+    {
+        match self.queue {
+            Queue::Waiters => true,
+            Queue::Procurers => false,
+        }
     }
 }
 
@@ -142,6 +173,21 @@ fn is_available(events: &BTreeMap<Place, Flags>, at: Place) -> bool
         Some(flags) => flags.available,
         None => false,
     }
+}
+
+// The first position, from 1, of a place whose event has happened.
+fn first_happened(events: &BTreeMap<Place, Flags>, at: &[Place]) -> Option<u32>
+    requires { length at.now ≤ MOST_EVENTS }
+    ensures { result ≡ first_that (λ place. flag_of (λ f. f.happened) (flags_at place events.now.entries)) 1 at.now }
+{
+    let mut position = 1;
+    'looking: for index in 0..at.len() {
+        if has_happened(events, at[index]) {
+            return Some(position);
+        }
+        position += 1;
+    }
+    None
 }
 
 // Sets whether the event at a place has happened.
@@ -215,34 +261,106 @@ fn enqueue(waiting: &mut Vec<Waiting>, one: Waiting)
     waiting.push(one).unwrap();
 }
 
-// Puts a process at the end of those who are released.
-fn wake(woken: &mut Vec<u32>, process: u32)
+// Puts a number at the end of those of who is released.
+fn wake(woken: &mut Vec<u32>, number: u32)
     requires { length woken.old.items < vec_capacity woken.old }
-    ensures items { woken.new.items ≡ woken.old.items ++ process ∷ [] }
+    ensures items { woken.new.items ≡ woken.old.items ++ number ∷ [] }
     ensures capacity { vec_capacity woken.old ≤ vec_capacity woken.new }
 {
-    woken.push(process).unwrap();
+    woken.push(number).unwrap();
 }
 
-// Takes those who wait for the event at a place to happen out of the list, and puts them into `woken`.
-fn release(waiting: &mut Vec<Waiting>, at: Place, woken: &mut Vec<u32>)
-    requires { length woken.old.items + length waiting.old.items ≤ vec_capacity woken.old }
-    ensures kept { waiting.new.items ≡ filter (λ w. not (stands_in Waiters at w)) waiting.old.items }
-    ensures capacity { vec_capacity waiting.old ≤ vec_capacity waiting.new }
-    ensures woken { woken.new.items ≡ woken.old.items ++ listed Waiters at waiting.old.items }
+// Puts those who wait for the event at a place to happen into `woken`.
+fn gather(waiting: &Vec<Waiting>, at: Place, woken: &mut Vec<u32>)
+    requires { length woken.old.items + length (listed Waiters at waiting.now.items) ≤ vec_capacity woken.old }
+    ensures woken { woken.new.items ≡ woken.old.items ++ listed Waiters at waiting.now.items }
     ensures room { vec_capacity woken.old ≤ vec_capacity woken.new }
 {
-    let mut kept = 0;
     'waiting: for index in 0..waiting.len() {
         let one = waiting[index];
         if one.is_in(Queue::Waiters, at) {
             wake(woken, one.process);
-        } else {
-            waiting[kept] = one;
-            kept += 1;
         }
     }
-    waiting.truncate(kept);
+}
+
+// Marks these processes, or takes their marks away.
+fn mark_all(marks: &mut Vec<bool>, processes: &Vec<u32>, mark: bool)
+    ensures { marks.new.items ≡ marked mark processes.now.items marks.old.items }
+{
+    'marking: for index in 0..processes.len() {
+        let process = processes[index] as usize;
+        if process < marks.len() {
+            marks[process] = mark;
+        }
+    }
+}
+
+// Tests that a process is marked.
+fn is_marked(marks: &Vec<bool>, process: u32) -> bool
+    ensures { result ≡ is_marked marks.now.items process }
+{
+    match marks.get(process as usize) {
+        Some(mark) => *mark,
+        None => false,
+    }
+}
+
+// Takes those who are marked out of the lists of those who wait for an event to happen.
+fn withdraw(waiting: &mut Vec<Waiting>, marks: &Vec<bool>)
+    ensures kept { waiting.new.items ≡ filter (λ w. not (is_leaving marks.now.items w)) waiting.old.items }
+    ensures capacity { vec_capacity waiting.old ≤ vec_capacity waiting.new }
+{
+    waiting.retain(|one| !(one.is_waiter() && is_marked(marks, one.process)));
+}
+
+// Releases those who wait for the event at a place to happen: `woken` has them, and they wait for no event any more.
+fn release(
+    waiting: &mut Vec<Waiting>,
+    lists: &mut Vec<Several>,
+    marks: &mut Vec<bool>,
+    at: Place,
+    woken: &mut Woken,
+)
+    requires processes { length (listed Waiters at waiting.old.items) ≤ vec_capacity woken.old.processes }
+    requires positions { length (listed Waiters at waiting.old.items) ≤ vec_capacity woken.old.positions }
+    ensures kept { waiting.new.items ≡ filter (λ w. not (is_leaving (marked true (listed Waiters at waiting.old.items) marks.old.items) w)) waiting.old.items }
+    ensures lists { lists.new.items ≡ unlisted (listed Waiters at waiting.old.items) lists.old.items }
+    ensures marks { marks.new.items ≡ marked false (listed Waiters at waiting.old.items) (marked true (listed Waiters at waiting.old.items) marks.old.items) }
+    ensures woken { woken.new.processes.items ≡ listed Waiters at waiting.old.items }
+    ensures positions { woken.new.positions.items ≡ map (λ p. number_of (position_of at lists.old.items p)) (listed Waiters at waiting.old.items) }
+    ensures capacity { (vec_capacity waiting.old ≤ vec_capacity waiting.new) × (vec_capacity lists.old ≤ vec_capacity lists.new) }
+    ensures room { (vec_capacity woken.old.processes ≤ vec_capacity woken.new.processes) × (vec_capacity woken.old.positions ≤ vec_capacity woken.new.positions) }
+{
+    woken.processes.clear();
+    woken.positions.clear();
+    gather(waiting, at, &mut woken.processes);
+    locate(lists, at, &woken.processes, &mut woken.positions);
+    mark_all(marks, &woken.processes, true);
+    withdraw(waiting, marks);
+    mark_all(marks, &woken.processes, false);
+    unlist_all(lists, &woken.processes);
+}
+
+// Puts a process at the end of those who wait for each of these events to happen.
+fn join_all(waiting: &mut Vec<Waiting>, at: &[Place], process: u32)
+    requires { length waiting.old.items + length at.now ≤ vec_capacity waiting.old }
+    ensures waiting { waiting.new.items ≡ waiting.old.items ++ joiners process [] at.now }
+    ensures capacity { vec_capacity waiting.old ≤ vec_capacity waiting.new }
+{
+    'joining: for index in 0..at.len() {
+        let place = at[index];
+        if !is_among(&at[..index], place) {
+            enqueue(
+                waiting,
+                Waiting {
+                    process,
+                    place,
+                    queue: Queue::Waiters,
+                },
+            );
+        }
+    }
 }
 
 // Takes the first who waits to procure the event at a place out of the list, and gives it.
@@ -260,13 +378,16 @@ fn serve(waiting: &mut Vec<Waiting>, at: Place) -> Option<u32>
 }
 
 impl Kernel {
-    /// A kernel without events, with room for this many processes to wait.
+    /// A kernel without events, with room for this many processes to wait, each for as many events as one can.
     pub fn with_room(alloc: Global, processes: u32) -> Result<Kernel, AllocError>
-        ensures { IfOk result (λ kernel. kernel ≡ record { events = []; room = processes }) }
+        ensures { IfOk result (λ kernel. kernel ≡ record { events = []; lists = []; room = processes }) }
     {
+        let count = processes as usize;
         Ok(Kernel {
             events: BTreeMap::new(alloc),
-            waiting: Vec::with_capacity(alloc, processes as usize)?,
+            waiting: Vec::with_capacity(alloc, count * MOST_EVENTS as usize)?,
+            lists: Vec::with_capacity(alloc, count)?,
+            marks: vec![in alloc; false; count + 1]?,
             processes,
         })
     }
@@ -306,6 +427,7 @@ impl Kernel {
         requires open { IsTrue (is_open at self.old.events) }
         requires process { (1 ≤ process) × (process ≤ self.old.room) }
         requires idle { IsFalse (is_waiting process self.old.events) }
+        requires unlisted { IsFalse (is_listed process self.old.lists) }
         ensures answer { result ≡ took (deed_at (acts act.Wait) process at self.old.events).next }
         ensures after { self.new ≡ record self.old { events = done_at (acts act.Wait) process at self.old.events } }
     {
@@ -323,18 +445,68 @@ impl Kernel {
         Took::Waits
     }
 
-    /// Makes the event at a place happen, and releases all who wait for it: `woken` is emptied, and then has
-    /// them in the order in which they came. It has room for as many processes as the kernel, and keeps it.
+    /// Lets a process go on where one of the events at these places has happened, and answers the position of the first
+    /// such place, from 1; else it waits for all of them, after all who wait.
+    pub fn wait_any(&mut self, at: &[Place], process: u32) -> TookAny
+        requires open { All (λ place. IsTrue (is_open place self.old.events)) at.now }
+        requires few { (1 ≤ length at.now) × (length at.now ≤ MOST_EVENTS) }
+        requires process { (1 ≤ process) × (process ≤ self.old.room) }
+        requires idle { IsFalse (is_waiting process self.old.events) }
+        requires unlisted { IsFalse (is_listed process self.old.lists) }
+        ensures answer { result ≡ took_any (first_happened at.now self.old.events) }
+        ensures after { self.new ≡ waited_any (first_happened at.now self.old.events) at.now process self.old }
+    {
+        if let Some(position) = first_happened(&self.events, at) {
+            return TookAny::Went { position };
+        }
+        join_all(&mut self.waiting, at, process);
+        with_list(&mut self.lists, process, at);
+        TookAny::Waits
+    }
+
+    // Makes the event at a place one that has happened, or that has not, and releases all who wait for it.
+    fn let_all_go(&mut self, at: Place, happened: bool, woken: &mut Woken)
+        requires open { IsTrue (is_open at self.old.events) }
+        requires room { (self.old.room ≤ vec_capacity woken.old.processes) × (self.old.room ≤ vec_capacity woken.old.positions) }
+        ensures after { self.new ≡ record self.old { events = withdrawn (waiters_at at self.old.events) (changed at (with_state (without_waiters happened)) self.old.events); lists = unlisted (waiters_at at self.old.events) self.old.lists } }
+        ensures woken { woken.new.processes.items ≡ waiters_at at self.old.events }
+        ensures positions { woken.new.positions.items ≡ map (λ p. number_of (position_of at self.old.lists p)) (waiters_at at self.old.events) }
+        ensures room { (vec_capacity woken.old.processes ≤ vec_capacity woken.new.processes) × (vec_capacity woken.old.positions ≤ vec_capacity woken.new.positions) }
+    {
+        set_happened(&mut self.events, at, happened);
+        release(
+            &mut self.waiting,
+            &mut self.lists,
+            &mut self.marks,
+            at,
+            woken,
+        );
+    }
+
+    /// Makes the event at a place happen, and releases all who wait for it, so that they wait for no other event
+    /// either: `woken` is emptied, and then has them in the order in which they came, each with the event's position
+    /// among those for which it waited. It has room for as many processes as the kernel, and keeps it.
     pub fn cause(&mut self, at: Place, woken: &mut Woken)
         requires open { IsTrue (is_open at self.old.events) }
-        requires room { self.old.room ≤ vec_capacity woken.old.processes }
-        ensures after { self.new ≡ record self.old { events = done_at (acts act.Cause) 0 at self.old.events } }
+        requires room { (self.old.room ≤ vec_capacity woken.old.processes) × (self.old.room ≤ vec_capacity woken.old.positions) }
+        ensures after { self.new ≡ record self.old { events = done_at (acts act.Cause) 0 at self.old.events; lists = unlisted (deed_at (acts act.Cause) 0 at self.old.events).withdraws self.old.lists } }
         ensures woken { woken.new.processes.items ≡ (deed_at (acts act.Cause) 0 at self.old.events).frees }
-        ensures room { vec_capacity woken.old.processes ≤ vec_capacity woken.new.processes }
+        ensures positions { woken.new.positions.items ≡ map (λ p. number_of (position_of at self.old.lists p)) (deed_at (acts act.Cause) 0 at self.old.events).frees }
+        ensures room { (vec_capacity woken.old.processes ≤ vec_capacity woken.new.processes) × (vec_capacity woken.old.positions ≤ vec_capacity woken.new.positions) }
     {
-        woken.processes.clear();
-        set_happened(&mut self.events, at, true);
-        release(&mut self.waiting, at, &mut woken.processes);
+        self.let_all_go(at, true, woken);
+    }
+
+    /// Releases all who wait for the event at a place, as `cause` does, and leaves it one that has not happened.
+    pub fn cause_and_reset(&mut self, at: Place, woken: &mut Woken)
+        requires open { IsTrue (is_open at self.old.events) }
+        requires room { (self.old.room ≤ vec_capacity woken.old.processes) × (self.old.room ≤ vec_capacity woken.old.positions) }
+        ensures after { self.new ≡ record self.old { events = done_at (acts act.CauseAndReset) 0 at self.old.events; lists = unlisted (deed_at (acts act.CauseAndReset) 0 at self.old.events).withdraws self.old.lists } }
+        ensures woken { woken.new.processes.items ≡ (deed_at (acts act.CauseAndReset) 0 at self.old.events).frees }
+        ensures positions { woken.new.positions.items ≡ map (λ p. number_of (position_of at self.old.lists p)) (deed_at (acts act.CauseAndReset) 0 at self.old.events).frees }
+        ensures room { (vec_capacity woken.old.processes ≤ vec_capacity woken.new.processes) × (vec_capacity woken.old.positions ≤ vec_capacity woken.new.positions) }
+    {
+        self.let_all_go(at, false, woken);
     }
 
     /// Makes the event at a place one that has not happened. Who was released stays released, and who waits
@@ -354,12 +526,34 @@ impl Kernel {
         has_happened(&self.events, at)
     }
 
+    /// Tests that the event at a place is available.
+    pub fn available(&self, at: Place) -> bool
+        requires { IsTrue (is_open at self.now.events) }
+        ensures { result ≡ answers test.Available (state_at at self.now.events) }
+    {
+        is_available(&self.events, at)
+    }
+
+    /// Takes the event at a place where it is available, and answers false; else answers true, and nothing changes.
+    pub fn fix(&mut self, at: Place) -> bool
+        requires { IsTrue (is_open at self.old.events) }
+        ensures answer { result ≡ answers test.Fix (state_at at self.old.events) }
+        ensures after { self.new ≡ record self.old { events = done_at (tests test.Fix) 0 at self.old.events } }
+    {
+        if is_available(&self.events, at) {
+            set_available(&mut self.events, at, false);
+            return false;
+        }
+        true
+    }
+
     /// Lets a process take the event at a place where it is available; else it waits to procure it, after all
     /// who wait.
     pub fn procure(&mut self, at: Place, process: u32) -> Took
         requires open { IsTrue (is_open at self.old.events) }
         requires process { (1 ≤ process) × (process ≤ self.old.room) }
         requires idle { IsFalse (is_waiting process self.old.events) }
+        requires unlisted { IsFalse (is_listed process self.old.lists) }
         ensures answer { result ≡ took (deed_at (acts act.Procure) process at self.old.events).next }
         ensures after { self.new ≡ record self.old { events = done_at (acts act.Procure) process at self.old.events } }
     {
@@ -393,8 +587,14 @@ impl Kernel {
     }
 }
 
+/// Law: a process that waits for two events goes on by the second of them, at position 2, and then waits for neither;
+/// the first is available, and is taken once.
+pub fn two_events_at_work()
+    ensures { TwoEventsAtWork }
+{}
+
 /// Law: the events are a map from places. An action changes the event at its place, and every other event
-/// stays as it is.
+/// stays as it is, but that who is released leaves all.
 pub fn one_event_changes()
     ensures { OneEventChanges }
 {}
@@ -405,13 +605,14 @@ pub fn events_stay_apart()
 {}
 
 /// Law: each process stands once, at the most, in the list of those who wait for an event to happen, and once in
-/// all lists of those who wait to procure one, after each deed as before it, where who has to wait has waited
-/// nowhere and no two events are open at one place.
+/// all lists of those who wait to procure one, after each deed as before it, also where it waits for several events, if
+/// who has to wait has waited nowhere and no two events are open at one place.
 pub fn each_waits_once()
     ensures { EachWaitsOnce }
 {}
 
-/// Law: a process that waited once in all, and is released by a deed, waits nowhere.
+/// Law: who is released, for however many events it waited, waits for none to happen any more; and a process that waited
+/// for events to happen, or once to procure one, and is freed by a deed, waits nowhere.
 pub fn released_wait_nowhere()
     ensures { ReleasedWaitNowhere }
 {}

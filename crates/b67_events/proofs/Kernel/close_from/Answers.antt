@@ -7,11 +7,11 @@ use Rattle.b67_events.proofs.Kernel.close_from.Goals as goal
 pub invariant_of-self : goal.invariant_of-self
 invariant_of-self c =
     let k = c.self.inside in
-    let kept = kept-closed (λ p. not (is_from c.args.stack c.args.at p)) k.events.entries k.waiting.items k.processes (vec_capacity k.waiting) c.self.invariant in
-    rw (c.remove_from.ensures, c.forget_from.ensures.kept) (kept-wider _ _ _ _ _ kept c.forget_from.ensures.capacity)
+    let kept = kept-closed (λ p. not (is_from c.args.stack c.args.at p)) k.events.entries k.waiting.items k.processes (vec_capacity k.waiting) c.self.invariant.0 in
+    (rw (c.remove_from.ensures, c.forget_from.ensures.kept) (kept-wider _ _ _ _ _ kept c.forget_from.ensures.capacity), c.self.invariant.1)
 
 pub returns : goal.returns
 returns c =
     let k = c.self.inside in
     rw (← c.self.view_is, c.remove_from.ensures, c.forget_from.ensures.kept)
-    (ap (λ es. held es k.processes) (events-closed (λ p. not (is_from c.args.stack c.args.at p)) k.events.entries k.waiting.items))
+    (ap (λ es. held es k.lists.items k.processes) (events-closed (λ p. not (is_from c.args.stack c.args.at p)) k.events.entries k.waiting.items))

@@ -10,8 +10,8 @@ pub invariant_of-self : goal.invariant_of-self
 invariant_of-self c =
     let k = c.self.inside in
     let kept =
-    kept-first (stands_in Procurers c.args.at) k.events.entries k.waiting.items k.processes (vec_capacity k.waiting) c.self.invariant in
-    rw c.serve.ensures.rest (kept-wider _ _ _ _ _ kept c.serve.ensures.capacity)
+    kept-first (stands_in Procurers c.args.at) k.events.entries k.waiting.items k.processes (vec_capacity k.waiting) c.self.invariant.0 in
+    (rw c.serve.ensures.rest (kept-wider _ _ _ _ _ kept c.serve.ensures.capacity), c.self.invariant.1)
 
 pub returns-in-Some-clause-answer : goal.returns-in-Some-clause-answer
 returns-in-Some-clause-answer c =
@@ -26,16 +26,16 @@ returns-in-Some-clause-after c =
     let k = c.self.inside in
     let here = rw (← c.self.view_is) at c.requires in
     rw (← c.self.view_is, c.serve.ensures.rest)
-    (ap (λ es. held es k.processes)
+    (ap (λ es. held es k.lists.items k.processes)
     (liberated-served c.args.at c.in-Some.process k.events.entries k.waiting.items here (sym c.serve.ensures.first ∙ c.in-Some.is)))
 
 pub invariant_of-self-2 : goal.invariant_of-self-2
 invariant_of-self-2 c =
     let k = c.self.inside in
     let set =
-    kept-set c.args.at (with_available true) k.events.entries k.waiting.items k.processes (vec_capacity k.waiting) c.self.invariant in
+    kept-set c.args.at (with_available true) k.events.entries k.waiting.items k.processes (vec_capacity k.waiting) c.self.invariant.0 in
     let kept = kept-first (stands_in Procurers c.args.at) _ _ _ _ set in
-    rw (c.set_available.ensures, c.serve.ensures.rest) (kept-wider _ _ _ _ _ kept c.serve.ensures.capacity)
+    (rw (c.set_available.ensures, c.serve.ensures.rest) (kept-wider _ _ _ _ _ kept c.serve.ensures.capacity), c.self.invariant.1)
 
 pub returns-clause-answer : goal.returns-clause-answer
 returns-clause-answer c =
@@ -50,5 +50,5 @@ returns-clause-after c =
     let k = c.self.inside in
     let here = rw (← c.self.view_is) at c.requires in
     rw (← c.self.view_is, c.set_available.ensures, c.serve.ensures.rest)
-    (ap (λ es. held es k.processes)
+    (ap (λ es. held es k.lists.items k.processes)
     (liberated-freed c.args.at k.events.entries k.waiting.items here (sym c.serve.ensures.first ∙ c.in_default.is)))

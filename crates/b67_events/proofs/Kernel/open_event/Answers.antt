@@ -16,11 +16,11 @@ pub invariant_of-self-2 : goal.invariant_of-self-2
 invariant_of-self-2 c =
     let k = c.self.inside in
     let kept =
-    kept-opened c.args.at (record { happened = false; available = true }) k.events.entries k.waiting.items k.processes (vec_capacity k.waiting) (omega (arith, c.well_formed)) c.self.invariant in
-    rw (events_are c, c.forget.ensures.kept) (kept-wider _ _ _ _ _ kept c.forget.ensures.capacity)
+    kept-opened c.args.at (record { happened = false; available = true }) k.events.entries k.waiting.items k.processes (vec_capacity k.waiting) (omega (arith, c.well_formed)) c.self.invariant.0 in
+    (rw (events_are c, c.forget.ensures.kept) (kept-wider _ _ _ _ _ kept c.forget.ensures.capacity), c.self.invariant.1)
 
 pub returns-clause-ok : goal.returns-clause-ok
 returns-clause-ok c =
     let k = c.self.inside in
     rw (← c.self.view_is, events_are c, c.forget.ensures.kept)
-    (ap (λ es. held es k.processes) (events-opened c.args.at k.events.entries k.waiting.items))
+    (ap (λ es. held es k.lists.items k.processes) (events-opened c.args.at k.events.entries k.waiting.items))

@@ -1,4 +1,4 @@
-use Rattle.std.proofs.Common.{◌≡◌, refl, true, false, ap, sym, ◌∙◌, vec_capacity}
+use Rattle.std.proofs.Common.{◌≡◌, refl, true, false, ap, sym, ◌∙◌, vec_capacity, arith}
 use Rattle.b67_deeds.specs.Deeds.{procures}
 use Rattle.b67_events.specs.Events.{available_at}
 use Rattle.b67_events.specs.Kept.{events_of, with_available}
@@ -26,22 +26,25 @@ returns-then-is_available-clause-answer c =
 
 pub invariant_of-self : goal.invariant_of-self
 invariant_of-self c =
-    let k = c.self.inside in
-    rw c.set_available.ensures
-    (kept-set c.args.at (with_available false) k.events.entries k.waiting.items k.processes (vec_capacity k.waiting) c.self.invariant)
+    let k = c.self.inside in (
+      rw c.set_available.ensures
+          (kept-set c.args.at (with_available false) k.events.entries k.waiting.items k.processes (vec_capacity k.waiting) c.self.invariant.0),
+      c.self.invariant.1,
+    )
 
 pub returns-then-is_available-clause-after : goal.returns-then-is_available-clause-after
 returns-then-is_available-clause-after c =
     let k = c.self.inside in
     rw (← c.self.view_is, c.set_available.ensures)
-    (ap (λ es. held es k.processes) (procure-goes c.args.at c.args.process k.events.entries k.waiting.items (went c)))
+    (ap (λ es. held es k.lists.items k.processes) (procure-goes c.args.at c.args.process k.events.entries k.waiting.items (went c)))
 
 pub enqueue-requires : goal.enqueue-requires
 enqueue-requires c =
     let k = c.self.inside in
     let idle = rw (← c.self.view_is) at c.requires.idle in
     let process = rw (← c.self.view_is) at c.requires.process in
-    kept-room k.events.entries k.waiting.items k.processes (vec_capacity k.waiting) c.args.process c.self.invariant process.0 process.1 idle
+    let room = kept-room k.events.entries k.waiting.items k.processes (vec_capacity k.waiting) c.args.process c.self.invariant.0 process.0 process.1 idle in
+    omega (arith, room)
 
 pub invariant_of-self-2 : goal.invariant_of-self-2
 invariant_of-self-2 c =
@@ -50,8 +53,8 @@ invariant_of-self-2 c =
     let process = rw (← c.self.view_is) at c.requires.process in
     let here = rw (← c.self.view_is) at c.requires.open in
     let one : Waiting = record { process = c.args.process; place = c.args.at; queue = Procurers } in
-    let kept = kept-push k.events.entries k.waiting.items k.processes (vec_capacity k.waiting) one c.self.invariant process.0 process.1 here idle in
-    rw c.enqueue.ensures.items (kept-wider _ _ _ _ _ kept c.enqueue.ensures.capacity)
+    let kept = kept-push k.events.entries k.waiting.items k.processes (vec_capacity k.waiting) one c.self.invariant.0 process.0 process.1 here idle in
+    (rw c.enqueue.ensures.items (kept-wider _ _ _ _ _ kept c.enqueue.ensures.capacity), c.self.invariant.1)
 
 pub returns-clause-answer : goal.returns-clause-answer
 returns-clause-answer c =
@@ -61,4 +64,4 @@ pub returns-clause-after : goal.returns-clause-after
 returns-clause-after c =
     let k = c.self.inside in
     rw (← c.self.view_is, c.enqueue.ensures.items)
-    (ap (λ es. held es k.processes) (procure-waits c.args.at c.args.process k.events.entries k.waiting.items (waits c)))
+    (ap (λ es. held es k.lists.items k.processes) (procure-waits c.args.at c.args.process k.events.entries k.waiting.items (waits c)))

@@ -1,4 +1,4 @@
-use Rattle.std.proofs.Common.{◌≡◌, refl, true, false, ap, sym, ◌∙◌, vec_capacity}
+use Rattle.std.proofs.Common.{◌≡◌, refl, true, false, ap, sym, ◌∙◌, vec_capacity, arith}
 use Rattle.b67_deeds.specs.Deeds.{waits as waiting}
 use Rattle.b67_events.specs.Events.{happened_at}
 use Rattle.b67_events.specs.Kept.{events_of}
@@ -27,14 +27,15 @@ returns-then-has_happened-clause-answer c =
 pub returns-then-has_happened-clause-after : goal.returns-then-has_happened-clause-after
 returns-then-has_happened-clause-after c =
     let k = c.self.inside in
-    rw (← c.self.view_is) (ap (λ es. held es k.processes) (wait-goes c.args.at c.args.process (events_of k.events.entries k.waiting.items) (went c)))
+    rw (← c.self.view_is) (ap (λ es. held es k.lists.items k.processes) (wait-goes c.args.at c.args.process (events_of k.events.entries k.waiting.items) (went c)))
 
 pub enqueue-requires : goal.enqueue-requires
 enqueue-requires c =
     let k = c.self.inside in
     let idle = rw (← c.self.view_is) at c.requires.idle in
     let process = rw (← c.self.view_is) at c.requires.process in
-    kept-room k.events.entries k.waiting.items k.processes (vec_capacity k.waiting) c.args.process c.self.invariant process.0 process.1 idle
+    let room = kept-room k.events.entries k.waiting.items k.processes (vec_capacity k.waiting) c.args.process c.self.invariant.0 process.0 process.1 idle in
+    omega (arith, room)
 
 pub invariant_of-self : goal.invariant_of-self
 invariant_of-self c =
@@ -43,8 +44,8 @@ invariant_of-self c =
     let process = rw (← c.self.view_is) at c.requires.process in
     let here = rw (← c.self.view_is) at c.requires.open in
     let one : Waiting = record { process = c.args.process; place = c.args.at; queue = Waiters } in
-    let kept = kept-push k.events.entries k.waiting.items k.processes (vec_capacity k.waiting) one c.self.invariant process.0 process.1 here idle in
-    rw c.enqueue.ensures.items (kept-wider _ _ _ _ _ kept c.enqueue.ensures.capacity)
+    let kept = kept-push k.events.entries k.waiting.items k.processes (vec_capacity k.waiting) one c.self.invariant.0 process.0 process.1 here idle in
+    (rw c.enqueue.ensures.items (kept-wider _ _ _ _ _ kept c.enqueue.ensures.capacity), c.self.invariant.1)
 
 pub returns-clause-answer : goal.returns-clause-answer
 returns-clause-answer c =
@@ -54,4 +55,4 @@ pub returns-clause-after : goal.returns-clause-after
 returns-clause-after c =
     let k = c.self.inside in
     rw (← c.self.view_is, c.enqueue.ensures.items)
-    (ap (λ es. held es k.processes) (wait-waits c.args.at c.args.process k.events.entries k.waiting.items (waits c)))
+    (ap (λ es. held es k.lists.items k.processes) (wait-waits c.args.at c.args.process k.events.entries k.waiting.items (waits c)))

@@ -1,0 +1,56 @@
+use Rattle.std.proofs.Common.{◌∙◌, ap, true, not, map, arith, vec_capacity}
+use Rattle.b67_events.specs.Events.{number_of, position_of, unlisted, waiters_at, changed, with_state, withdrawn}
+use Rattle.b67_events.specs.Kept.{listed, events_of, with_happened, marked, is_leaving, without_waiters}
+use Rattle.b67_events.specs.declared.Queue.TheVariants.{Waiters}
+use Rattle.b67_events.proofs.Steps.{held, kept-one, kept-known, kept-set, kept-filter, kept-wider, lists-without, lists-wider, woken-shown, event-released}
+use Rattle.b67_events.proofs.Kernel.let_all_go.Goals as goal
+
+pub release-requires-clause-processes : goal.release-requires-clause-processes
+release-requires-clause-processes c =
+    let k = c.self.inside in
+    let room = rw (← c.self.view_is) at c.requires.room in
+    let few = kept-one k.events.entries k.waiting.items k.processes (vec_capacity k.waiting) c.args.at c.self.invariant.0 in
+    omega (arith, few, room.0)
+
+pub release-requires-clause-positions : goal.release-requires-clause-positions
+release-requires-clause-positions c =
+    let k = c.self.inside in
+    let room = rw (← c.self.view_is) at c.requires.room in
+    let few = kept-one k.events.entries k.waiting.items k.processes (vec_capacity k.waiting) c.args.at c.self.invariant.0 in
+    omega (arith, few, room.1)
+
+pub invariant_of-self : goal.invariant_of-self
+invariant_of-self c =
+    let k = c.self.inside in
+    let ps = listed Waiters c.args.at k.waiting.items in
+    let one = c.self.invariant.0 in
+    let set = kept-set c.args.at (with_happened c.args.happened) k.events.entries k.waiting.items k.processes (vec_capacity k.waiting) one in
+    let kept = kept-filter (λ w. not (is_leaving (marked true ps k.marks.items) w)) _ _ _ _ set in
+    let known = kept-known k.events.entries k.waiting.items k.processes (vec_capacity k.waiting) c.args.at one in
+    let lists = lists-without k.lists.items k.marks.items k.processes (vec_capacity k.lists) ps c.self.invariant.1 known in (
+      rw (c.set_happened.ensures, c.release.ensures.kept) (kept-wider _ _ _ _ _ kept c.release.ensures.capacity.0),
+      rw (c.release.ensures.lists, c.release.ensures.marks) (lists-wider _ _ _ _ _ lists c.release.ensures.capacity.1),
+    )
+
+pub returns-clause-after : goal.returns-clause-after
+returns-clause-after c =
+    let k = c.self.inside in
+    let here = rw (← c.self.view_is) at c.requires.open in
+    rw (← c.self.view_is, c.set_happened.ensures, c.release.ensures.kept, c.release.ensures.lists, c.self.invariant.1.unmarked)
+    (ap (λ es. held es (unlisted (listed Waiters c.args.at k.waiting.items) k.lists.items) k.processes)
+    (event-released c.args.at c.args.happened k.events.entries k.waiting.items k.processes (vec_capacity k.waiting) c.self.invariant.0 here)
+    ∙ ap (λ ps. held (withdrawn (waiters_at c.args.at (events_of k.events.entries k.waiting.items)) (changed c.args.at (with_state (without_waiters c.args.happened)) (events_of k.events.entries k.waiting.items))) (unlisted ps k.lists.items) k.processes)
+    (woken-shown c.args.at k.events.entries k.waiting.items here))
+
+pub returns-clause-woken : goal.returns-clause-woken
+returns-clause-woken c =
+    let k = c.self.inside in
+    let here = rw (← c.self.view_is) at c.requires.open in
+    rw (← c.self.view_is, c.release.ensures.woken) (woken-shown c.args.at k.events.entries k.waiting.items here)
+
+pub returns-clause-positions : goal.returns-clause-positions
+returns-clause-positions c =
+    let k = c.self.inside in
+    let here = rw (← c.self.view_is) at c.requires.open in
+    rw (← c.self.view_is, c.release.ensures.positions)
+    (ap (map (λ p. number_of (position_of c.args.at k.lists.items p))) (woken-shown c.args.at k.events.entries k.waiting.items here))

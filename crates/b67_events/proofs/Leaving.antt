@@ -1,0 +1,166 @@
+-- Who is released leaves all events.
+use Rattle.std.proofs.Common.{◌≡◌, ℕ, Bool, true, false, cond, not, ◌&&◌, ◌||◌, eqb, List, [], ◌∷◌, map, refl, sym, ap, ◌∙◌, inl, inr}
+use Rattle.std.specs.Prelude.{filter}
+use Rattle.std.proofs.lemmas.Bool.{cases_Bool, cond-true, cond-false, and_parts, and_from, and_left, both_ways, false_from_ne_true, not_from_true, not_from_false, eqb-true, eq-eqb, or_left, or_right}
+use Rattle.b67_word.specs.declared.Place.{Place}
+use Rattle.b67_deeds.specs.Events.{left_by}
+use Rattle.b67_events.specs.Events.{same_place, is_one_of, with_state, changed, withdrawn}
+use Rattle.b67_events.specs.Kept.{same_queue, stands_in, listed, Entry, shown, events_of, set_flags, with_happened, nobody_marked, marked, is_leaving, without_waiters}
+use Rattle.b67_events.specs.declared.Queue.{Queue}
+use Rattle.b67_events.specs.declared.Queue.TheVariants.{Waiters, Procurers}
+use Rattle.b67_events.specs.declared.Waiting.{Waiting}
+use Rattle.b67_events.proofs.Listed.{filter-kept}
+use Rattle.b67_events.proofs.Numbers.{AreFrom}
+use Rattle.b67_events.proofs.Marks.{marked-is}
+use Rattle.b67_events.proofs.Shown.{made-same, events-caused}
+
+module _ {X : Type 0} where
+  -- a filter after another one is one by both tests
+  filter-twice : (a b c : X → Bool) → ((x : X) → c x ≡ (b x && a x)) → (xs : List X) → filter a (filter b xs) ≡ filter c xs
+  filter-twice a b c both [] = refl
+  filter-twice a b c both (x ∷ xs) = elim (cases_Bool (b x)) [
+    | inl e ↦
+        ap (filter a) (cond-true (b x) (x ∷ filter b xs) (filter b xs) e)
+        ∙ ap (λ ys. cond (a x) (x ∷ ys) ys) (filter-twice a b c both xs)
+        ∙ ap (λ t. cond t (x ∷ filter c xs) (filter c xs)) (sym (both x ∙ ap (λ t. t && a x) e))
+    | inr e ↦
+        ap (filter a) (cond-false (b x) (x ∷ filter b xs) (filter b xs) e) ∙ filter-twice a b c both xs
+        ∙ sym (cond-false (c x) (x ∷ filter c xs) (filter c xs) (both x ∙ ap (λ t. t && a x) e))
+  ]
+
+  -- filters by tests that are alike
+  pub filter-alike : (a b : X → Bool) → ((x : X) → a x ≡ b x) → (xs : List X) → filter a xs ≡ filter b xs
+  filter-alike a b same [] = refl
+  filter-alike a b same (x ∷ xs) = ap (λ t. cond t (x ∷ filter a xs) (filter a xs)) (same x) ∙ ap (λ ys. cond (b x) (x ∷ ys) ys) (filter-alike a b same xs)
+
+  filter-every : (a : X → Bool) → ((x : X) → a x ≡ true) → (xs : List X) → filter a xs ≡ xs
+  filter-every a all [] = refl
+  filter-every a all (x ∷ xs) = cond-true (a x) (x ∷ filter a xs) (filter a xs) (all x) ∙ ap (λ ys. x ∷ ys) (filter-every a all xs)
+
+eqb-turn : (a b : ℕ) → eqb a b ≡ eqb b a
+eqb-turn a b = elim (cases_Bool (eqb a b)) [
+  | inl e ↦ e ∙ sym (eq-eqb b a (sym (eqb-true a b e)))
+  | inr e ↦ e ∙ sym (false_from_ne_true (eqb b a) (λ h. both_ways (eqb a b) e (eq-eqb a b (sym (eqb-true b a h)))))
+]
+
+-- one who waits for an event to happen, and is one of these
+abbrev pub leaves : List ℕ → Waiting → Bool
+leaves ps w = same_queue Waiters w.queue && is_one_of ps w.process
+
+abbrev pub stays : List ℕ → Waiting → Bool
+stays ps w = not (leaves ps w)
+
+abbrev leaves_as : ℕ → Waiting → Bool
+leaves_as p w = same_queue Waiters w.queue && eqb w.process p
+
+abbrev stays_as : ℕ → Waiting → Bool
+stays_as p w = not (leaves_as p w)
+
+-- of the waiters of an event that process goes
+listed-left : (p : ℕ) (at : Place) (ws : List Waiting) → listed Waiters at (filter (stays_as p) ws) ≡ filter (λ q. not (eqb p q)) (listed Waiters at ws)
+listed-left p at [] = refl
+listed-left p at (w ∷ ws) =
+    let rest = listed-left p at ws in
+    let t = stands_in Waiters at w in
+    let left : List ℕ → List ℕ = filter (λ q. not (eqb p q)) in
+    let numbers : List Waiting → List ℕ = map (λ v. v.process) in
+    let there = filter (stands_in Waiters at) ws in
+    let mine = filter (stays_as p) ws in
+    elim (cases_Bool t) [
+      | inl e ↦
+          let waits : same_queue Waiters w.queue ≡ true = (and_parts (same_place at w.place) (same_queue Waiters w.queue) e).1 in
+          let test : leaves_as p w ≡ eqb p w.process = ap (λ b. b && eqb w.process p) waits ∙ eqb-turn w.process p in
+          elim (cases_Bool (eqb p w.process)) [
+            | inl k ↦
+                ap (listed Waiters at) (cond-false (stays_as p w) (w ∷ mine) mine (not_from_true (leaves_as p w) (test ∙ k))) ∙ rest
+                ∙ sym (ap (λ vs. left (numbers vs)) (cond-true t (w ∷ there) there e)
+                ∙ cond-false (not (eqb p w.process)) (w.process ∷ left (numbers there)) (left (numbers there)) (not_from_true (eqb p w.process) k))
+            | inr k ↦
+                ap (listed Waiters at) (cond-true (stays_as p w) (w ∷ mine) mine (not_from_false (leaves_as p w) (test ∙ k)))
+                ∙ ap numbers (cond-true t (w ∷ filter (stands_in Waiters at) mine) (filter (stands_in Waiters at) mine) e)
+                ∙ ap (λ qs. w.process ∷ qs) rest
+                ∙ sym (ap (λ vs. left (numbers vs)) (cond-true t (w ∷ there) there e)
+                ∙ cond-true (not (eqb p w.process)) (w.process ∷ left (numbers there)) (left (numbers there)) (not_from_false (eqb p w.process) k))
+          ]
+      | inr e ↦
+          let here : listed Waiters at (filter (stays_as p) (w ∷ ws)) ≡ listed Waiters at mine = elim (cases_Bool (stays_as p w)) [
+            | inl k ↦
+                ap (listed Waiters at) (cond-true (stays_as p w) (w ∷ mine) mine k)
+                ∙ ap numbers (cond-false t (w ∷ filter (stands_in Waiters at) mine) (filter (stands_in Waiters at) mine) e)
+            | inr k ↦ ap (listed Waiters at) (cond-false (stays_as p w) (w ∷ mine) mine k)
+          ] in
+          here ∙ rest ∙ sym (ap (λ vs. left (numbers vs)) (cond-false t (w ∷ there) there e))
+    ]
+
+-- its procurers stay
+procurers-stay : (p : ℕ) (at : Place) (ws : List Waiting) → listed Procurers at (filter (stays_as p) ws) ≡ listed Procurers at ws
+procurers-stay p at ws =
+    ap (map (λ w. w.process)) (filter-kept (stands_in Procurers at) (stays_as p) (λ w s. not_from_false (leaves_as p w)
+    (and_left (same_queue Waiters w.queue) (eqb w.process p) (no_waiter w.queue (and_parts (same_place at w.place) (same_queue Procurers w.queue) s).1))) ws)
+  where
+    no_waiter : (queue : Queue) → same_queue Procurers queue ≡ true → same_queue Waiters queue ≡ false
+    no_waiter Waiters h = cc
+    no_waiter Procurers h = refl
+
+-- a process leaves all events
+events-left : (p : ℕ) (ws : List Waiting) (fs : List Entry) → map (with_state (left_by p)) (events_of fs ws) ≡ events_of fs (filter (stays_as p) ws)
+events-left p ws [] = refl
+events-left p ws (x ∷ fs) =
+    ap (λ e. e ∷ map (with_state (left_by p)) (events_of fs ws))
+    (sym (made-same x (listed Waiters x.0 (filter (stays_as p) ws)) (listed Procurers x.0 (filter (stays_as p) ws))
+    (filter (λ q. not (eqb p q)) (listed Waiters x.0 ws)) (listed Procurers x.0 ws) (listed-left p x.0 ws) (procurers-stay p x.0 ws)))
+    ∙ ap (λ es. shown (filter (stays_as p) ws) x ∷ es) (events-left p ws fs)
+
+both_stay : (s a b : Bool) → not (s && (a || b)) ≡ (not (s && a) && not (s && b))
+both_stay true true b = refl
+both_stay true false b = refl
+both_stay false a b = refl
+
+none_stay : (s : Bool) → not (s && false) ≡ true
+none_stay true = refl
+none_stay false = refl
+
+-- these processes leave all events
+pub events-withdrawn : (ps : List ℕ) (ws : List Waiting) (fs : List Entry) → withdrawn ps (events_of fs ws) ≡ events_of fs (filter (stays ps) ws)
+events-withdrawn [] ws fs = ap (events_of fs) (sym (filter-every (stays []) (λ w. none_stay (same_queue Waiters w.queue)) ws))
+events-withdrawn (p ∷ ps) ws fs =
+    ap (withdrawn ps) (events-left p ws fs)
+    ∙ events-withdrawn ps (filter (stays_as p) ws) fs
+    ∙ ap (events_of fs) (filter-twice (stays ps) (stays_as p) (stays (p ∷ ps)) (λ w. both_stay (same_queue Waiters w.queue) (eqb w.process p) (is_one_of ps w.process)) ws)
+
+-- who waits for the event at a place goes in any case, where all who do are among these
+all_go : (at : Place) (ps : List ℕ) (ws : List Waiting) → ((q : ℕ) → is_one_of (listed Waiters at ws) q ≡ true → is_one_of ps q ≡ true)
+    → filter (stays ps) (filter (λ w. not (stands_in Waiters at w)) ws) ≡ filter (stays ps) ws
+all_go at ps [] all = refl
+all_go at ps (w ∷ ws) all =
+    let t = stands_in Waiters at w in
+    let others = filter (λ (v : Waiting). not (stands_in Waiters at v)) ws in
+    let there = filter (stands_in Waiters at) ws in
+    let numbers : List Waiting → List ℕ = map (λ v. v.process) in
+    elim (cases_Bool t) [
+      | inl e ↦
+          let waits : same_queue Waiters w.queue ≡ true = (and_parts (same_place at w.place) (same_queue Waiters w.queue) e).1 in
+          let is : listed Waiters at (w ∷ ws) ≡ w.process ∷ listed Waiters at ws = ap numbers (cond-true t (w ∷ there) there e) in
+          let among : is_one_of ps w.process ≡ true = all w.process (ap (λ qs. is_one_of qs w.process) is ∙ or_left (eqb w.process w.process) (is_one_of (listed Waiters at ws) w.process) (eq-eqb w.process w.process refl)) in
+          ap (filter (stays ps)) (cond-false (not t) (w ∷ others) others (not_from_true t e))
+          ∙ all_go at ps ws (λ q k. all q (ap (λ qs. is_one_of qs q) is ∙ or_right (eqb q w.process) (is_one_of (listed Waiters at ws) q) k))
+          ∙ sym (cond-false (stays ps w) (w ∷ filter (stays ps) ws) (filter (stays ps) ws) (not_from_true (leaves ps w) (and_from (same_queue Waiters w.queue) (is_one_of ps w.process) waits among)))
+      | inr e ↦
+          ap (filter (stays ps)) (cond-true (not t) (w ∷ others) others (not_from_false t e))
+          ∙ ap (λ ys. cond (stays ps w) (w ∷ ys) ys)
+          (all_go at ps ws (λ q k. all q (ap (λ vs. is_one_of (numbers vs) q) (cond-false t (w ∷ there) there e) ∙ k)))
+    ]
+
+-- An event has happened, or has not; and those who waited for it are marked, and leave all events.
+pub events-released : (at : Place) (b : Bool) (n : ℕ) (fs : List Entry) (ws : List Waiting) → AreFrom n (listed Waiters at ws)
+    → events_of (set_flags at (with_happened b) fs) (filter (λ w. not (is_leaving (marked true (listed Waiters at ws) (nobody_marked n)) w)) ws)
+    ≡ withdrawn (listed Waiters at ws) (changed at (with_state (without_waiters b)) (events_of fs ws))
+events-released at b n fs ws known =
+    let ps = listed Waiters at ws in
+    let gs = set_flags at (with_happened b) fs in
+    ap (events_of gs)
+    (filter-alike (λ w. not (is_leaving (marked true ps (nobody_marked n)) w)) (stays ps)
+    (λ w. ap (λ m. not (same_queue Waiters w.queue && m)) (marked-is n ps w.process known)) ws
+    ∙ sym (all_go at ps ws (λ q k. k)))
+    ∙ sym (events-withdrawn ps (filter (λ w. not (stands_in Waiters at w)) ws) gs)
+    ∙ ap (withdrawn ps) (events-caused at b fs ws)
