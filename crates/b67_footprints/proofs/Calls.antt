@@ -1,9 +1,9 @@
 -- The intrinsics that neither make arrays nor start a process keep to what they reach.
 use Rattle.std.proofs.Common.{◌≡◌, refl, inl, subst, ℕ, zero, suc, ◌+◌, ◌-◌, ◌*◌, ◌+ℤ◌, ◌≤◌, ℤ, pos, negsuc, List, [], ◌∷◌, Option, Some, None, Bool, true, false, cond, take, drop}
-use Rattle.std.specs.Prelude.{◌&&◌, nat_le, nat_eq, nat_lt}
+use Rattle.std.specs.Prelude.{◌&&◌, nat_le, nat_eq, nat_lt, length, if◌then◌else◌}
 use Rattle.std.proofs.lemmas.Bool.{leb-true}
 use Rattle.b67_word.specs.declared.Place.{Place}
-use Rattle.b67_word.specs.Word.{Word, truth}
+use Rattle.b67_word.specs.Word.{Word, operand, truth}
 use Rattle.b67_control.specs.declared.Registers.{Registers}
 use Rattle.b67_control.specs.declared.Mscw.{Mscw}
 use Rattle.b67_control.specs.Control.{as_event, event_word}
@@ -11,26 +11,26 @@ use Rattle.b67_ops.specs.declared.Operator.{Operator}
 use Rattle.b67_segment.specs.declared.code.Code.{Code}
 use Rattle.b67_store.specs.Store.{words_of}
 use Rattle.b67_deeds.specs.declared.EventTest.{EventTest}
-use Rattle.b67_deeds.specs.Deeds.{EventDeed, answers}
-use Rattle.b67_events.specs.Events.{is_open, state_at}
+use Rattle.b67_deeds.specs.Deeds.{EventDeed, tests, answers}
+use Rattle.b67_events.specs.Events.{is_open, state_at, first_happened}
 use Rattle.b67_table.specs.declared.Cell.{Cell}
 use Rattle.b67_table.specs.declared.InterruptKind.TheVariants.{InvalidOperand}
-use Rattle.b67_table.specs.Image.{Image}
-use Rattle.b67_table.specs.Limits.{end_of_code, segment_numbers}
+use Rattle.b67_table.specs.Image.{Image, woken_number}
+use Rattle.b67_table.specs.Limits.{end_of_code, segment_numbers, most_events}
 use Rattle.b67_table.specs.Private.{display_at, frame}
 use Rattle.b67_table.specs.Chains.{place, broken, mark_at, left_to, rebuilt}
 use Rattle.b67_table.specs.Look.{Look, found, ◌>->◌, valid}
 use Rattle.b67_table.specs.References.{cell_place, cell_of, reached}
 use Rattle.b67_table.specs.Writes.{written}
 use Rattle.b67_table.specs.Writes as writes
-use Rattle.b67_table.specs.Program.{Change, Program, answer, done, registers, cut, event_deed, loads, fault}
-use Rattle.b67_table.specs.Arguments.{wholes_in, wholes, number_in, if_open, event_in, event_of, if_chained, finished_at, Three, three_in, three}
-use Rattle.b67_table.specs.Intrinsics.{case_in, case_place, gone_to_case, select, write, make_event, on_event, tell_event}
+use Rattle.b67_table.specs.Program.{Change, Program, answer, ◌>>=◌, done, registers, cut, event_deed, woken, loads, fault}
+use Rattle.b67_table.specs.Arguments.{wholes_in, wholes, number_in, if_open, event_in, event_of, events_of, no_such, if_chained, finished_at, Three, three_in, three}
+use Rattle.b67_table.specs.Intrinsics.{case_in, case_place, gone_to_case, select, write, make_event, on_event, tell_event, gone_or_waiting, woken_or_not, wait_for_any}
 use Rattle.b67_table.specs.Lines.{line_for}
 use Rattle.b67_table.specs.Linkage.{if_not_critical}
 use Rattle.b67_table.specs.GoingTo.{Passed, Passing, passing, passed_by, Target, level_in, target_of, frames_left, passed_frames, gone_to, go_to}
 use Rattle.b67_footprints.specs.Reaching.{Follows, NamesCell, LeadsTo, own, shown}
-use Rattle.b67_footprints.specs.Keeping.{TestKeeps, ChangeKeeps, ProgramKeeps}
+use Rattle.b67_footprints.specs.Keeping.{ReachesAll, TestKeeps, ChangeKeeps, ProgramKeeps}
 use Rattle.b67_footprints.proofs.Lists.{Each, each_take, each_drop}
 use Rattle.b67_footprints.proofs.Going.{Any, LookKeeps, look_then, see_then, test_then, look_by, test_by, look_there}
 use Rattle.b67_footprints.proofs.References.{IsReached, reached_kept, valid_kept, IsDescribed}
@@ -133,7 +133,13 @@ module _ (img : Image) (op : Operator) (r : Registers) (p : ℕ) where
     tell_event_kept x [] i = tt
     tell_event_kept x (w ∷ []) i =
         test_then img op r (NamesCell img op r) E (event_of r w) _ (event_of_kept follows w i.0) (λ c k.
-        chained_kept m _ (inl (c, k, refl), end_kept (truth (answers x (state_at (cell_place c) img.events)) ∷ []) next img))
+        chained_kept m _ (
+          inl (c, k, refl),
+          (
+            inl (c, k, refl),
+            end_kept (truth (answers x (state_at (cell_place c) img.events)) ∷ []) next (written p (writes.event_deed (tests x) (cell_place c)) img),
+          ),
+        ))
     tell_event_kept x (w ∷ v ∷ words) i = tt
 
     pub on_event_kept : (x : EventDeed) (words : List Word) → Each IsArgument words → ProgramKeeps img op r p (on_event x code r next m words)
@@ -142,6 +148,34 @@ module _ (img : Image) (op : Operator) (r : Registers) (p : ℕ) where
         test_then img op r (NamesCell img op r) E (event_of r w) _ (event_of_kept follows w i.0) (λ c k.
         chained_kept m (answer (event_deed x (cell_place c) (finished_at r m [] next))) (inl (c, k, refl), end_kept [] next (written p (writes.event_deed x (cell_place c)) img)))
     on_event_kept x (w ∷ v ∷ words) i = tt
+
+    -- ---- several events
+
+    events_of_kept : (words : List Word) → Each IsArgument words → TestKeeps img op r (ReachesAll img op r) (events_of r words)
+    events_of_kept [] i = tt
+    events_of_kept (w ∷ words) i =
+        test_then img op r (NamesCell img op r) (ReachesAll img op r) (event_of r w) _ (event_of_kept follows w i.0) (λ c k.
+        test_then img op r (ReachesAll img op r) (ReachesAll img op r) (events_of r words) _ (events_of_kept words i.1) (λ places ks. (inl (c, k, refl), ks)))
+
+    waits_kept : (places : List Place) → ReachesAll img op r places → (n : ℕ) → ProgramKeeps img op r p (woken_or_not r next m places n)
+    waits_kept places ks (suc n) = (tt, end_kept (operand (pos (suc n)) ∷ []) next (written p writes.go_on img))
+    waits_kept places ks zero = (ks, by (first_happened places img.events))
+      where
+        by : (o : Option ℕ) → ProgramKeeps img op r p (gone_or_waiting r next m places o)
+        by None = (ks, tt)
+        by (Some n) = end_kept (operand (pos n) ∷ []) next img
+
+    pub wait_for_any_kept : (words : List Word) → Each IsArgument words → ProgramKeeps img op r p (wait_for_any code r next m words)
+    wait_for_any_kept words i = by (nat_le 1 (length words) && nat_le (length words) most_events)
+      where
+        several : ProgramKeeps img op r p (events_of r words >>= (λ (places : List Place). if_chained r m (woken r.stack (woken_or_not r next m places))))
+        several =
+            test_then img op r (ReachesAll img op r) E (events_of r words) _ (events_of_kept words i) (λ places ks.
+            chained_kept m _ (refl, waits_kept places ks (woken_number img.numbers r.stack)))
+
+        by : (b : Bool) → ProgramKeeps img op r p (if b then (events_of r words >>= (λ (places : List Place). if_chained r m (woken r.stack (woken_or_not r next m places)))) else no_such)
+        by true = several
+        by false = tt
 
     -- ---- GO TO
 

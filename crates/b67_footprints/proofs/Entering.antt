@@ -36,7 +36,7 @@ use Rattle.b67_footprints.proofs.Lists.{Each, each_map, each_take, LiesFrom, eac
 use Rattle.b67_footprints.proofs.Going.{Any, LookKeeps, look_then, see_then, look_by, look_there}
 use Rattle.b67_footprints.proofs.References.{IsAt, own_at, IsReached, reached_kept, valid_kept}
 use Rattle.b67_footprints.proofs.Chains.{entering_kept}
-use Rattle.b67_footprints.proofs.Calls.{IsArgument, select_kept, write_kept, make_event_kept, tell_event_kept, on_event_kept, go_to_kept}
+use Rattle.b67_footprints.proofs.Calls.{IsArgument, select_kept, write_kept, make_event_kept, tell_event_kept, on_event_kept, wait_for_any_kept, go_to_kept}
 use Rattle.b67_footprints.proofs.Making.{arrays_kept}
 use Rattle.b67_footprints.proofs.Starting.{start_kept}
 
@@ -66,6 +66,10 @@ module _ (img : Image) (r : Registers) (p : ℕ) (code : Code) (next : ℕ) wher
   row_kept names.Happened m words i = tell_event_kept img op r p tt code next m test.Happened words i
   row_kept names.Procure m words i = on_event_kept img op r p tt code next m (acts act.Procure) words i
   row_kept names.Liberate m words i = on_event_kept img op r p tt code next m (acts act.Liberate) words i
+  row_kept names.WaitAny m words i = wait_for_any_kept img op r p tt code next m words i
+  row_kept names.CauseAndReset m words i = on_event_kept img op r p tt code next m (acts act.CauseAndReset) words i
+  row_kept names.Available m words i = tell_event_kept img op r p tt code next m test.Available words i
+  row_kept names.Fix m words i = tell_event_kept img op r p tt code next m test.Fix words i
 
   named_kept : (o : Option Intrinsic) (m : Mscw) (words : List Word) → Each (IsArgument img op r p) words → ProgramKeeps img op r p (intrinsic_row o code r next m words)
   named_kept None m words i = tt

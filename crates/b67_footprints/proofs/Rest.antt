@@ -1,14 +1,19 @@
 -- What an operator does not reach it leaves as it is.
-use Rattle.std.proofs.Common.{◌≡◌, ◌≢◌, ◌⊎◌, inl, inr, refl, sym, ap, subst, ◌∙◌, ℕ, zero, suc, ◌+◌, ◌≤◌, Bool, List, [], ◌∷◌, length, set, Option, Some, None, Result, Ok, cond, arith, length-append, true, false}
-use Rattle.std.specs.Prelude.{slice_get, nat_le, if◌then◌else◌, ◌&&◌, ◌==◌}
+use Rattle.std.proofs.Common.{◌≡◌, ◌≢◌, ◌⊎◌, inl, inr, refl, sym, ap, subst, ◌∙◌, ℕ, zero, suc, ◌+◌, ◌≤◌, Bool, List, [], ◌∷◌, ◌++◌, length, set, Option, Some, None, Result, Ok, cond, arith, length-append, true, false}
+use Rattle.std.specs.Prelude.{slice_get, nat_le, if◌then◌else◌, ◌&&◌, ◌||◌, ◌==◌, map}
+use Rattle.std.specs.Option.{option_map}
 use Rattle.std.proofs.lemmas.Bool.Decides.{nat_tests}
 use Rattle.std.proofs.Math.Decide.{ℕ_discrete}
 use Rattle.std.proofs.lemmas.List.{length-set}
 use Rattle.b67_list.specs.Numbered.{numbered, set_numbered}
-use Rattle.b67_deeds.specs.Deeds.{Next, goes, waits, procures}
-use Rattle.b67_deeds.specs.Events.{EventState}
-use Rattle.b67_events.specs.Events.{Event, event_at, is_from, changed_by, with_state, deed_at}
+use Rattle.b67_deeds.specs.declared.EventAct.TheVariants as act
+use Rattle.b67_deeds.specs.declared.EventTest.TheVariants as test
+use Rattle.b67_deeds.specs.Deeds.{EventDeed, acts, tests, Next, goes, waits, procures, deed}
+use Rattle.b67_deeds.specs.Events.{EventState, joined, left_by}
+use Rattle.b67_deeds.specs.Listed.{IsListed}
+use Rattle.b67_events.specs.Events.{Event, event_at, state_at, same_place, is_from, is_among, joined_all, withdrawn, changed_by, with_state, deed_at}
 use Rattle.b67_events.proofs.EventLaws.{one_event}
+use Rattle.b67_events.proofs.Listed.{same_place-true}
 use Rattle.b67_word.specs.declared.Place.{Place}
 use Rattle.b67_word.specs.Word.{Word}
 use Rattle.b67_control.specs.declared.Registers.{Registers}
@@ -20,7 +25,7 @@ use Rattle.b67_store.proofs.StoreLaws.{opened_others, changed_others}
 use Rattle.b67_table.specs.declared.InterruptKind.TheVariants.{BadCode as bad_code}
 use Rattle.b67_table.specs.declared.Private.{Private}
 use Rattle.b67_table.specs.declared.ProcessState.{ProcessState}
-use Rattle.b67_table.specs.declared.ProcessState.TheVariants.{Able, Ended, WaitsFor, Procures}
+use Rattle.b67_table.specs.declared.ProcessState.TheVariants.{Able, Ended, WaitsFor, WaitsAny, Procures}
 use Rattle.b67_table.specs.Effect.{Effect, gives, faults, interrupts}
 use Rattle.b67_table.specs.Private.{floor}
 use Rattle.b67_table.specs.Chains.{place}
@@ -35,10 +40,11 @@ use Rattle.b67_table.specs.Sound.{Lives}
 use Rattle.b67_table.proofs.Keeping.{Gives}
 use Rattle.b67_table.proofs.Privacy.{part_keeps, put_by}
 use Rattle.b67_table.proofs.Saving.{get_set_other}
+use Rattle.b67_table.proofs.Withdrawing.{mapped_at}
 use Rattle.b67_table.proofs.Stacks.{set_other, get_numbered_other, get_numbered_append}
 use Rattle.b67_footprints.specs.Reaching.{ReachesRow, ReachesEvent, free}
-use Rattle.b67_footprints.specs.Keeping.{MayWrite, NamesOperand, ChangeKeeps, ProgramKeeps, RowKeeps}
-use Rattle.b67_footprints.specs.Laws.{LeavesTheRest, OperatorsLeaveTheRest}
+use Rattle.b67_footprints.specs.Keeping.{ReachesAll, MayWrite, NamesOperand, ChangeKeeps, ProgramKeeps, RowKeeps}
+use Rattle.b67_footprints.specs.Laws.{all_left_by, LeavesEvent, LeavesTheRest, OperatorsLeaveTheRest}
 use Rattle.b67_footprints.proofs.Every.{operators_keep}
 use Rattle.b67_footprints.proofs.Touching.{keeps_gives}
 
@@ -88,6 +94,8 @@ module _ (img : Image) (op : Operator) (r : Registers) (p : ℕ) where
     written_word (writes.open_event y) now k = refl
     written_word (writes.close_events stack at) now k = refl
     written_word (writes.event_deed d y) now k = refl
+    written_word (writes.wait_any places) now k = refl
+    written_word writes.go_on now k = refl
     written_word (writes.line bytes) now k = refl
     written_word (writes.start q words) now k =
         ap (λ (c : Option (List Word)). slice_get (words_or c) x.at) (opened_others now.stacks q.stack x.stack words (λ e. old (e ∙ k)))
@@ -115,6 +123,8 @@ module _ (img : Image) (op : Operator) (r : Registers) (p : ℕ) where
     written_row (writes.open_event y) now k = refl
     written_row (writes.close_events stack at) now k = refl
     written_row (writes.event_deed d y) now k = refl
+    written_row (writes.wait_any places) now k = refl
+    written_row writes.go_on now k = refl
     written_row (writes.line bytes) now k = refl
     written_row (writes.start q words) now k = refl
     written_row (writes.end_process stack) now k = refl
@@ -123,51 +133,6 @@ module _ (img : Image) (op : Operator) (r : Registers) (p : ℕ) where
     changed_row done now k = refl
     changed_row (look_up q more) now k = changed_row (more (told now q)) now k.1
     changed_row (write w next) now k = changed_row next (written p w now) k.1 ∙ written_row w now k.0
-
--- ---- events
-
-same_number : (m n : ℕ) → (m == n) ≡ true → m ≡ n
-same_number m n h = grind (arith, nat_tests)
-
-module _ (img : Image) (op : Operator) (r : Registers) (p : ℕ) (x : Place) (away : x.stack ≢ r.stack) (unreached : ReachesEvent img op r x → ⊥) where
-  not_there : (y : Place) → y.stack ≡ r.stack → x ≢ y
-  not_there y k e = away (ap (λ (z : Place). z.stack) e ∙ k)
-
-  not_here : (y : Place) → ReachesEvent img op r y → x ≢ y
-  not_here y k e = unreached (subst (ReachesEvent img op r) (sym e) k)
-
-  -- from another stack nothing is closed
-  away_from : (stack low : ℕ) → stack ≡ r.stack → is_from stack low x ≡ false
-  away_from stack low k = by (x.stack == stack) refl
-    where
-      by : (b : Bool) → (x.stack == stack) ≡ b → (b && nat_le low x.at) ≡ false
-      by true e = absurd (away (same_number x.stack stack e ∙ k))
-      by false e = refl
-
-  changed_event : (change : Option (EventState → EventState)) (y : Place) (es : List Event) → x ≢ y → event_at x (changed_by change y es) ≡ event_at x es
-  changed_event None y es other = refl
-  changed_event (Some change) y es other = one_event.elsewhere y x (with_state change) (λ e. refl) other es
-
-  written_event : (w : Write) (now : Image) → MayWrite img op r w → event_at x (written p w now).events ≡ event_at x now.events
-  written_event (writes.save y w) now k = refl
-  written_event (writes.cut stack n) now k = refl
-  written_event (writes.push stack w) now k = refl
-  written_event (writes.registers q) now k = refl
-  written_event (writes.open_row n count counted) now k = refl
-  written_event (writes.write_row n at w) now k = refl
-  written_event (writes.close_row n) now k = refl
-  written_event (writes.open_event y) now k = one_event.opened_elsewhere y x (not_there y k) now.events
-  written_event (writes.close_events stack at) now k =
-      one_event.closed_there stack at x now.events ∙ ap (λ (b : Bool). if b then None else event_at x now.events) (away_from stack at k)
-  written_event (writes.event_deed d y) now k = changed_event (deed_at d p y now.events).change y now.events (not_here y k)
-  written_event (writes.line bytes) now k = refl
-  written_event (writes.start q words) now k = refl
-  written_event (writes.end_process stack) now k = refl
-
-  pub changed_events : (c : Change) (now : Image) → ChangeKeeps img op r p c now → event_at x (changed p c now).events ≡ event_at x now.events
-  changed_events done now k = refl
-  changed_events (look_up q more) now k = changed_events (more (told now q)) now k.1
-  changed_events (write w next) now k = changed_events next (written p w now) k.1 ∙ written_event w now k.0
 
 -- ---- states
 
@@ -226,6 +191,8 @@ module _ (p q : ℕ) (other : q ≢ p) where
       let first = waiting_stays done_so.next y now.states h in
       stays_then p q other now.states (waiting done_so.next y p now.states) (states_after done_so y p now.states) first
       (all_able p q other done_so.frees (waiting done_so.next y p now.states) first.1)
+  written_states (writes.wait_any places) now h = (inl (get_numbered_other now.states p q WaitsAny other), omega (arith, h, length_states now.states p WaitsAny))
+  written_states writes.go_on now h = (inl refl, h)
   written_states (writes.line bytes) now h = (inl refl, h)
   written_states (writes.start r words) now h = (inl (get_numbered_append now.states (Able ∷ []) q h), omega (arith, h, length-append now.states (Able ∷ [])))
   written_states (writes.end_process stack) now h = (inl (get_numbered_other now.states p q Ended other), omega (arith, h, length_states now.states p Ended))
@@ -239,6 +206,182 @@ module _ (p q : ℕ) (other : q ≢ p) where
   pub changed_states : (c : Change) (now : Image) → q ≤ length now.states →
       (numbered (changed p c now).states q ≡ numbered now.states q) ⊎ (numbered (changed p c now).states q ≡ Some Able)
   changed_states c now h = (changed_all c now h).0
+
+-- ---- who leaves an event
+
+nobody_left : (o : Option Event) → option_map (with_state (all_left_by [])) o ≡ o
+nobody_left None = refl
+nobody_left (Some e) = refl
+
+left_after : (xs ys : List ℕ) (e : EventState) → all_left_by ys (all_left_by xs e) ≡ all_left_by (xs ++ ys) e
+left_after [] ys e = refl
+left_after (x ∷ xs) ys e = left_after xs ys (left_by x e)
+
+both_left : (xs ys : List ℕ) (o : Option Event) →
+    option_map (with_state (all_left_by ys)) (option_map (with_state (all_left_by xs)) o) ≡ option_map (with_state (all_left_by (xs ++ ys))) o
+both_left xs ys None = refl
+both_left xs ys (Some e) = ap (λ (s : EventState). Some (record e { state = s })) (left_after xs ys e.state)
+
+one_left : (x : ℕ) (xs : List ℕ) (o : Option Event) →
+    option_map (with_state (all_left_by xs)) (option_map (with_state (left_by x)) o) ≡ option_map (with_state (all_left_by (x ∷ xs))) o
+one_left x xs None = refl
+one_left x xs (Some e) = refl
+
+withdrawn_event : (x : Place) (ps : List ℕ) (es : List Event) → event_at x (withdrawn ps es) ≡ option_map (with_state (all_left_by ps)) (event_at x es)
+withdrawn_event x [] es = sym (nobody_left (event_at x es))
+withdrawn_event x (p ∷ ps) es =
+    withdrawn_event x ps (map (with_state (left_by p)) es)
+    ∙ ap (option_map (with_state (all_left_by ps))) (mapped_at (with_state (left_by p)) (λ e. refl) x es)
+    ∙ one_left p ps (event_at x es)
+
+listed_part : (xs ys : List ℕ) (k : ℕ) → IsListed (xs ++ ys) k → IsListed xs k ⊎ IsListed ys k
+listed_part [] ys k i = inr i
+listed_part (x ∷ xs) ys k (inl e) = inl (inl e)
+listed_part (x ∷ xs) ys k (inr i) = elim (listed_part xs ys k i) [ inl j ↦ inl (inr j) | inr j ↦ inr j ]
+
+-- whom a deed withdraws it frees
+withdrawn_freed : (x : EventDeed) (p : ℕ) (e : EventState) (k : ℕ) → IsListed (deed x p e).withdraws k → IsListed (deed x p e).frees k
+withdrawn_freed (acts act.Cause) p e k i = i
+withdrawn_freed (acts act.CauseAndReset) p e k i = i
+withdrawn_freed (acts act.Reset) p e k i = i
+withdrawn_freed (acts act.Wait) p e k i = i
+withdrawn_freed (acts act.Procure) p e k i = i
+withdrawn_freed (acts act.Liberate) p e k i = absurd i
+withdrawn_freed (tests test.Happened) p e k i = i
+withdrawn_freed (tests test.Available) p e k i = i
+withdrawn_freed (tests test.Fix) p e k i = i
+withdrawn_freed (tests test.WaitAny) p e k i = i
+
+set_here : (ss : List ProcessState) (k : ℕ) (s : ProcessState) → 1 ≤ k → k ≤ length ss → numbered (set_numbered ss k s) k ≡ Some s
+set_here ss zero s low h = absurd (omega (arith, low))
+set_here [] (suc k) s low h = absurd (omega (arith, h))
+set_here (x ∷ ss) (suc zero) s low h = refl
+set_here (x ∷ ss) (suc (suc k)) s low h = set_here ss (suc k) s (omega arith) (omega (arith, h))
+
+-- who is freed is able
+module _ (p q : ℕ) (other : q ≢ p) where
+  able_listed : (ps : List ℕ) (ss : List ProcessState) → IsListed ps q → 1 ≤ q → q ≤ length ss → numbered (able_again ps ss) q ≡ Some Able
+  able_listed [] ss i low h = absurd i
+  able_listed (k ∷ ps) ss (inl e) low h =
+      by (all_able p q other ps (set_numbered ss k Able) (omega (arith, h, length_states ss k Able)))
+    where
+      here : numbered (set_numbered ss k Able) q ≡ Some Able
+      here = subst (λ (j : ℕ). numbered (set_numbered ss j Able) q ≡ Some Able) (sym e) (set_here ss q Able low h)
+
+      by : StaysOrAble p q other (set_numbered ss k Able) (able_again ps (set_numbered ss k Able)) → numbered (able_again ps (set_numbered ss k Able)) q ≡ Some Able
+      by (inl f, l) = f ∙ here
+      by (inr f, l) = f
+  able_listed (k ∷ ps) ss (inr i) low h = able_listed ps (set_numbered ss k Able) i low (omega (arith, h, length_states ss k Able))
+
+event_place : (to : Place) (es : List Event) (e : Event) → event_at to es ≡ Some e → e.place ≡ to
+event_place to [] e h = cc
+event_place to (x ∷ es) e h = by_test (event_place to es e) (same_place x.place to) refl h
+  where
+    by_test : (event_at to es ≡ Some e → e.place ≡ to) → (b : Bool) → same_place x.place to ≡ b → (if b then Some x else (event_at to es)) ≡ Some e → e.place ≡ to
+    by_test later true g i = let same : x ≡ e = cc in sym (ap (λ (y : Event). y.place) same) ∙ same_place-true x.place to g
+    by_test later false g i = later i
+
+-- ---- events
+
+same_number : (m n : ℕ) → (m == n) ≡ true → m ≡ n
+same_number m n h = grind (arith, nat_tests)
+
+module _ (img : Image) (op : Operator) (r : Registers) (p : ℕ) (x : Place) (away : x.stack ≢ r.stack) (unreached : ReachesEvent img op r x → ⊥) where
+  not_there : (y : Place) → y.stack ≡ r.stack → x ≢ y
+  not_there y k e = away (ap (λ (z : Place). z.stack) e ∙ k)
+
+  not_here : (y : Place) → ReachesEvent img op r y → x ≢ y
+  not_here y k e = unreached (subst (ReachesEvent img op r) (sym e) k)
+
+  -- from another stack nothing is closed
+  away_from : (stack low : ℕ) → stack ≡ r.stack → is_from stack low x ≡ false
+  away_from stack low k = by (x.stack == stack) refl
+    where
+      by : (b : Bool) → (x.stack == stack) ≡ b → (b && nat_le low x.at) ≡ false
+      by true e = absurd (away (same_number x.stack stack e ∙ k))
+      by false e = refl
+
+  changed_event : (change : Option (EventState → EventState)) (y : Place) (es : List Event) → x ≢ y → event_at x (changed_by change y es) ≡ event_at x es
+  changed_event None y es other = refl
+  changed_event (Some change) y es other = one_event.elsewhere y x (with_state change) (λ e. refl) other es
+
+  -- a wait for several events that it reaches changes none else
+  not_among : (places : List Place) → ReachesAll img op r places → is_among places x ≡ false
+  not_among [] k = refl
+  not_among (y ∷ places) k = by (not_among places k.1) (same_place y x) refl
+    where
+      by : is_among places x ≡ false → (b : Bool) → same_place y x ≡ b → (b || is_among places x) ≡ false
+      by rest true e = absurd (not_here y k.0 (sym (same_place-true y x e)))
+      by rest false e = rest
+
+  joined_event : (places : List Place) (es : List Event) → ReachesAll img op r places → event_at x (joined_all places p es) ≡ event_at x es
+  joined_event places es k = mapped_at join stays x es ∙ by (event_at x es) refl
+    where
+      join : Event → Event
+      join e = if is_among places e.place then with_state (joined p) e else e
+
+      stays : (e : Event) → (join e).place ≡ e.place
+      stays e = by_test (is_among places e.place)
+        where
+          by_test : (b : Bool) → (if b then with_state (joined p) e else e).place ≡ e.place
+          by_test true = refl
+          by_test false = refl
+
+      by : (o : Option Event) → event_at x es ≡ o → option_map join o ≡ o
+      by None e = refl
+      by (Some f) e = ap (λ (b : Bool). Some (if b then with_state (joined p) f else f)) (ap (is_among places) (event_place x es f e) ∙ not_among places k)
+
+  -- one write
+
+  stays_so : (now after : Image) → event_at x after.events ≡ event_at x now.events → LeavesEvent now after p x
+  stays_so now after e = record { left = []; is = e ∙ sym (nobody_left (event_at x now.events)); able = λ k i other low h. absurd i }
+
+  written_event : (w : Write) (now : Image) → MayWrite img op r w → LeavesEvent now (written p w now) p x
+  written_event (writes.save y w) now k = stays_so now (written p (writes.save y w) now) refl
+  written_event (writes.cut stack n) now k = stays_so now (written p (writes.cut stack n) now) refl
+  written_event (writes.push stack w) now k = stays_so now (written p (writes.push stack w) now) refl
+  written_event (writes.registers q) now k = stays_so now (written p (writes.registers q) now) refl
+  written_event (writes.open_row n count counted) now k = stays_so now (written p (writes.open_row n count counted) now) refl
+  written_event (writes.write_row n at w) now k = stays_so now (written p (writes.write_row n at w) now) refl
+  written_event (writes.close_row n) now k = stays_so now (written p (writes.close_row n) now) refl
+  written_event (writes.open_event y) now k = stays_so now (written p (writes.open_event y) now) (one_event.opened_elsewhere y x (not_there y k) now.events)
+  written_event (writes.close_events stack at) now k =
+      stays_so now (written p (writes.close_events stack at) now)
+      (one_event.closed_there stack at x now.events ∙ ap (λ (b : Bool). if b then None else event_at x now.events) (away_from stack at k))
+  written_event (writes.event_deed d y) now k =
+      let done_so = deed_at d p y now.events in
+      record {
+        left = done_so.withdraws;
+        is =
+            withdrawn_event x done_so.withdraws (changed_by done_so.change y now.events)
+            ∙ ap (option_map (with_state (all_left_by done_so.withdraws))) (changed_event done_so.change y now.events (not_here y k));
+        able = λ j i other low h.
+            able_listed p j other done_so.frees (waiting done_so.next y p now.states) (withdrawn_freed d p (state_at y now.events) j i) low (waiting_stays p j other done_so.next y now.states h).1;
+      }
+  written_event (writes.wait_any places) now k = stays_so now (written p (writes.wait_any places) now) (joined_event places now.events k)
+  written_event writes.go_on now k = stays_so now (written p writes.go_on now) refl
+  written_event (writes.line bytes) now k = stays_so now (written p (writes.line bytes) now) refl
+  written_event (writes.start q words) now k = stays_so now (written p (writes.start q words) now) refl
+  written_event (writes.end_process stack) now k = stays_so now (written p (writes.end_process stack) now) refl
+
+  -- one after the other
+  then_left : (c : Change) (now mid : Image) → LeavesEvent now mid p x → ((j : ℕ) → j ≢ p → j ≤ length now.states → j ≤ length mid.states) → LeavesEvent mid (changed p c mid) p x
+      → LeavesEvent now (changed p c mid) p x
+  then_left c now mid here many later =
+      record {
+        left = here.left ++ later.left;
+        is = later.is ∙ ap (option_map (with_state (all_left_by later.left))) here.is ∙ both_left here.left later.left (event_at x now.events);
+        able = λ j i other low h. by_part j other low h (listed_part here.left later.left j i);
+      }
+    where
+      by_part : (j : ℕ) → j ≢ p → 1 ≤ j → j ≤ length now.states → IsListed here.left j ⊎ IsListed later.left j → numbered (changed p c mid).states j ≡ Some Able
+      by_part j other low h (inl i) = elim (changed_states p j other c mid (many j other h)) [ inl e ↦ e ∙ here.able j i other low h | inr e ↦ e ]
+      by_part j other low h (inr i) = later.able j i other low (many j other h)
+
+  pub changed_events : (c : Change) (now : Image) → ChangeKeeps img op r p c now → LeavesEvent now (changed p c now) p x
+  changed_events done now k = stays_so now now refl
+  changed_events (look_up q more) now k = changed_events (more (told now q)) now k.1
+  changed_events (write w next) now k = then_left next now (written p w now) (written_event w now k.0) (λ j other h. (written_states p j other w now h).1) (changed_events next (written p w now) k.1)
 
 -- ---- registers
 
@@ -259,6 +402,8 @@ module _ (p q : ℕ) (other : q ≢ p) where
   written_registers (writes.open_event y) now h = (refl, h)
   written_registers (writes.close_events stack at) now h = (refl, h)
   written_registers (writes.event_deed d y) now h = (refl, h)
+  written_registers (writes.wait_any places) now h = (refl, h)
+  written_registers writes.go_on now h = (refl, h)
   written_registers (writes.line bytes) now h = (refl, h)
   written_registers (writes.start r words) now h = (get_numbered_append now.regs (r ∷ []) q h, omega (arith, h, length-append now.regs (r ∷ [])))
   written_registers (writes.end_process stack) now h = (refl, h)
@@ -294,7 +439,7 @@ module _ (img new : Image) (p : ℕ) (op : Operator) (r : Registers) where
   private_rest base part own = record {
     words = λ x away old no_operand. ap (λ (o : Option (List Word)). slice_get (words_or o) x.at) (set_other img.stacks part.regs.stack x.stack _ (λ e. away (e ∙ own)));
     rows = λ n unreached. refl;
-    events = λ x away unreached. refl;
+    events = λ x away unreached. record { left = []; is = sym (nobody_left (event_at x img.events)); able = λ k i other low h. absurd i };
     registers = λ q other h. get_numbered_other img.regs p q part.regs other;
     states = λ q other h. inl refl;
   }

@@ -41,6 +41,8 @@ module _ (img : Image) (op : Operator) (r : Registers) (p : ℕ) (x : Place) whe
   reads_reached questions.counted e k = absurd e
   reads_reached (questions.is_event y) e k = absurd e
   reads_reached (questions.event_answer t y) e k = absurd e
+  reads_reached (questions.first_happened places) e k = absurd e
+  reads_reached (questions.woken n) e k = absurd e
   reads_reached questions.criticals e k = absurd e
   reads_reached (questions.critical n) e k = absurd e
   reads_reached questions.started e k = absurd e
@@ -60,6 +62,8 @@ module _ (img : Image) (op : Operator) (r : Registers) (p : ℕ) (x : Place) whe
   changes_reached (writes.open_event y) now e k = absurd e
   changes_reached (writes.close_events stack at) now e k = absurd e
   changes_reached (writes.event_deed d y) now e k = absurd e
+  changes_reached (writes.wait_any places) now e k = absurd e
+  changes_reached writes.go_on now e k = absurd e
   changes_reached (writes.line bytes) now e k = absurd e
   changes_reached (writes.start q words) now e k = inr (e ∙ k)
   changes_reached (writes.end_process stack) now e k = inl (own_word (e ∙ k))

@@ -1,5 +1,5 @@
 -- What the operators of a process may ask of an image, and what they may write into it, by what they reach.
-use Rattle.std.specs.Prelude.{◌≡◌, ◌⊎◌, ℕ, ◌+◌, Some, None}
+use Rattle.std.specs.Prelude.{◌≡◌, ◌⊎◌, ℕ, ◌+◌, List, [], ◌∷◌, Some, None}
 use Rattle.b67_word.specs.declared.Place.{Place}
 use Rattle.b67_word.specs.Word.{Word}
 use Rattle.b67_control.specs.declared.Registers.{Registers}
@@ -19,7 +19,12 @@ use Rattle.b67_table.specs.Program.{Test, answer, interrupt, fault, ask, Change,
 use Rattle.b67_table.specs.Rows.{Row, private_part, action}
 use Rattle.b67_footprints.specs.Reaching.{NamesCell, Reaches, ReachesRow, ReachesEvent}
 
--- Single words that it reaches, and many words of its own stack; rows and events that it reaches. What is public of all
+-- all of these events
+abbrev pub ReachesAll : Image → Operator → Registers → List Place → Type 0
+ReachesAll img op r [] = Unit {0}
+ReachesAll img op r (x ∷ xs) = ReachesEvent img op r x × ReachesAll img op r xs
+
+-- Single words that it reaches, and many words of its own stack; rows and events that it reaches; its own woken number. What is public of all
 -- processes anyone may ask.
 abbrev pub MayAsk : Image → Operator → Registers → Question → Type 0
 MayAsk img op r (questions.word x) = Reaches img op r x
@@ -29,6 +34,8 @@ MayAsk img op r questions.free_row = Unit {0}
 MayAsk img op r questions.counted = Unit {0}
 MayAsk img op r (questions.is_event x) = ReachesEvent img op r x
 MayAsk img op r (questions.event_answer t x) = ReachesEvent img op r x
+MayAsk img op r (questions.first_happened places) = ReachesAll img op r places
+MayAsk img op r (questions.woken p) = p ≡ r.stack
 MayAsk img op r questions.criticals = Unit {0}
 MayAsk img op r (questions.critical p) = Unit {0}
 MayAsk img op r questions.started = Unit {0}
@@ -62,6 +69,8 @@ MayWrite img op r (writes.close_row n) = ReachesRow img op r n
 MayWrite img op r (writes.open_event x) = x.stack ≡ r.stack
 MayWrite img op r (writes.close_events stack at) = stack ≡ r.stack
 MayWrite img op r (writes.event_deed d x) = ReachesEvent img op r x
+MayWrite img op r (writes.wait_any places) = ReachesAll img op r places
+MayWrite img op r writes.go_on = Unit {0}
 MayWrite img op r (writes.line bytes) = Unit {0}
 MayWrite img op r (writes.start q words) = q.stack ≡ img.started + 1
 MayWrite img op r (writes.end_process stack) = stack ≡ r.stack

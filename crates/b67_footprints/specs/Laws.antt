@@ -1,12 +1,15 @@
 -- What holds of every operator of every code, in every image.
-use Rattle.std.specs.Prelude.{◌≡◌, ◌≢◌, ◌⊎◌, ℕ, ◌+◌, ◌≤◌, length, Some, Ok}
+use Rattle.std.specs.Prelude.{◌≡◌, ◌≢◌, ◌⊎◌, ℕ, ◌+◌, ◌≤◌, List, [], ◌∷◌, length, Some, Ok}
+use Rattle.std.specs.Option.{option_map}
 use Rattle.b67_list.specs.Numbered.{numbered}
 use Rattle.b67_word.specs.declared.Place.{Place}
 use Rattle.b67_control.specs.declared.Registers.{Registers}
 use Rattle.b67_ops.specs.declared.Operator.{Operator}
 use Rattle.b67_segment.specs.declared.code.Code.{Code}
 use Rattle.b67_store.specs.Store.{word_at, row_at}
-use Rattle.b67_events.specs.Events.{event_at}
+use Rattle.b67_deeds.specs.Events.{EventState, left_by}
+use Rattle.b67_deeds.specs.Listed.{IsListed}
+use Rattle.b67_events.specs.Events.{event_at, with_state}
 use Rattle.b67_table.specs.declared.Cell.{Cell}
 use Rattle.b67_table.specs.declared.ProcessState.TheVariants.{Able}
 use Rattle.b67_table.specs.declared.Class.TheVariants.{Action}
@@ -69,13 +72,24 @@ PrivatePartsStay =
 
 -- ---- what is not reached
 
+-- some processes do not wait for the event to happen any more
+abbrev pub all_left_by : List ℕ → EventState → EventState
+all_left_by [] e = e
+all_left_by (p ∷ ps) e = all_left_by ps (left_by p e)
+
+-- The event at a place is as it was, but that processes may have left it; each of them, of all that there have been but p, is able then.
+pub record LeavesEvent (img new : Image) (p : ℕ) (x : Place) : Type 0 where
+  pub left : List ℕ
+  pub is : event_at x new.events ≡ option_map (with_state (all_left_by left)) (event_at x img.events)
+  pub able : (k : ℕ) → IsListed left k → k ≢ p → 1 ≤ k → k ≤ length img.states → numbered new.states k ≡ Some Able
+
 -- All that an operator leaves as it is, beside its own stack and the stack of the process that it starts: words but, where it
 -- stores, for operands in cells that it names, rows and events that it does not reach, and the registers of others. Another
 -- process that has been started is in the state in which it was, or it is able.
 pub record LeavesTheRest (img new : Image) (p : ℕ) (op : Operator) (r : Registers) : Type 0 where
   pub words : (x : Place) → x.stack ≢ r.stack → x.stack ≢ img.started + 1 → (NamesOperand img op r x → ⊥) → word_at new.stacks x ≡ word_at img.stacks x
   pub rows : (n : ℕ) → (ReachesRow img op r n → ⊥) → row_at new.rows n ≡ row_at img.rows n
-  pub events : (x : Place) → x.stack ≢ r.stack → (ReachesEvent img op r x → ⊥) → event_at x new.events ≡ event_at x img.events
+  pub events : (x : Place) → x.stack ≢ r.stack → (ReachesEvent img op r x → ⊥) → LeavesEvent img new p x
   pub registers : (q : ℕ) → q ≢ p → q ≤ length img.regs → numbered new.regs q ≡ numbered img.regs q
   pub states : (q : ℕ) → q ≢ p → q ≤ length img.states → (numbered new.states q ≡ numbered img.states q) ⊎ (numbered new.states q ≡ Some Able)
 

@@ -50,8 +50,10 @@ beside = record {
       ∷ Some (entered_mark (place 1 0) 0 ∷ base_control 3 ∷ []) ∷ [];
   rows = [];
   events = [];
+  lists = [];
   regs = first ∷ second ∷ [];
   states = Able ∷ Able ∷ [];
+  numbers = 0 ∷ 0 ∷ [];
   output = [];
   started = 2;
   fault = None;

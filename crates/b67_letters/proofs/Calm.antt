@@ -1,9 +1,9 @@
 -- Changes that keep the states of all processes, and the rows that do no others.
 use Rattle.std.specs.Prelude.{nat_eq, nat_le, nat_lt}
-use Rattle.std.proofs.Common.{◌≡◌, refl, ℕ, zero, suc, ◌+◌, ◌-◌, ◌&&◌, not, Bool, true, false, cond, ℤ, List, [], ◌∷◌, ◌++◌, take, drop, Option, Some, None}
+use Rattle.std.proofs.Common.{◌≡◌, refl, ℕ, zero, suc, ◌+◌, ◌-◌, ◌&&◌, not, Bool, true, false, cond, ℤ, List, [], ◌∷◌, ◌++◌, length, take, drop, Option, Some, None}
 use Rattle.b67_num.specs.declared.FaultKind.TheVariants.{CriticalBlockExit, BadGoTo, NotAVariable, ProcessLimit}
 use Rattle.b67_word.specs.declared.Place.{Place}
-use Rattle.b67_word.specs.Word.{Word}
+use Rattle.b67_word.specs.Word.{Word, truth}
 use Rattle.b67_control.specs.declared.Registers.{Registers}
 use Rattle.b67_control.specs.declared.Mscw.{Mscw}
 use Rattle.b67_control.specs.declared.Pcw.{Pcw}
@@ -15,9 +15,9 @@ use Rattle.b67_ops.specs.declared.Couple.{Couple}
 use Rattle.b67_segment.specs.declared.code.Code.{Code}
 use Rattle.b67_store.specs.Store.{Row, row_words_or}
 use Rattle.b67_deeds.specs.declared.EventTest.{EventTest}
-use Rattle.b67_deeds.specs.Deeds.{EventDeed}
+use Rattle.b67_deeds.specs.Deeds.{EventDeed, tests}
 use Rattle.b67_table.specs.declared.Reached.{Reached}
-use Rattle.b67_table.specs.Limits.{most_cells, most_processes}
+use Rattle.b67_table.specs.Limits.{most_cells, most_processes, most_events}
 use Rattle.b67_table.specs.Private.{frame}
 use Rattle.b67_table.specs.Look.{◌>->◌, valid}
 use Rattle.b67_table.specs.Chains.{place, broken, mark_at, rebuilt}
@@ -27,14 +27,14 @@ use Rattle.b67_table.specs.Questions.{Answer, told}
 use Rattle.b67_table.specs.Questions as questions
 use Rattle.b67_table.specs.Writes.{written}
 use Rattle.b67_table.specs.Writes as writes
-use Rattle.b67_table.specs.Program.{Test, answer, interrupt, fault, ask, ◌>>=◌, asked, see, Change, done, look_up, write, changed, registers, row_of, close_row, close_events, event_deed, start, Program}
+use Rattle.b67_table.specs.Program.{Test, answer, interrupt, fault, ask, ◌>>=◌, asked, see, Change, done, look_up, write, changed, registers, row_of, close_row, close_events, event_deed, wait_any, go_on, start, Program}
 use Rattle.b67_table.specs.Moves.{pushed}
 use Rattle.b67_table.specs.Linkage.{entering, selected, entry, accidental, closed_by, rows_closed, array_closed, arrays_closed, is_critical, if_not_critical, leaving, leave_base, leave_other}
 use Rattle.b67_table.specs.Arrays.{as_indexed, element, index_in, index_or_fault, subscripted, subscripted_element, index, index_and_load, index_mother, Extents, one, two}
 use Rattle.b67_table.specs.Arrays.{array_word, rows_made, array_made, arrays_made, if_held}
-use Rattle.b67_table.specs.Arguments.{three, wholes, event_of, if_chained, finished_at}
+use Rattle.b67_table.specs.Arguments.{no_such, three, wholes, event_of, events_of, if_chained, finished_at}
 use Rattle.b67_table.specs.GoingTo.{Passed, target_of, passed_by, frames_left, passed_frames, go_to}
-use Rattle.b67_table.specs.Intrinsics.{case_in, case_place, gone_to_case, select, wanted, extents, arrays, write as write_line, make_event, on_event, tell_event}
+use Rattle.b67_table.specs.Intrinsics.{case_in, case_place, gone_to_case, select, wanted, extents, arrays, write as write_line, make_event, on_event, tell_event, gone_on, gone_or_waiting, woken_or_not, wait_for_any}
 use Rattle.b67_table.specs.Lines.{line_for}
 use Rattle.b67_table.specs.Starting.{starting, first_display, named_frames, frames_with, on_path, start_process}
 use Rattle.b67_table.specs.Rows.{turn_by, turn, value_or_entry, value_call, loaded, load_value, is_passed, load_through, cell_or_entry, evaluate, after_store, store_by, store, is_result, return_value}
@@ -42,7 +42,7 @@ use Rattle.b67_table.proofs.Keeping.{Gives}
 
 -- ---- changes
 
--- a change that does nothing with events that are open, ends no process, and starts none
+-- a change that does nothing with events that are open, waits for none, ends no process, and starts none
 abbrev pub Calm : Change → Type 0
 Calm done = Unit {0}
 Calm (look_up q more) = (a : Answer q) → Calm (more a)
@@ -56,6 +56,8 @@ Calm (write (writes.close_row n) next) = Calm next
 Calm (write (writes.open_event place) next) = Calm next
 Calm (write (writes.close_events stack at) next) = Calm next
 Calm (write (writes.event_deed x place) next) = ⊥
+Calm (write (writes.wait_any places) next) = ⊥
+Calm (write writes.go_on next) = Calm next
 Calm (write (writes.line bytes) next) = Calm next
 Calm (write (writes.start r words) next) = ⊥
 Calm (write (writes.end_process stack) next) = ⊥
@@ -73,6 +75,8 @@ calm_keeps p (write (writes.close_row n) next) img k = calm_keeps p next (writte
 calm_keeps p (write (writes.open_event place) next) img k = calm_keeps p next (written p (writes.open_event place) img) k
 calm_keeps p (write (writes.close_events stack at) next) img k = calm_keeps p next (written p (writes.close_events stack at) img) k
 calm_keeps p (write (writes.event_deed x place) next) img k = absurd k
+calm_keeps p (write (writes.wait_any places) next) img k = absurd k
+calm_keeps p (write writes.go_on next) img k = calm_keeps p next (written p writes.go_on img) k
 calm_keeps p (write (writes.line bytes) next) img k = calm_keeps p next (written p (writes.line bytes) img) k
 calm_keeps p (write (writes.start r words) next) img k = absurd k
 calm_keeps p (write (writes.end_process stack) next) img k = absurd k
@@ -284,17 +288,33 @@ module _ (r : Registers) (next : ℕ) where
     event_calm code [] = each_chained Calm _ tt
     event_calm code (w ∷ ws) = tt
 
-    pub tell_calm : (x : EventTest) (code : Code) (ws : List Word) → Each Calm (tell_event x code r next m ws)
-    tell_calm x code [] = tt
-    tell_calm x code (w ∷ []) = each_then Calm (event_of r w) _ (λ c. each_chained Calm _ (λ told. tt))
-    tell_calm x code (w ∷ v ∷ ws) = tt
-
     -- a property of each deed that is done with an event
     pub each_event : (P : Change → Type 0) (x : EventDeed) → ((at : Place) → P (event_deed x at (finished_at r m [] next))) → (code : Code) (ws : List Word)
         → Each P (on_event x code r next m ws)
     each_event P x h code [] = tt
     each_event P x h code (w ∷ []) = each_then P (event_of r w) _ (λ c. each_chained P _ (h (cell_place c)))
     each_event P x h code (w ∷ v ∷ ws) = tt
+
+    -- and of each that tells what the event answers
+    pub each_tell : (P : Change → Type 0) (x : EventTest) → ((at : Place) (told : Bool) → P (event_deed (tests x) at (finished_at r m (truth told ∷ []) next)))
+        → (code : Code) (ws : List Word) → Each P (tell_event x code r next m ws)
+    each_tell P x h code [] = tt
+    each_tell P x h code (w ∷ []) = each_then P (event_of r w) _ (λ c. each_chained P _ (λ told. h (cell_place c) told))
+    each_tell P x h code (w ∷ v ∷ ws) = tt
+
+    -- of what a process does that waits for several events, or goes on
+    pub each_several : (P : Change → Type 0) → ((n : ℕ) → P (gone_on r next m n)) → ((n : ℕ) → P (go_on (gone_on r next m (suc n))))
+        → ((places : List Place) → P (wait_any places done)) → (code : Code) (ws : List Word) → Each P (wait_for_any code r next m ws)
+    each_several P goes wakes waits code ws =
+        each_if P (nat_le 1 (length ws) && nat_le (length ws) most_events) _ no_such (each_then P (events_of r ws) _ (λ places. each_chained P _ (λ n. by_number places n))) tt
+      where
+        by_found : (places : List Place) (o : Option ℕ) → Each P (gone_or_waiting r next m places o)
+        by_found places None = waits places
+        by_found places (Some n) = goes n
+
+        by_number : (places : List Place) (n : ℕ) → Each P (woken_or_not r next m places n)
+        by_number places zero = λ o. by_found places o
+        by_number places (suc n) = wakes n
 
     -- and of each start of a process
     pub each_start : (P : Change → Type 0) → ((s : Registers) (ws : List Word) → P (start s ws (finished_at r m [] next))) → (code : Code) (ws : List Word)

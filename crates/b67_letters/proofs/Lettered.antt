@@ -21,14 +21,14 @@ use Rattle.b67_table.specs.declared.Reached.{Reached}
 use Rattle.b67_table.specs.declared.InterruptKind.TheVariants.{BadCode as bad_code}
 use Rattle.b67_table.specs.Effect.{Effect}
 use Rattle.b67_table.specs.Effect as effects
-use Rattle.b67_table.specs.Image.{Image, is_live}
+use Rattle.b67_table.specs.Image.{Image, woken_number, is_live}
 use Rattle.b67_table.specs.Names.{intrinsic_numbered}
 use Rattle.b67_table.specs.Outcome.{Outcome, gives, faults, interrupts, limit}
 use Rattle.b67_table.specs.PrivateRows.{branch}
 use Rattle.b67_table.specs.Chains.{place}
 use Rattle.b67_table.specs.References.{couple_cell, cell_of, reached, popped, popped_two}
 use Rattle.b67_table.specs.Look.{Look, at, ◌>->◌, valid, seen}
-use Rattle.b67_table.specs.Program.{asked, effect_of, loads, Program}
+use Rattle.b67_table.specs.Program.{asked, effect_of, Program}
 use Rattle.b67_table.specs.Linkage.{entry}
 use Rattle.b67_table.specs.Intrinsics.{intrinsic_row, intrinsic}
 use Rattle.b67_table.specs.Rows.{private_part, acts as acts_by, row, plain_row, turn, enter_procedure, enter_by, level_below, marked, enter}
@@ -59,15 +59,18 @@ module _ (code : Code) (img after : Image) (p : ℕ) (r : Registers) (next : ℕ
 
   -- ---- ENTR
 
-  callee_has : (m : Mscw) (pcw : Pcw) (home : Option Place) → Comes (enter_procedure code r next m pcw home) → Has (called_letter img pcw)
+  abbrev woken : ℕ
+  woken = woken_number img.numbers r.stack
+
+  callee_has : (m : Mscw) (pcw : Pcw) (home : Option Place) → Comes (enter_procedure code r next m pcw home) → Has (called_letter img r.stack pcw)
   callee_has m pcw home e = by pcw.intrinsic e
     where
-      named : (o : Option Intrinsic) (ws : List Word) → Comes (intrinsic_row o code r next m ws) → Has (intrinsic_letter o)
+      named : (o : Option Intrinsic) (ws : List Word) → Comes (intrinsic_row o code r next m ws) → Has (intrinsic_letter woken o)
       named None ws e = cc
-      named (Some name) ws e = (letter_of name, refl)
+      named (Some name) ws e = (letter_of woken name, refl)
 
       by : (b : Bool) → Comes (if b then intrinsic pcw.number code r next m else entry r next m.df pcw home)
-          → Has (if b then intrinsic_letter (intrinsic_numbered pcw.number) else Some Enter)
+          → Has (if b then intrinsic_letter woken (intrinsic_numbered pcw.number) else Some Enter)
       by true e = named (intrinsic_numbered pcw.number) _ e
       by false e = (Enter, refl)
 
@@ -75,14 +78,14 @@ module _ (code : Code) (img after : Image) (p : ℕ) (r : Registers) (next : ℕ
   above_mark = at (place r.stack (r.f + 1)) (λ (w : Option Word). valid w)
 
   found_has : (above : Word) → seen img.stacks above_mark ≡ Ok above → (o : Option Cell) → cell_of r above ≡ o → (pcw : Pcw) → seen img.stacks (called_by above o) ≡ Ok pcw
-      → Has (called_letter img pcw) → Has (told_by (called_letter img) (seen img.stacks (called r)))
+      → Has (called_letter img r.stack pcw) → Has (told_by (called_letter img r.stack) (seen img.stacks (called r)))
   found_has above is o c pcw v h =
       let here : seen img.stacks (called r) ≡ Ok pcw =
       then_seen img.stacks above_mark above (λ (a : Word). called_by a (cell_of r a)) is ∙ ap (λ (x : Option Cell). seen img.stacks (called_by above x)) c ∙ v in
-      (h.0, ap (told_by (called_letter img)) here ∙ h.1)
+      (h.0, ap (told_by (called_letter img r.stack)) here ∙ h.1)
 
   by_cell : (m : Mscw) (above : Word) → seen img.stacks above_mark ≡ Ok above → (o : Option Cell) → cell_of r above ≡ o → Comes (enter_by code r next m above o)
-      → Has (told_by (called_letter img) (seen img.stacks (called r)))
+      → Has (told_by (called_letter img r.stack) (seen img.stacks (called r)))
   by_cell m above is None c e =
       let g = goes p img after (valid (as_pcw above)) (λ (pcw : Pcw). enter_procedure code r next m pcw (level_below r pcw.level)) e in
       found_has above is None c g.value g.is (callee_has m g.value (level_below r g.value.level) g.comes)
@@ -92,7 +95,7 @@ module _ (code : Code) (img after : Image) (p : ℕ) (r : Registers) (next : ℕ
       found_has above is (Some x) c k.value (then_seen img.stacks (reached (Some x)) g.value (λ (u : Reached). valid (as_pcw u.word)) g.is ∙ k.is)
       (callee_has m k.value (Some g.value.cell.frame) k.comes)
 
-  enter_has : Comes (enter code r next) → Has (told_by (called_letter img) (seen img.stacks (called r)))
+  enter_has : Comes (enter code r next) → Has (told_by (called_letter img r.stack) (seen img.stacks (called r)))
   enter_has e =
       let g = goes p img after (marked r) _ e in
       let k = goes p img after above_mark (λ (above : Word). enter_by code r next g.value above (cell_of r above)) g.comes in

@@ -1,9 +1,9 @@
 -- Which operators release nobody.
-use Rattle.std.proofs.Common.{◌≡◌, ◌⊎◌, inl, inr, refl, sym, ap, ◌∙◌, ℕ, ◌+◌, Bool, true, false, cond, List, [], ◌∷◌, Option, Some, None, Result, Ok, Err}
+use Rattle.std.proofs.Common.{◌≡◌, ◌⊎◌, inl, inr, refl, sym, ap, ◌∙◌, ℕ, suc, ◌+◌, Bool, true, false, List, [], ◌∷◌, ◌++◌, Option, Some, None, Result, Ok, Err}
 use Rattle.std.specs.Prelude.{if◌then◌else◌, nat_eq, nat_lt}
 use Rattle.b67_list.specs.Numbered.{numbered}
 use Rattle.b67_word.specs.declared.Place.{Place}
-use Rattle.b67_word.specs.Word.{Word}
+use Rattle.b67_word.specs.Word.{Word, truth}
 use Rattle.b67_control.specs.declared.Registers.{Registers}
 use Rattle.b67_control.specs.declared.Mscw.{Mscw}
 use Rattle.b67_control.specs.declared.Pcw.{Pcw}
@@ -21,37 +21,40 @@ use Rattle.b67_table.specs.declared.Cell.{Cell}
 use Rattle.b67_table.specs.declared.Reached.{Reached}
 use Rattle.b67_table.specs.Effect.{Effect}
 use Rattle.b67_table.specs.Effect as effects
-use Rattle.b67_table.specs.Image.{Image}
+use Rattle.b67_table.specs.Image.{Image, woken_number}
 use Rattle.b67_table.specs.Names.{intrinsic_numbered}
 use Rattle.b67_table.specs.Outcome.{Outcome, gives, faults, interrupts, limit}
 use Rattle.b67_table.specs.Private.{frame}
 use Rattle.b67_table.specs.PrivateRows.{branch}
 use Rattle.b67_table.specs.Chains.{place}
 use Rattle.b67_table.specs.References.{cell_of, reached}
-use Rattle.b67_table.specs.Look.{Look, at, ◌>->◌, valid, seen}
+use Rattle.b67_table.specs.Look.{Look, at, valid, seen}
 use Rattle.b67_table.specs.Questions.{told}
 use Rattle.b67_table.specs.Questions as questions
 use Rattle.b67_table.specs.Writes.{written}
 use Rattle.b67_table.specs.Writes as writes
-use Rattle.b67_table.specs.Program.{asked, Change, done, look_up, write, registers, close_events, start, end_process, Program}
+use Rattle.b67_table.specs.Program.{asked, Change, done, look_up, write, registers, close_events, end_process, go_on, Program}
 use Rattle.b67_table.specs.Linkage.{entry, caused_by, leave_base, leave_other, frame_cells}
 use Rattle.b67_table.specs.Arguments.{finished_at}
-use Rattle.b67_table.specs.Intrinsics.{row_of_intrinsic, intrinsic_row, intrinsic}
+use Rattle.b67_table.specs.Intrinsics.{tell_event, gone_on, row_of_intrinsic, intrinsic_row, intrinsic}
 use Rattle.b67_table.specs.Arrays.{index, index_and_load, index_mother}
 use Rattle.b67_table.specs.Rows.{private_part, row, plain_row, acts, turn, value_call, load_value, load_through, evaluate, store, enter_procedure, enter_by, level_below, marked, enter, exit, return_value}
 use Rattle.b67_table.specs.Table.{table, operator_at}
 use Rattle.b67_table.proofs.Keeping.{Gives}
 use Rattle.b67_deeds.specs.declared.EventAct.TheVariants as act
 use Rattle.b67_deeds.specs.declared.EventTest.TheVariants as test
+use Rattle.b67_deeds.specs.declared.EventTest.{EventTest}
+use Rattle.b67_deeds.specs.Events.{EventState}
 use Rattle.b67_deeds.specs.Deeds as deeds
+use Rattle.b67_events.specs.Events.{state_at}
 use Rattle.b67_deeds.specs.declared.Letter.{Letter}
-use Rattle.b67_deeds.specs.declared.Letter.TheVariants.{Enter, Leave, End, Cause, Liberate}
+use Rattle.b67_deeds.specs.declared.Letter.TheVariants.{Enter, Leave, End, Cause, CauseAndReset, Liberate}
 use Rattle.b67_letters.specs.Letters.{told_by, letter_of, intrinsic_letter, called_letter, called_by, called, plain_letter, operator_letter, fetched_letter, registers_letter, letter_by, letter}
 use Rattle.b67_letters.specs.Releases.{change_releases, effect_releases, row_releases, fetched_releases, registers_releases, released_by, releases}
 use Rattle.b67_letters.specs.Laws.{may_release, FewOperatorsRelease}
 use Rattle.b67_letters.proofs.Looks.{then_seen}
 use Rattle.b67_letters.proofs.Seen.{gives_seen}
-use Rattle.b67_letters.proofs.Calm.{Calm, Each, each_asked, each_as, each_critical, arrays_have, value_calm, load_calm, through_calm, evaluate_calm, store_calm, turn_calm, index_calm, index_and_load_calm, index_mother_calm, entry_calm, other_calm, return_calm, go_to_calm, select_calm, arrays_row_calm, write_calm, event_calm, tell_calm, each_event, each_start}
+use Rattle.b67_letters.proofs.Calm.{Calm, Each, each_asked, each_as, each_critical, arrays_have, value_calm, load_calm, through_calm, evaluate_calm, store_calm, turn_calm, index_calm, index_and_load_calm, index_mother_calm, entry_calm, other_calm, return_calm, go_to_calm, select_calm, arrays_row_calm, write_calm, event_calm, each_event, each_tell, each_several, each_start}
 
 -- ---- changes
 
@@ -72,6 +75,8 @@ calm_mute p (write (writes.close_row n) next) k img = calm_mute p next k (writte
 calm_mute p (write (writes.open_event place) next) k img = calm_mute p next k (written p (writes.open_event place) img)
 calm_mute p (write (writes.close_events stack j) next) k img = calm_mute p next k (written p (writes.close_events stack j) img)
 calm_mute p (write (writes.event_deed x place) next) k img = absurd k
+calm_mute p (write (writes.wait_any places) next) k img = absurd k
+calm_mute p (write writes.go_on next) k img = calm_mute p next k (written p writes.go_on img)
 calm_mute p (write (writes.line bytes) next) k img = calm_mute p next k (written p (writes.line bytes) img)
 calm_mute p (write (writes.start r words) next) k img = absurd k
 calm_mute p (write (writes.end_process stack) next) k img = absurd k
@@ -117,6 +122,9 @@ module _ (code : Code) (img : Image) (p : ℕ) (l : Letter) (r : Registers) (har
 
   -- ---- ENTR
 
+  abbrev woken : ℕ
+  woken = woken_number img.numbers r.stack
+
   module _ (m : Mscw) where
     abbrev finish : Change
     finish = finished_at r m [] next
@@ -127,7 +135,15 @@ module _ (code : Code) (img : Image) (p : ℕ) (l : Letter) (r : Registers) (har
     finish_mute : Mute p finish
     finish_mute = calm_mute p finish tt
 
-    name_mute : (name : Intrinsic) → Some (letter_of name) ≡ Some l → (ws : List Word) → Each (Mute p) (row_of_intrinsic name code r next m ws)
+    -- a test frees nobody
+    told_mute : (x : EventTest) → ((e : EventState) → (deeds.deed (deeds.tests x) p e).frees ≡ []) → (ws : List Word) → Each (Mute p) (tell_event x code r next m ws)
+    told_mute x none ws =
+        each_tell r next m (Mute p) x (λ at told i.
+        ap (λ ps. ps ++ change_releases p (finished_at r m (truth told ∷ []) next) (written p (writes.event_deed (deeds.tests x) at) i)) (none (state_at at i.events))
+        ∙ calm_mute p (finished_at r m (truth told ∷ []) next) tt (written p (writes.event_deed (deeds.tests x) at) i))
+        code ws
+
+    name_mute : (name : Intrinsic) → Some (letter_of woken name) ≡ Some l → (ws : List Word) → Each (Mute p) (row_of_intrinsic name code r next m ws)
     name_mute names.GoTo e ws = calmly names.GoTo ws (go_to_calm r next m code ws)
     name_mute names.Select e ws = calmly names.Select ws (select_calm r next m code ws)
     name_mute names.Arrays e ws = calmly names.Arrays ws (arrays_row_calm r next m code ws)
@@ -137,18 +153,23 @@ module _ (code : Code) (img : Image) (p : ℕ) (l : Letter) (r : Registers) (har
     name_mute names.Wait e ws = each_event r next m (Mute p) (deeds.acts act.Wait) (λ x i. finish_mute (written p (writes.event_deed (deeds.acts act.Wait) x) i)) code ws
     name_mute names.Cause e ws = harm l Cause r refl (λ same idle. cc) e harmless
     name_mute names.Reset e ws = each_event r next m (Mute p) (deeds.acts act.Reset) (λ x i. finish_mute (written p (writes.event_deed (deeds.acts act.Reset) x) i)) code ws
-    name_mute names.Happened e ws = calmly names.Happened ws (tell_calm r next m test.Happened code ws)
+    name_mute names.Happened e ws = told_mute test.Happened (λ e. refl) ws
     name_mute names.Procure e ws = each_event r next m (Mute p) (deeds.acts act.Procure) (λ x i. finish_mute (written p (writes.event_deed (deeds.acts act.Procure) x) i)) code ws
     name_mute names.Liberate e ws = harm l Liberate r refl (λ same idle. cc) e harmless
+    name_mute names.WaitAny e ws =
+        each_several r next m (Mute p) (λ n. calm_mute p (gone_on r next m n) tt) (λ n. calm_mute p (go_on (gone_on r next m (suc n))) tt) (λ places i. refl) code ws
+    name_mute names.CauseAndReset e ws = harm l CauseAndReset r refl (λ same idle. cc) e harmless
+    name_mute names.Available e ws = told_mute test.Available (λ e. refl) ws
+    name_mute names.Fix e ws = told_mute test.Fix (λ e. refl) ws
 
-    intrinsic_mute : (o : Option Intrinsic) → intrinsic_letter o ≡ Some l → (ws : List Word) → Each (Mute p) (intrinsic_row o code r next m ws)
+    intrinsic_mute : (o : Option Intrinsic) → intrinsic_letter woken o ≡ Some l → (ws : List Word) → Each (Mute p) (intrinsic_row o code r next m ws)
     intrinsic_mute None e ws = tt
     intrinsic_mute (Some name) e ws = name_mute name e ws
 
-    callee_mute : (pcw : Pcw) (home : Option Place) → called_letter img pcw ≡ Some l → Gives (Mute p) (asked img (enter_procedure code r next m pcw home))
+    callee_mute : (pcw : Pcw) (home : Option Place) → called_letter img r.stack pcw ≡ Some l → Gives (Mute p) (asked img (enter_procedure code r next m pcw home))
     callee_mute pcw home e = by pcw.intrinsic e
       where
-        by : (b : Bool) → (if b then intrinsic_letter (intrinsic_numbered pcw.number) else Some Enter) ≡ Some l
+        by : (b : Bool) → (if b then intrinsic_letter woken (intrinsic_numbered pcw.number) else Some Enter) ≡ Some l
             → Gives (Mute p) (asked img (if b then intrinsic pcw.number code r next m else entry r next m.df pcw home))
         by true e = each_asked (Mute p) img (intrinsic pcw.number code r next m) (λ ws. intrinsic_mute (intrinsic_numbered pcw.number) e ws)
         by false e = each_asked (Mute p) img (entry r next m.df pcw home) (each_mute p (entry r next m.df pcw home) (entry_calm r next m.df pcw home))
@@ -156,13 +177,13 @@ module _ (code : Code) (img : Image) (p : ℕ) (l : Letter) (r : Registers) (har
   abbrev above_mark : Look Word
   above_mark = at (place r.stack (r.f + 1)) (λ (w : Option Word). valid w)
 
-  module _ (e : told_by (called_letter img) (seen img.stacks (called r)) ≡ Some l) where
+  module _ (e : told_by (called_letter img r.stack) (seen img.stacks (called r)) ≡ Some l) where
     same : (above : Word) → seen img.stacks above_mark ≡ Ok above → (o : Option Cell) → cell_of r above ≡ o → (pcw : Pcw) → seen img.stacks (called_by above o) ≡ Ok pcw
-        → called_letter img pcw ≡ Some l
+        → called_letter img r.stack pcw ≡ Some l
     same above is o c pcw v =
         let here : seen img.stacks (called r) ≡ Ok pcw =
         then_seen img.stacks above_mark above (λ (a : Word). called_by a (cell_of r a)) is ∙ ap (λ (x : Option Cell). seen img.stacks (called_by above x)) c ∙ v in
-        sym (ap (told_by (called_letter img)) here) ∙ e
+        sym (ap (told_by (called_letter img r.stack)) here) ∙ e
 
     by_cell : (m : Mscw) (above : Word) → seen img.stacks above_mark ≡ Ok above → (o : Option Cell) → cell_of r above ≡ o → Gives (Mute p) (asked img (enter_by code r next m above o))
     by_cell m above is None c = gives_seen img (Mute p) (valid (as_pcw above)) _ (λ pcw v. callee_mute m pcw (level_below r pcw.level) (same above is None c pcw v))

@@ -1,5 +1,5 @@
 -- What holds of the letters of all operators.
-use Rattle.std.specs.Prelude.{◌≡◌, ℕ, Bool, true, false, List, [], Some, None}
+use Rattle.std.specs.Prelude.{◌≡◌, ℕ, Bool, true, false, [], Some, None}
 use Rattle.b67_list.specs.Numbered.{numbered}
 use Rattle.b67_control.specs.declared.Registers.{Registers}
 use Rattle.b67_segment.specs.declared.code.Code.{Code}
@@ -7,7 +7,7 @@ use Rattle.b67_table.specs.Image.{Image}
 use Rattle.b67_table.specs.Runs.{Acts}
 use Rattle.b67_table.specs.Table.{plain}
 use Rattle.b67_deeds.specs.declared.Letter.{Letter}
-use Rattle.b67_deeds.specs.declared.Letter.TheVariants.{End, Cause, Liberate}
+use Rattle.b67_deeds.specs.declared.Letter.TheVariants.{End, Cause, CauseAndReset, Liberate}
 use Rattle.b67_letters.specs.Letters.{letter}
 use Rattle.b67_letters.specs.Releases.{releases}
 
@@ -20,6 +20,7 @@ pub record ActionsHaveLetters : Type 0 where
 abbrev pub may_release : Letter → Bool
 may_release End = true
 may_release Cause = true
+may_release CauseAndReset = true
 may_release Liberate = true
 may_release _ = false
 

@@ -1,5 +1,5 @@
 -- The letter of an operator: which action it is, by what its row finds.
-use Rattle.std.specs.Prelude.{ℕ, ◌+◌, nat_lt, nat_eq, if◌then◌else◌, Option, Some, None, Result, Ok, Err}
+use Rattle.std.specs.Prelude.{ℕ, zero, suc, ◌+◌, nat_lt, nat_eq, if◌then◌else◌, Option, Some, None, Result, Ok, Err}
 use Rattle.b67_list.specs.Numbered.{numbered}
 use Rattle.b67_word.specs.Word.{Word}
 use Rattle.b67_control.specs.declared.Registers.{Registers}
@@ -19,7 +19,7 @@ use Rattle.b67_table.specs.declared.Reached.{Reached}
 use Rattle.b67_table.specs.declared.InterruptKind.{InterruptKind}
 use Rattle.b67_table.specs.Arrays.{as_indexed}
 use Rattle.b67_table.specs.Chains.{place}
-use Rattle.b67_table.specs.Image.{Image}
+use Rattle.b67_table.specs.Image.{Image, woken_number}
 use Rattle.b67_table.specs.Look.{Look, at, ◌>->◌, valid, seen}
 use Rattle.b67_table.specs.Names.{intrinsic_numbered}
 use Rattle.b67_table.specs.Outcome.{Outcome, gives, faults, interrupts, limit}
@@ -27,7 +27,7 @@ use Rattle.b67_table.specs.Private.{frame}
 use Rattle.b67_table.specs.References.{couple_cell, cell_of, reached, popped, Two, popped_two}
 use Rattle.b67_table.specs.Table.{table, operator_at}
 use Rattle.b67_deeds.specs.declared.Letter.{Letter}
-use Rattle.b67_deeds.specs.declared.Letter.TheVariants.{Read, Index, ElementRead, Resolve, Store, ElementStore, Pass, Enter, Leave, MakeArrays, MakeEvent, Select, Turn, GoTo, Line, Start, End, Fault}
+use Rattle.b67_deeds.specs.declared.Letter.TheVariants.{Read, Index, ElementRead, Resolve, Store, ElementStore, Pass, Enter, Leave, MakeArrays, MakeEvent, Select, Turn, GoTo, Line, Start, End, Fault, Woke}
 use Rattle.b67_deeds.specs.declared.EventAct.TheVariants as act
 use Rattle.b67_deeds.specs.declared.EventTest.TheVariants as test
 use Rattle.b67_deeds.specs.Deeds as deeds
@@ -68,27 +68,37 @@ left_letter frame_at = if nat_eq frame_at 0 then End else Leave
 
 -- ---- what ENTR calls
 
-abbrev pub letter_of : Intrinsic → Letter
-letter_of names.GoTo = GoTo
-letter_of names.Select = Select
-letter_of names.Arrays = MakeArrays
-letter_of names.Event = MakeEvent
-letter_of names.Start = Start
-letter_of names.Write = Line
-letter_of names.Wait = deeds.letter_of (deeds.acts act.Wait)
-letter_of names.Cause = deeds.letter_of (deeds.acts act.Cause)
-letter_of names.Reset = deeds.letter_of (deeds.acts act.Reset)
-letter_of names.Happened = deeds.letter_of (deeds.tests test.Happened)
-letter_of names.Procure = deeds.letter_of (deeds.acts act.Procure)
-letter_of names.Liberate = deeds.letter_of (deeds.acts act.Liberate)
+-- a process that was released from a wait for several events goes on by its woken number
+abbrev pub wait_letter : ℕ → Letter
+wait_letter zero = deeds.letter_of (deeds.tests test.WaitAny)
+wait_letter (suc n) = Woke
 
-abbrev pub intrinsic_letter : Option Intrinsic → Option Letter
-intrinsic_letter None = None
-intrinsic_letter (Some name) = Some (letter_of name)
+-- the letter of an intrinsic of a process with this woken number
+abbrev pub letter_of : ℕ → Intrinsic → Letter
+letter_of woken names.GoTo = GoTo
+letter_of woken names.Select = Select
+letter_of woken names.Arrays = MakeArrays
+letter_of woken names.Event = MakeEvent
+letter_of woken names.Start = Start
+letter_of woken names.Write = Line
+letter_of woken names.Wait = deeds.letter_of (deeds.acts act.Wait)
+letter_of woken names.Cause = deeds.letter_of (deeds.acts act.Cause)
+letter_of woken names.Reset = deeds.letter_of (deeds.acts act.Reset)
+letter_of woken names.Happened = deeds.letter_of (deeds.tests test.Happened)
+letter_of woken names.Procure = deeds.letter_of (deeds.acts act.Procure)
+letter_of woken names.Liberate = deeds.letter_of (deeds.acts act.Liberate)
+letter_of woken names.WaitAny = wait_letter woken
+letter_of woken names.CauseAndReset = deeds.letter_of (deeds.acts act.CauseAndReset)
+letter_of woken names.Available = deeds.letter_of (deeds.tests test.Available)
+letter_of woken names.Fix = deeds.letter_of (deeds.tests test.Fix)
 
--- an intrinsic is one of its number, in this image, and another procedure is entered
-abbrev pub called_letter : Image → Pcw → Option Letter
-called_letter img pcw = if pcw.intrinsic then intrinsic_letter (intrinsic_numbered pcw.number) else Some Enter
+abbrev pub intrinsic_letter : ℕ → Option Intrinsic → Option Letter
+intrinsic_letter woken None = None
+intrinsic_letter woken (Some name) = Some (letter_of woken name)
+
+-- an intrinsic is one of its number, of that process in this image, and another procedure is entered
+abbrev pub called_letter : Image → ℕ → Pcw → Option Letter
+called_letter img p pcw = if pcw.intrinsic then intrinsic_letter (woken_number img.numbers p) (intrinsic_numbered pcw.number) else Some Enter
 
 abbrev pub called_by : Word → Option Cell → Look Pcw
 called_by w None = valid (as_pcw w)
@@ -109,7 +119,7 @@ plain_letter kinds.Load img r = told_by loaded_letter (seen img.stacks (popped r
 plain_letter kinds.Eval img r = told_by place_letter (seen img.stacks (popped r >-> (λ (x : Word). reached (cell_of r x))))
 plain_letter kinds.Stod img r = told_by stored_letter (seen img.stacks (popped_two r))
 plain_letter kinds.Ston img r = told_by stored_letter (seen img.stacks (popped_two r))
-plain_letter kinds.Entr img r = told_by (called_letter img) (seen img.stacks (called r))
+plain_letter kinds.Entr img r = told_by (called_letter img r.stack) (seen img.stacks (called r))
 plain_letter kinds.Exit img r = Some (left_letter (frame r))
 plain_letter kinds.Retn img r = Some Leave
 plain_letter _ img r = None

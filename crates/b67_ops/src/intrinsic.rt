@@ -33,13 +33,21 @@ pub enum Intrinsic {
     Procure,
     /// Gives such an event to the next process.
     Liberate,
+    /// Goes on by the first of several events that has happened, or waits for all of them.
+    WaitAny,
+    /// Releases those who wait for an event, which has not happened then.
+    CauseAndReset,
+    /// Tells whether an event is available.
+    Available,
+    /// Takes an event for this process only, if it can, and tells whether it could not.
+    Fix,
 }
 
 /// The number of the first intrinsic. Below it stand the mark and the control word of the system.
 pub const FIRST_INTRINSIC: u16 = Intrinsic::GoTo as u16;
 
 /// The number of the last intrinsic.
-pub const LAST_INTRINSIC: u16 = Intrinsic::Liberate as u16;
+pub const LAST_INTRINSIC: u16 = Intrinsic::Fix as u16;
 
 /// How many intrinsics there are.
 pub const INTRINSICS: usize = (LAST_INTRINSIC - FIRST_INTRINSIC + 1) as usize;

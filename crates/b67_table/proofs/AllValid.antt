@@ -56,7 +56,7 @@ use Rattle.b67_table.proofs.Evaluating.{turn_kept, value_kept, load_kept, throug
 use Rattle.b67_table.proofs.Indexing.{index_kept, index_and_load_kept, index_mother_kept, store_kept}
 use Rattle.b67_table.proofs.Entries.{entry_kept}
 use Rattle.b67_table.proofs.Exits.{exit_kept, return_kept, go_to_kept}
-use Rattle.b67_table.proofs.Calls.{select_kept, write_kept, make_event_kept, tell_kept, event_deed_kept}
+use Rattle.b67_table.proofs.Calls.{select_kept, write_kept, make_event_kept, tell_kept, event_deed_kept, wait_any_kept}
 use Rattle.b67_table.proofs.Making.{arrays_kept}
 use Rattle.b67_table.proofs.Begun.{start_kept}
 
@@ -102,9 +102,13 @@ module _ (code : Code) (img : Image) (p : ℕ) (r : Registers) (v : IsValid code
   intrinsic_by names.Wait m k words a = event_deed_kept code img p r v live has next small m k.low k.high able (deeds.acts act.Wait) words
   intrinsic_by names.Cause m k words a = event_deed_kept code img p r v live has next small m k.low k.high able (deeds.acts act.Cause) words
   intrinsic_by names.Reset m k words a = event_deed_kept code img p r v live has next small m k.low k.high able (deeds.acts act.Reset) words
-  intrinsic_by names.Happened m k words a = tell_kept code img p r v live has next small m k.low k.high test.Happened words
+  intrinsic_by names.Happened m k words a = tell_kept code img p r v live has next small m k.low k.high able test.Happened words
   intrinsic_by names.Procure m k words a = event_deed_kept code img p r v live has next small m k.low k.high able (deeds.acts act.Procure) words
   intrinsic_by names.Liberate m k words a = event_deed_kept code img p r v live has next small m k.low k.high able (deeds.acts act.Liberate) words
+  intrinsic_by names.WaitAny m k words a = wait_any_kept code img p r v live has next small m k.low k.high able words
+  intrinsic_by names.CauseAndReset m k words a = event_deed_kept code img p r v live has next small m k.low k.high able (deeds.acts act.CauseAndReset) words
+  intrinsic_by names.Available m k words a = tell_kept code img p r v live has next small m k.low k.high able test.Available words
+  intrinsic_by names.Fix m k words a = tell_kept code img p r v live has next small m k.low k.high able test.Fix words
 
   named_by : (o : Option Intrinsic) (m : Mscw) → IsMarked m → (words : List Word) → All IsWord words → Gives E (asked img (intrinsic_row o code r next m words))
   named_by None m k words a = tt
@@ -256,6 +260,8 @@ failed_kept code img p kind v = record {
   words = v.words;
   registers = v.registers;
   states = v.states;
+  numbers = v.numbers;
+  positions = v.positions;
   some = v.some;
   most = v.most;
   system = v.system;

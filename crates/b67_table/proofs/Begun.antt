@@ -2,7 +2,7 @@
 use Rattle.std.proofs.Common.{◌≡◌, ◌≢◌, refl, sym, ap, subst, ◌∙◌, ℕ, zero, suc, ◌+◌, ◌<◌, ◌≤◌, ◌^◌, true, List, [], ◌∷◌, ◌++◌, length, All, Option, Some, None, arith, length-append}
 use Rattle.std.specs.Prelude.{is_some, nat_le, nat_lt, nat_eq, slice_get}
 use Rattle.std.proofs.lemmas.Bool.{leb-true}
-use Rattle.std.proofs.lemmas.List.Elements.{All-nil, All-cons}
+use Rattle.std.proofs.lemmas.List.Elements.{All-nil, All-cons, All-append}
 use Rattle.std.proofs.Math.Decide.{ℕ_discrete}
 use Rattle.b67_list.specs.Numbered.{numbered}
 use Rattle.b67_word.specs.declared.Place.{Place}
@@ -17,7 +17,7 @@ use Rattle.b67_store.proofs.StoreLaws.{opened_here, opened_others}
 use Rattle.b67_table.specs.declared.Cell.{Cell}
 use Rattle.b67_table.specs.declared.ProcessState.TheVariants.{Able}
 use Rattle.b67_table.specs.declared.InterruptKind.TheVariants.{InvalidOperand}
-use Rattle.b67_table.specs.Limits.{most_cells, most_processes}
+use Rattle.b67_table.specs.Limits.{most_cells, most_processes, most_events}
 use Rattle.b67_table.specs.Private.{at_or, floor, frame}
 use Rattle.b67_table.specs.Look.{seen, valid, read_as}
 use Rattle.b67_table.specs.Chains.{place, mark_at, below, entered_below, frame_below}
@@ -189,6 +189,9 @@ module _ (code : Code) (img : Image) (v : IsValid code img) (t : Starting) (fits
     words = λ q. words_by q (ℕ_discrete q (img.started + 1));
     registers = omega (arith, length-append img.regs (begun (img.started + 1) t display depends ∷ []), v.registers);
     states = omega (arith, length-append img.states (Able ∷ []), v.states);
+    numbers = omega (arith, length-append img.numbers (0 ∷ []), v.numbers);
+    positions = All-append (λ (k : ℕ). k ≤ most_events) img.numbers (0 ∷ []) v.positions
+        (All-cons (λ (k : ℕ). k ≤ most_events) 0 [] (omega arith) (All-nil (λ (k : ℕ). k ≤ most_events)));
     some = omega arith;
     most = omega (arith, room);
     system = there 0 (not_zero img.started) ∙ v.system;
@@ -196,7 +199,7 @@ module _ (code : Code) (img : Image) (v : IsValid code img) (t : Starting) (fits
     processes = λ q s l i. processes_by q s (ℕ_discrete q (img.started + 1)) l i;
     earlier = λ q s i. earlier_by q s (ℕ_discrete q (img.started + 1)) i;
     rows = record { few = v.rows.few; room = v.rows.room; short = v.rows.short; words = v.rows.words; shallow = v.rows.shallow };
-    events = states_kept img.events img.states v.events (img.states ++ Able ∷ []) (λ q i. waits_by q (ℕ_discrete q (img.started + 1)) i);
+    events = states_kept img.events img.lists img.states v.events (img.states ++ Able ∷ []) (λ q i. waits_by q (ℕ_discrete q (img.started + 1)) i);
   }
     where
       not_zero : (k : ℕ) → 0 ≢ k + 1

@@ -1,40 +1,45 @@
 -- Intrinsics that neither make arrays nor start a process keep an image valid.
-use Rattle.std.proofs.Common.{◌≡◌, refl, subst, ◌∙◌, ℕ, ◌+◌, ◌-◌, ◌*◌, ◌+ℤ◌, ◌<◌, ◌≤◌, ◌^◌, true, ℤ, pos, List, [], ◌∷◌, ◌++◌, All, Option, Some, None, cond, arith}
-use Rattle.std.specs.Prelude.{nat_le}
+use Rattle.std.proofs.Common.{◌≡◌, refl, ap, subst, ◌∙◌, ℕ, zero, suc, ◌+◌, ◌-◌, ◌*◌, ◌+ℤ◌, ◌<◌, ◌≤◌, ◌^◌, true, ℤ, pos, List, [], ◌∷◌, ◌++◌, length, All, Option, Some, None, cond, arith}
+use Rattle.std.specs.Prelude.{nat_le, ◌&&◌}
+use Rattle.std.proofs.lemmas.Bool.{leb-true}
 use Rattle.std.proofs.lemmas.List.Elements.{All-nil, All-cons}
 use Rattle.b67_list.specs.Numbered.{numbered}
 use Rattle.b67_word.specs.declared.Place.{Place}
-use Rattle.b67_word.specs.Word.{Word, IsWord, truth}
-use Rattle.b67_word.proofs.WordLaws.{truth-word}
+use Rattle.b67_word.specs.Word.{Word, IsWord, operand, truth}
+use Rattle.b67_word.proofs.WordLaws.{operand-word, truth-word}
 use Rattle.b67_control.specs.declared.Registers.{Registers}
 use Rattle.b67_control.specs.declared.Mscw.{Mscw}
 use Rattle.b67_control.specs.Control.{event_word}
 use Rattle.b67_control.proofs.ControlLaws.{IsWord-event_word}
 use Rattle.b67_segment.specs.declared.code.Code.{Code}
 use Rattle.b67_deeds.specs.declared.EventTest.{EventTest}
-use Rattle.b67_deeds.specs.Deeds.{EventDeed, answers}
-use Rattle.b67_events.specs.Events.{state_at}
+use Rattle.b67_deeds.specs.declared.EventTest.TheVariants as test
+use Rattle.b67_deeds.specs.Deeds.{EventDeed, tests, answers}
+use Rattle.b67_events.specs.Events.{state_at, first_happened}
 use Rattle.b67_table.specs.declared.Cell.{Cell}
 use Rattle.b67_table.specs.declared.InterruptKind.TheVariants.{InvalidOperand}
-use Rattle.b67_table.specs.Limits.{end_of_code}
+use Rattle.b67_table.specs.Limits.{end_of_code, most_events}
 use Rattle.b67_table.specs.Private.{floor}
 use Rattle.b67_table.specs.Look.{◌>->◌, seen, valid}
 use Rattle.b67_table.specs.Chains.{place, broken, mark_at}
 use Rattle.b67_table.specs.References.{cell_place}
-use Rattle.b67_table.specs.Image.{Image, is_able, is_live}
+use Rattle.b67_table.specs.Image.{Image, woken_number, is_able, is_live}
 use Rattle.b67_table.specs.Writes.{written}
 use Rattle.b67_table.specs.Writes as writes
 use Rattle.b67_table.specs.Program.{asked, Change, Program}
-use Rattle.b67_table.specs.Arguments.{Three, three, wholes, number_in, event_of, if_chained, finished_at}
-use Rattle.b67_table.specs.Intrinsics.{case_in, case_place, gone_to_case, select, write, make_event, on_event, tell_event}
+use Rattle.b67_table.specs.Arguments.{Three, three, no_such, wholes, number_in, event_of, events_of, if_chained, finished_at}
+use Rattle.b67_table.specs.Intrinsics.{case_in, case_place, gone_to_case, select, write, make_event, on_event, tell_event, gone_or_waiting, woken_or_not, wait_for_any}
 use Rattle.b67_table.specs.Lines.{line_for}
 use Rattle.b67_table.specs.Valid.{IsValid}
 use Rattle.b67_table.proofs.Keeping.{Gives, anything}
-use Rattle.b67_table.proofs.Finding.{Found, look_then, see_then, test_then, there_found, anything_found}
+use Rattle.b67_table.proofs.Finding.{Found, look_then, see_then, test_then, gives_by, there_found, anything_found}
 use Rattle.b67_table.proofs.OwnValid.{process_stays}
 use Rattle.b67_table.proofs.Simple.{Ends, finished_ends}
 use Rattle.b67_table.proofs.EventKept.{open_event_valid}
 use Rattle.b67_table.proofs.Waking.{event_deed_valid, event_deed_live}
+use Rattle.b67_table.proofs.Withdrawing.{first_within}
+use Rattle.b67_table.proofs.Several.{wait_any_valid, go_on_valid, small_number}
+use Rattle.b67_table.proofs.FirstValid.{both}
 use Rattle.b67_table.proofs.Exits.{number_by}
 
 pub output_valid : (code : Code) (img : Image) (lines : List (List ℕ)) → IsValid code img → IsValid code (record img { output = lines })
@@ -43,6 +48,8 @@ output_valid code img lines v = record {
   words = v.words;
   registers = v.registers;
   states = v.states;
+  numbers = v.numbers;
+  positions = v.positions;
   some = v.some;
   most = v.most;
   system = v.system;
@@ -114,14 +121,16 @@ module _ (code : Code) (img : Image) (p : ℕ) (r : Registers) (v : IsValid code
       (event_word (record {}) ∷ []) next low (omega (arith, high)) (All-cons IsWord (event_word (record {})) [] (IsWord-event_word (record {}) tt) (All-nil IsWord)) small)
   make_event_kept (w ∷ words) = tt
 
-  pub tell_kept : (x : EventTest) (words : List Word) → Gives (Ends code img p) (asked img (tell_event x code r next m words))
-  unfolding E
-  tell_kept x [] = tt
-  tell_kept x (w ∷ []) =
-      test_then img (λ (c : Cell). Unit {0}) E (event_of r w) _ (anything (asked img (event_of r w))) (λ c u.
+  pub tell_kept : is_able (numbered img.states p) ≡ true → (x : EventTest) (words : List Word) → Gives (Ends code img p) (asked img (tell_event x code r next m words))
+  unfolding Ends
+  tell_kept able x [] = tt
+  tell_kept able x (w ∷ []) =
+      test_then img (λ (c : Cell). Unit {0}) (Ends code img p) (event_of r w) _ (anything (asked img (event_of r w))) (λ c u.
       let told = answers x (state_at (cell_place c) img.events) in
-      chained_kept _ (finish (truth told ∷ []) (All-cons IsWord (truth told) [] (truth-word told) (All-nil IsWord))))
-  tell_kept x (w ∷ v ∷ words) = tt
+      chained_kept _ (finished_ends code (written p (writes.event_deed (tests x) (cell_place c)) img) p r (event_deed_valid code img v p able (tests x) (cell_place c))
+      (event_deed_live code img v p able (tests x) (cell_place c) p ∙ live) has m (truth told ∷ []) next low (omega (arith, high))
+      (All-cons IsWord (truth told) [] (truth-word told) (All-nil IsWord)) small))
+  tell_kept able x (w ∷ v ∷ words) = tt
 
   -- what is done with one event
   pub event_deed_kept : is_able (numbered img.states p) ≡ true → (x : EventDeed) (words : List Word) → Gives (Ends code img p) (asked img (on_event x code r next m words))
@@ -132,3 +141,38 @@ module _ (code : Code) (img : Image) (p : ℕ) (r : Registers) (v : IsValid code
       chained_kept _ (finished_ends code (written p (writes.event_deed x (cell_place c)) img) p r (event_deed_valid code img v p able x (cell_place c))
       (event_deed_live code img v p able x (cell_place c) p ∙ live) has m [] next low (omega (arith, high)) (All-nil IsWord) small))
   event_deed_kept able x (w ∷ y ∷ words) = tt
+
+  -- ---- several events
+
+  events_found : (words : List Word) → Gives (λ (places : List Place). length places ≡ length words) (asked img (events_of r words))
+  events_found [] = refl
+  events_found (w ∷ words) =
+      test_then img (λ (c : Cell). Unit {0}) (λ (places : List Place). length places ≡ suc (length words)) (event_of r w) _ (anything (asked img (event_of r w))) (λ c u.
+      test_then img (λ (places : List Place). length places ≡ length words) (λ (places : List Place). length places ≡ suc (length words)) (events_of r words) _
+      (events_found words) (λ places n. ap suc n))
+
+  position : (n : ℕ) → n ≤ most_events → All IsWord (operand (pos n) ∷ [])
+  position n h = All-cons IsWord (operand (pos n)) [] (operand-word (pos n) (omega (arith, h))) (All-nil IsWord)
+
+  module _ (able : is_able (numbered img.states p) ≡ true) (places : List Place) (few : length places ≤ most_events) where
+    by_first : (o : Option ℕ) → ((n : ℕ) → o ≡ Some n → n ≤ most_events) → Gives (Ends code img p) (asked img (gone_or_waiting r next m places o))
+    unfolding E Ends
+    by_first None k = λ short rows. wait_any_valid code img v p able places few
+    by_first (Some n) k = finish (operand (pos n) ∷ []) (position n (k n refl))
+
+    by_number : (n : ℕ) → n ≤ most_events → Gives (Ends code img p) (asked img (woken_or_not r next m places n))
+    unfolding Ends
+    by_number zero h =
+        by_first (first_happened places img.events) (λ n e.
+        let within = first_within (λ at. answers test.WaitAny (state_at at img.events)) 1 places n e in omega (arith, within, few))
+    by_number (suc n) h =
+        finished_ends code (written p writes.go_on img) p r (go_on_valid code img v p) live has m (operand (pos (suc n)) ∷ []) next low (omega (arith, high))
+        (position (suc n) h) small
+
+  pub wait_any_kept : is_able (numbered img.states p) ≡ true → (words : List Word) → Gives (Ends code img p) (asked img (wait_for_any code r next m words))
+  wait_any_kept able words =
+      gives_by img (Ends code img p) (nat_le 1 (length words) && nat_le (length words) most_events) _ no_such (λ b.
+      test_then img (λ (places : List Place). length places ≡ length words) (Ends code img p) (events_of r words) _ (events_found words) (λ places n.
+      let most = leb-true (length words) most_events (both (nat_le 1 (length words)) (nat_le (length words) most_events) b).1 in
+      chained_kept _ (by_number able places (omega (arith, n, most)) (woken_number img.numbers r.stack) (small_number img.numbers r.stack v.positions))))
+      (λ b. tt)

@@ -15,8 +15,7 @@ use Rattle.b67_store.proofs.StoreLaws.{closed_here}
 use Rattle.b67_deeds.specs.declared.EventAct.TheVariants as act
 use Rattle.b67_deeds.specs.Deeds.{acts}
 use Rattle.b67_events.specs.Events.{closed_from, waiters_at}
-use Rattle.b67_table.specs.declared.ProcessState.{ProcessState}
-use Rattle.b67_table.specs.declared.ProcessState.TheVariants.{Able, WaitsFor, Procures, Ended}
+use Rattle.b67_table.specs.declared.ProcessState.TheVariants.{Ended}
 use Rattle.b67_table.specs.Image.{Image, with_stacks, with_rows, with_events, with_states, is_able, is_live}
 use Rattle.b67_table.specs.Program.{Change, done, row_of, close_row, close_events, end_process}
 use Rattle.b67_table.specs.Linkage.{closed_by, rows_closed, array_closed, arrays_closed, frame_left, caused_by}
@@ -29,7 +28,7 @@ use Rattle.b67_table.proofs.States.{able_all}
 use Rattle.b67_table.proofs.OwnValid.{process_stays}
 use Rattle.b67_table.proofs.Simple.{Ends}
 use Rattle.b67_table.proofs.Saving.{close_valid}
-use Rattle.b67_table.proofs.EventKept.{not_both, length_states, within_of, states_kept, close_events_valid}
+use Rattle.b67_table.proofs.EventKept.{not_both, length_states, within_of, able_waits, states_kept, close_events_valid}
 use Rattle.b67_table.proofs.Waking.{able_live, event_deed_valid}
 
 -- ---- rows and events of a frame
@@ -121,13 +120,6 @@ module _ (code : Code) (img : Image) (p : ℕ) (v : IsValid code img) (able : is
       process_stays img (with_states (with_stacks img (closed_at img.stacks p)) (set_numbered img.states p Ended)) q r
       (ap words_or (set_other img.stacks p q None h)) (v.processes q r (sym (ap is_live (get_numbered_other img.states p q Ended h)) ∙ l) i)
 
-  able_waits : (o : Option ProcessState) {A : Type 0} → is_able o ≡ true → waits o ≡ true → A
-  able_waits (Some Able) a w = cc
-  able_waits (Some (WaitsFor x)) a w = cc
-  able_waits (Some (Procures x)) a w = cc
-  able_waits (Some Ended) a w = cc
-  able_waits None a w = cc
-
   waits_by : (q : ℕ) → Dec (q ≡ p) → waits (numbered img.states q) ≡ true → numbered (set_numbered img.states p Ended) q ≡ numbered img.states q
   waits_by q (yes e) w = able_waits (numbered img.states p) able (subst (λ (m : ℕ). waits (numbered img.states m) ≡ true) e w)
   waits_by q (no h) w = get_numbered_other img.states p q Ended h
@@ -138,6 +130,8 @@ module _ (code : Code) (img : Image) (p : ℕ) (v : IsValid code img) (able : is
     words = λ n. words_by n (ℕ_discrete n p);
     registers = v.registers;
     states = length_states img.states p Ended ∙ v.states;
+    numbers = v.numbers;
+    positions = v.positions;
     some = v.some;
     most = v.most;
     system = set_other img.stacks p 0 None (λ e. absurd (omega (arith, inside.0, e))) ∙ v.system;
@@ -145,7 +139,7 @@ module _ (code : Code) (img : Image) (p : ℕ) (v : IsValid code img) (able : is
     processes = λ q r l i. processes_by q r (ℕ_discrete q p) l i;
     earlier = v.earlier;
     rows = record { few = v.rows.few; room = v.rows.room; short = v.rows.short; words = v.rows.words; shallow = v.rows.shallow };
-    events = states_kept img.events img.states v.events (set_numbered img.states p Ended) (λ q w. waits_by q (ℕ_discrete q p) w);
+    events = states_kept img.events img.lists img.states v.events (set_numbered img.states p Ended) (λ q w. waits_by q (ℕ_discrete q p) w);
   }
 
   end_ends : (stack : ℕ) → stack ≡ p → Ends code img p (end_process stack done)

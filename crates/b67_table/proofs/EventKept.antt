@@ -1,25 +1,26 @@
 -- Events that are opened and closed, and states that change, keep an image valid.
-use Rattle.std.proofs.Common.{◌≡◌, ◌≢◌, refl, sym, ap, subst, ◌∙◌, ◌⊎◌, ℕ, zero, suc, ◌≤◌, ◌==◌, ◌||◌, Bool, true, false, cond, List, [], ◌∷◌, ◌++◌, length, Option, Some, None, arith, inl, inr}
+use Rattle.std.proofs.Common.{◌≡◌, refl, sym, ap, subst, ◌∙◌, ◌⊎◌, ℕ, zero, suc, ◌≤◌, ◌==◌, ◌||◌, Bool, true, false, cond, List, [], ◌∷◌, ◌++◌, length, All, Option, Some, None, arith, inl, inr}
 use Rattle.std.specs.Prelude.{slice_get, is_some}
 use Rattle.std.specs.List.{list_any}
 use Rattle.std.proofs.Math.Decide.{ℕ_discrete}
-use Rattle.std.proofs.lemmas.Bool.{cases_Bool, cond-false, or_cases, or_parts, eqb-true, eq-eqb}
+use Rattle.std.proofs.lemmas.Bool.{cases_Bool, cond-false, or_cases, or_parts, eq-eqb}
 use Rattle.std.proofs.lemmas.List.{length-set}
 use Rattle.b67_list.specs.Numbered.{numbered, set_numbered}
 use Rattle.b67_word.specs.declared.Place.{Place}
 use Rattle.b67_segment.specs.declared.code.Code.{Code}
 use Rattle.b67_deeds.specs.Events.{EventState}
-use Rattle.b67_events.specs.Events.{Event, same_place, is_from, is_open, event_at, state_of, waiters_at, procurers_at, is_waiting, fresh, opened, closed_from}
+use Rattle.b67_events.specs.Events.{Event, same_place, is_from, is_open, event_at, state_of, waiters_at, procurers_at, is_waiting, fresh, opened, closed_from, list_of}
 use Rattle.b67_events.specs.Laws.{AreApart}
 use Rattle.b67_events.specs.Once.{EachOnce, waiters_of, procurers_of}
 use Rattle.b67_events.proofs.Listed.{same_place-true, same_place-self}
 use Rattle.b67_events.proofs.EventLaws.{one_event, stay_apart}
 use Rattle.b67_events.proofs.OnceLaws.{waits_once}
 use Rattle.b67_table.specs.declared.ProcessState.{ProcessState}
-use Rattle.b67_table.specs.declared.ProcessState.TheVariants.{Able, WaitsFor, Procures, Ended}
-use Rattle.b67_table.specs.Image.{Image, with_events, with_states, is_able, is_live}
+use Rattle.b67_table.specs.declared.ProcessState.TheVariants.{Able, WaitsFor, WaitsAny, Procures, Ended}
+use Rattle.b67_table.specs.Image.{Image, with_events, is_able, is_live}
+use Rattle.b67_table.specs.Limits.{most_events}
 use Rattle.b67_table.specs.Writes.{able_again}
-use Rattle.b67_table.specs.Valid.{IsValid, AreEvents, waits}
+use Rattle.b67_table.specs.Valid.{IsValid, AwaitsAt, AreEvents, waits}
 use Rattle.b67_table.proofs.Stacks.{get_numbered_other}
 use Rattle.b67_table.proofs.Lists.{numbered_set}
 use Rattle.b67_table.proofs.OwnValid.{process_stays}
@@ -104,6 +105,7 @@ same_state (p ∷ ps) xs q h =
 
 pub live_of : (o : Option ProcessState) → waits o ≡ true → is_live o ≡ true
 live_of (Some (WaitsFor x)) e = refl
+live_of (Some WaitsAny) e = refl
 live_of (Some (Procures x)) e = refl
 live_of (Some Able) e = cc
 live_of (Some Ended) e = cc
@@ -137,40 +139,55 @@ again_live (p ∷ ps) xs q k =
 
 -- ---- events
 
-module _ (es : List Event) (xs : List ProcessState) (v : AreEvents es xs) where
+-- who is able does not wait
+pub able_waits : (o : Option ProcessState) {A : Type 0} → is_able o ≡ true → waits o ≡ true → A
+able_waits (Some Able) a w = cc
+able_waits (Some (WaitsFor x)) a w = cc
+able_waits (Some WaitsAny) a w = cc
+able_waits (Some (Procures x)) a w = cc
+able_waits (Some Ended) a w = cc
+able_waits None a w = cc
+
+-- who waits for an event to happen waits
+pub awaits_waits : (o : Option ProcessState) (places : List Place) (at : Place) → AwaitsAt o places at → waits o ≡ true
+awaits_waits (Some (WaitsFor x)) places at a = refl
+awaits_waits (Some WaitsAny) places at a = refl
+awaits_waits (Some (Procures x)) places at a = absurd a
+awaits_waits (Some Able) places at a = absurd a
+awaits_waits (Some Ended) places at a = absurd a
+awaits_waits None places at a = absurd a
+
+module _ (es : List Event) (lists : List (List Place)) (xs : List ProcessState) (v : AreEvents es lists xs) where
   -- who stands in a list waits
   pub who_waits : (q : ℕ) → is_waiting q es ≡ true → waits (numbered xs q) ≡ true
   who_waits q e =
       let there = stands_at q es v.apart e in
-      elim there.1 [ inl i ↦ ap waits (v.waiters q there.0 i) | inr i ↦ ap waits (v.procurers q there.0 i) ]
+      elim there.1 [ inl i ↦ awaits_waits (numbered xs q) (list_of q lists) there.0 (v.waiters q there.0 i) | inr i ↦ ap waits (v.procurers q there.0 i) ]
 
   -- who is able stands in none
   pub nowhere : (q : ℕ) → is_able (numbered xs q) ≡ true → is_waiting q es ≡ false
   nowhere q able = by_test (is_waiting q es) refl
     where
-      able_waits : (o : Option ProcessState) → is_able o ≡ true → waits o ≡ true → ⊥
-      able_waits (Some Able) e f = cc
-      able_waits (Some Ended) e f = cc
-      able_waits (Some (WaitsFor x)) e f = cc
-      able_waits (Some (Procures x)) e f = cc
-      able_waits None e f = cc
-
       by_test : (b : Bool) → is_waiting q es ≡ b → is_waiting q es ≡ false
-      by_test true e = absurd (able_waits (numbered xs q) able (who_waits q e))
+      by_test true e = able_waits (numbered xs q) able (who_waits q e)
       by_test false e = e
 
   -- those who wait are as before
-  pub states_kept : (ys : List ProcessState) → ((q : ℕ) → waits (numbered xs q) ≡ true → numbered ys q ≡ numbered xs q) → AreEvents es ys
+  pub states_kept : (ys : List ProcessState) → ((q : ℕ) → waits (numbered xs q) ≡ true → numbered ys q ≡ numbered xs q) → AreEvents es lists ys
   states_kept ys k = record {
     apart = v.apart;
     once = v.once;
-    waiters = λ q at i. let is = v.waiters q at i in k q (ap waits is) ∙ is;
+    waiters = λ q at i.
+        let is = v.waiters q at i in
+        subst (λ (o : Option ProcessState). AwaitsAt o (list_of q lists) at) (sym (k q (awaits_waits (numbered xs q) (list_of q lists) at is))) is;
     procurers = λ q at i. let is = v.procurers q at i in k q (ap waits is) ∙ is;
+    listed = λ q i. let is = v.listed q i in k q (ap waits is) ∙ is;
+    short = v.short;
   }
 
   -- at each place there is the event of before, or one for which nobody waits
   events_kept : (fs : List Event) → AreApart fs → EachOnce fs
-      → ((at : Place) → (event_at at fs ≡ event_at at es) ⊎ ((waiters_at at fs ≡ []) × (procurers_at at fs ≡ []))) → AreEvents fs xs
+      → ((at : Place) → (event_at at fs ≡ event_at at es) ⊎ ((waiters_at at fs ≡ []) × (procurers_at at fs ≡ []))) → AreEvents fs lists xs
   events_kept fs apart once k = record {
     apart = apart;
     once = once;
@@ -182,13 +199,15 @@ module _ (es : List Event) (xs : List ProcessState) (v : AreEvents es xs) where
       | inl same ↦ v.procurers q at (ap (λ o. list_any (λ p. q == p) (state_of o).procurers) (sym same) ∙ i)
       | inr none ↦ nobody q (procurers_at at fs) none.1 i
     ];
+    listed = v.listed;
+    short = v.short;
   }
     where
       nobody : {A : Type 0} (q : ℕ) (ps : List ℕ) → ps ≡ [] → Among q ps → A
       nobody q [] n i = cc
       nobody q (p ∷ ps) n i = cc
 
-  closed_kept : (stack at : ℕ) → AreEvents (closed_from stack at es) xs
+  closed_kept : (stack at : ℕ) → AreEvents (closed_from stack at es) lists xs
   closed_kept stack at =
       events_kept (closed_from stack at es) (stay_apart.by_closing stack at es v.apart) (waits_once.by_closing stack at es v.once)
       (λ to. by_test to (is_from stack at to) (one_event.closed_there stack at to es))
@@ -198,7 +217,7 @@ module _ (es : List Event) (xs : List ProcessState) (v : AreEvents es xs) where
       by_test to true e = inr (ap (λ o. (state_of o).waiters) e, ap (λ o. (state_of o).procurers) e)
       by_test to false e = inl e
 
-  opened_kept : (at : Place) → AreEvents (opened at es) xs
+  opened_kept : (at : Place) → AreEvents (opened at es) lists xs
   opened_kept at =
       events_kept (opened at es) (stay_apart.by_opening at es v.apart) (waits_once.by_opening at es v.once)
       (λ to. by_test to (same_place to at) refl)
@@ -213,27 +232,33 @@ module _ (es : List Event) (xs : List ProcessState) (v : AreEvents es xs) where
 -- ---- images
 
 module _ (code : Code) (img : Image) (v : IsValid code img) where
-  -- an image with other events and states, in which the same processes live
-  pub states_valid : (es : List Event) (xs : List ProcessState) → length xs ≡ length img.states → ((q : ℕ) → is_live (numbered xs q) ≡ is_live (numbered img.states q))
-      → AreEvents es xs → IsValid code (with_states (with_events img es) xs)
-  states_valid es xs n l a = record {
+  -- an image with other events, lists, states and woken numbers, in which the same processes live
+  pub waiting_valid : (es : List Event) (lists : List (List Place)) (xs : List ProcessState) (ns : List ℕ) → length xs ≡ length img.states
+      → length ns ≡ length img.numbers → All (λ (n : ℕ). n ≤ most_events) ns → ((q : ℕ) → is_live (numbered xs q) ≡ is_live (numbered img.states q))
+      → AreEvents es lists xs → IsValid code (record img { events = es; lists = lists; states = xs; numbers = ns })
+  waiting_valid es lists xs ns n m small l a = record {
     segments = v.segments;
     words = v.words;
     registers = v.registers;
     states = n ∙ v.states;
+    numbers = m ∙ v.numbers;
+    positions = small;
     some = v.some;
     most = v.most;
     system = v.system;
     stacks = λ q one. v.stacks q one ∙ sym (l q);
-    processes = λ q r i e. process_stays img (with_states (with_events img es) xs) q r refl (v.processes q r (sym (l q) ∙ i) e);
+    processes = λ q r i e.
+        process_stays img (record img { events = es; lists = lists; states = xs; numbers = ns }) q r refl (v.processes q r (sym (l q) ∙ i) e);
     earlier = v.earlier;
     rows = record { few = v.rows.few; room = v.rows.room; short = v.rows.short; words = v.rows.words; shallow = v.rows.shallow };
     events = a;
   }
 
+  events_valid : (es : List Event) → AreEvents es img.lists img.states → IsValid code (with_events img es)
+  events_valid es a = waiting_valid es img.lists img.states img.numbers refl refl v.positions (λ q. refl) a
+
   pub close_events_valid : (stack at : ℕ) → IsValid code (with_events img (closed_from stack at img.events))
-  close_events_valid stack at =
-      states_valid (closed_from stack at img.events) img.states refl (λ q. refl) (closed_kept img.events img.states v.events stack at)
+  close_events_valid stack at = events_valid (closed_from stack at img.events) (closed_kept img.events img.lists img.states v.events stack at)
 
   pub open_event_valid : (at : Place) → IsValid code (with_events img (opened at img.events))
-  open_event_valid at = states_valid (opened at img.events) img.states refl (λ q. refl) (opened_kept img.events img.states v.events at)
+  open_event_valid at = events_valid (opened at img.events) (opened_kept img.events img.lists img.states v.events at)

@@ -11,14 +11,16 @@ use Rattle.b67_word.specs.Word.{field}
 use Rattle.b67_segment.specs.declared.code.Segment.{Segment}
 use Rattle.b67_segment.specs.declared.code.Code.{Code}
 use Rattle.b67_store.specs.Store.{words_or, words_of, stack_at, row_words, count_limit}
-use Rattle.b67_events.specs.Events.{Event}
+use Rattle.b67_events.specs.Events.{Event, list_of, is_listed}
 use Rattle.b67_events.specs.Once.{times_in}
 use Rattle.b67_word.specs.declared.Place.{Place}
 use Rattle.b67_control.specs.Control.{as_descriptor}
 use Rattle.b67_table.specs.Chains.{place}
+use Rattle.b67_table.specs.declared.ProcessState.TheVariants.{WaitsAny}
 use Rattle.b67_table.specs.Image.{is_live}
+use Rattle.b67_table.specs.Limits.{most_events}
 use Rattle.b67_table.specs.Beginning.{first_image, first_registers, system_stack, base_frame}
-use Rattle.b67_table.specs.Valid.{IsHeld, IsDisplay, IsFrame, IsProcess, AreRows, AreEvents, IsValid, is_no_mother, waits, ValidStands}
+use Rattle.b67_table.specs.Valid.{IsHeld, IsDisplay, IsFrame, IsProcess, AreRows, AreEvents, IsValid, is_no_mother, ValidStands}
 use Rattle.b67_table.specs.Private.{floor}
 
 -- numbers that a test compares
@@ -142,13 +144,29 @@ first_rows : AreRows first_image
 unfolding first_image
 first_rows = record { few = at_most 0 4194304 refl; room = at_most 0 1048576 refl; short = no_length; words = no_row; shallow = no_words }
 
-first_events : AreEvents first_image.events first_image.states
+first_listed : (p : ℕ) → is_listed p first_image.lists ≡ true → numbered first_image.states p ≡ Some WaitsAny
+unfolding first_image
+first_listed zero e = cc
+first_listed (suc p) e = cc
+
+first_short : (p : ℕ) → length (list_of p first_image.lists) ≤ most_events
+unfolding first_image
+first_short zero = at_most 0 8 refl
+first_short (suc p) = at_most 0 8 refl
+
+all_positions : All (λ (n : ℕ). n ≤ most_events) (0 ∷ [])
+all_positions zero d h = at_most 0 8 refl
+all_positions (suc k) d h = absurd (omega (arith, h))
+
+first_events : AreEvents first_image.events first_image.lists first_image.states
 unfolding first_image
 first_events = record {
   apart = tt;
   once = record { waiting = λ p. All-nil (λ (e : Event). times_in p e.state.waiters ≤ 1); procuring = λ p. omega arith };
   waiters = λ p at e. cc;
   procurers = λ p at e. cc;
+  listed = first_listed;
+  short = first_short;
 }
 
 pub first_is_valid : (code : Code) → All (λ (s : Segment). length s.words ≤ 8192) code.segments → IsValid code first_image
@@ -158,6 +176,8 @@ first_is_valid code small = record {
   words = first_words;
   registers = refl;
   states = refl;
+  numbers = refl;
+  positions = all_positions;
   some = at_most 1 1 refl;
   most = at_most 1 256 refl;
   system = refl;

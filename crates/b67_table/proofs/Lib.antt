@@ -27,7 +27,9 @@ pub mod Saving
 pub mod Evaluating
 pub mod Indexing
 pub mod EventKept
+pub mod Withdrawing
 pub mod Waking
+pub mod Several
 pub mod Closing
 pub mod Exits
 pub mod Entries

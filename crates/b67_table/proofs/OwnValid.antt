@@ -105,6 +105,8 @@ module _ (code : Code) (img : Image) (p : ℕ) (r : Registers) (v : IsValid code
     words = λ n. all_words words a n (ℕ_discrete n p);
     registers = length_numbered img.regs p s ∙ v.registers;
     states = v.states;
+    numbers = v.numbers;
+    positions = v.positions;
     some = v.some;
     most = v.most;
     system = set_other img.stacks p 0 (Some words) not_zero ∙ v.system;

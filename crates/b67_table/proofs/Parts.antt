@@ -71,6 +71,8 @@ module _ (q base : ℕ) (part : Private) where
   told_same img b questions.counted apart = refl
   told_same img b (questions.is_event place) apart = refl
   told_same img b (questions.event_answer t place) apart = refl
+  told_same img b (questions.first_happened places) apart = refl
+  told_same img b (questions.woken k) apart = refl
   told_same img b questions.criticals apart = criticals_same img.states img.regs q part.regs b.within b.critical
   told_same img b (questions.critical n) apart = critical_same img.regs q n part.regs (ℕ_discrete n q) b.within b.critical
   told_same img b questions.started apart = refl
@@ -131,6 +133,8 @@ module _ (q base : ℕ) (part : Private) where
   written_same p h img b (writes.open_event place) apart = refl
   written_same p h img b (writes.close_events stack at) apart = refl
   written_same p h img b (writes.event_deed d place) apart = refl
+  written_same p h img b (writes.wait_any places) apart = refl
+  written_same p h img b writes.go_on apart = refl
   written_same p h img b (writes.line bytes) apart = refl
   written_same p h img b (writes.start r words) apart =
       ap (λ (st : Stacks). record (written p (writes.start r words) img) { stacks = st; regs = set_numbered img.regs q part.regs ++ r ∷ [] })
@@ -196,6 +200,8 @@ module _ (q base : ℕ) (part : Private) where
   beneath_after p h img b (writes.open_event place) apart = with_opened img _ b refl refl
   beneath_after p h img b (writes.close_events stack at) apart = with_opened img _ b refl refl
   beneath_after p h img b (writes.event_deed d place) apart = with_opened img _ b refl refl
+  beneath_after p h img b (writes.wait_any places) apart = with_opened img _ b refl refl
+  beneath_after p h img b writes.go_on apart = with_opened img _ b refl refl
   beneath_after p h img b (writes.line bytes) apart = with_opened img _ b refl refl
   beneath_after p h img b (writes.start r words) apart = record {
     words = b.words;

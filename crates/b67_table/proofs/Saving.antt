@@ -169,6 +169,8 @@ module _ (code : Code) (img : Image) (v : IsValid code img) (x : Place) (old new
     words = λ n. words_by n (ℕ_discrete n x.stack);
     registers = v.registers;
     states = v.states;
+    numbers = v.numbers;
+    positions = v.positions;
     some = v.some;
     most = v.most;
     system = set_other img.stacks x.stack 0 (Some (set (words_of img.stacks x.stack) x.at new)) (λ e. not_system (sym e)) ∙ v.system;
@@ -189,6 +191,8 @@ module _ (code : Code) (img : Image) (v : IsValid code img) where
     words = v.words;
     registers = v.registers;
     states = v.states;
+    numbers = v.numbers;
+    positions = v.positions;
     some = v.some;
     most = v.most;
     system = v.system;

@@ -1,12 +1,12 @@
 -- What an operator of one process makes of another's state: who is able stays able, and who lives lives on.
-use Rattle.std.proofs.Common.{◌≡◌, ◌≢◌, sym, ap, ◌∙◌, ℕ, zero, suc, Bool, true, false, List, [], ◌∷◌, ◌++◌, take, set, Option, Some}
+use Rattle.std.proofs.Common.{◌≡◌, ◌≢◌, sym, ap, ◌∙◌, ℕ, zero, suc, Bool, true, List, [], ◌∷◌, ◌++◌, set, Option, Some}
 use Rattle.std.specs.Prelude.{slice_get}
 use Rattle.b67_list.specs.Numbered.{numbered, set_numbered}
 use Rattle.b67_word.specs.declared.Place.{Place}
 use Rattle.b67_deeds.specs.Deeds.{Next, goes, waits, procures}
 use Rattle.b67_events.specs.Events.{deed_at}
 use Rattle.b67_table.specs.declared.ProcessState.{ProcessState}
-use Rattle.b67_table.specs.declared.ProcessState.TheVariants.{Able, WaitsFor, Procures, Ended}
+use Rattle.b67_table.specs.declared.ProcessState.TheVariants.{Able, WaitsFor, WaitsAny, Procures, Ended}
 use Rattle.b67_table.specs.Image.{Image}
 use Rattle.b67_table.specs.Questions.{told}
 use Rattle.b67_table.specs.Writes.{Write, written, able_again, waiting}
@@ -63,6 +63,8 @@ module _ (test : Option ProcessState → Bool) (passes : test (Some Able) ≡ tr
   written_passes p q (writes.close_events stack at) img n h = h
   written_passes p q (writes.event_deed x place) img n h =
       let d = deed_at x p place img.events in able_all d.frees (waiting d.next place p img.states) q (other_waits d.next place img.states p q n h)
+  written_passes p q (writes.wait_any places) img n h = other_set img.states p q WaitsAny n h
+  written_passes p q writes.go_on img n h = h
   written_passes p q (writes.line bytes) img n h = h
   written_passes p q (writes.start r words) img n h = able_more img.states q h
   written_passes p q (writes.end_process stack) img n h = other_set img.states p q Ended n h

@@ -1,5 +1,6 @@
 -- The arguments of intrinsics, what they must be, and how an intrinsic ends.
 use Rattle.std.specs.Prelude.{ℕ, ◌+◌, ◌-◌, nat_le, Bool, true, false, if◌then◌else◌, ℤ, pos, negsuc, List, [], ◌∷◌, length, Option, Some, None}
+use Rattle.b67_word.specs.declared.Place.{Place}
 use Rattle.b67_word.specs.Word.{Word, as_whole}
 use Rattle.b67_control.specs.declared.Registers.{Registers}
 use Rattle.b67_control.specs.declared.Mscw.{Mscw}
@@ -46,6 +47,11 @@ event_in w = see (valid (as_event w.word)) >>= (λ e. is_event (cell_place w.cel
 -- the cell of an open event, which a reference reaches
 abbrev pub event_of : Registers → Word → Test Cell
 event_of r w = see (reached (cell_of r w)) >>= event_in
+
+-- the places of open events, which references reach, one for each word
+abbrev pub events_of : Registers → List Word → Test (List Place)
+events_of r [] = answer []
+events_of r (w ∷ words) = event_of r w >>= (λ (c : Cell). events_of r words >>= (λ (places : List Place). answer (cell_place c ∷ places)))
 
 -- ---- the mark at F
 

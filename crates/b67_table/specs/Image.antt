@@ -16,14 +16,18 @@ pub record Failure : Type 0 where
   pub kind : FaultKind
   pub process : ℕ
 
--- Stacks and rows are those of the store, and events those of the kernel. Registers and states stand by the processes' numbers from 1.
+-- Stacks and rows are those of the store, events and lists those of the kernel. Registers, states and woken numbers stand by the processes'
+-- numbers from 1: a woken number is the position of the event that released the process among those for which it waited, and 0 where it has
+-- gone on since, or did not wait for several.
 -- `started` is the number of processes that there have been, `fault` the fault that ended the run.
 pub record Image : Type 0 where
   pub stacks : Stacks
   pub rows : Rows
   pub events : List Event
+  pub lists : List (List Place)
   pub regs : List Registers
   pub states : List ProcessState
+  pub numbers : List ℕ
   pub output : List (List ℕ)
   pub started : ℕ
   pub fault : Option Failure
@@ -42,6 +46,14 @@ with_events img events = record img { events = events }
 
 abbrev pub with_states : Image → List ProcessState → Image
 with_states img states = record img { states = states }
+
+-- the woken number of a process
+abbrev pub woken_number : List ℕ → ℕ → ℕ
+woken_number numbers p = or_zero (numbered numbers p)
+  where
+    or_zero : Option ℕ → ℕ
+    or_zero None = 0
+    or_zero (Some n) = n
 
 -- ---- private parts
 

@@ -1,26 +1,27 @@
 -- The intrinsics: what each does where its procedure word is entered, with a mark at F and its arguments above it.
-use Rattle.std.specs.Prelude.{ℕ, ◌+◌, ◌-◌, ◌*◌, ◌&&◌, nat_lt, nat_le, Bool, if◌then◌else◌, ℤ, pos, negsuc, ◌+ℤ◌, List, [], ◌∷◌, Option, Some, None}
+use Rattle.std.specs.Prelude.{ℕ, zero, suc, ◌+◌, ◌-◌, ◌*◌, ◌&&◌, nat_lt, nat_le, Bool, if◌then◌else◌, ℤ, pos, negsuc, ◌+ℤ◌, List, [], ◌∷◌, length, Option, Some, None}
 use Rattle.b67_num.specs.declared.FaultKind.TheVariants.{CaseIndex}
-use Rattle.b67_word.specs.Word.{Word, truth}
+use Rattle.b67_word.specs.declared.Place.{Place}
+use Rattle.b67_word.specs.Word.{Word, operand, truth}
 use Rattle.b67_control.specs.declared.Registers.{Registers}
 use Rattle.b67_control.specs.declared.Mscw.{Mscw}
 use Rattle.b67_control.specs.Control.{event_word}
 use Rattle.b67_deeds.specs.declared.EventAct.TheVariants as act
 use Rattle.b67_deeds.specs.declared.EventTest.{EventTest}
 use Rattle.b67_deeds.specs.declared.EventTest.TheVariants as test
-use Rattle.b67_deeds.specs.Deeds.{EventDeed, acts}
+use Rattle.b67_deeds.specs.Deeds.{EventDeed, acts, tests}
 use Rattle.b67_segment.specs.declared.code.Code.{Code}
 use Rattle.b67_table.specs.declared.Cell.{Cell}
 use Rattle.b67_ops.specs.declared.intrinsic.Intrinsic.{Intrinsic}
 use Rattle.b67_table.specs.Names.{intrinsic_numbered}
 use Rattle.b67_ops.specs.declared.intrinsic.Intrinsic.TheVariants as names
-use Rattle.b67_table.specs.Limits.{end_of_code, most_arrays}
+use Rattle.b67_table.specs.Limits.{end_of_code, most_arrays, most_events}
 use Rattle.b67_table.specs.Look.{Look, found, ◌>->◌, valid}
 use Rattle.b67_table.specs.Chains.{place}
 use Rattle.b67_table.specs.References.{cell_place, invalid}
-use Rattle.b67_table.specs.Program.{Test, answer, fault, loads, event_answer, ◌>>=◌, see, Change, open_event, event_deed, line, Program}
+use Rattle.b67_table.specs.Program.{Test, answer, fault, loads, event_answer, first_happened, woken, ◌>>=◌, see, Change, done, open_event, event_deed, wait_any, go_on, line, Program}
 use Rattle.b67_table.specs.Arrays.{Extents, one, two, extent, if_small, if_held, arrays_made}
-use Rattle.b67_table.specs.Arguments.{IntrinsicRow, no_such, Three, three, wholes, number_in, event_of, if_chained, finished_at}
+use Rattle.b67_table.specs.Arguments.{IntrinsicRow, no_such, Three, three, wholes, number_in, event_of, events_of, if_chained, finished_at}
 use Rattle.b67_table.specs.Lines.{line_for}
 use Rattle.b67_table.specs.GoingTo.{go_to}
 use Rattle.b67_table.specs.Starting.{start_process}
@@ -101,12 +102,36 @@ on_event x code r next m (w ∷ []) =
 on_event x code r next m [] = no_such
 on_event x code r next m (w ∷ v ∷ words) = no_such
 
--- what the one event that is the argument answers
+-- what the one event that is the argument answers; asking it is a deed as well
 abbrev pub tell_event : EventTest → IntrinsicRow
 tell_event x code r next m (w ∷ []) =
-    event_of r w >>= (λ (c : Cell). if_chained r m (event_answer x (cell_place c) (λ (told : Bool). answer (finished_at r m (truth told ∷ []) next))))
+    event_of r w >>= (λ (c : Cell). if_chained r m (event_answer x (cell_place c) (λ (told : Bool).
+    answer (event_deed (tests x) (cell_place c) (finished_at r m (truth told ∷ []) next)))))
 tell_event x code r next m [] = no_such
 tell_event x code r next m (w ∷ v ∷ words) = no_such
+
+-- ---- several events
+
+-- the process goes on with a position
+abbrev pub gone_on : Registers → ℕ → Mscw → ℕ → Change
+gone_on r next m n = finished_at r m (operand (pos n) ∷ []) next
+
+-- where none of the events lets it go on it waits, and this operator is its next one again
+abbrev pub gone_or_waiting : Registers → ℕ → Mscw → List Place → Option ℕ → Program
+gone_or_waiting r next m places None = answer (wait_any places done)
+gone_or_waiting r next m places (Some n) = answer (gone_on r next m n)
+
+-- a process that was released goes on with its woken number, whatever the events are now
+abbrev pub woken_or_not : Registers → ℕ → Mscw → List Place → ℕ → Program
+woken_or_not r next m places zero = first_happened places (gone_or_waiting r next m places)
+woken_or_not r next m places (suc n) = answer (go_on (gone_on r next m (suc n)))
+
+abbrev pub if_several : {A : Type 0} → List Word → Test A → Test A
+if_several words more = if nat_le 1 (length words) && nat_le (length words) most_events then more else no_such
+
+abbrev pub wait_for_any : IntrinsicRow
+wait_for_any code r next m words =
+    if_several words (events_of r words >>= (λ (places : List Place). if_chained r m (woken r.stack (woken_or_not r next m places))))
 
 -- ---- all of them
 
@@ -123,6 +148,10 @@ row_of_intrinsic names.Reset = on_event (acts act.Reset)
 row_of_intrinsic names.Happened = tell_event test.Happened
 row_of_intrinsic names.Procure = on_event (acts act.Procure)
 row_of_intrinsic names.Liberate = on_event (acts act.Liberate)
+row_of_intrinsic names.WaitAny = wait_for_any
+row_of_intrinsic names.CauseAndReset = on_event (acts act.CauseAndReset)
+row_of_intrinsic names.Available = tell_event test.Available
+row_of_intrinsic names.Fix = tell_event test.Fix
 
 -- a number of which there is no intrinsic is no operand of the entry
 abbrev pub intrinsic_row : Option Intrinsic → IntrinsicRow

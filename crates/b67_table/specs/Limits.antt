@@ -1,6 +1,6 @@
 -- How large the parts of a run may be, where no crate below says it.
 use Rattle.std.specs.Prelude.{ℕ, ◌+◌}
-use Rattle.b67_limits.specs.declared.TheConstants.{MOST_FRAME_CELLS, MOST_PROCESSES, MOST_BLOCK_CELLS, MOST_PROCEDURES}
+use Rattle.b67_limits.specs.declared.TheConstants.{MOST_FRAME_CELLS, MOST_PROCESSES, MOST_BLOCK_CELLS, MOST_PROCEDURES, MOST_EVENTS}
 use Rattle.b67_segment.specs.declared.TheConstants.{MOST_SEGMENT_SYLLABLES, MOST_SEGMENT_WORDS}
 
 -- the most words of a segment
@@ -22,6 +22,10 @@ most_cells = MOST_FRAME_CELLS
 -- the most processes of a run
 abbrev pub most_processes : ℕ
 most_processes = MOST_PROCESSES
+
+-- the most events for which a process waits at once
+abbrev pub most_events : ℕ
+most_events = MOST_EVENTS
 
 -- the most arrays that are made at once
 abbrev pub most_arrays : ℕ

@@ -41,7 +41,9 @@ pub record LeavesAllElse (p : ℕ) (r : Registers) (img new : Image) : Type 0 wh
   pub registers : (q : ℕ) → q ≢ p → numbered new.regs q ≡ numbered img.regs q
   pub rows : new.rows ≡ img.rows
   pub events : new.events ≡ img.events
+  pub lists : new.lists ≡ img.lists
   pub states : new.states ≡ img.states
+  pub numbers : new.numbers ≡ img.numbers
   pub output : new.output ≡ img.output
   pub started : new.started ≡ img.started
   pub fault : new.fault ≡ img.fault

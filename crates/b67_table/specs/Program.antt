@@ -63,6 +63,12 @@ is_event place more = ask (questions.is_event place) more
 abbrev pub event_answer : {A : Type 0} → EventTest → Place → (Bool → Test A) → Test A
 event_answer x place more = ask (questions.event_answer x place) more
 
+abbrev pub first_happened : {A : Type 0} → List Place → (Option ℕ → Test A) → Test A
+first_happened places more = ask (questions.first_happened places) more
+
+abbrev pub woken : {A : Type 0} → ℕ → (ℕ → Test A) → Test A
+woken p more = ask (questions.woken p) more
+
 abbrev pub criticals : {A : Type 0} → (List Place → Test A) → Test A
 criticals more = ask questions.criticals more
 
@@ -118,6 +124,12 @@ close_events stack at next = write (writes.close_events stack at) next
 
 abbrev pub event_deed : EventDeed → Place → Change → Change
 event_deed x place next = write (writes.event_deed x place) next
+
+abbrev pub wait_any : List Place → Change → Change
+wait_any places next = write (writes.wait_any places) next
+
+abbrev pub go_on : Change → Change
+go_on next = write writes.go_on next
 
 abbrev pub line : List ℕ → Change → Change
 line bytes next = write (writes.line bytes) next

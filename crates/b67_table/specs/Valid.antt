@@ -15,13 +15,13 @@ use Rattle.b67_control.specs.Display.{levels}
 use Rattle.b67_segment.specs.declared.code.Segment.{Segment}
 use Rattle.b67_segment.specs.declared.code.Code.{Code}
 use Rattle.b67_store.specs.Store.{stack_at, words_of, word_at, row_words, counted_words, count_limit, row_limit, stack_limit}
-use Rattle.b67_events.specs.Events.{Event, waiters_at, procurers_at}
+use Rattle.b67_events.specs.Events.{Event, waiters_at, procurers_at, is_among, list_of, is_listed}
 use Rattle.b67_events.specs.Laws.{AreApart}
 use Rattle.b67_events.specs.Once.{EachOnce}
 use Rattle.b67_table.specs.declared.ProcessState.{ProcessState}
-use Rattle.b67_table.specs.declared.ProcessState.TheVariants.{Able, WaitsFor, Procures, Ended}
+use Rattle.b67_table.specs.declared.ProcessState.TheVariants.{Able, WaitsFor, WaitsAny, Procures, Ended}
 use Rattle.b67_table.specs.Private.{display_at, floor}
-use Rattle.b67_table.specs.Limits.{segment_limit, segment_numbers, most_cells, most_processes}
+use Rattle.b67_table.specs.Limits.{segment_limit, segment_numbers, most_cells, most_processes, most_events}
 use Rattle.b67_table.specs.Look.{read_as}
 use Rattle.b67_table.specs.Chains.{place}
 use Rattle.b67_table.specs.Image.{Image, is_able, is_live}
@@ -92,17 +92,28 @@ pub record AreRows (img : Image) : Type 0 where
 
 abbrev pub waits : Option ProcessState → Bool
 waits (Some (WaitsFor place)) = true
+waits (Some WaitsAny) = true
 waits (Some (Procures place)) = true
 waits (Some Able) = false
 waits (Some Ended) = false
 waits None = false
 
-pub record AreEvents (es : List Event) (states : List ProcessState) : Type 0 where
+-- a process in this state, with these places where it waits for several events, waits for the event at a place to happen
+abbrev pub AwaitsAt : Option ProcessState → List Place → Place → Type 0
+AwaitsAt (Some (WaitsFor place)) places at = place ≡ at
+AwaitsAt (Some WaitsAny) places at = is_among places at ≡ true
+AwaitsAt _ places at = ⊥
+
+-- the events that are open, the places of those for which processes wait, and the processes' states
+pub record AreEvents (es : List Event) (lists : List (List Place)) (states : List ProcessState) : Type 0 where
   pub apart : AreApart es
   pub once : EachOnce es
   -- who stands in a list of an event waits for it; who waits need not stand in one, since an event may be closed or opened anew
-  pub waiters : (p : ℕ) (at : Place) → list_any (λ q. p == q) (waiters_at at es) ≡ true → numbered states p ≡ Some (WaitsFor at)
+  pub waiters : (p : ℕ) (at : Place) → list_any (λ q. p == q) (waiters_at at es) ≡ true → AwaitsAt (numbered states p) (list_of p lists) at
   pub procurers : (p : ℕ) (at : Place) → list_any (λ q. p == q) (procurers_at at es) ≡ true → numbered states p ≡ Some (Procures at)
+  -- who has a list of places waits for several events, and for no more than a process can
+  pub listed : (p : ℕ) → is_listed p lists ≡ true → numbered states p ≡ Some WaitsAny
+  pub short : (p : ℕ) → length (list_of p lists) ≤ most_events
 
 -- ---- images
 
@@ -111,6 +122,9 @@ pub record IsValid (code : Code) (img : Image) : Type 0 where
   pub words : (n : ℕ) → All IsWord (words_of img.stacks n)
   pub registers : length img.regs ≡ img.started
   pub states : length img.states ≡ img.started
+  pub numbers : length img.numbers ≡ img.started
+  -- a woken number is a position
+  pub positions : All (λ (n : ℕ). n ≤ most_events) img.numbers
   pub some : 1 ≤ img.started
   pub most : img.started ≤ most_processes
   pub system : stack_at img.stacks 0 ≡ Some system_stack
@@ -120,7 +134,7 @@ pub record IsValid (code : Code) (img : Image) : Type 0 where
   -- the critical place of a process, also of one that has ended, lies in the stack of a process that was started before it
   pub earlier : (p : ℕ) (r : Registers) → numbered img.regs p ≡ Some r → ForSome r.critical (λ (c : Place). c.stack < p)
   pub rows : AreRows img
-  pub events : AreEvents img.events img.states
+  pub events : AreEvents img.events img.lists img.states
 
 -- the first image of a code whose segments have at most 8,192 words is valid
 abbrev pub FirstIsValid : Type 0

@@ -1,14 +1,14 @@
 -- What an operator may write into an image. No write can fail.
-use Rattle.std.specs.Prelude.{ℕ, ◌+◌, Bool, List, [], ◌∷◌, ◌++◌}
+use Rattle.std.specs.Prelude.{ℕ, ◌+◌, Bool, List, [], ◌∷◌, ◌++◌, Option, Some, None}
 use Rattle.b67_list.specs.Numbered.{set_numbered}
 use Rattle.b67_word.specs.declared.Place.{Place}
 use Rattle.b67_word.specs.Word.{Word}
 use Rattle.b67_control.specs.declared.Registers.{Registers}
 use Rattle.b67_store.specs.Store.{with_word, with_push, with_cut, opened_at, closed_at, with_row_word, zero_row}
 use Rattle.b67_deeds.specs.Deeds.{EventDeed, Deed, Next, goes, waits, procures}
-use Rattle.b67_events.specs.Events.{opened, closed_from, deed_at, done_at}
+use Rattle.b67_events.specs.Events.{opened, closed_from, deed_at, after_deed, unlisted, position_of, joined_all, with_list}
 use Rattle.b67_table.specs.declared.ProcessState.{ProcessState}
-use Rattle.b67_table.specs.declared.ProcessState.TheVariants.{Able, WaitsFor, Procures, Ended}
+use Rattle.b67_table.specs.declared.ProcessState.TheVariants.{Able, WaitsFor, WaitsAny, Procures, Ended}
 use Rattle.b67_table.specs.Image.{Image, with_stacks, with_rows, with_events, with_states, with_registers}
 
 pub data Write : Type 0 where
@@ -29,6 +29,10 @@ pub data Write : Type 0 where
   close_events : ℕ → ℕ → Write
   -- what is done with the event at a place
   event_deed : EventDeed → Place → Write
+  -- the process waits for the events at these places
+  wait_any : List Place → Write
+  -- its woken number is 0 again
+  go_on : Write
   -- a line of output
   line : List ℕ → Write
   -- the next process, with these registers, and a stack of these words under its number
@@ -50,6 +54,24 @@ waiting procures place p states = set_numbered states p (Procures place)
 abbrev pub states_after : Deed → Place → ℕ → List ProcessState → List ProcessState
 states_after d place p states = able_again d.frees (waiting d.next place p states)
 
+-- whom an event at a place withdraws from several events has its position there for its woken number
+abbrev pub with_number : Option ℕ → ℕ → List ℕ → List ℕ
+with_number None p numbers = numbers
+with_number (Some n) p numbers = set_numbered numbers p n
+
+abbrev pub told_positions : Place → List (List Place) → List ℕ → List ℕ → List ℕ
+told_positions place lists [] numbers = numbers
+told_positions place lists (p ∷ ps) numbers = told_positions place lists ps (with_number (position_of place lists p) p numbers)
+
+-- what a process makes of an image by a deed with the event at a place
+abbrev pub with_deed : Deed → Place → ℕ → Image → Image
+with_deed d place p img = record img {
+  events = after_deed d place img.events;
+  lists = unlisted d.withdraws img.lists;
+  states = states_after d place p img.states;
+  numbers = told_positions place img.lists d.withdraws img.numbers;
+}
+
 -- what a write of a process makes of an image
 abbrev pub written : ℕ → Write → Image → Image
 written p (save place w) img = with_stacks img (with_word img.stacks place w)
@@ -61,13 +83,19 @@ written p (write_row n at w) img = with_rows img (with_row_word img.rows n at w)
 written p (close_row n) img = with_rows img (closed_at img.rows n)
 written p (open_event place) img = with_events img (opened place img.events)
 written p (close_events stack at) img = with_events img (closed_from stack at img.events)
-written p (event_deed x place) img =
-    with_states (with_events img (done_at x p place img.events)) (states_after (deed_at x p place img.events) place p img.states)
+written p (event_deed x place) img = with_deed (deed_at x p place img.events) place p img
+written p (wait_any places) img = record img {
+  events = joined_all places p img.events;
+  lists = with_list img.lists p places;
+  states = set_numbered img.states p WaitsAny;
+}
+written p go_on img = record img { numbers = set_numbered img.numbers p 0 }
 written p (line bytes) img = record img { output = img.output ++ bytes ∷ [] }
 written p (start r words) img = record img {
   stacks = opened_at img.stacks r.stack words;
   regs = img.regs ++ r ∷ [];
   states = img.states ++ Able ∷ [];
+  numbers = img.numbers ++ 0 ∷ [];
   started = img.started + 1;
 }
 written p (end_process stack) img = with_states (with_stacks img (closed_at img.stacks stack)) (set_numbered img.states p Ended)

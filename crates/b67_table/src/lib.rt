@@ -45,6 +45,8 @@ pub enum ProcessState {
     Able,
     /// It waits for the event at a place to happen.
     WaitsFor(Place),
+    /// It waits for several events; the kernel has their places.
+    WaitsAny,
     /// It waits to procure the event at a place.
     Procures(Place),
     /// It has ended.
