@@ -9,18 +9,19 @@ use Rattle.b67_list.specs.Numbered.{numbered, set_numbered}
 use Rattle.b67_word.specs.declared.Place.{Place}
 use Rattle.b67_segment.specs.declared.code.Code.{Code}
 use Rattle.b67_deeds.specs.declared.EventAct.TheVariants as act
+use Rattle.b67_deeds.specs.declared.EventTest.TheVariants as test
 use Rattle.b67_deeds.specs.Deeds.{EventDeed, acts, tests, Next, goes, waits as awaits, procures}
-use Rattle.b67_events.specs.Events.{Event, same_place, event_at, state_of, waiters_at, procurers_at, deed_at}
+use Rattle.b67_events.specs.Events.{Event, same_place, event_at, state_of, waiters_at, procurers_at, deed_at, list_of}
 use Rattle.b67_events.specs.Once.{times_in}
 use Rattle.b67_table.specs.declared.ProcessState.{ProcessState}
-use Rattle.b67_table.specs.declared.ProcessState.TheVariants.{Able, WaitsFor, Procures, Ended}
+use Rattle.b67_table.specs.declared.ProcessState.TheVariants.{Able, WaitsFor, WaitsAny, Procures, Ended}
 use Rattle.b67_table.specs.Image.{Image, is_able}
 use Rattle.b67_table.specs.Writes.{able_again, waiting}
 use Rattle.b67_table.specs.Valid.{IsValid, AreEvents, waits}
 use Rattle.b67_table.proofs.Stacks.{get_numbered_other}
 use Rattle.b67_table.proofs.Lists.{numbered_set}
 use Rattle.b67_table.proofs.States.{able_all}
-use Rattle.b67_table.proofs.EventKept.{or_left, not_both, length_states, same_state, live_of, within_of}
+use Rattle.b67_table.proofs.EventKept.{or_left, not_both, length_states, same_state, live_of, within_of, awaits_waits}
 use Rattle.b67_table.proofs.Waking.{able_live}
 use Rattle.b67_action.specs.Able.{times, one_if, able_in, newly, AbleAfter}
 
@@ -64,27 +65,39 @@ first_among q [] e = e
 first_among q (p ∷ ps) e = elim (or_cases (q == p) false e) [ inl j ↦ or_left (q == p) (list_any (λ x. q == x) ps) j | inr j ↦ absurd (not_both false j refl) ]
 
 -- those who are released by a deed wait, and each is released once
-module _ (es : List Event) (xs : List ProcessState) (v : AreEvents es xs) (p q : ℕ) (at : Place) where
+module _ (es : List Event) (lists : List (List Place)) (xs : List ProcessState) (v : AreEvents es lists xs) (p q : ℕ) (at : Place) where
+  waiter_waits : list_any (λ y. q == y) (waiters_at at es) ≡ true → waits (numbered xs q) ≡ true
+  waiter_waits i = awaits_waits (numbered xs q) (list_of q lists) at (v.waiters q at i)
+
   pub freed_wait : (x : EventDeed) → list_any (λ y. q == y) (deed_at x p at es).frees ≡ true → waits (numbered xs q) ≡ true
-  freed_wait (acts act.Cause) i = ap waits (v.waiters q at i)
+  freed_wait (acts act.Cause) i = waiter_waits i
+  freed_wait (acts act.CauseAndReset) i = waiter_waits i
   freed_wait (acts act.Reset) i = cc
   freed_wait (acts act.Wait) i = cc
   freed_wait (acts act.Procure) i = cc
   freed_wait (acts act.Liberate) i = ap waits (v.procurers q at (first_among q (procurers_at at es) i))
-  freed_wait (tests t) i = cc
+  freed_wait (tests test.Happened) i = cc
+  freed_wait (tests test.Available) i = cc
+  freed_wait (tests test.Fix) i = cc
+  freed_wait (tests test.WaitAny) i = cc
 
   pub freed_once : (x : EventDeed) → times_in q (deed_at x p at es).frees ≤ 1
   freed_once (acts act.Cause) = waiters_once q at es (v.once.waiting q)
+  freed_once (acts act.CauseAndReset) = waiters_once q at es (v.once.waiting q)
   freed_once (acts act.Reset) = omega arith
   freed_once (acts act.Wait) = omega arith
   freed_once (acts act.Procure) = omega arith
   freed_once (acts act.Liberate) = first_once q (procurers_at at es)
-  freed_once (tests t) = omega arith
+  freed_once (tests test.Happened) = omega arith
+  freed_once (tests test.Available) = omega arith
+  freed_once (tests test.Fix) = omega arith
+  freed_once (tests test.WaitAny) = omega arith
 
 -- ---- states
 
 waits_not_able : (o : Option ProcessState) → waits o ≡ true → is_able o ≡ false
 waits_not_able (Some (WaitsFor x)) e = refl
+waits_not_able (Some WaitsAny) e = refl
 waits_not_able (Some (Procures x)) e = refl
 waits_not_able (Some Able) e = cc
 waits_not_able (Some Ended) e = cc

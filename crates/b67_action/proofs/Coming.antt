@@ -1,6 +1,6 @@
 -- What an operator of a row comes to, by the table.
 use Rattle.std.specs.Prelude.{nat_le}
-use Rattle.std.proofs.Common.{◌≡◌, refl, sym, ap, subst, ◌∙◌, ℕ, ◌≤◌, Bool, true, false, cond, List, [], ◌∷◌, length, take, Option, Some, None, Result, Ok, Err, arith}
+use Rattle.std.proofs.Common.{◌≡◌, refl, sym, ap, subst, ◌∙◌, ℕ, ◌≤◌, Bool, true, false, cond, List, [], ◌∷◌, length, Option, Some, None, Result, Ok, Err, arith}
 use Rattle.std.proofs.lemmas.List.{length-append}
 use Rattle.b67_list.specs.Numbered.{numbered}
 use Rattle.b67_control.specs.declared.Registers.{Registers}
@@ -71,6 +71,7 @@ live_of : (o : Option ProcessState) → is_able o ≡ true → is_live o ≡ tru
 live_of None e = cc
 live_of (Some states.Able) e = refl
 live_of (Some (states.WaitsFor at)) e = cc
+live_of (Some states.WaitsAny) e = cc
 live_of (Some (states.Procures at)) e = cc
 live_of (Some states.Ended) e = cc
 
@@ -132,6 +133,7 @@ module _ (code : Code) (old new : Image) (p : ℕ) (effect : Effect Image) (t : 
   pub came_on : (state : ProcessState) → Comes {A = Unit {0}} p effect old new (Ok (tt {0})) → numbered new.states p ≡ Some state → Came code old p (went state) new
   came_on states.Able x s = (t ∙ x.outcome, ap is_able s)
   came_on (states.WaitsFor at) x s = (t ∙ x.outcome, ap waits s)
+  came_on states.WaitsAny x s = (t ∙ x.outcome, ap waits s)
   came_on (states.Procures at) x s = (t ∙ x.outcome, ap waits s)
   came_on states.Ended x s = (t ∙ x.outcome, s)
 
@@ -150,6 +152,7 @@ not_performed NoMemory e = cc
 pub went_performed : (s : ProcessState) → is_performed (went s) ≡ false → ⊥
 went_performed states.Able e = cc
 went_performed (states.WaitsFor event) e = cc
+went_performed states.WaitsAny e = cc
 went_performed (states.Procures event) e = cc
 went_performed states.Ended e = cc
 
@@ -173,6 +176,8 @@ grows_by p (writes.event_deed x place) img =
     waiting_grows goes = omega arith
     waiting_grows awaits = omega (arith, length_states img.states p (states.WaitsFor place))
     waiting_grows procures = omega (arith, length_states img.states p (states.Procures place))
+grows_by p (writes.wait_any places) img = omega (arith, length_states img.states p states.WaitsAny)
+grows_by p writes.go_on img = omega arith
 grows_by p (writes.line bytes) img = omega arith
 grows_by p (writes.start r words) img = omega (arith, length-append img.states (states.Able ∷ []))
 grows_by p (writes.end_process stack) img = omega (arith, length_states img.states p states.Ended)

@@ -1,11 +1,11 @@
 -- Whom an operator makes able, row by row.
-use Rattle.std.proofs.Common.{◌≡◌, refl, sym, ap, subst, ◌∙◌, ℕ, ◌+◌, ◌≤◌, Bool, true, false, cond, List, [], ◌∷◌, take, Option, Some, None, Ok, arith}
+use Rattle.std.proofs.Common.{◌≡◌, refl, sym, ap, subst, ◌∙◌, ℕ, suc, ◌+◌, ◌≤◌, Bool, true, false, cond, List, [], ◌∷◌, Option, Some, None, Ok, arith}
 use Rattle.std.specs.Prelude.{nat_eq, ◌==◌}
 use Rattle.std.specs.List.{list_any}
 use Rattle.std.proofs.Math.Decide.{ℕ_discrete}
 use Rattle.b67_list.specs.Numbered.{numbered, set_numbered}
 use Rattle.b67_word.specs.declared.Place.{Place}
-use Rattle.b67_word.specs.Word.{Word}
+use Rattle.b67_word.specs.Word.{Word, truth}
 use Rattle.b67_control.specs.declared.Registers.{Registers}
 use Rattle.b67_control.specs.declared.Mscw.{Mscw}
 use Rattle.b67_ops.specs.declared.Operator.{Operator}
@@ -14,15 +14,16 @@ use Rattle.b67_ops.specs.declared.intrinsic.Intrinsic.TheVariants as names
 use Rattle.b67_segment.specs.declared.code.Code.{Code}
 use Rattle.b67_store.specs.Store.{row_at, closed_at}
 use Rattle.b67_deeds.specs.declared.EventAct.TheVariants as act
+use Rattle.b67_deeds.specs.declared.EventTest.{EventTest}
 use Rattle.b67_deeds.specs.declared.EventTest.TheVariants as test
-use Rattle.b67_deeds.specs.Deeds.{EventDeed, Deed, acts}
-use Rattle.b67_events.specs.Events.{Event, waiters_at, deed_at, closed_from}
+use Rattle.b67_deeds.specs.Deeds.{EventDeed, Deed, acts, tests}
+use Rattle.b67_events.specs.Events.{Event, waiters_at, deed_at, closed_from, list_of}
 use Rattle.b67_events.specs.Once.{times_in}
 use Rattle.b67_table.specs.declared.Class.TheVariants.{Private}
 use Rattle.b67_table.specs.declared.InterruptKind.TheVariants.{BadCode as bad_code}
 use Rattle.b67_table.specs.declared.Private.{Private as Part}
 use Rattle.b67_table.specs.declared.ProcessState.{ProcessState}
-use Rattle.b67_table.specs.declared.ProcessState.TheVariants.{Ended}
+use Rattle.b67_table.specs.declared.ProcessState.TheVariants.{WaitsAny, Ended}
 use Rattle.b67_table.specs.Effect.{Effect, gives, faults, interrupts}
 use Rattle.b67_table.specs.Image.{Image, with_rows, with_private, with_effect, private_of, is_able}
 use Rattle.b67_table.specs.Names.{intrinsic_numbered}
@@ -30,10 +31,10 @@ use Rattle.b67_table.specs.Outcome as outcomes
 use Rattle.b67_table.specs.Private.{frame, floor}
 use Rattle.b67_table.specs.Writes.{written, able_again, waiting, states_after}
 use Rattle.b67_table.specs.Writes as writes
-use Rattle.b67_table.specs.Program.{Change, done, changed, answer, asked, effect_of, registers, close_events, end_process, event_deed, start, Program}
+use Rattle.b67_table.specs.Program.{Change, done, changed, answer, asked, effect_of, registers, close_events, end_process, event_deed, wait_any, go_on, start, Program}
 use Rattle.b67_table.specs.Linkage.{caused_by, leave_base, leave_other, entry}
 use Rattle.b67_table.specs.Arguments.{finished_at}
-use Rattle.b67_table.specs.Intrinsics.{row_of_intrinsic, intrinsic_row, intrinsic, on_event}
+use Rattle.b67_table.specs.Intrinsics.{gone_on, row_of_intrinsic, intrinsic_row, intrinsic, on_event}
 use Rattle.b67_table.specs.Rows as table
 use Rattle.b67_table.specs.Rows.{row, private_part, action, exit, return_value, enter}
 use Rattle.b67_table.specs.Table.{table as table_gives, raw, by_row, by_operator, by_registers, operator_at, class_by, stack_length}
@@ -41,7 +42,7 @@ use Rattle.b67_table.specs.Valid.{IsValid, waits}
 use Rattle.b67_table.proofs.Stacks.{get_numbered_other}
 use Rattle.b67_table.proofs.Keeping.{Gives}
 use Rattle.b67_table.proofs.Limit.{new_of}
-use Rattle.b67_table.proofs.EventKept.{close_events_valid}
+use Rattle.b67_table.proofs.EventKept.{awaits_waits, close_events_valid}
 use Rattle.b67_table.proofs.Waking.{able_live}
 use Rattle.b67_operators.specs.declared.calling.Called.{Called}
 use Rattle.b67_operators.specs.Entries.{enter_called}
@@ -59,7 +60,7 @@ use Rattle.b67_private.specs.Actions.{words_program}
 use Rattle.b67_action.specs.Rows.{Is}
 use Rattle.b67_action.proofs.Able.{waiters_once, freed_wait, freed_once, able_waits, woken_others, woken_own, other_waits, able_by, able_same, able_more}
 use Rattle.b67_action.proofs.Calling.{does_called}
-use Rattle.b67_letters.proofs.Calm.{Calm, calm_keeps, Each, each_asked, each_as, each_critical, arrays_have, entry_calm, other_calm, return_calm, go_to_calm, select_calm, arrays_row_calm, write_calm, event_calm, tell_calm, each_event, each_start}
+use Rattle.b67_letters.proofs.Calm.{Calm, calm_keeps, Each, each_asked, each_as, each_critical, arrays_have, entry_calm, other_calm, return_calm, go_to_calm, select_calm, arrays_row_calm, write_calm, event_calm, each_event, each_tell, each_several, each_start}
 use Rattle.b67_action.proofs.CalmWords.{words_calm}
 
 module _ (code : Code) (img : Image) (p : ℕ) (v : IsValid code img) (able : is_able (numbered img.states p) ≡ true) where
@@ -89,10 +90,10 @@ module _ (code : Code) (img : Image) (p : ℕ) (v : IsValid code img) (able : is
     ys = waiting d.next at p img.states
 
     waited : (q : ℕ) → list_any (λ y. q == y) d.frees ≡ true → waits (numbered img.states q) ≡ true
-    waited q i = freed_wait img.events img.states v.events p q at x i
+    waited q i = freed_wait img.events img.lists img.states v.events p q at x i
 
     once : (q : ℕ) → times_in q d.frees ≤ 1
-    once q = freed_once img.events img.states v.events p q at x
+    once q = freed_once img.events img.lists img.states v.events p q at x
 
     still : (q : ℕ) → list_any (λ y. q == y) d.frees ≡ true → waits (numbered ys q) ≡ true
     still q i = by (ℕ_discrete q p)
@@ -119,7 +120,8 @@ module _ (code : Code) (img : Image) (p : ℕ) (v : IsValid code img) (able : is
 
     task_wait : (o : Option Place) (q : ℕ) → list_any (λ y. q == y) (task_waiters o closed) ≡ true → waits (numbered img.states q) ≡ true
     task_wait None q i = cc
-    task_wait (Some task) q i = ap waits ((close_events_valid code img v r.stack 0).events.waiters q task i)
+    task_wait (Some task) q i =
+        awaits_waits (numbered img.states q) (list_of q img.lists) task ((close_events_valid code img v r.stack 0).events.waiters q task i)
 
     task_once : (o : Option Place) (q : ℕ) → times_in q (task_waiters o closed) ≤ 1
     task_once None q = omega arith
@@ -163,6 +165,25 @@ module _ (code : Code) (img : Image) (p : ℕ) (v : IsValid code img) (able : is
       event_able x at =
           let e = calm_keeps p finish (written p (writes.event_deed x at) img) tt in deed_able x at _ e.0 e.1
 
+      told_able : (x : EventTest) (at : Place) (told : Bool) → A (deed_at (tests x) p at img.events).frees (event_deed (tests x) at (finished_at r m (truth told ∷ []) next))
+      told_able x at told =
+          let e = calm_keeps p (finished_at r m (truth told ∷ []) next) (written p (writes.event_deed (tests x) at) img) tt in deed_able (tests x) at _ e.0 e.1
+
+      -- a process waits for several events, or it goes on
+      goes_able : (n : ℕ) → A [] (gone_on r next m n)
+      goes_able n = let e = calm_keeps p (gone_on r next m n) img tt in able_same img _ p e.0 e.1
+
+      wakes_able : (n : ℕ) → A [] (go_on (gone_on r next m (suc n)))
+      wakes_able n = let e = calm_keeps p (go_on (gone_on r next m (suc n))) img tt in able_same img _ p e.0 e.1
+
+      waits_able : (places : List Place) → A [] (wait_any places done)
+      waits_able places =
+          able_by img (written p (writes.wait_any places) img) p [] (set_numbered img.states p WaitsAny) refl refl
+          (λ q h. ap (λ (o : Option ProcessState). one_if (is_able o)) (get_numbered_other img.states p q WaitsAny h) ∙ one_more (one_if (is_able (numbered img.states q)))) refl
+        where
+          one_more : (n : ℕ) → n ≡ n + 0
+          one_more n = omega arith
+
       start_able : (s : Registers) (ws : List Word) → A [] (start s ws finish)
       start_able s ws =
           let e = calm_keeps p finish (written p (writes.start s ws) img) tt in able_more code img _ p v able e.0 e.1
@@ -196,9 +217,14 @@ module _ (code : Code) (img : Image) (p : ℕ) (v : IsValid code img) (able : is
       named_able names.Wait released e = plainly names.Wait released e (each_event r next m (A []) (acts act.Wait) (event_able (acts act.Wait)) code (arguments img.stacks r))
       named_able names.Cause released e = on_one (acts act.Cause) e.0 released e.1 (subst (λ (l : List ℕ). A l (event_deed (acts act.Cause) e.0 finish)) (sym e.2) (event_able (acts act.Cause) e.0))
       named_able names.Reset released e = plainly names.Reset released e (each_event r next m (A []) (acts act.Reset) (event_able (acts act.Reset)) code (arguments img.stacks r))
-      named_able names.Happened released e = calmly names.Happened released e (tell_calm r next m test.Happened code (arguments img.stacks r))
+      named_able names.Happened released e = plainly names.Happened released e (each_tell r next m (A []) test.Happened (told_able test.Happened) code (arguments img.stacks r))
       named_able names.Procure released e = plainly names.Procure released e (each_event r next m (A []) (acts act.Procure) (event_able (acts act.Procure)) code (arguments img.stacks r))
       named_able names.Liberate released e = on_one (acts act.Liberate) e.0 released e.1 (subst (λ (l : List ℕ). A l (event_deed (acts act.Liberate) e.0 finish)) (sym e.2) (event_able (acts act.Liberate) e.0))
+      named_able names.WaitAny released e = plainly names.WaitAny released e (each_several r next m (A []) goes_able wakes_able waits_able code (arguments img.stacks r))
+      named_able names.CauseAndReset released e =
+          on_one (acts act.CauseAndReset) e.0 released e.1 (subst (λ (l : List ℕ). A l (event_deed (acts act.CauseAndReset) e.0 finish)) (sym e.2) (event_able (acts act.CauseAndReset) e.0))
+      named_able names.Available released e = plainly names.Available released e (each_tell r next m (A []) test.Available (told_able test.Available) code (arguments img.stacks r))
+      named_able names.Fix released e = plainly names.Fix released e (each_tell r next m (A []) test.Fix (told_able test.Fix) code (arguments img.stacks r))
 
       intrinsic_able : (o : Option Intrinsic) (released : List ℕ) → CallReleases o img (Some r) m [] released
           → Gives (A released) (asked img (intrinsic_row o code r next m (arguments img.stacks r)))

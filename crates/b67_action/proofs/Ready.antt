@@ -7,7 +7,8 @@ use Rattle.b67_list.specs.Numbered.{numbered}
 use Rattle.b67_word.specs.Word.{Word, IsWord}
 use Rattle.b67_control.specs.declared.Registers.{Registers}
 use Rattle.b67_control.specs.Control.{as_descriptor}
-use Rattle.b67_events.specs.Events.{Events, is_waiting}
+use Rattle.b67_events.specs.Events.{Events, is_waiting, is_listed}
+use Rattle.b67_events.specs.declared.Woken.{Woken}
 use Rattle.b67_segment.specs.declared.code.Code.{Code}
 use Rattle.b67_store.specs.Store.{Stacks, Row, Rows, stack_at, row_at, row_words_or, live_words, counted_words, row_limit, count_limit}
 use Rattle.b67_table.specs.declared.ProcessState.{ProcessState}
@@ -25,6 +26,7 @@ use Rattle.b67_intrinsics.specs.Called.{IsLeft}
 use Rattle.b67_operators.specs.Leaves.{IsLinkedIn}
 use Rattle.b67_reach.specs.declared.Parts.{Parts}
 use Rattle.b67_reach.specs.Images.{image_of}
+use Rattle.b67_reach.specs.Woken.{HasPlaces, KeepsPlaces}
 use Rattle.b67_action.specs.Acting.{IsActing}
 use Rattle.b67_action.specs.Done.{HasRoom}
 use Rattle.b67_action.specs.Own.{part_of}
@@ -39,6 +41,7 @@ pub live_of : (o : Option ProcessState) → is_able o ≡ true → is_live o ≡
 live_of None e = cc
 live_of (Some states.Able) e = refl
 live_of (Some (states.WaitsFor at)) e = cc
+live_of (Some states.WaitsAny) e = cc
 live_of (Some (states.Procures at)) e = cc
 live_of (Some states.Ended) e = cc
 
@@ -46,8 +49,13 @@ no_waiter : (o : Option ProcessState) → is_able o ≡ true → waits o ≡ tru
 no_waiter None e f = cc
 no_waiter (Some states.Able) e f = cc
 no_waiter (Some (states.WaitsFor at)) e f = cc
+no_waiter (Some states.WaitsAny) e f = cc
 no_waiter (Some (states.Procures at)) e f = cc
 no_waiter (Some states.Ended) e f = cc
+
+-- there is room for as many to be released as there was
+pub kept_places : (n m : ℕ) (old new : Woken) → HasPlaces n old → KeepsPlaces old new → m ≡ n → HasPlaces m new
+kept_places n m old new h k e = (omega (arith, h.0, k.0, e), omega (arith, h.1, k.1, e))
 
 not_true : (b : Bool) → (b ≡ true → ⊥) → b ≡ false
 not_true true h = absurd (h refl)
@@ -62,7 +70,7 @@ none_open : {X : Type 0} (o : Option X) → is_some o ≡ false → o ≡ None
 none_open None e = refl
 none_open (Some x) e = cc
 
-module _ (stacks : Stacks) (rows : Rows) (kernel : Events) (parts : Parts) (p : ℕ) (r : Registers) (v : IsValid parts.code (image_of stacks rows kernel.events parts))
+module _ (stacks : Stacks) (rows : Rows) (kernel : Events) (parts : Parts) (p : ℕ) (r : Registers) (v : IsValid parts.code (image_of stacks rows kernel parts))
     (able : is_able (numbered parts.states.items p) ≡ true) (room : HasRoom kernel parts) (has : numbered parts.regs.items p ≡ Some r) where
   next_free : stack_at stacks (parts.started + 1) ≡ None
   next_free =
@@ -74,24 +82,25 @@ module _ (stacks : Stacks) (rows : Rows) (kernel : Events) (parts : Parts) (p : 
   pub acting : IsActing stacks rows kernel parts p
   acting = record {
     linked = subst (λ (o : Option Registers). IsLinkedIn stacks rows o) (sym has)
-        (live_are_linked parts.code (image_of stacks rows kernel.events parts) p r v (live_of (numbered parts.states.items p) able) has);
+        (live_are_linked parts.code (image_of stacks rows kernel parts) p r v (live_of (numbered parts.states.items p) able) has);
     number = numbered_from parts.regs.items p r has;
     within = omega (arith, numbered_within parts.regs.items p r has, v.registers, v.most, room.waiting);
-    idle = not_true (is_waiting p kernel.events) (λ w. no_waiter (numbered parts.states.items p) able (who_waits kernel.events parts.states.items v.events p w));
+    idle = not_true (is_waiting p kernel.events) (λ w. no_waiter (numbered parts.states.items p) able (who_waits kernel.events kernel.lists parts.states.items v.events p w));
+    unlisted = not_true (is_listed p kernel.lists) (λ i. no_waiter (numbered parts.states.items p) able (ap waits (v.events.listed p i)));
     room = room.released;
-    next = record { free = next_free; each = v.registers ∙ sym v.states; most = v.most };
+    next = record { free = next_free; each = v.registers ∙ sym v.states; numbers = v.registers ∙ sym v.numbers; most = v.most };
   }
 
   pub live : is_live (numbered parts.states.items p) ≡ true
   live = live_of (numbered parts.states.items p) able
 
   pub level_known : r.ll ≤ MOST_LEVEL
-  level_known = omega (arith, (live_are_linked parts.code (image_of stacks rows kernel.events parts) p r v live has).level)
+  level_known = omega (arith, (live_are_linked parts.code (image_of stacks rows kernel parts) p r v live has).level)
 
   pub part_known : IfSome (numbered parts.regs.items p) (λ (q : Registers). IsPart (part_of stacks q))
   part_known =
       if_some (λ (q : Registers). IsPart (part_of stacks q)) (numbered parts.regs.items p) r has
-      (valid_part parts.code (image_of stacks rows kernel.events parts) p r v live has)
+      (valid_part parts.code (image_of stacks rows kernel parts) p r v live has)
 
 -- ---- rows that are the same at each number
 
@@ -120,6 +129,8 @@ left_valid code old new v k few = subst (λ (z : Image). IsValid code z) (sym k.
   words = v.words;
   registers = v.registers;
   states = v.states;
+  numbers = v.numbers;
+  positions = v.positions;
   some = v.some;
   most = v.most;
   system = v.system;

@@ -1,9 +1,9 @@
 -- Whom an operator releases is what the table says, row by row.
-use Rattle.std.proofs.Common.{◌≡◌, refl, sym, ap, subst, ◌∙◌, ℕ, ◌+◌, Bool, true, false, cond, List, [], ◌∷◌, ◌++◌, append-nil, take, Option, Some, None, Result, Ok, Err}
+use Rattle.std.proofs.Common.{◌≡◌, refl, sym, ap, subst, ◌∙◌, ℕ, suc, ◌+◌, Bool, true, false, cond, List, [], ◌∷◌, ◌++◌, append-nil, Option, Some, None, Result, Ok, Err}
 use Rattle.std.specs.Prelude.{nat_eq}
 use Rattle.b67_list.specs.Numbered.{numbered}
 use Rattle.b67_word.specs.declared.Place.{Place}
-use Rattle.b67_word.specs.Word.{Word}
+use Rattle.b67_word.specs.Word.{Word, truth}
 use Rattle.b67_control.specs.declared.Registers.{Registers}
 use Rattle.b67_control.specs.declared.Mscw.{Mscw}
 use Rattle.b67_ops.specs.declared.Operator.{Operator}
@@ -12,9 +12,11 @@ use Rattle.b67_ops.specs.declared.intrinsic.Intrinsic.{Intrinsic}
 use Rattle.b67_ops.specs.declared.intrinsic.Intrinsic.TheVariants as names
 use Rattle.b67_segment.specs.declared.code.Code.{Code}
 use Rattle.b67_deeds.specs.declared.EventAct.TheVariants as act
+use Rattle.b67_deeds.specs.declared.EventTest.{EventTest}
 use Rattle.b67_deeds.specs.declared.EventTest.TheVariants as test
-use Rattle.b67_deeds.specs.Deeds.{EventDeed, acts}
-use Rattle.b67_events.specs.Events.{Event, waiters_at, deed_at, closed_from}
+use Rattle.b67_deeds.specs.Events.{EventState}
+use Rattle.b67_deeds.specs.Deeds.{EventDeed, acts, tests, deed}
+use Rattle.b67_events.specs.Events.{Event, state_at, waiters_at, deed_at, closed_from}
 use Rattle.b67_table.specs.declared.Class.TheVariants.{Private}
 use Rattle.b67_table.specs.Effect.{Effect, gives, faults, interrupts}
 use Rattle.b67_table.specs.Image.{Image, is_live}
@@ -35,10 +37,10 @@ use Rattle.b67_table.specs.Questions.{told}
 use Rattle.b67_table.specs.Questions as questions
 use Rattle.b67_table.specs.Writes.{written}
 use Rattle.b67_table.specs.Writes as writes
-use Rattle.b67_table.specs.Program.{Change, done, answer, asked, effect_of, registers, close_events, end_process, event_deed, Program}
+use Rattle.b67_table.specs.Program.{Change, done, answer, asked, effect_of, registers, close_events, end_process, event_deed, go_on, Program}
 use Rattle.b67_table.specs.Linkage.{caused_by, leave_base, leave_other, entry}
 use Rattle.b67_table.specs.Arguments.{finished_at}
-use Rattle.b67_table.specs.Intrinsics.{row_of_intrinsic, intrinsic_row, intrinsic, on_event}
+use Rattle.b67_table.specs.Intrinsics.{gone_on, row_of_intrinsic, intrinsic_row, intrinsic, on_event, tell_event}
 use Rattle.b67_table.specs.Rows as table
 use Rattle.b67_table.specs.Rows.{row, private_part, action, exit, return_value, enter, enter_by, marked, level_below}
 use Rattle.b67_table.specs.Table.{table as table_gives, raw, stack_length, by_row, by_operator, by_registers, operator_at, class_by}
@@ -51,7 +53,7 @@ use Rattle.b67_reach.specs.Answers.{looked}
 use Rattle.b67_intrinsics.specs.Called.{arguments, event_tests, event_tests_in, Leads}
 use Rattle.b67_intrinsics.specs.Names.{Frees, Releases}
 use Rattle.b67_letters.specs.Releases.{change_releases, effect_releases, row_releases, fetched_releases, registers_releases, released_by, releases}
-use Rattle.b67_letters.proofs.Calm.{Calm, Each, each_asked, each_as, each_critical, arrays_have, entry_calm, other_calm, return_calm, go_to_calm, select_calm, arrays_row_calm, write_calm, event_calm, tell_calm, each_event, each_start}
+use Rattle.b67_letters.proofs.Calm.{Calm, Each, each_asked, each_as, each_critical, arrays_have, entry_calm, other_calm, return_calm, go_to_calm, select_calm, arrays_row_calm, write_calm, event_calm, each_event, each_tell, each_several, each_start}
 use Rattle.b67_letters.proofs.Looks.{then_seen}
 use Rattle.b67_letters.proofs.Seen.{gives_seen}
 use Rattle.b67_letters.proofs.Mute.{Mute, calm_mute}
@@ -135,6 +137,15 @@ module _ (code : Code) (img : Image) (p : ℕ) where
       abbrev named : Intrinsic → Program
       named name = row_of_intrinsic name code r next m (arguments img.stacks r)
 
+      -- a test frees nobody
+      tells : (x : EventTest) → ((e : EventState) → (deed (tests x) p e).frees ≡ []) → (released : List ℕ) → released ≡ []
+          → Gives (B released) (asked img (tell_event x code r next m (arguments img.stacks r)))
+      tells x none released e =
+          mutely (tell_event x code r next m (arguments img.stacks r)) released e
+          (each_tell r next m (Mute p) x (λ at told i.
+          ap (λ (ps : List ℕ). ps ++ change_releases p (finished_at r m (truth told ∷ []) next) (written p (writes.event_deed (tests x) at) i)) (none (state_at at i.events))
+          ∙ calm_mute p (finished_at r m (truth told ∷ []) next) tt (written p (writes.event_deed (tests x) at) i)) code (arguments img.stacks r))
+
       named_releases : (name : Intrinsic) (released : List ℕ) → Releases name img (Some r) m [] released → Gives (B released) (asked img (named name))
       named_releases names.GoTo released e = calmly (named names.GoTo) released e (go_to_calm r next m code (arguments img.stacks r))
       named_releases names.Select released e = calmly (named names.Select) released e (select_calm r next m code (arguments img.stacks r))
@@ -148,10 +159,16 @@ module _ (code : Code) (img : Image) (p : ℕ) where
       named_releases names.Cause released e = freed_are (acts act.Cause) (λ at. refl) released e
       named_releases names.Reset released e =
           mutely (named names.Reset) released e (each_event r next m (Mute p) (acts act.Reset) (λ x i. finish_mute (written p (writes.event_deed (acts act.Reset) x) i)) code (arguments img.stacks r))
-      named_releases names.Happened released e = calmly (named names.Happened) released e (tell_calm r next m test.Happened code (arguments img.stacks r))
+      named_releases names.Happened released e = tells test.Happened (λ e. refl) released e
       named_releases names.Procure released e =
           mutely (named names.Procure) released e (each_event r next m (Mute p) (acts act.Procure) (λ x i. finish_mute (written p (writes.event_deed (acts act.Procure) x) i)) code (arguments img.stacks r))
       named_releases names.Liberate released e = freed_are (acts act.Liberate) (λ at. refl) released e
+      named_releases names.WaitAny released e =
+          mutely (named names.WaitAny) released e
+          (each_several r next m (Mute p) (λ n. calm_mute p (gone_on r next m n) tt) (λ n. calm_mute p (go_on (gone_on r next m (suc n))) tt) (λ places i. refl) code (arguments img.stacks r))
+      named_releases names.CauseAndReset released e = freed_are (acts act.CauseAndReset) (λ at. refl) released e
+      named_releases names.Available released e = tells test.Available (λ e. refl) released e
+      named_releases names.Fix released e = tells test.Fix (λ e. refl) released e
 
       intrinsic_releases : (o : Option Intrinsic) (released : List ℕ) → CallReleases o img (Some r) m [] released
           → Gives (B released) (asked img (intrinsic_row o code r next m (arguments img.stacks r)))

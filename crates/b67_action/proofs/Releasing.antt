@@ -3,7 +3,7 @@ use Rattle.std.proofs.Common.{◌≡◌, sym, subst, ℕ, Bool, true, List, Opti
 use Rattle.b67_control.specs.declared.Registers.{Registers}
 use Rattle.b67_control.specs.declared.Mscw.{Mscw}
 use Rattle.b67_ops.specs.declared.intrinsic.Intrinsic.{Intrinsic}
-use Rattle.b67_ops.specs.declared.intrinsic.Intrinsic.TheVariants.{GoTo, Select, Arrays, Event, Start, Write, Wait, Cause, Reset, Happened, Procure, Liberate}
+use Rattle.b67_ops.specs.declared.intrinsic.Intrinsic.TheVariants.{GoTo, Select, Arrays, Event, Start, Write, Wait, Cause, Reset, Happened, Procure, Liberate, WaitAny, CauseAndReset, Available, Fix}
 use Rattle.b67_table.specs.Image.{Image}
 use Rattle.b67_table.specs.Look.{seen}
 use Rattle.b67_operators.specs.declared.calling.Called.{Called}
@@ -41,6 +41,10 @@ module _ (img : Image) (regs : Option Registers) (m : Mscw) (before after : List
   made Happened e f = f
   made Procure e f = f
   made Liberate e f = cc
+  made WaitAny e f = f
+  made CauseAndReset e f = cc
+  made Available e f = f
+  made Fix e f = f
 
   pub called_made : (o : Option Intrinsic) (name : Intrinsic) → o ≡ Some name → makes (Some name) ≡ true → after ≡ before → CallReleases o img regs m before after
   called_made o name e k f = subst (λ (z : Option Intrinsic). CallReleases z img regs m before after) (sym e) (made name k f)

@@ -1,10 +1,9 @@
 -- What is performed in a process, and what is asked of it.
 use Rattle.std.specs.Prelude.{◌≡◌, ◌+◌, ◌≤◌, IsFalse, ℕ, Bool, true, false, List, [], Option, Some, None, Result, Ok, Err}
-use Rattle.std.specs.Vec.{vec_capacity}
 use Rattle.b67_list.specs.Numbered.{numbered}
 use Rattle.b67_control.specs.declared.Mscw.{Mscw}
 use Rattle.b67_control.specs.declared.Registers.{Registers}
-use Rattle.b67_events.specs.Events.{Events, is_waiting}
+use Rattle.b67_events.specs.Events.{Events, is_waiting, is_listed}
 use Rattle.b67_ops.specs.declared.intrinsic.Intrinsic.{Intrinsic}
 use Rattle.b67_ops.specs.declared.Operator.{Operator}
 use Rattle.b67_segment.specs.declared.code.Code.{Code}
@@ -28,6 +27,7 @@ use Rattle.b67_operators.specs.Leaves.{IsLinkedIn, program_in, released}
 use Rattle.b67_reach.specs.declared.Parts.{Parts}
 use Rattle.b67_reach.specs.declared.Stop.{Stop}
 use Rattle.b67_reach.specs.Answers.{looked}
+use Rattle.b67_reach.specs.Woken.{HasPlaces}
 use Rattle.b67_action.specs.declared.rows.Row.{Row}
 use Rattle.b67_action.specs.declared.rows.Row.TheVariants as rows
 use Rattle.b67_action.specs.Among.{Comes}
@@ -45,7 +45,8 @@ pub record IsActing (stacks : Stacks) (rows : Rows) (kernel : Events) (parts : P
   pub number : 1 ≤ p
   pub within : p ≤ kernel.room
   pub idle : IsFalse (is_waiting p kernel.events)
-  pub room : kernel.room ≤ vec_capacity parts.woken.processes
+  pub unlisted : IsFalse (is_listed p kernel.lists)
+  pub room : HasPlaces kernel.room parts.woken
   pub next : HasNext stacks parts
 
 -- the word above the mark at F is there
@@ -90,8 +91,8 @@ ComesOrNot p effect old new (Err NoMemory) = IsLeft old new
 
 -- ---- whom an operator releases
 
--- These are the processes that are released after an operator, where those were before: who waited for the event that CAUSE makes happen,
--- or EXIT from a base frame for the process's task, and who is the first to procure the event that LIBERATE frees. Other operators
+-- These are the processes that are released after an operator, where those were before: who waited for the event of CAUSE or CAUSEANDRESET,
+-- or of the process's task at EXIT from a base frame, and who is the first to procure the event that LIBERATE frees. Other operators
 -- release nobody.
 abbrev pub CallReleases : Option Intrinsic → Image → Option Registers → Mscw → List ℕ → List ℕ → Type 0
 CallReleases None img regs m before after = after ≡ before

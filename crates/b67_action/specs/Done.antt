@@ -1,6 +1,5 @@
 -- What an action comes to, by the operator table.
 use Rattle.std.specs.Prelude.{◌≡◌, ◌≤◌, ℕ, Bool, true, false, Option, Some, Ok}
-use Rattle.std.specs.Vec.{vec_capacity}
 use Rattle.b67_list.specs.Numbered.{numbered}
 use Rattle.b67_control.specs.declared.Registers.{Registers}
 use Rattle.b67_events.specs.Events.{Events}
@@ -26,6 +25,7 @@ use Rattle.b67_intrinsics.specs.Called.{IsLeft}
 use Rattle.b67_reach.specs.declared.Parts.{Parts}
 use Rattle.b67_reach.specs.declared.Stop.TheVariants as stops
 use Rattle.b67_reach.specs.Answers.{looked}
+use Rattle.b67_reach.specs.Woken.{HasPlaces}
 use Rattle.b67_action.specs.declared.done.Done.{Done}
 use Rattle.b67_action.specs.declared.done.Done.TheVariants.{Went, Waits, Ended, Fault, Interrupt, StackLimit, NoMemory}
 
@@ -34,6 +34,7 @@ use Rattle.b67_action.specs.declared.done.Done.TheVariants.{Went, Waits, Ended, 
 abbrev pub went : ProcessState → Done
 went states.Able = Went
 went (states.WaitsFor event) = Waits
+went states.WaitsAny = Waits
 went (states.Procures event) = Waits
 went states.Ended = Ended
 
@@ -89,4 +90,4 @@ is_performed _ = false
 -- there is room for the most processes to wait and to be released
 pub record HasRoom (kernel : Events) (parts : Parts) : Type 0 where
   pub waiting : most_processes ≤ kernel.room
-  pub released : kernel.room ≤ vec_capacity parts.woken.processes
+  pub released : HasPlaces kernel.room parts.woken

@@ -5,6 +5,7 @@ ghost use Rattle.b67_ops.specs.Spelling.{Fits};
 ghost use Rattle.b67_private.specs.Parts.{IsPart};
 ghost use Rattle.b67_intrinsics.specs.declared.hindrance.Hindrance.TheVariants.{NoMemory};
 ghost use Rattle.b67_reach.specs.Images.{image_of};
+ghost use Rattle.b67_reach.specs.Woken.{KeepsPlaces};
 ghost use Rattle.b67_action.specs.declared.rows.Row.TheVariants.{Enter};
 ghost use Rattle.b67_action.specs.Acting.{IsActing, row_effect, ComesOrNot, CallsMaker, RowReleases};
 ghost use Rattle.b67_action.specs.Among.{Comes};
@@ -37,9 +38,9 @@ fn perform_plainly<C: Core>(
     requires fits { IfSome (numbered parts.old.regs.items process) (λ r. Fits r.ll op.now) }
     requires held { IsHeldRow row }
     requires plain { row ≢ Enter }
-    ensures comes { Comes process (row_effect row parts.old.code op.now next process (numbered parts.old.regs.items process) (image_of (C.Core.stacks core.old) (C.Core.rows core.old) kernel.old.events parts.old)) (image_of (C.Core.stacks core.old) (C.Core.rows core.old) kernel.old.events parts.old) (image_of (C.Core.stacks core.new) (C.Core.rows core.new) kernel.new.events parts.new) result }
-    ensures woken { OnOk result (RowReleases row (image_of (C.Core.stacks core.old) (C.Core.rows core.old) kernel.old.events parts.old) (numbered parts.old.regs.items process) parts.old.woken.processes.items parts.new.woken.processes.items) }
-    ensures capacity { vec_capacity parts.old.woken.processes ≤ vec_capacity parts.new.woken.processes }
+    ensures comes { Comes process (row_effect row parts.old.code op.now next process (numbered parts.old.regs.items process) (image_of (C.Core.stacks core.old) (C.Core.rows core.old) kernel.old parts.old)) (image_of (C.Core.stacks core.old) (C.Core.rows core.old) kernel.old parts.old) (image_of (C.Core.stacks core.new) (C.Core.rows core.new) kernel.new parts.new) result }
+    ensures woken { OnOk result (RowReleases row (image_of (C.Core.stacks core.old) (C.Core.rows core.old) kernel.old parts.old) (numbered parts.old.regs.items process) parts.old.woken.processes.items parts.new.woken.processes.items) }
+    ensures capacity { KeepsPlaces parts.old.woken parts.new.woken }
     ensures processes { kernel.new.room ≡ kernel.old.room }
     ensures code { parts.new.code ≡ parts.old.code }
 {
@@ -66,10 +67,10 @@ pub fn perform<C: Core>(
     requires part { IfSome (numbered parts.old.regs.items process) (λ r. IsPart (part_of (C.Core.stacks core.old) r)) }
     requires fits { IfSome (numbered parts.old.regs.items process) (λ r. Fits r.ll op.now) }
     requires held { IsHeldRow row }
-    ensures comes { ComesOrNot process (row_effect row parts.old.code op.now next process (numbered parts.old.regs.items process) (image_of (C.Core.stacks core.old) (C.Core.rows core.old) kernel.old.events parts.old)) (image_of (C.Core.stacks core.old) (C.Core.rows core.old) kernel.old.events parts.old) (image_of (C.Core.stacks core.new) (C.Core.rows core.new) kernel.new.events parts.new) result }
+    ensures comes { ComesOrNot process (row_effect row parts.old.code op.now next process (numbered parts.old.regs.items process) (image_of (C.Core.stacks core.old) (C.Core.rows core.old) kernel.old parts.old)) (image_of (C.Core.stacks core.old) (C.Core.rows core.old) kernel.old parts.old) (image_of (C.Core.stacks core.new) (C.Core.rows core.new) kernel.new parts.new) result }
     ensures making { result ≡ Err NoMemory → (row ≡ Enter) × CallsMaker (C.Core.stacks core.old) (numbered parts.old.regs.items process) }
-    ensures woken { OnOk result (RowReleases row (image_of (C.Core.stacks core.old) (C.Core.rows core.old) kernel.old.events parts.old) (numbered parts.old.regs.items process) parts.old.woken.processes.items parts.new.woken.processes.items) }
-    ensures capacity { vec_capacity parts.old.woken.processes ≤ vec_capacity parts.new.woken.processes }
+    ensures woken { OnOk result (RowReleases row (image_of (C.Core.stacks core.old) (C.Core.rows core.old) kernel.old parts.old) (numbered parts.old.regs.items process) parts.old.woken.processes.items parts.new.woken.processes.items) }
+    ensures capacity { KeepsPlaces parts.old.woken parts.new.woken }
     ensures processes { kernel.new.room ≡ kernel.old.room }
     ensures code { parts.new.code ≡ parts.old.code }
 {

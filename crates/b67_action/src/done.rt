@@ -32,6 +32,7 @@ pub fn went(state: ProcessState) -> Done
     match state {
         ProcessState::Able => Done::Went,
         ProcessState::WaitsFor(_) => Done::Waits,
+        ProcessState::WaitsAny => Done::Waits,
         ProcessState::Procures(_) => Done::Waits,
         ProcessState::Ended => Done::Ended,
     }

@@ -12,6 +12,7 @@ ghost use Rattle.b67_intrinsics.specs.declared.hindrance.Hindrance.TheVariants.{
 ghost use Rattle.b67_intrinsics.specs.Called.{called_in, Tries};
 ghost use Rattle.b67_intrinsics.specs.Names.{Releases};
 ghost use Rattle.b67_reach.specs.Images.{image_of};
+ghost use Rattle.b67_reach.specs.Woken.{KeepsPlaces};
 ghost use Rattle.b67_reach.specs.Answers.{Acts};
 ghost use Rattle.b67_action.specs.Acting.{IsActing, IsEntering, selects, hindered, CallsMaker, CallReleases, EnterReleases};
 ghost use Rattle.b67_action.specs.Among.{ActsIn};
@@ -22,8 +23,8 @@ use b67_control::Mscw;
 use b67_events::Kernel;
 use b67_going::{Unstarted, go_to, start};
 use b67_intrinsics::{
-    Hindrance, arrays, cause, happened, liberate, make_event, procure, registers, reset, select,
-    wait, write,
+    Hindrance, arrays, available, cause, cause_and_reset, fix, happened, liberate, make_event,
+    procure, registers, reset, select, wait, wait_any, write,
 };
 use b67_operators::find_called;
 use b67_ops::{FIRST_INTRINSIC, INTRINSICS, Intrinsic};
@@ -44,6 +45,10 @@ const IN_ORDER: [Intrinsic; INTRINSICS] = [
     Intrinsic::Happened,
     Intrinsic::Procure,
     Intrinsic::Liberate,
+    Intrinsic::WaitAny,
+    Intrinsic::CauseAndReset,
+    Intrinsic::Available,
+    Intrinsic::Fix,
 ];
 
 // The intrinsic of a number, where there is one.
@@ -100,9 +105,9 @@ fn call_plainly<C: Core>(
     requires acting { IsActing (C.Core.stacks core.old) (C.Core.rows core.old) kernel.old parts.old process }
     requires entering { IsEntering (numbered parts.old.regs.items process) }
     requires plain { makes (Some name) ≡ false }
-    ensures acts { Acts process (called_in (row_of_intrinsic name) parts.old.code (numbered parts.old.regs.items process) next mark.now) (image_of (C.Core.stacks core.old) (C.Core.rows core.old) kernel.old.events parts.old) (image_of (C.Core.stacks core.new) (C.Core.rows core.new) kernel.new.events parts.new) result }
-    ensures woken { OnOk result (Releases name (image_of (C.Core.stacks core.old) (C.Core.rows core.old) kernel.old.events parts.old) (numbered parts.old.regs.items process) mark.now parts.old.woken.processes.items parts.new.woken.processes.items) }
-    ensures capacity { vec_capacity parts.old.woken.processes ≤ vec_capacity parts.new.woken.processes }
+    ensures acts { Acts process (called_in (row_of_intrinsic name) parts.old.code (numbered parts.old.regs.items process) next mark.now) (image_of (C.Core.stacks core.old) (C.Core.rows core.old) kernel.old parts.old) (image_of (C.Core.stacks core.new) (C.Core.rows core.new) kernel.new parts.new) result }
+    ensures woken { OnOk result (Releases name (image_of (C.Core.stacks core.old) (C.Core.rows core.old) kernel.old parts.old) (numbered parts.old.regs.items process) mark.now parts.old.woken.processes.items parts.new.woken.processes.items) }
+    ensures capacity { KeepsPlaces parts.old.woken parts.new.woken }
     ensures processes { kernel.new.room ≡ kernel.old.room }
     ensures code { parts.new.code ≡ parts.old.code }
 {
@@ -115,6 +120,10 @@ fn call_plainly<C: Core>(
         Intrinsic::Happened => happened(core, kernel, parts, process, mark, next),
         Intrinsic::Procure => procure(core, kernel, parts, process, mark, next),
         Intrinsic::Liberate => liberate(core, kernel, parts, process, mark, next),
+        Intrinsic::WaitAny => wait_any(core, kernel, parts, process, mark, next),
+        Intrinsic::CauseAndReset => cause_and_reset(core, kernel, parts, process, mark, next),
+        Intrinsic::Available => available(core, kernel, parts, process, mark, next),
+        Intrinsic::Fix => fix(core, kernel, parts, process, mark, next),
         _ => Err(invalid()),
     }
 }
@@ -130,7 +139,7 @@ fn start_in<C: Core>(
 ) -> Result<(), Hindrance>
     requires calling { IsCalling (C.Core.stacks core.old) (C.Core.rows core.old) (numbered parts.old.regs.items process) }
     requires next { HasNext (C.Core.stacks core.old) parts.old }
-    ensures tries { Tries process (called_in start_process parts.old.code (numbered parts.old.regs.items process) next mark.now) (image_of (C.Core.stacks core.old) (C.Core.rows core.old) kernel.now.events parts.old) (image_of (C.Core.stacks core.new) (C.Core.rows core.new) kernel.now.events parts.new) result }
+    ensures tries { Tries process (called_in start_process parts.old.code (numbered parts.old.regs.items process) next mark.now) (image_of (C.Core.stacks core.old) (C.Core.rows core.old) kernel.now parts.old) (image_of (C.Core.stacks core.new) (C.Core.rows core.new) kernel.now parts.new) result }
     ensures code { parts.new.code ≡ parts.old.code }
     ensures woken { parts.new.woken ≡ parts.old.woken }
 {
@@ -154,7 +163,7 @@ fn call_making<C: Core>(
     requires acting { IsActing (C.Core.stacks core.old) (C.Core.rows core.old) kernel.old parts.old process }
     requires entering { IsEntering (numbered parts.old.regs.items process) }
     requires makes { makes (Some name) ≡ true }
-    ensures tries { Tries process (called_in (row_of_intrinsic name) parts.old.code (numbered parts.old.regs.items process) next mark.now) (image_of (C.Core.stacks core.old) (C.Core.rows core.old) kernel.old.events parts.old) (image_of (C.Core.stacks core.new) (C.Core.rows core.new) kernel.new.events parts.new) result }
+    ensures tries { Tries process (called_in (row_of_intrinsic name) parts.old.code (numbered parts.old.regs.items process) next mark.now) (image_of (C.Core.stacks core.old) (C.Core.rows core.old) kernel.old parts.old) (image_of (C.Core.stacks core.new) (C.Core.rows core.new) kernel.new parts.new) result }
     ensures woken { parts.new.woken ≡ parts.old.woken }
     ensures processes { kernel.new.room ≡ kernel.old.room }
     ensures code { parts.new.code ≡ parts.old.code }
@@ -190,10 +199,10 @@ fn call<C: Core>(
 ) -> Result<(), Hindrance>
     requires acting { IsActing (C.Core.stacks core.old) (C.Core.rows core.old) kernel.old parts.old process }
     requires entering { IsEntering (numbered parts.old.regs.items process) }
-    ensures tries { Tries process (called_in (intrinsic_row (intrinsic_numbered number)) parts.old.code (numbered parts.old.regs.items process) next mark.now) (image_of (C.Core.stacks core.old) (C.Core.rows core.old) kernel.old.events parts.old) (image_of (C.Core.stacks core.new) (C.Core.rows core.new) kernel.new.events parts.new) result }
+    ensures tries { Tries process (called_in (intrinsic_row (intrinsic_numbered number)) parts.old.code (numbered parts.old.regs.items process) next mark.now) (image_of (C.Core.stacks core.old) (C.Core.rows core.old) kernel.old parts.old) (image_of (C.Core.stacks core.new) (C.Core.rows core.new) kernel.new parts.new) result }
     ensures making { result ≡ Err NoMemory → makes (intrinsic_numbered number) ≡ true }
-    ensures woken { OnOk result (CallReleases (intrinsic_numbered number) (image_of (C.Core.stacks core.old) (C.Core.rows core.old) kernel.old.events parts.old) (numbered parts.old.regs.items process) mark.now parts.old.woken.processes.items parts.new.woken.processes.items) }
-    ensures capacity { vec_capacity parts.old.woken.processes ≤ vec_capacity parts.new.woken.processes }
+    ensures woken { OnOk result (CallReleases (intrinsic_numbered number) (image_of (C.Core.stacks core.old) (C.Core.rows core.old) kernel.old parts.old) (numbered parts.old.regs.items process) mark.now parts.old.woken.processes.items parts.new.woken.processes.items) }
+    ensures capacity { KeepsPlaces parts.old.woken parts.new.woken }
     ensures processes { kernel.new.room ≡ kernel.old.room }
     ensures code { parts.new.code ≡ parts.old.code }
 {
@@ -216,10 +225,10 @@ pub fn enter<C: Core>(
     next: u16,
 ) -> Result<(), Hindrance>
     requires { IsActing (C.Core.stacks core.old) (C.Core.rows core.old) kernel.old parts.old process }
-    ensures tries { Tries process (program_in (enter parts.old.code) (numbered parts.old.regs.items process) next) (image_of (C.Core.stacks core.old) (C.Core.rows core.old) kernel.old.events parts.old) (image_of (C.Core.stacks core.new) (C.Core.rows core.new) kernel.new.events parts.new) result }
+    ensures tries { Tries process (program_in (enter parts.old.code) (numbered parts.old.regs.items process) next) (image_of (C.Core.stacks core.old) (C.Core.rows core.old) kernel.old parts.old) (image_of (C.Core.stacks core.new) (C.Core.rows core.new) kernel.new parts.new) result }
     ensures making { result ≡ Err NoMemory → CallsMaker (C.Core.stacks core.old) (numbered parts.old.regs.items process) }
-    ensures woken { OnOk result (EnterReleases (image_of (C.Core.stacks core.old) (C.Core.rows core.old) kernel.old.events parts.old) (numbered parts.old.regs.items process) parts.old.woken.processes.items parts.new.woken.processes.items) }
-    ensures capacity { vec_capacity parts.old.woken.processes ≤ vec_capacity parts.new.woken.processes }
+    ensures woken { OnOk result (EnterReleases (image_of (C.Core.stacks core.old) (C.Core.rows core.old) kernel.old parts.old) (numbered parts.old.regs.items process) parts.old.woken.processes.items parts.new.woken.processes.items) }
+    ensures capacity { KeepsPlaces parts.old.woken parts.new.woken }
     ensures processes { kernel.new.room ≡ kernel.old.room }
     ensures code { parts.new.code ≡ parts.old.code }
 {

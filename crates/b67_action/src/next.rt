@@ -30,15 +30,15 @@ pub fn action<C: Core>(
     process: u32,
     table: Option<&Prepared>,
 ) -> Done
-    requires valid { IsValid parts.old.code (image_of (C.Core.stacks core.old) (C.Core.rows core.old) kernel.old.events parts.old) }
+    requires valid { IsValid parts.old.code (image_of (C.Core.stacks core.old) (C.Core.rows core.old) kernel.old parts.old) }
     requires able { is_able (numbered parts.old.states.items process) ≡ true }
     requires room { HasRoom kernel.old parts.old }
     requires table { IfSome (numbered parts.old.regs.items process) (λ r. IfSome table (λ t. AreDecoded parts.old.code r.segment r.ll t.now)) }
-    ensures came { Came parts.old.code (image_of (C.Core.stacks core.old) (C.Core.rows core.old) kernel.old.events parts.old) process result (image_of (C.Core.stacks core.new) (C.Core.rows core.new) kernel.new.events parts.new) }
-    ensures woken { is_performed result ≡ true → parts.new.woken.processes.items ≡ releases parts.old.code (image_of (C.Core.stacks core.old) (C.Core.rows core.old) kernel.old.events parts.old) process }
+    ensures came { Came parts.old.code (image_of (C.Core.stacks core.old) (C.Core.rows core.old) kernel.old parts.old) process result (image_of (C.Core.stacks core.new) (C.Core.rows core.new) kernel.new parts.new) }
+    ensures woken { is_performed result ≡ true → parts.new.woken.processes.items ≡ releases parts.old.code (image_of (C.Core.stacks core.old) (C.Core.rows core.old) kernel.old parts.old) process }
     ensures nobody { is_performed result ≡ false → parts.new.woken.processes.items ≡ [] }
-    ensures able { is_performed result ≡ true → AbleAfter (image_of (C.Core.stacks core.old) (C.Core.rows core.old) kernel.old.events parts.old) (image_of (C.Core.stacks core.new) (C.Core.rows core.new) kernel.new.events parts.new) process parts.new.woken.processes.items }
-    ensures valid { IsValid parts.old.code (image_of (C.Core.stacks core.new) (C.Core.rows core.new) kernel.new.events parts.new) }
+    ensures able { is_performed result ≡ true → AbleAfter (image_of (C.Core.stacks core.old) (C.Core.rows core.old) kernel.old parts.old) (image_of (C.Core.stacks core.new) (C.Core.rows core.new) kernel.new parts.new) process parts.new.woken.processes.items }
+    ensures valid { IsValid parts.old.code (image_of (C.Core.stacks core.new) (C.Core.rows core.new) kernel.new parts.new) }
     ensures room { HasRoom kernel.new parts.new }
     ensures processes { kernel.new.room ≡ kernel.old.room }
     ensures code { parts.new.code ≡ parts.old.code }

@@ -10,6 +10,7 @@ ghost use Rattle.b67_display.specs.Shown.{IsShown};
 ghost use Rattle.b67_operators.specs.Leaves.{IsLinkedIn};
 ghost use Rattle.b67_private.specs.Actions.{IsHeldRow};
 ghost use Rattle.b67_reach.specs.Images.{image_of};
+ghost use Rattle.b67_reach.specs.Woken.{KeepsPlaces};
 ghost use Rattle.b67_action.specs.Acting.{EntersPlainly};
 ghost use Rattle.b67_action.specs.Among.{ActsIn};
 ghost use Rattle.b67_action.specs.Onward.{HasGone, GoesBy, action_of};
@@ -47,8 +48,8 @@ fn perform_ready<C: Core>(
     requires linked { IsLinkedIn (C.Core.stacks core.old) (C.Core.rows core.old) (numbered parts.old.regs.items process) }
     requires shown { IfSome (numbered parts.old.regs.items process) (λ r. IsShown r.ll r.display) }
     requires held { IsHeldRow row }
-    ensures goes { result ≡ true → GoesBy (action_of row) parts.old.code next process (numbered parts.old.regs.items process) (image_of (C.Core.stacks core.old) (C.Core.rows core.old) kernel.old.events parts.old) (image_of (C.Core.stacks core.new) (C.Core.rows core.new) kernel.new.events parts.new) }
-    ensures stays { result ≡ false → image_of (C.Core.stacks core.new) (C.Core.rows core.new) kernel.new.events parts.new ≡ image_of (C.Core.stacks core.old) (C.Core.rows core.old) kernel.old.events parts.old }
+    ensures goes { result ≡ true → GoesBy (action_of row) parts.old.code next process (numbered parts.old.regs.items process) (image_of (C.Core.stacks core.old) (C.Core.rows core.old) kernel.old parts.old) (image_of (C.Core.stacks core.new) (C.Core.rows core.new) kernel.new parts.new) }
+    ensures stays { result ≡ false → image_of (C.Core.stacks core.new) (C.Core.rows core.new) kernel.new parts.new ≡ image_of (C.Core.stacks core.old) (C.Core.rows core.old) kernel.old parts.old }
     ensures states { parts.new.states ≡ parts.old.states }
     ensures started { parts.new.started ≡ parts.old.started }
     ensures processes { kernel.new.room ≡ kernel.old.room }
@@ -77,14 +78,14 @@ pub fn go_on<C: Core>(
     process: u32,
     table: Option<&Prepared>,
 ) -> bool
-    requires valid { IsValid parts.old.code (image_of (C.Core.stacks core.old) (C.Core.rows core.old) kernel.old.events parts.old) }
+    requires valid { IsValid parts.old.code (image_of (C.Core.stacks core.old) (C.Core.rows core.old) kernel.old parts.old) }
     requires able { is_able (numbered parts.old.states.items process) ≡ true }
     requires table { IfSome (numbered parts.old.regs.items process) (λ r. IfSome table (λ t. AreDecoded parts.old.code r.segment r.ll t.now)) }
-    ensures went { result ≡ true → HasGone parts.old.code (image_of (C.Core.stacks core.old) (C.Core.rows core.old) kernel.old.events parts.old) process (image_of (C.Core.stacks core.new) (C.Core.rows core.new) kernel.new.events parts.new) parts.new.woken.processes.items }
+    ensures went { result ≡ true → HasGone parts.old.code (image_of (C.Core.stacks core.old) (C.Core.rows core.old) kernel.old parts.old) process (image_of (C.Core.stacks core.new) (C.Core.rows core.new) kernel.new parts.new) parts.new.woken.processes.items }
     ensures calm { result ≡ true → (parts.new.states ≡ parts.old.states) × (parts.new.started ≡ parts.old.started) × (parts.new.woken.processes.items ≡ []) }
-    ensures stays { result ≡ false → image_of (C.Core.stacks core.new) (C.Core.rows core.new) kernel.new.events parts.new ≡ image_of (C.Core.stacks core.old) (C.Core.rows core.old) kernel.old.events parts.old }
+    ensures stays { result ≡ false → image_of (C.Core.stacks core.new) (C.Core.rows core.new) kernel.new parts.new ≡ image_of (C.Core.stacks core.old) (C.Core.rows core.old) kernel.old parts.old }
     ensures woken { result ≡ false → parts.new.woken ≡ parts.old.woken }
-    ensures room { vec_capacity parts.old.woken.processes ≤ vec_capacity parts.new.woken.processes }
+    ensures room { KeepsPlaces parts.old.woken parts.new.woken }
     ensures processes { kernel.new.room ≡ kernel.old.room }
     ensures code { parts.new.code ≡ parts.old.code }
 {

@@ -4,7 +4,7 @@ use Rattle.std.proofs.Math.Decide.{ℕ_discrete}
 use Rattle.b67_list.specs.Numbered.{numbered}
 use Rattle.b67_segment.specs.declared.code.Code.{Code}
 use Rattle.b67_table.specs.declared.ProcessState.{ProcessState}
-use Rattle.b67_table.specs.declared.ProcessState.TheVariants.{Able, WaitsFor, Procures, Ended}
+use Rattle.b67_table.specs.declared.ProcessState.TheVariants.{Able, WaitsFor, WaitsAny, Procures, Ended}
 use Rattle.b67_table.specs.Beginning.{first_image}
 use Rattle.b67_table.specs.Ending.{image_end}
 use Rattle.b67_table.specs.Image.{Image, is_able, is_live}
@@ -24,6 +24,7 @@ able_live : (o : Option ProcessState) → is_able o ≡ true → is_live o ≡ t
 able_live (Some Able) e = refl
 able_live (Some Ended) e = cc
 able_live (Some (WaitsFor x)) e = cc
+able_live (Some WaitsAny) e = cc
 able_live (Some (Procures x)) e = cc
 able_live None e = cc
 

@@ -20,8 +20,9 @@ none_there None e = refl
 none_there (Some a) e = absurd cc
 
 pub valid_have_next : ValidHaveNext
-valid_have_next code stacks rows events parts v = record {
+valid_have_next code stacks rows kernel parts v = record {
   free = none_there _ (v.stacks (parts.started + 1) (omega arith) ∙ ap is_live (not_yet parts.states.items parts.started v.states));
   each = v.registers ∙ sym v.states;
+  numbers = v.registers ∙ sym v.numbers;
   most = v.most;
 }

@@ -1,6 +1,6 @@
 -- What holds of every valid image.
 use Rattle.std.specs.Prelude.{List}
-use Rattle.b67_events.specs.Events.{Event}
+use Rattle.b67_events.specs.Events.{Events}
 use Rattle.b67_segment.specs.declared.code.Code.{Code}
 use Rattle.b67_store.specs.Store.{Stacks, Rows}
 use Rattle.b67_table.specs.Valid.{IsValid}
@@ -11,4 +11,4 @@ use Rattle.b67_going.specs.Starts.{HasNext}
 -- in every valid image the number of the next process is free
 abbrev pub ValidHaveNext : Type 0
 ValidHaveNext =
-    (code : Code) (stacks : Stacks) (rows : Rows) (events : List Event) (parts : Parts) → IsValid code (image_of stacks rows events parts) → HasNext stacks parts
+    (code : Code) (stacks : Stacks) (rows : Rows) (kernel : Events) (parts : Parts) → IsValid code (image_of stacks rows kernel parts) → HasNext stacks parts

@@ -98,4 +98,5 @@ IsCalling stacks rows (Some r) = IsLinked stacks rows r × (r.f + 2 ≤ r.s)
 pub record HasNext (stacks : Stacks) (parts : Parts) : Type 0 where
   pub free : stack_at stacks (parts.started + 1) ≡ None
   pub each : length parts.regs.items ≡ length parts.states.items
+  pub numbers : length parts.regs.items ≡ length parts.numbers.items
   pub most : parts.started ≤ most_processes

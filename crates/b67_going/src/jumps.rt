@@ -116,6 +116,7 @@ fn leave_above<C: Core>(core: &mut C, kernel: &mut Kernel, regs: &mut Registers,
     requires own { target.now.frame.stack ≡ regs.old.stack }
     requires clear { IsClear (C.Core.stacks core.old) regs.old target.now }
     ensures changes { (c : Cutting) → seen (C.Core.stacks core.old) (cutting regs.old target.now.frame target.now.level) ≡ Ok c → (p : ℕ) (img : Image) → img.stacks ≡ C.Core.stacks core.old → img.rows ≡ C.Core.rows core.old → img.events ≡ kernel.old.events → changed p (gone_to regs.old (tabled target.now) c.passing c.display (words_of (C.Core.stacks core.old) regs.old.stack)) img ≡ with_events (with_own (own (C.Core.stacks core.new) (C.Core.rows core.new) regs.new) p img) kernel.new.events }
+    ensures lists { kernel.new.lists ≡ kernel.old.lists }
     ensures room { regs.new.s ≤ stack_limit }
     ensures processes { kernel.new.room ≡ kernel.old.room }
 {
@@ -135,7 +136,7 @@ pub fn go_to<C: Core>(
     process: u32,
 ) -> Result<(), Stop>
     requires { IsCalling (C.Core.stacks core.old) (C.Core.rows core.old) (numbered parts.old.regs.items process) }
-    ensures acts { (next : ℕ) (mark : Mscw) → Acts process (called_in go_to parts.old.code (numbered parts.old.regs.items process) next mark) (image_of (C.Core.stacks core.old) (C.Core.rows core.old) kernel.old.events parts.old) (image_of (C.Core.stacks core.new) (C.Core.rows core.new) kernel.new.events parts.new) result }
+    ensures acts { (next : ℕ) (mark : Mscw) → Acts process (called_in go_to parts.old.code (numbered parts.old.regs.items process) next mark) (image_of (C.Core.stacks core.old) (C.Core.rows core.old) kernel.old parts.old) (image_of (C.Core.stacks core.new) (C.Core.rows core.new) kernel.new parts.new) result }
     ensures processes { kernel.new.room ≡ kernel.old.room }
     ensures code { parts.new.code ≡ parts.old.code }
     ensures woken { parts.new.woken ≡ parts.old.woken }

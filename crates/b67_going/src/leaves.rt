@@ -66,6 +66,7 @@ pub fn passes_critical<C: Core>(
 pub fn close_events<C: Core>(core: &C, kernel: &mut Kernel, from: Place, cells: u16, target: u16)
     requires { IsOk (seen (C.Core.stacks core.now) (target_cells from cells target)) }
     ensures events { seen (C.Core.stacks core.now) (target_events kernel.old.events from cells target) ≡ Ok kernel.new.events }
+    ensures lists { kernel.new.lists ≡ kernel.old.lists }
     ensures processes { kernel.new.room ≡ kernel.old.room }
 {
     let mut at = from.at;

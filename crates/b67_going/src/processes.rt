@@ -160,7 +160,7 @@ pub fn start<C: Core>(
 ) -> Result<u32, Unstarted>
     requires calling { IsCalling (C.Core.stacks core.old) (C.Core.rows core.old) (numbered parts.old.regs.items process) }
     requires next { HasNext (C.Core.stacks core.old) parts.old }
-    ensures starts { Starts process (called_in start_process parts.old.code (numbered parts.old.regs.items process) next mark.now) (image_of (C.Core.stacks core.old) (C.Core.rows core.old) kernel.now.events parts.old) (image_of (C.Core.stacks core.new) (C.Core.rows core.new) kernel.now.events parts.new) result }
+    ensures starts { Starts process (called_in start_process parts.old.code (numbered parts.old.regs.items process) next mark.now) (image_of (C.Core.stacks core.old) (C.Core.rows core.old) kernel.now parts.old) (image_of (C.Core.stacks core.new) (C.Core.rows core.new) kernel.now parts.new) result }
     ensures number { IfOk result (λ n. n ≡ parts.old.started + 1) }
     ensures code { parts.new.code ≡ parts.old.code }
     ensures woken { parts.new.woken ≡ parts.old.woken }

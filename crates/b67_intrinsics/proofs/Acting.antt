@@ -1,6 +1,6 @@
 -- What an intrinsic on an event does, step by step.
 use Rattle.std.specs.Result.{IsErrAnd}
-use Rattle.std.proofs.Common.{take, cond, Bool, true, false, ◌≡◌, refl, sym, ap, subst, ◌∙◌, ℕ, List, [], ◌∷◌, Option, Some, None, Result, Ok, Err, slice_get}
+use Rattle.std.proofs.Common.{take, cond, Bool, true, false, ◌≡◌, refl, sym, ap, subst, ◌∙◌, ℕ, List, [], ◌∷◌, map, Option, Some, None, Result, Ok, Err, slice_get}
 use Rattle.b67_word.specs.declared.Place.{Place}
 use Rattle.b67_word.specs.Word.{Word, truth}
 use Rattle.b67_control.specs.declared.Mscw.{Mscw}
@@ -13,15 +13,17 @@ use Rattle.b67_table.specs.Intrinsics.{on_event, tell_event}
 use Rattle.b67_table.specs.Outcome.{limited}
 use Rattle.b67_table.specs.Program.{event_deed, event_answer, Program, Change, answer, effect_of, does}
 use Rattle.b67_table.specs.Table.{stack_length}
-use Rattle.b67_table.specs.Writes.{written, waiting}
+use Rattle.b67_table.specs.Writes.{written, waiting, told_positions}
 use Rattle.b67_table.specs.Writes as writes
 use Rattle.b67_deeds.specs.declared.EventTest.{EventTest}
-use Rattle.b67_deeds.specs.Deeds.{EventDeed, goes, waits, procures, answers}
-use Rattle.b67_events.specs.Events.{Event, took, state_at}
+use Rattle.b67_deeds.specs.Deeds.{EventDeed, tests, goes, waits, procures, answers}
+use Rattle.b67_events.specs.Events.{Event, Events, took, state_at, number_of, position_of}
 use Rattle.b67_table.specs.declared.ProcessState.{ProcessState}
 use Rattle.b67_table.specs.declared.ProcessState.TheVariants.{WaitsFor, Procures}
 use Rattle.b67_reach.specs.declared.Stop.{Stop}
 use Rattle.b67_reach.specs.Answers.{Acts}
+use Rattle.b67_reach.specs.Woken.{told_numbers}
+use Rattle.b67_reach.proofs.Woken.{positions_told}
 use Rattle.b67_intrinsics.specs.Called.{listed, state_after, arguments, called_in, finished_in, event_tests, event_tests_in, Leads}
 
 -- ---- an intrinsic on an event
@@ -64,17 +66,22 @@ module _ (d : EventDeed) (code : Code) (next : ℕ) (m : Mscw) (p : ℕ) (img : 
         stays = tt;
       })
 
-  -- the same, where the events and the states afterwards are known
+  -- the same, where the kernel, the states and the woken numbers afterwards are known
   pub event_ends : (regs : Option Registers) (at : Place) (new : Image) → Leads img (event_tests_in regs m img.stacks) (Ok at)
-      → (es : List Event) → es ≡ (written p (writes.event_deed d at) img).events → (xs : List ProcessState) → xs ≡ (written p (writes.event_deed d at) img).states
-      → Acts {A = Unit {0}} p (finished_in regs m [] next) (written p (writes.event_deed d at) img)
-      (record new { events = (written p (writes.event_deed d at) img).events; states = (written p (writes.event_deed d at) img).states }) (Ok tt)
-      → Acts {A = Unit {0}} p (called_in (on_event d) code regs next m) img (record new { events = es; states = xs }) (Ok tt)
-  event_ends regs at new leads es e xs s q =
-      event_goes regs at (record new { events = es; states = xs }) leads
-      (subst (λ (fs : List Event). Acts {A = Unit {0}} p (finished_in regs m [] next) (written p (writes.event_deed d at) img) (record new { events = fs; states = xs }) (Ok tt)) (sym e)
-      (subst (λ (ys : List ProcessState). Acts {A = Unit {0}} p (finished_in regs m [] next) (written p (writes.event_deed d at) img)
-      (record new { events = (written p (writes.event_deed d at) img).events; states = ys }) (Ok tt)) (sym s) q))
+      → (k : Events) (xs : List ProcessState) (ns : List ℕ) → k.events ≡ (written p (writes.event_deed d at) img).events
+      → k.lists ≡ (written p (writes.event_deed d at) img).lists → xs ≡ (written p (writes.event_deed d at) img).states
+      → ns ≡ (written p (writes.event_deed d at) img).numbers
+      → Acts {A = Unit {0}} p (finished_in regs m [] next) (record img { events = k.events; lists = k.lists; states = xs; numbers = ns }) new (Ok tt)
+      → Acts {A = Unit {0}} p (called_in (on_event d) code regs next m) img new (Ok tt)
+  event_ends regs at new leads k xs ns e l s n q =
+      event_goes regs at new leads (subst (λ (i : Image). Acts {A = Unit {0}} p (finished_in regs m [] next) i new (Ok tt)) is q)
+    where
+      is : record img { events = k.events; lists = k.lists; states = xs; numbers = ns } ≡ written p (writes.event_deed d at) img
+      is =
+          ap (λ (z : List Event). record img { events = z; lists = k.lists; states = xs; numbers = ns }) e
+          ∙ ap (λ (z : List (List Place)). record (written p (writes.event_deed d at) img) { lists = z; states = xs; numbers = ns }) l
+          ∙ ap (λ (z : List ProcessState). record (written p (writes.event_deed d at) img) { states = z; numbers = ns }) s
+          ∙ ap (λ (z : List ℕ). record (written p (writes.event_deed d at) img) { numbers = z }) n
 
 -- the states where a process goes on or waits
 pub waits_is : (b : Bool) (at : Place) (p : ℕ) (states : List ProcessState)
@@ -87,6 +94,12 @@ pub procures_is : (b : Bool) (at : Place) (p : ℕ) (states : List ProcessState)
 procures_is true at p states = refl
 procures_is false at p states = refl
 
+-- the woken numbers of those who are released
+pub told_is : (at : Place) (lists : List (List Place)) (ps qs positions numbers : List ℕ) → qs ≡ ps → positions ≡ map (λ p. number_of (position_of at lists p)) ps
+    → told_numbers qs positions numbers ≡ told_positions at lists ps numbers
+told_is at lists ps qs positions numbers e f =
+    ap (λ (z : List ℕ). told_numbers z positions numbers) e ∙ ap (λ (z : List ℕ). told_numbers ps z numbers) f ∙ positions_told at lists ps numbers
+
 pub first_listed : (xs : List ℕ) → listed (slice_get (take 1 xs) 0) ≡ take 1 xs
 first_listed [] = refl
 first_listed (x ∷ xs) = refl
@@ -95,7 +108,7 @@ first_listed (x ∷ xs) = refl
 
 abbrev pub telling : EventTest → Option Registers → Mscw → ℕ → Place → Program
 telling t None m next at = no_such
-telling t (Some r) m next at = event_answer t at (λ (b : Bool). answer (finished_at r m (truth b ∷ []) next))
+telling t (Some r) m next at = event_answer t at (λ (b : Bool). answer (event_deed (tests t) at (finished_at r m (truth b ∷ []) next)))
 
 tell_event_is : (t : EventTest) (code : Code) (r : Registers) (next : ℕ) (m : Mscw) (words : List Word)
     → tell_event t code r next m words ≡ event_tests r m words (telling t (Some r) m next)
@@ -119,13 +132,15 @@ module _ (t : EventTest) (code : Code) (next : ℕ) (m : Mscw) (p : ℕ) (img : 
       told_tests regs img (Err other) (subst (λ (s : Stop). Acts {A = Unit {0}} p (event_tests_in regs m img.stacks (telling t regs m next)) img img (Err s)) (sym i)
       (x p (telling t regs m next)))
 
-  pub tell_goes : (regs : Option Registers) (at : Place) (b : Bool) (w : Word) (new : Image) → b ≡ answers t (state_at at img.events) → w ≡ truth b
-      → Leads img (event_tests_in regs m img.stacks) (Ok at)
-      → Acts {A = Unit {0}} p (finished_in regs m (w ∷ []) next) img new (Ok tt) → Acts {A = Unit {0}} p (called_in (tell_event t) code regs next m) img new (Ok tt)
-  tell_goes None at b w new h k x q = record { outcome = q.outcome; stays = tt }
-  tell_goes (Some r) at b w new h k x q =
+  pub tell_goes : (regs : Option Registers) (at : Place) (b : Bool) (w : Word) (mid new : Image) → b ≡ answers t (state_at at img.events) → w ≡ truth b
+      → mid ≡ written p (writes.event_deed (tests t) at) img → Leads img (event_tests_in regs m img.stacks) (Ok at)
+      → Acts {A = Unit {0}} p (finished_in regs m (w ∷ []) next) mid new (Ok tt) → Acts {A = Unit {0}} p (called_in (tell_event t) code regs next m) img new (Ok tt)
+  tell_goes None at b w mid new h k i x q = record { outcome = q.outcome; stays = tt }
+  tell_goes (Some r) at b w mid new h k i x q =
       told_tests (Some r) new (Ok tt) (record {
         outcome = ap (λ (e : Effect Change). limited (stack_length p) (effect_of p img e)) (x (telling t (Some r) m next))
-            ∙ ap (λ (v : Word). limited (stack_length p) (does p (answer (finished_at r m (v ∷ []) next)) img)) (sym (k ∙ ap truth h)) ∙ q.outcome;
+            ∙ ap (λ (v : Word). limited (stack_length p) (does p (answer (finished_at r m (v ∷ []) next)) (written p (writes.event_deed (tests t) at) img)))
+            (sym (k ∙ ap truth h))
+            ∙ ap (λ (z : Image). limited (stack_length p) (does p (answer (finished_at r m (w ∷ []) next)) z)) (sym i) ∙ q.outcome;
         stays = tt;
       })

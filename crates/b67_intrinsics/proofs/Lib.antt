@@ -8,3 +8,4 @@ pub mod Numbers
 pub mod LineTests
 pub mod Pushing
 pub mod MakingArrays
+pub mod ManyEvents

@@ -32,7 +32,7 @@ use Rattle.b67_reach.specs.declared.Stop.{Stop}
 use Rattle.b67_reach.specs.declared.Stop.TheVariants.{Interrupt, StackLimit}
 use Rattle.b67_reach.specs.Answers.{Acts, looked, stopped, whole}
 use Rattle.b67_intrinsics.specs.declared.hindrance.Hindrance.{Hindrance}
-use Rattle.b67_intrinsics.specs.declared.hindrance.Hindrance.TheVariants.{Stopped, NoMemory}
+use Rattle.b67_intrinsics.specs.declared.hindrance.Hindrance.TheVariants.{Stopped}
 use Rattle.b67_intrinsics.specs.Called.{called_in, finished_in, mark_below, Leads, MayLead}
 use Rattle.b67_intrinsics.specs.Arrays.{as_order, is_order, order_in, stop_for, array_tests, array_tests_in, pushed_on}
 use Rattle.b67_intrinsics.proofs.Pushing.{ends, numbered_set, pushed_is}

@@ -11,17 +11,19 @@ use Rattle.b67_segment.specs.declared.code.Code.{Code}
 use Rattle.b67_store.specs.Store.{Stacks, Rows, words_of, row_at}
 use Rattle.b67_table.specs.declared.InterruptKind.{InterruptKind}
 use Rattle.b67_table.specs.declared.InterruptKind.TheVariants.{InvalidOperand}
-use Rattle.b67_table.specs.Arguments.{IntrinsicRow, Three, no_such, event_of, wholes_in, if_chained, finished_at}
+use Rattle.b67_table.specs.Arguments.{IntrinsicRow, Three, no_such, event_of, events_of, wholes_in, if_chained, finished_at}
 use Rattle.b67_table.specs.Chains.{place, broken, mark_at}
 use Rattle.b67_table.specs.Image.{Image}
 use Rattle.b67_table.specs.Look.{Look}
 use Rattle.b67_table.specs.References.{cell_place}
 use Rattle.b67_table.specs.declared.Cell.{Cell}
 use Rattle.b67_word.specs.declared.Place.{Place}
+use Rattle.b67_table.specs.Intrinsics.{if_several}
+use Rattle.b67_table.specs.Outcome.{gives}
 use Rattle.b67_table.specs.Program.{Program, loads, asked, answer, ◌>>=◌}
 use Rattle.b67_reach.specs.declared.Stop.{Stop}
 use Rattle.b67_reach.specs.declared.Stop.TheVariants.{Interrupt}
-use Rattle.b67_reach.specs.Answers.{IsReady, Acts}
+use Rattle.b67_reach.specs.Answers.{IsReady, Acts, whole, stopped}
 use Rattle.b67_intrinsics.specs.declared.hindrance.Hindrance.{Hindrance}
 use Rattle.b67_intrinsics.specs.declared.hindrance.Hindrance.TheVariants.{Stopped, NoMemory}
 
@@ -87,6 +89,21 @@ event_tests r m (w ∷ []) next = event_of r w >>= (λ (c : Cell). if_chained r 
 event_tests r m [] next = no_such
 event_tests r m (w ∷ v ∷ words) next = no_such
 
+-- a reference reaches an open event at this place, in a process with these registers, or it is stopped so
+abbrev pub TellsPlace : Image → Registers → Option Word → Result Place Stop → Type 0
+TellsPlace img r None res = ⊥
+TellsPlace img r (Some w) (Ok at) = (c : Cell) × (whole (asked img (event_of r w)) ≡ gives c) × (at ≡ cell_place c)
+TellsPlace img r (Some w) (Err stop) = whole (asked img (event_of r w)) ≡ stopped stop
+
+-- the tests of a wait for several events, which go on with the places of all
+abbrev pub several_tests : Registers → Mscw → List Word → (List Place → Program) → Program
+several_tests r m words next = if_several words (events_of r words >>= (λ (places : List Place). if_chained r m (next places)))
+
+-- the first of some places, so many, or what stops the tests
+abbrev pub these : Result ℕ Stop → List Place → Result (List Place) Stop
+these (Ok n) places = Ok (take n places)
+these (Err stop) places = Err stop
+
 -- how an intrinsic ends in a process
 abbrev pub finished_in : Option Registers → Mscw → List Word → ℕ → Program
 finished_in None m words pointer = no_such
@@ -105,6 +122,10 @@ ended stacks rows regs img = record img { stacks = stacks; rows = rows; regs = r
 abbrev pub event_tests_in : Option Registers → Mscw → Stacks → (Place → Program) → Program
 event_tests_in None m stacks next = no_such
 event_tests_in (Some r) m stacks next = event_tests r m (arguments stacks r) next
+
+abbrev pub several_tests_in : Option Registers → Mscw → Stacks → (List Place → Program) → Program
+several_tests_in None m stacks next = no_such
+several_tests_in (Some r) m stacks next = several_tests r m (arguments stacks r) next
 
 -- the states, where a process goes on or waits in a state
 abbrev pub state_after : Took → ProcessState → ℕ → List ProcessState → List ProcessState

@@ -29,3 +29,7 @@ Releases names.Reset img regs m before after = after ≡ before
 Releases names.Happened img regs m before after = after ≡ before
 Releases names.Procure img regs m before after = after ≡ before
 Releases names.Liberate img regs m before after = Frees (acts act.Liberate) img regs m after
+Releases names.WaitAny img regs m before after = after ≡ before
+Releases names.CauseAndReset img regs m before after = Frees (acts act.CauseAndReset) img regs m after
+Releases names.Available img regs m before after = after ≡ before
+Releases names.Fix img regs m before after = after ≡ before

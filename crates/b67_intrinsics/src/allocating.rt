@@ -3,7 +3,7 @@
 ghost use Rattle.std.specs.Prelude.{◌≡◌, ◌+◌, ◌≤◌, ◌<◌, nat_le, All, List, OnOk, IfOk, IfSome, IsTrue, Some, length, drop, map, slice_get, true, vec_capacity, Ok};
 ghost use Rattle.b67_list.specs.Numbered.{numbered};
 ghost use Rattle.b67_control.specs.Control.{descriptor_word, Fits_descriptor};
-ghost use Rattle.b67_events.specs.Events.{Event};
+ghost use Rattle.b67_events.specs.Events.{Events};
 ghost use Rattle.b67_store.specs.Store.{Stacks, stack_limit};
 ghost use Rattle.b67_table.specs.Arrays.{if_held};
 ghost use Rattle.b67_table.specs.Image.{Image};
@@ -214,7 +214,7 @@ pub fn arrays<C: Core>(
     next: u16,
 ) -> Result<(), Hindrance>
     requires { IsCalled (C.Core.stacks core.old) (numbered parts.old.regs.items process) }
-    ensures acts { (events : List Event) → Tries process (called_in arrays parts.old.code (numbered parts.old.regs.items process) next mark.now) (image_of (C.Core.stacks core.old) (C.Core.rows core.old) events parts.old) (image_of (C.Core.stacks core.new) (C.Core.rows core.new) events parts.new) result }
+    ensures acts { (kernel : Events) → Tries process (called_in arrays parts.old.code (numbered parts.old.regs.items process) next mark.now) (image_of (C.Core.stacks core.old) (C.Core.rows core.old) kernel parts.old) (image_of (C.Core.stacks core.new) (C.Core.rows core.new) kernel parts.new) result }
     ensures code { parts.new.code ≡ parts.old.code }
     ensures woken { parts.new.woken ≡ parts.old.woken }
 {

@@ -1,4 +1,4 @@
-//! The intrinsics on one event: WAIT, CAUSE, RESET, HAPPENED, PROCURE and LIBERATE.
+//! The intrinsics on one event: WAIT, CAUSE, CAUSEANDRESET, RESET, HAPPENED, AVAILABLE, FIX, PROCURE and LIBERATE.
 
 ghost use Rattle.std.specs.Prelude.{◌≡◌, ◌≤◌, OnOk, IfOk, IsSome, Some, IsTrue, IsFalse, vec_capacity, [], ◌∷◌, Ok};
 ghost use Rattle.b67_list.specs.Numbered.{numbered};
@@ -6,11 +6,12 @@ ghost use Rattle.b67_control.specs.declared.Registers.{Registers};
 ghost use Rattle.b67_deeds.specs.declared.EventAct.TheVariants as act;
 ghost use Rattle.b67_deeds.specs.declared.EventTest.TheVariants as test;
 ghost use Rattle.b67_deeds.specs.Deeds.{acts};
-ghost use Rattle.b67_events.specs.Events.{is_open, is_waiting, deed_at};
+ghost use Rattle.b67_events.specs.Events.{is_open, is_waiting, is_listed, deed_at};
 ghost use Rattle.b67_table.specs.Image.{Image};
 ghost use Rattle.b67_table.specs.Intrinsics.{on_event, tell_event};
 ghost use Rattle.b67_table.specs.Writes.{able_again};
 ghost use Rattle.b67_reach.specs.Images.{image_of};
+ghost use Rattle.b67_reach.specs.Woken.{HasPlaces, KeepsPlaces};
 ghost use Rattle.b67_reach.specs.Answers.{Acts};
 ghost use Rattle.b67_intrinsics.specs.Called.{listed, state_after, IsCalled, IsChained, called_in, finished_in, ended, Leads, event_tests_in};
 
@@ -18,7 +19,7 @@ use crate::finding::find_event;
 use crate::marks::{finish, finish_with};
 use b67_control::Mscw;
 use b67_events::{Kernel, Took, Woken};
-use b67_reach::{Parts, ProcessState, Registers, Stop, set_state, wake};
+use b67_reach::{Parts, ProcessState, Registers, Stop, set_state, wake_all};
 use b67_store::Core;
 use b67_word::{Place, Word, truth};
 
@@ -67,7 +68,7 @@ pub fn reset<C: Core>(
     next: u16,
 ) -> Result<(), Stop>
     requires { IsCalled (C.Core.stacks core.old) (numbered parts.old.regs.items process) }
-    ensures acts { Acts process (called_in (on_event (acts act.Reset)) parts.old.code (numbered parts.old.regs.items process) next mark.now) (image_of (C.Core.stacks core.old) (C.Core.rows core.old) kernel.old.events parts.old) (image_of (C.Core.stacks core.new) (C.Core.rows core.new) kernel.new.events parts.new) result }
+    ensures acts { Acts process (called_in (on_event (acts act.Reset)) parts.old.code (numbered parts.old.regs.items process) next mark.now) (image_of (C.Core.stacks core.old) (C.Core.rows core.old) kernel.old parts.old) (image_of (C.Core.stacks core.new) (C.Core.rows core.new) kernel.new parts.new) result }
     ensures processes { kernel.new.room ≡ kernel.old.room }
     ensures code { parts.new.code ≡ parts.old.code }
     ensures woken { parts.new.woken ≡ parts.old.woken }
@@ -100,7 +101,8 @@ pub fn wait<C: Core>(
     requires called { IsCalled (C.Core.stacks core.old) (numbered parts.old.regs.items process) }
     requires process { (1 ≤ process) × (process ≤ kernel.old.room) }
     requires idle { IsFalse (is_waiting process kernel.old.events) }
-    ensures acts { Acts process (called_in (on_event (acts act.Wait)) parts.old.code (numbered parts.old.regs.items process) next mark.now) (image_of (C.Core.stacks core.old) (C.Core.rows core.old) kernel.old.events parts.old) (image_of (C.Core.stacks core.new) (C.Core.rows core.new) kernel.new.events parts.new) result }
+    requires unlisted { IsFalse (is_listed process kernel.old.lists) }
+    ensures acts { Acts process (called_in (on_event (acts act.Wait)) parts.old.code (numbered parts.old.regs.items process) next mark.now) (image_of (C.Core.stacks core.old) (C.Core.rows core.old) kernel.old parts.old) (image_of (C.Core.stacks core.new) (C.Core.rows core.new) kernel.new parts.new) result }
     ensures processes { kernel.new.room ≡ kernel.old.room }
     ensures code { parts.new.code ≡ parts.old.code }
     ensures woken { parts.new.woken ≡ parts.old.woken }
@@ -129,7 +131,8 @@ pub fn procure<C: Core>(
     requires called { IsCalled (C.Core.stacks core.old) (numbered parts.old.regs.items process) }
     requires process { (1 ≤ process) × (process ≤ kernel.old.room) }
     requires idle { IsFalse (is_waiting process kernel.old.events) }
-    ensures acts { Acts process (called_in (on_event (acts act.Procure)) parts.old.code (numbered parts.old.regs.items process) next mark.now) (image_of (C.Core.stacks core.old) (C.Core.rows core.old) kernel.old.events parts.old) (image_of (C.Core.stacks core.new) (C.Core.rows core.new) kernel.new.events parts.new) result }
+    requires unlisted { IsFalse (is_listed process kernel.old.lists) }
+    ensures acts { Acts process (called_in (on_event (acts act.Procure)) parts.old.code (numbered parts.old.regs.items process) next mark.now) (image_of (C.Core.stacks core.old) (C.Core.rows core.old) kernel.old parts.old) (image_of (C.Core.stacks core.new) (C.Core.rows core.new) kernel.new parts.new) result }
     ensures processes { kernel.new.room ≡ kernel.old.room }
     ensures code { parts.new.code ≡ parts.old.code }
     ensures woken { parts.new.woken ≡ parts.old.woken }
@@ -148,14 +151,16 @@ pub fn procure<C: Core>(
 
 // The process that was served is the one released, and is able.
 fn wake_one(states: &mut Vec<ProcessState>, woken: &mut Woken, served: Option<u32>)
-    requires { 1 ≤ vec_capacity woken.old.processes }
+    requires { HasPlaces 1 woken.old }
     ensures states { states.new.items ≡ able_again (listed served) states.old.items }
     ensures woken { woken.new.processes.items ≡ listed served }
-    ensures capacity { vec_capacity woken.old.processes ≤ vec_capacity woken.new.processes }
+    ensures capacity { KeepsPlaces woken.old woken.new }
 {
     woken.processes.clear();
+    woken.positions.clear();
     if let Some(process) = served {
         woken.processes.push(process).unwrap();
+        woken.positions.push(0).unwrap();
         set_state(states, process, ProcessState::Able);
     }
 }
@@ -170,16 +175,40 @@ pub fn cause<C: Core>(
     next: u16,
 ) -> Result<(), Stop>
     requires called { IsCalled (C.Core.stacks core.old) (numbered parts.old.regs.items process) }
-    requires room { kernel.old.room ≤ vec_capacity parts.old.woken.processes }
-    ensures acts { Acts process (called_in (on_event (acts act.Cause)) parts.old.code (numbered parts.old.regs.items process) next mark.now) (image_of (C.Core.stacks core.old) (C.Core.rows core.old) kernel.old.events parts.old) (image_of (C.Core.stacks core.new) (C.Core.rows core.new) kernel.new.events parts.new) result }
-    ensures woken { OnOk result ((at : Place) × Leads (image_of (C.Core.stacks core.old) (C.Core.rows core.old) kernel.old.events parts.old) (event_tests_in (numbered parts.old.regs.items process) mark.now (C.Core.stacks core.old)) (Ok at) × (parts.new.woken.processes.items ≡ (deed_at (acts act.Cause) process at kernel.old.events).frees)) }
-    ensures capacity { vec_capacity parts.old.woken.processes ≤ vec_capacity parts.new.woken.processes }
+    requires room { HasPlaces kernel.old.room parts.old.woken }
+    ensures acts { Acts process (called_in (on_event (acts act.Cause)) parts.old.code (numbered parts.old.regs.items process) next mark.now) (image_of (C.Core.stacks core.old) (C.Core.rows core.old) kernel.old parts.old) (image_of (C.Core.stacks core.new) (C.Core.rows core.new) kernel.new parts.new) result }
+    ensures woken { OnOk result ((at : Place) × Leads (image_of (C.Core.stacks core.old) (C.Core.rows core.old) kernel.old parts.old) (event_tests_in (numbered parts.old.regs.items process) mark.now (C.Core.stacks core.old)) (Ok at) × (parts.new.woken.processes.items ≡ (deed_at (acts act.Cause) process at kernel.old.events).frees)) }
+    ensures capacity { KeepsPlaces parts.old.woken parts.new.woken }
     ensures processes { kernel.new.room ≡ kernel.old.room }
     ensures code { parts.new.code ≡ parts.old.code }
 {
     let place = find(core, kernel, &parts.regs, process, mark)?;
     kernel.cause(place, &mut parts.woken);
-    wake(&mut parts.states, &parts.woken.processes);
+    wake_all(&mut parts.states, &mut parts.numbers, &parts.woken);
+    end(core, &mut parts.regs, process, mark, next);
+    Ok(())
+}
+
+/// CAUSEANDRESET: all who wait for the event are released, in the order in which they came, and it has not happened.
+pub fn cause_and_reset<C: Core>(
+    core: &mut C,
+    kernel: &mut Kernel,
+    parts: &mut Parts,
+    process: u32,
+    mark: &Mscw,
+    next: u16,
+) -> Result<(), Stop>
+    requires called { IsCalled (C.Core.stacks core.old) (numbered parts.old.regs.items process) }
+    requires room { HasPlaces kernel.old.room parts.old.woken }
+    ensures acts { Acts process (called_in (on_event (acts act.CauseAndReset)) parts.old.code (numbered parts.old.regs.items process) next mark.now) (image_of (C.Core.stacks core.old) (C.Core.rows core.old) kernel.old parts.old) (image_of (C.Core.stacks core.new) (C.Core.rows core.new) kernel.new parts.new) result }
+    ensures woken { OnOk result ((at : Place) × Leads (image_of (C.Core.stacks core.old) (C.Core.rows core.old) kernel.old parts.old) (event_tests_in (numbered parts.old.regs.items process) mark.now (C.Core.stacks core.old)) (Ok at) × (parts.new.woken.processes.items ≡ (deed_at (acts act.CauseAndReset) process at kernel.old.events).frees)) }
+    ensures capacity { KeepsPlaces parts.old.woken parts.new.woken }
+    ensures processes { kernel.new.room ≡ kernel.old.room }
+    ensures code { parts.new.code ≡ parts.old.code }
+{
+    let place = find(core, kernel, &parts.regs, process, mark)?;
+    kernel.cause_and_reset(place, &mut parts.woken);
+    wake_all(&mut parts.states, &mut parts.numbers, &parts.woken);
     end(core, &mut parts.regs, process, mark, next);
     Ok(())
 }
@@ -194,10 +223,10 @@ pub fn liberate<C: Core>(
     next: u16,
 ) -> Result<(), Stop>
     requires called { IsCalled (C.Core.stacks core.old) (numbered parts.old.regs.items process) }
-    requires room { 1 ≤ vec_capacity parts.old.woken.processes }
-    ensures acts { Acts process (called_in (on_event (acts act.Liberate)) parts.old.code (numbered parts.old.regs.items process) next mark.now) (image_of (C.Core.stacks core.old) (C.Core.rows core.old) kernel.old.events parts.old) (image_of (C.Core.stacks core.new) (C.Core.rows core.new) kernel.new.events parts.new) result }
-    ensures woken { OnOk result ((at : Place) × Leads (image_of (C.Core.stacks core.old) (C.Core.rows core.old) kernel.old.events parts.old) (event_tests_in (numbered parts.old.regs.items process) mark.now (C.Core.stacks core.old)) (Ok at) × (parts.new.woken.processes.items ≡ (deed_at (acts act.Liberate) process at kernel.old.events).frees)) }
-    ensures capacity { vec_capacity parts.old.woken.processes ≤ vec_capacity parts.new.woken.processes }
+    requires room { HasPlaces 1 parts.old.woken }
+    ensures acts { Acts process (called_in (on_event (acts act.Liberate)) parts.old.code (numbered parts.old.regs.items process) next mark.now) (image_of (C.Core.stacks core.old) (C.Core.rows core.old) kernel.old parts.old) (image_of (C.Core.stacks core.new) (C.Core.rows core.new) kernel.new parts.new) result }
+    ensures woken { OnOk result ((at : Place) × Leads (image_of (C.Core.stacks core.old) (C.Core.rows core.old) kernel.old parts.old) (event_tests_in (numbered parts.old.regs.items process) mark.now (C.Core.stacks core.old)) (Ok at) × (parts.new.woken.processes.items ≡ (deed_at (acts act.Liberate) process at kernel.old.events).frees)) }
+    ensures capacity { KeepsPlaces parts.old.woken parts.new.woken }
     ensures processes { kernel.new.room ≡ kernel.old.room }
     ensures code { parts.new.code ≡ parts.old.code }
 {
@@ -236,12 +265,53 @@ pub fn happened<C: Core>(
     next: u16,
 ) -> Result<(), Stop>
     requires called { IsCalled (C.Core.stacks core.old) (numbered parts.old.regs.items process) }
-    ensures acts { Acts process (called_in (tell_event test.Happened) parts.old.code (numbered parts.old.regs.items process) next mark.now) (image_of (C.Core.stacks core.old) (C.Core.rows core.old) kernel.now.events parts.old) (image_of (C.Core.stacks core.new) (C.Core.rows core.new) kernel.now.events parts.new) result }
+    ensures acts { Acts process (called_in (tell_event test.Happened) parts.old.code (numbered parts.old.regs.items process) next mark.now) (image_of (C.Core.stacks core.old) (C.Core.rows core.old) kernel.now parts.old) (image_of (C.Core.stacks core.new) (C.Core.rows core.new) kernel.now parts.new) result }
     ensures code { parts.new.code ≡ parts.old.code }
     ensures woken { parts.new.woken ≡ parts.old.woken }
 {
     let place = find(core, kernel, &parts.regs, process, mark)?;
     let happened = kernel.happened(place);
     end_with(core, &mut parts.regs, process, mark, truth(happened), next);
+    Ok(())
+}
+
+/// AVAILABLE: whether the event is available, as a truth value on the stack.
+pub fn available<C: Core>(
+    core: &mut C,
+    kernel: &Kernel,
+    parts: &mut Parts,
+    process: u32,
+    mark: &Mscw,
+    next: u16,
+) -> Result<(), Stop>
+    requires called { IsCalled (C.Core.stacks core.old) (numbered parts.old.regs.items process) }
+    ensures acts { Acts process (called_in (tell_event test.Available) parts.old.code (numbered parts.old.regs.items process) next mark.now) (image_of (C.Core.stacks core.old) (C.Core.rows core.old) kernel.now parts.old) (image_of (C.Core.stacks core.new) (C.Core.rows core.new) kernel.now parts.new) result }
+    ensures code { parts.new.code ≡ parts.old.code }
+    ensures woken { parts.new.woken ≡ parts.old.woken }
+{
+    let place = find(core, kernel, &parts.regs, process, mark)?;
+    let available = kernel.available(place);
+    end_with(core, &mut parts.regs, process, mark, truth(available), next);
+    Ok(())
+}
+
+/// FIX: whether the event is not available, as a truth value on the stack; where it is, the process takes it.
+pub fn fix<C: Core>(
+    core: &mut C,
+    kernel: &mut Kernel,
+    parts: &mut Parts,
+    process: u32,
+    mark: &Mscw,
+    next: u16,
+) -> Result<(), Stop>
+    requires called { IsCalled (C.Core.stacks core.old) (numbered parts.old.regs.items process) }
+    ensures acts { Acts process (called_in (tell_event test.Fix) parts.old.code (numbered parts.old.regs.items process) next mark.now) (image_of (C.Core.stacks core.old) (C.Core.rows core.old) kernel.old parts.old) (image_of (C.Core.stacks core.new) (C.Core.rows core.new) kernel.new parts.new) result }
+    ensures processes { kernel.new.room ≡ kernel.old.room }
+    ensures code { parts.new.code ≡ parts.old.code }
+    ensures woken { parts.new.woken ≡ parts.old.woken }
+{
+    let place = find(core, kernel, &parts.regs, process, mark)?;
+    let fixed = kernel.fix(place);
+    end_with(core, &mut parts.regs, process, mark, truth(fixed), next);
     Ok(())
 }

@@ -14,11 +14,15 @@ mod lines;
 mod making;
 mod marks;
 mod selecting;
+mod waiting;
 mod writing;
 
 pub use allocating::{MOST_ARRAYS, arrays};
-pub use finding::{event_of, find_event, find_mark};
-pub use happening::{cause, end, happened, liberate, procure, registers, reset, wait};
+pub use finding::{event_of, find_event, find_events, find_mark};
+pub use happening::{
+    available, cause, cause_and_reset, end, fix, happened, liberate, procure, registers, reset,
+    wait,
+};
 pub use hindrance::Hindrance;
 pub use lines::{line_for, line_of};
 pub use making::make_event;
@@ -27,4 +31,5 @@ pub use marks::{
     whole_arguments,
 };
 pub use selecting::select;
+pub use waiting::wait_any;
 pub use writing::write;

@@ -36,8 +36,8 @@ pub fn make_event<C: Core>(
     next: u16,
 ) -> Result<(), Hindrance>
     requires { IsCalled (C.Core.stacks core.old) (numbered parts.old.regs.items process) }
-    ensures acts { Tries process (called_in make_event parts.old.code (numbered parts.old.regs.items process) next mark.now) (image_of (C.Core.stacks core.old) (C.Core.rows core.old) kernel.old.events parts.old) (image_of (C.Core.stacks core.new) (C.Core.rows core.new) kernel.new.events parts.new) result }
-    ensures stays { OnErr result (image_of (C.Core.stacks core.new) (C.Core.rows core.new) kernel.new.events parts.new ≡ image_of (C.Core.stacks core.old) (C.Core.rows core.old) kernel.old.events parts.old) }
+    ensures acts { Tries process (called_in make_event parts.old.code (numbered parts.old.regs.items process) next mark.now) (image_of (C.Core.stacks core.old) (C.Core.rows core.old) kernel.old parts.old) (image_of (C.Core.stacks core.new) (C.Core.rows core.new) kernel.new parts.new) result }
+    ensures stays { OnErr result (image_of (C.Core.stacks core.new) (C.Core.rows core.new) kernel.new parts.new ≡ image_of (C.Core.stacks core.old) (C.Core.rows core.old) kernel.old parts.old) }
     ensures processes { kernel.new.room ≡ kernel.old.room }
     ensures code { parts.new.code ≡ parts.old.code }
     ensures woken { parts.new.woken ≡ parts.old.woken }

@@ -2,7 +2,7 @@
 
 ghost use Rattle.std.specs.Prelude.{◌≡◌, ◌+◌, ◌≤◌, ◌++◌, [], ◌∷◌, List, OnOk, OnErr};
 ghost use Rattle.b67_list.specs.Numbered.{numbered};
-ghost use Rattle.b67_events.specs.Events.{Event};
+ghost use Rattle.b67_events.specs.Events.{Events};
 ghost use Rattle.b67_table.specs.Image.{Image};
 ghost use Rattle.b67_table.specs.Intrinsics.{write};
 ghost use Rattle.b67_reach.specs.Images.{image_of};
@@ -81,8 +81,8 @@ pub fn write<C: Core>(
     next: u16,
 ) -> Result<(), Hindrance>
     requires { IsCalled (C.Core.stacks core.old) (numbered parts.old.regs.items process) }
-    ensures acts { (events : List Event) → Tries process (called_in write parts.old.code (numbered parts.old.regs.items process) next mark.now) (image_of (C.Core.stacks core.old) (C.Core.rows core.old) events parts.old) (image_of (C.Core.stacks core.new) (C.Core.rows core.new) events parts.new) result }
-    ensures stays { (events : List Event) → OnErr result (image_of (C.Core.stacks core.new) (C.Core.rows core.new) events parts.new ≡ image_of (C.Core.stacks core.old) (C.Core.rows core.old) events parts.old) }
+    ensures acts { (kernel : Events) → Tries process (called_in write parts.old.code (numbered parts.old.regs.items process) next mark.now) (image_of (C.Core.stacks core.old) (C.Core.rows core.old) kernel parts.old) (image_of (C.Core.stacks core.new) (C.Core.rows core.new) kernel parts.new) result }
+    ensures stays { (kernel : Events) → OnErr result (image_of (C.Core.stacks core.new) (C.Core.rows core.new) kernel parts.new ≡ image_of (C.Core.stacks core.old) (C.Core.rows core.old) kernel parts.old) }
     ensures code { parts.new.code ≡ parts.old.code }
     ensures woken { parts.new.woken ≡ parts.old.woken }
 {

@@ -13,6 +13,7 @@ able_from : (ss : List ProcessState) → some_able ss ≡ true → (k : ℕ) × 
 able_from [] e = cc
 able_from (states.Able ∷ ss) e = (0, omega arith, refl)
 able_from (states.WaitsFor at ∷ ss) e = let r = able_from ss e in (suc r.0, omega (arith, r.1), r.2)
+able_from (states.WaitsAny ∷ ss) e = let r = able_from ss e in (suc r.0, omega (arith, r.1), r.2)
 able_from (states.Procures at ∷ ss) e = let r = able_from ss e in (suc r.0, omega (arith, r.1), r.2)
 able_from (states.Ended ∷ ss) e = let r = able_from ss e in (suc r.0, omega (arith, r.1), r.2)
 
@@ -45,6 +46,7 @@ unfolding end_of
 able_of f [] e some = absurd (omega (arith, some))
 able_of f (states.Able ∷ ss) e some = refl
 able_of f (states.WaitsFor at ∷ ss) e some = able_unless f (states.WaitsFor at ∷ ss) refl e
+able_of f (states.WaitsAny ∷ ss) e some = able_unless f (states.WaitsAny ∷ ss) refl e
 able_of f (states.Procures at ∷ ss) e some = able_unless f (states.Procures at ∷ ss) refl e
 able_of f (states.Ended ∷ ss) e some = cc
 

@@ -1,5 +1,6 @@
 -- What a machine holds once it is built, and that nothing is open where it is not built.
 use Rattle.std.proofs.Common.{◌≡◌, ◌≢◌, ap, ◌∙◌, ℕ, zero, suc, Bool, true, if◌then◌else◌, List, [], ◌∷◌, None, is_some, Result, Ok, Err, OnErr}
+use Rattle.b67_word.specs.declared.Place.{Place}
 use Rattle.b67_word.specs.Word.{Word}
 use Rattle.b67_control.specs.declared.Registers.{Registers}
 use Rattle.b67_store.specs.Store.{Stacks, Rows, stack_at, opened_at, closed_at}
@@ -38,21 +39,35 @@ module _ (old one : Stacks) (xs : List Word) (none : NoneOpen old) (is : one ≡
 
 -- ---- the whole image
 
-abbrev built : Stacks → Rows → List Event → List Registers → List ProcessState → List (List ℕ) → ℕ → Image
-built stacks rows events regs states output started =
-    record { stacks = stacks; rows = rows; events = events; regs = regs; states = states; output = output; started = started; fault = None }
+abbrev built : Stacks → Rows → List Event → List (List Place) → List Registers → List ProcessState → List ℕ → List (List ℕ) → ℕ → Image
+built stacks rows events lists regs states numbers output started =
+    record {
+      stacks = stacks;
+      rows = rows;
+      events = events;
+      lists = lists;
+      regs = regs;
+      states = states;
+      numbers = numbers;
+      output = output;
+      started = started;
+      fault = None;
+    }
 
-pub is_first : (old_stacks stacks : Stacks) (old_rows rows : Rows) (events : List Event) (regs : List Registers) (states : List ProcessState) (output : List (List ℕ)) (started : ℕ)
-    → stacks ≡ opened_at (opened_at old_stacks 0 system_stack) 1 base_frame → rows ≡ old_rows → events ≡ [] → regs ≡ first_registers ∷ [] → states ≡ Able ∷ []
-    → output ≡ [] → started ≡ 1
-    → built stacks rows events regs states output started ≡ first_on old_stacks old_rows
+pub is_first : (old_stacks stacks : Stacks) (old_rows rows : Rows) (events : List Event) (lists : List (List Place)) (regs : List Registers) (states : List ProcessState)
+    (numbers : List ℕ) (output : List (List ℕ)) (started : ℕ)
+    → stacks ≡ opened_at (opened_at old_stacks 0 system_stack) 1 base_frame → rows ≡ old_rows → events ≡ [] → lists ≡ [] → regs ≡ first_registers ∷ []
+    → states ≡ Able ∷ [] → numbers ≡ 0 ∷ [] → output ≡ [] → started ≡ 1
+    → built stacks rows events lists regs states numbers output started ≡ first_on old_stacks old_rows
 unfolding first_image
-is_first old_stacks stacks old_rows rows events regs states output started e f g h k o n =
+is_first old_stacks stacks old_rows rows events lists regs states numbers output started e f g l h k m o n =
     let opened = opened_at (opened_at old_stacks 0 system_stack) 1 base_frame in
-    ap (λ (z : Stacks). built z rows events regs states output started) e
-    ∙ ap (λ (z : Rows). built opened z events regs states output started) f
-    ∙ ap (λ (z : List Event). built opened old_rows z regs states output started) g
-    ∙ ap (λ (z : List Registers). built opened old_rows [] z states output started) h
-    ∙ ap (λ (z : List ProcessState). built opened old_rows [] (first_registers ∷ []) z output started) k
-    ∙ ap (λ (z : List (List ℕ)). built opened old_rows [] (first_registers ∷ []) (Able ∷ []) z started) o
-    ∙ ap (λ (z : ℕ). built opened old_rows [] (first_registers ∷ []) (Able ∷ []) [] z) n
+    ap (λ (z : Stacks). built z rows events lists regs states numbers output started) e
+    ∙ ap (λ (z : Rows). built opened z events lists regs states numbers output started) f
+    ∙ ap (λ (z : List Event). built opened old_rows z lists regs states numbers output started) g
+    ∙ ap (λ (z : List (List Place)). built opened old_rows [] z regs states numbers output started) l
+    ∙ ap (λ (z : List Registers). built opened old_rows [] [] z states numbers output started) h
+    ∙ ap (λ (z : List ProcessState). built opened old_rows [] [] (first_registers ∷ []) z numbers output started) k
+    ∙ ap (λ (z : List ℕ). built opened old_rows [] [] (first_registers ∷ []) (Able ∷ []) z output started) m
+    ∙ ap (λ (z : List (List ℕ)). built opened old_rows [] [] (first_registers ∷ []) (Able ∷ []) (0 ∷ []) z started) o
+    ∙ ap (λ (z : ℕ). built opened old_rows [] [] (first_registers ∷ []) (Able ∷ []) (0 ∷ []) [] z) n

@@ -19,8 +19,10 @@ use std::alloc::{AllocError, Global};
 // What a machine has beside its store, before its first operator.
 fn parts_of(alloc: Global, code: Code) -> Result<(Kernel, Parts), AllocError>
     ensures events { IfOk result (λ made. made.0.events ≡ []) }
+    ensures lists { IfOk result (λ made. made.0.lists ≡ []) }
     ensures regs { IfOk result (λ made. made.1.regs.items ≡ first_registers ∷ []) }
     ensures states { IfOk result (λ made. made.1.states.items ≡ Able ∷ []) }
+    ensures numbers { IfOk result (λ made. made.1.numbers.items ≡ 0 ∷ []) }
     ensures output { IfOk result (λ made. made.1.output.items ≡ []) }
     ensures started { IfOk result (λ made. made.1.started ≡ 1) }
     ensures room { IfOk result (λ made. HasRoom made.0 made.1) }
@@ -31,14 +33,18 @@ fn parts_of(alloc: Global, code: Code) -> Result<(Kernel, Parts), AllocError>
     regs.push(first_registers())?;
     let mut states = Vec::new(alloc);
     states.push(ProcessState::Able)?;
+    let mut numbers = Vec::with_capacity(alloc, MOST_PROCESSES as usize)?;
+    numbers.push(0)?;
     let woken = Woken {
         processes: Vec::with_capacity(alloc, MOST_PROCESSES as usize)?,
+        positions: Vec::with_capacity(alloc, MOST_PROCESSES as usize)?,
     };
     let parts = Parts {
         code,
         regs,
         output: Vec::new(alloc),
         states,
+        numbers,
         woken,
         started: 1,
     };
@@ -65,7 +71,7 @@ fn open_first<C: Core>(core: &mut C) -> Result<(), AllocError>
 pub fn load<C: Core>(alloc: Global, core: &mut C, code: Code) -> Result<(Kernel, Parts), AllocError>
     requires stacks { NoneOpen (C.Core.stacks core.old) }
     requires rows { NoneOpen (C.Core.rows core.old) }
-    ensures image { IfOk result (λ made. image_of (C.Core.stacks core.new) (C.Core.rows core.new) made.0.events made.1 ≡ first_on (C.Core.stacks core.old) (C.Core.rows core.old)) }
+    ensures image { IfOk result (λ made. image_of (C.Core.stacks core.new) (C.Core.rows core.new) made.0 made.1 ≡ first_on (C.Core.stacks core.old) (C.Core.rows core.old)) }
     ensures room { IfOk result (λ made. HasRoom made.0 made.1) }
     ensures code { IfOk result (λ made. made.1.code ≡ code) }
     ensures no_stack { OnErr result (NoneOpen (C.Core.stacks core.new)) }

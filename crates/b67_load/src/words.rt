@@ -72,6 +72,10 @@ pub fn system_words() -> [Word; 2 + INTRINSICS]
         intrinsic_word(Intrinsic::Happened.number()),
         intrinsic_word(Intrinsic::Procure.number()),
         intrinsic_word(Intrinsic::Liberate.number()),
+        intrinsic_word(Intrinsic::WaitAny.number()),
+        intrinsic_word(Intrinsic::CauseAndReset.number()),
+        intrinsic_word(Intrinsic::Available.number()),
+        intrinsic_word(Intrinsic::Fix.number()),
     ]
 }
 

@@ -67,6 +67,7 @@ pub able_any : (ss : List ProcessState) → some_able ss ≡ list_any is_able_st
 able_any [] = refl
 able_any (states.Able ∷ ss) = refl
 able_any (states.WaitsFor at ∷ ss) = able_any ss
+able_any (states.WaitsAny ∷ ss) = able_any ss
 able_any (states.Procures at ∷ ss) = able_any ss
 able_any (states.Ended ∷ ss) = able_any ss
 
@@ -74,6 +75,7 @@ pub lives_any : (ss : List ProcessState) → some_lives ss ≡ list_any lives ss
 lives_any [] = refl
 lives_any (states.Able ∷ ss) = refl
 lives_any (states.WaitsFor at ∷ ss) = refl
+lives_any (states.WaitsAny ∷ ss) = refl
 lives_any (states.Procures at ∷ ss) = refl
 lives_any (states.Ended ∷ ss) = lives_any ss
 

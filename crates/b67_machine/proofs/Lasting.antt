@@ -52,6 +52,8 @@ fault_written p (writes.close_row m) img = refl
 fault_written p (writes.open_event place) img = refl
 fault_written p (writes.close_events stack at) img = refl
 fault_written p (writes.event_deed x place) img = refl
+fault_written p (writes.wait_any places) img = refl
+fault_written p writes.go_on img = refl
 fault_written p (writes.line bytes) img = refl
 fault_written p (writes.start r words) img = refl
 fault_written p (writes.end_process stack) img = refl
@@ -102,6 +104,7 @@ able_goes : (o : Option ProcessState) → is_able o ≡ true → going o ≡ tru
 able_goes None e = cc
 able_goes (Some states.Able) e = refl
 able_goes (Some (states.WaitsFor at)) e = cc
+able_goes (Some states.WaitsAny) e = cc
 able_goes (Some (states.Procures at)) e = cc
 able_goes (Some states.Ended) e = cc
 
@@ -110,6 +113,8 @@ able_at [] k e = cc
 able_at (states.Able ∷ ss) k e = refl
 able_at (states.WaitsFor at ∷ ss) zero e = cc
 able_at (states.WaitsFor at ∷ ss) (suc k) e = able_at ss k e
+able_at (states.WaitsAny ∷ ss) zero e = cc
+able_at (states.WaitsAny ∷ ss) (suc k) e = able_at ss k e
 able_at (states.Procures at ∷ ss) zero e = cc
 able_at (states.Procures at ∷ ss) (suc k) e = able_at ss k e
 able_at (states.Ended ∷ ss) zero e = cc

@@ -112,6 +112,8 @@ module _ (stacks : Stacks) (rows : Rows) (no_stack : NoneOpen stacks) (no_row : 
         words = λ n. subst (All IsWord) (sym (same_words n)) (v.words n);
         registers = v.registers;
         states = v.states;
+        numbers = v.numbers;
+        positions = v.positions;
         some = v.some;
         most = v.most;
         system = same_stack 0 ∙ v.system;

@@ -22,6 +22,7 @@ pub live_of : (o : Option ProcessState) → is_able o ≡ true → is_live o ≡
 live_of None e = cc
 live_of (Some states.Able) e = refl
 live_of (Some (states.WaitsFor at)) e = cc
+live_of (Some states.WaitsAny) e = cc
 live_of (Some (states.Procures at)) e = cc
 live_of (Some states.Ended) e = cc
 

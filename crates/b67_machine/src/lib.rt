@@ -87,7 +87,7 @@ impl<C: Core> Model for Machine<C> {
 
     ghost view = { λ m. record {
       code = m.parts.code;
-      image = with_failure (image_of (C.Core.stacks m.core) (C.Core.rows m.core) m.kernel.events m.parts) m.failure;
+      image = with_failure (image_of (C.Core.stacks m.core) (C.Core.rows m.core) m.kernel m.parts) m.failure;
       counts = m.counts.items;
       released = m.parts.woken.processes.items;
       limit = m.limit;
@@ -95,7 +95,7 @@ impl<C: Core> Model for Machine<C> {
     } };
 
     ghost invariant = { λ m.
-        IsValid m.parts.code (image_of (C.Core.stacks m.core) (C.Core.rows m.core) m.kernel.events m.parts)
+        IsValid m.parts.code (image_of (C.Core.stacks m.core) (C.Core.rows m.core) m.kernel m.parts)
         × HasRoom m.kernel m.parts
         × (length m.counts.items ≡ most_processes)
         × AreTables m.parts.code m.tables.items };

@@ -1,7 +1,7 @@
 // The private part of a process: copied out, compared, and put back.
 ghost use Rattle.std.specs.Prelude.{◌≡◌, ◌+◌, ◌<◌, ◌≤◌, ◌^◌, List, length, Some, None, IfSome, true};
 ghost use Rattle.b67_list.specs.Numbered.{numbered};
-ghost use Rattle.b67_events.specs.Events.{Event};
+ghost use Rattle.b67_events.specs.Events.{Events};
 ghost use Rattle.b67_store.specs.Store.{stack_limit};
 ghost use Rattle.b67_table.specs.declared.Private.{Private as Part};
 ghost use Rattle.b67_table.specs.Image.{is_live, with_private};
@@ -31,7 +31,7 @@ fn put_part<C: Core>(core: &mut C, parts: &mut Parts, process: u32, end: &Privat
     requires linked { IsLinkedIn (C.Core.stacks core.old) (C.Core.rows core.old) (numbered parts.old.regs.items process) }
     requires keeps { IfSome (numbered parts.old.regs.items process) (λ r. Keeps r end.now.regs) }
     requires room { IfSome (numbered parts.old.regs.items process) (λ r. floor r + length end.now.words ≤ stack_limit) }
-    ensures put { (events : List Event) → IfSome (numbered parts.old.regs.items process) (λ r. image_of (C.Core.stacks core.new) (C.Core.rows core.new) events parts.new ≡ with_private (image_of (C.Core.stacks core.old) (C.Core.rows core.old) events parts.old) process (floor r) end.now) }
+    ensures put { (kernel : Events) → IfSome (numbered parts.old.regs.items process) (λ r. image_of (C.Core.stacks core.new) (C.Core.rows core.new) kernel parts.new ≡ with_private (image_of (C.Core.stacks core.old) (C.Core.rows core.old) kernel parts.old) process (floor r) end.now) }
     ensures others { parts.new ≡ record parts.old { regs = parts.new.regs } }
 {
     let own = &mut parts.regs[process as usize - 1];

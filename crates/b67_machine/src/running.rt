@@ -1,10 +1,11 @@
 // What a process does on the room of its own stack, on the machine.
 ghost use Rattle.std.specs.Prelude.{◌≡◌, ◌+◌, ◌<◌, ◌≤◌, ◌^◌, List, None, false, true, vec_capacity};
 ghost use Rattle.b67_list.specs.Numbered.{numbered};
-ghost use Rattle.b67_events.specs.Events.{Event};
+ghost use Rattle.b67_events.specs.Events.{Events};
 ghost use Rattle.b67_table.specs.Image.{is_able};
 ghost use Rattle.b67_table.specs.Valid.{IsValid};
 ghost use Rattle.b67_reach.specs.Images.{image_of};
+ghost use Rattle.b67_reach.specs.Woken.{KeepsPlaces};
 ghost use Rattle.b67_action.specs.Running.{HasRun};
 ghost use Rattle.b67_machine.specs.Chaining.{released_after, Runs};
 ghost use Rattle.b67_machine.specs.Kept.{counted};
@@ -28,14 +29,14 @@ fn run_in<C: Core>(
     entries: u32,
     most: u32,
 ) -> Ran
-    requires valid { (events : List Event) × IsValid parts.old.code (image_of (C.Core.stacks core.old) (C.Core.rows core.old) events parts.old) }
+    requires valid { (kernel : Events) × IsValid parts.old.code (image_of (C.Core.stacks core.old) (C.Core.rows core.old) kernel parts.old) }
     requires able { is_able (numbered parts.old.states.items process) ≡ true }
     requires tables { AreTables parts.old.code tables.now.items }
-    ensures ran { (events : List Event) → IsValid parts.old.code (image_of (C.Core.stacks core.old) (C.Core.rows core.old) events parts.old) → HasRun parts.old.code process most (image_of (C.Core.stacks core.old) (C.Core.rows core.old) events parts.old) result (image_of (C.Core.stacks core.new) (C.Core.rows core.new) events parts.new) }
+    ensures ran { (kernel : Events) → IsValid parts.old.code (image_of (C.Core.stacks core.old) (C.Core.rows core.old) kernel parts.old) → HasRun parts.old.code process most (image_of (C.Core.stacks core.old) (C.Core.rows core.old) kernel parts.old) result (image_of (C.Core.stacks core.new) (C.Core.rows core.new) kernel parts.new) }
     ensures entries { result.entries ≤ entries }
     ensures most { result.operators + result.plain ≤ most }
     ensures released { parts.new.woken.processes.items ≡ released_after result.entries parts.old.woken.processes.items }
-    ensures room { vec_capacity parts.old.woken.processes ≤ vec_capacity parts.new.woken.processes }
+    ensures room { KeepsPlaces parts.old.woken parts.new.woken }
     ensures code { parts.new.code ≡ parts.old.code }
 {
     let regs = registers(&parts.regs, process);

@@ -10,7 +10,7 @@ use Rattle.b67_word.specs.declared.Place.{Place}
 use Rattle.b67_word.specs.Word.{Word}
 use Rattle.b67_control.specs.declared.Registers.{Registers}
 use Rattle.b67_store.specs.Store.{Stacks, Rows, stack_limit}
-use Rattle.b67_events.specs.Events.{Event, closed_from}
+use Rattle.b67_events.specs.Events.{Event, Events, closed_from}
 use Rattle.b67_table.specs.declared.InterruptKind.{InterruptKind}
 use Rattle.b67_table.specs.declared.Leaving.{Leaving}
 use Rattle.b67_table.specs.declared.ProcessState.{ProcessState}
@@ -40,7 +40,7 @@ use Rattle.b67_reach.specs.declared.Stop.{Stop}
 use Rattle.b67_reach.specs.declared.Stop.TheVariants.{Interrupt, Fault, StackLimit}
 use Rattle.b67_reach.specs.Answers.{whole, stopped, looked, Acts}
 use Rattle.b67_reach.proofs.Looking.{seen_then, after_found, as_effect, asked_look, asked_then, after_test}
-use Rattle.b67_operators.specs.Leaves.{IsLinkedIn, program_in, valued, leaves, HasLeftFrame, below_found, returned, ends, HasLeftBase, task_caused, task_waiters}
+use Rattle.b67_operators.specs.Leaves.{IsLinkedIn, program_in, valued, leaves, HasLeftFrame, below_found, returned, ends, HasLeftBase, task_caused, task_waiters, task_numbers}
 
 -- ---- one program for another
 
@@ -215,18 +215,20 @@ module _ (p : ℕ) (img : Image) (r : Registers) (value : Option Word) where
         (acts_refused p (leaves img.stacks img.rows value r next) img stop
         (ap whole (asked_other next) ∙ stops_by critical (seen img.stacks (leaving (place r.stack (frame r)))) stop (e ∙ there_is)))
 
-    pub other_goes : (l : Leaving) (stacks : Stacks) (rows : Rows) (regs : List Registers) (events : List Event) → Ok l ≡ found_there → IsLinked img.stacks img.rows r
-        → HasLeftFrame img.stacks img.rows img.regs p l value (numbered img.regs p) stacks rows regs → events ≡ closed_from here.stack here.at img.events
-        → Acts p (program_in (leaves img.stacks img.rows value) (numbered img.regs p) next) img (record img { stacks = stacks; rows = rows; regs = regs; events = events }) (Ok (tt {0}))
-    other_goes l stacks rows regs events e linked left events_are =
+    pub other_goes : (l : Leaving) (stacks : Stacks) (rows : Rows) (regs : List Registers) (events : List Event) (lists : List (List Place)) → Ok l ≡ found_there → IsLinked img.stacks img.rows r
+        → HasLeftFrame img.stacks img.rows img.regs p l value (numbered img.regs p) stacks rows regs → events ≡ closed_from here.stack here.at img.events → lists ≡ img.lists
+        → Acts p (program_in (leaves img.stacks img.rows value) (numbered img.regs p) next) img
+        (record img { stacks = stacks; rows = rows; regs = regs; events = events; lists = lists }) (Ok (tt {0}))
+    other_goes l stacks rows regs events lists e linked left events_are lists_are =
         let x = subst (λ (o : Option Registers). HasLeftFrame img.stacks img.rows img.regs p l value o stacks rows regs) has left in
         let y : events ≡ closed_from r.stack (frame r) img.events = events_are ∙ ap (λ (f : Place). closed_from f.stack f.at img.events) here_is in
-        let new : new_image l ≡ record img { stacks = stacks; rows = rows; regs = regs; events = events } =
+        let new : new_image l ≡ record img { stacks = stacks; rows = rows; regs = regs; events = events; lists = lists } =
         ap (λ (z : Stacks). record (new_image l) { stacks = z }) (sym x.stacks_are)
         ∙ ap (λ (z : Rows). record (new_image l) { stacks = stacks; rows = z }) (sym x.rows_are)
         ∙ ap (λ (z : List Registers). record (new_image l) { stacks = stacks; rows = rows; regs = z }) (sym x.registers_are)
-        ∙ ap (λ (z : List Event). record (new_image l) { stacks = stacks; rows = rows; regs = regs; events = z }) (sym y) in
-        in_process p (leaves img.stacks img.rows value) (numbered img.regs p) r next img (record img { stacks = stacks; rows = rows; regs = regs; events = events }) (Ok (tt {0})) has
+        ∙ ap (λ (z : List Event). record (new_image l) { stacks = stacks; rows = rows; regs = regs; events = z }) (sym y)
+        ∙ ap (λ (z : List (List Place)). record (new_image l) { stacks = stacks; rows = rows; regs = regs; events = events; lists = z }) (sym lists_are) in
+        in_process p (leaves img.stacks img.rows value) (numbered img.regs p) r next img (record img { stacks = stacks; rows = rows; regs = regs; events = events; lists = lists }) (Ok (tt {0})) has
         (subst (λ (z : Image). Acts p (leaves img.stacks img.rows value r next) img z (Ok (tt {0}))) new
         (acts_changed p (leaves img.stacks img.rows value r next) (change l) img (new_image l)
         (asked_other next ∙ goes_by critical (seen img.stacks (leaving (place r.stack (frame r)))) l (e ∙ there_is)) (other_changed l)
@@ -256,17 +258,23 @@ module _ (p : ℕ) (img : Image) (r : Registers) (next : ℕ) where
   abbrev ending : Change
   ending = linkage.frame_left r.stack 0 base_cells (registers moved (caused_by r.task (end_process r.stack done)))
 
-  abbrev ended_image : Image
-  ended_image = record img {
+  -- the kernel without the frame's events, with this room
+  abbrev shut : ℕ → Events
+  shut room = record { events = events_after; lists = img.lists; room = room }
+
+  abbrev ended_image : ℕ → Image
+  ended_image room = record img {
     stacks = base.stacks;
     rows = base.rows;
     regs = set_numbered img.regs p moved;
-    events = task_caused r.task events_after;
+    events = (task_caused r.task (shut room)).events;
+    lists = (task_caused r.task (shut room)).lists;
     states = set_numbered (able_again (task_waiters r.task events_after) img.states) p Ended;
+    numbers = task_numbers r.task (shut room) img.numbers;
   }
 
-  base_changed : changed p ending img ≡ ended_image
-  base_changed =
+  base_changed : (room : ℕ) → changed p ending img ≡ ended_image room
+  base_changed room =
       closes_as_the_table p base_cells (close_events r.stack 0 (registers moved (caused_by r.task (end_process r.stack done)))) img ∙ by r.task
     where
       by : (task : Option Place) → changed p (close_events r.stack 0 (registers moved (caused_by task (end_process r.stack done)))) (record img { rows = base.rows })
@@ -274,8 +282,10 @@ module _ (p : ℕ) (img : Image) (r : Registers) (next : ℕ) where
             stacks = base.stacks;
             rows = base.rows;
             regs = set_numbered img.regs p moved;
-            events = task_caused task events_after;
+            events = (task_caused task (shut room)).events;
+            lists = (task_caused task (shut room)).lists;
             states = set_numbered (able_again (task_waiters task events_after) img.states) p Ended;
+            numbers = task_numbers task (shut room) img.numbers;
           }
       by None = refl
       by (Some task) = refl
@@ -287,24 +297,31 @@ module _ (p : ℕ) (img : Image) (r : Registers) (next : ℕ) where
         (acts_refused p (ends img.stacks img.rows r next) img (Fault CriticalBlockExit)
         (ap (λ (b : Bool). whole (asked img (cond b (fault CriticalBlockExit) (answer ending)))) (sym e)))
 
-    pub base_goes : (sliced : List ProcessState) (slice : List Registers) (stacks : Stacks) (rows : Rows) (regs : List Registers) (events : List Event) (states : List ProcessState)
+    pub base_goes : (sliced : List ProcessState) (slice : List Registers) (stacks : Stacks) (rows : Rows) (regs : List Registers) (room : ℕ) (kernel : Events)
+        (states : List ProcessState) (numbers : List ℕ)
         → sliced ≡ img.states → slice ≡ img.regs → false ≡ is_critical r.stack (0 ∷ []) (live_criticals sliced slice) → IsLinked img.stacks img.rows r
-        → HasLeftBase img.stacks img.rows img.regs p next (numbered img.regs p) stacks rows regs → events ≡ task_caused r.task events_after
-        → states ≡ set_numbered (able_again (task_waiters r.task events_after) img.states) p Ended
-        → Acts p (program_in (ends img.stacks img.rows) (numbered img.regs p) next) img (record img { stacks = stacks; rows = rows; regs = regs; events = events; states = states }) (Ok (tt {0}))
-    base_goes sliced slice stacks rows regs events states sliced_is slice_is e linked left events_are states_are =
-        let shut : false ≡ base_critical = e ∙ critical_in r.stack (0 ∷ []) sliced_is slice_is in
+        → HasLeftBase img.stacks img.rows img.regs p next (numbered img.regs p) stacks rows regs → kernel ≡ task_caused r.task (shut room)
+        → states ≡ set_numbered (able_again (task_waiters r.task events_after) img.states) p Ended → numbers ≡ task_numbers r.task (shut room) img.numbers
+        → Acts p (program_in (ends img.stacks img.rows) (numbered img.regs p) next) img
+        (record img { stacks = stacks; rows = rows; regs = regs; events = kernel.events; lists = kernel.lists; states = states; numbers = numbers }) (Ok (tt {0}))
+    base_goes sliced slice stacks rows regs room kernel states numbers sliced_is slice_is e linked left kernel_is states_are numbers_are =
+        let free : false ≡ base_critical = e ∙ critical_in r.stack (0 ∷ []) sliced_is slice_is in
         let x = subst (λ (o : Option Registers). HasLeftBase img.stacks img.rows img.regs p next o stacks rows regs) has left in
-        let new : ended_image ≡ record img { stacks = stacks; rows = rows; regs = regs; events = events; states = states } =
-        ap (λ (z : Stacks). record ended_image { stacks = z }) (sym x.stacks_are)
-        ∙ ap (λ (z : Rows). record ended_image { stacks = stacks; rows = z }) (sym x.rows_are)
-        ∙ ap (λ (z : List Registers). record ended_image { stacks = stacks; rows = rows; regs = z }) (sym x.registers_are)
-        ∙ ap (λ (z : List Event). record ended_image { stacks = stacks; rows = rows; regs = regs; events = z }) (sym events_are)
-        ∙ ap (λ (z : List ProcessState). record ended_image { stacks = stacks; rows = rows; regs = regs; events = events; states = z }) (sym states_are) in
-        in_process p (ends img.stacks img.rows) (numbered img.regs p) r next img (record img { stacks = stacks; rows = rows; regs = regs; events = events; states = states }) (Ok (tt {0})) has
+        let new : ended_image room
+        ≡ record img { stacks = stacks; rows = rows; regs = regs; events = kernel.events; lists = kernel.lists; states = states; numbers = numbers } =
+        ap (λ (z : Stacks). record (ended_image room) { stacks = z }) (sym x.stacks_are)
+        ∙ ap (λ (z : Rows). record (ended_image room) { stacks = stacks; rows = z }) (sym x.rows_are)
+        ∙ ap (λ (z : List Registers). record (ended_image room) { stacks = stacks; rows = rows; regs = z }) (sym x.registers_are)
+        ∙ ap (λ (z : Events). record (ended_image room) { stacks = stacks; rows = rows; regs = regs; events = z.events; lists = z.lists }) (sym kernel_is)
+        ∙ ap (λ (z : List ProcessState). record (ended_image room) { stacks = stacks; rows = rows; regs = regs; events = kernel.events; lists = kernel.lists; states = z })
+        (sym states_are)
+        ∙ ap (λ (z : List ℕ). record img { stacks = stacks; rows = rows; regs = regs; events = kernel.events; lists = kernel.lists; states = states; numbers = z })
+        (sym numbers_are) in
+        in_process p (ends img.stacks img.rows) (numbered img.regs p) r next img
+        (record img { stacks = stacks; rows = rows; regs = regs; events = kernel.events; lists = kernel.lists; states = states; numbers = numbers }) (Ok (tt {0})) has
         (subst (λ (z : Image). Acts p (ends img.stacks img.rows r next) img z (Ok (tt {0}))) new
-        (acts_changed p (ends img.stacks img.rows r next) ending img ended_image
-        (ap (λ (b : Bool). asked img (cond b (fault CriticalBlockExit) (answer ending))) (sym shut)) base_changed
+        (acts_changed p (ends img.stacks img.rows r next) ending img (ended_image room)
+        (ap (λ (b : Bool). asked img (cond b (fault CriticalBlockExit) (answer ending))) (sym free)) (base_changed room)
         (subst (λ (n : ℕ). n ≤ stack_limit) (sym (length_set p img.regs r moved has)) linked.room)))
 
 -- ---- the operators

@@ -1,9 +1,10 @@
 -- A task's event that is not open.
-use Rattle.std.proofs.Common.{◌≡◌, refl, ap, ◌∙◌, Bool, true, false, cond, ◌||◌, List, [], ◌∷◌, Option, Some, None}
+use Rattle.std.proofs.Common.{◌≡◌, refl, ap, ◌∙◌, ℕ, Bool, true, false, cond, ◌||◌, List, [], ◌∷◌, Option, Some, None}
 use Rattle.b67_word.specs.declared.Place.{Place}
 use Rattle.b67_deeds.specs.Events.{caused}
-use Rattle.b67_events.specs.Events.{Event, same_place, event_at, is_open, state_of, changed, with_state}
-use Rattle.b67_operators.specs.Leaves.{task_caused, task_waiters}
+use Rattle.b67_events.specs.Events.{Event, Events, same_place, event_at, is_open, state_of, waiters_at, changed, with_state, withdrawn, unlisted}
+use Rattle.b67_table.specs.Writes.{told_positions}
+use Rattle.b67_operators.specs.Leaves.{task_caused, task_waiters, task_numbers}
 
 first_false : (a b : Bool) → (a || b) ≡ false → a ≡ false
 first_false true b e = cc
@@ -25,8 +26,20 @@ none_there at (x ∷ es) e =
     ap (λ (b : Bool). cond b (Some x) (event_at at es)) (first_false (same_place x.place at) (is_open at es) e)
     ∙ none_there at es (second_false (same_place x.place at) (is_open at es) e)
 
-pub not_caused : (task : Option Place) (at : Place) (es : List Event) → task ≡ Some at → is_open at es ≡ false → task_caused task es ≡ es
-not_caused task at es t e = ap (λ (o : Option Place). task_caused o es) t ∙ none_caused at es e
+none_waits : (at : Place) (es : List Event) → is_open at es ≡ false → waiters_at at es ≡ []
+none_waits at es e = ap (λ (o : Option Event). (state_of o).waiters) (none_there at es e)
 
-pub nobody_waits : (task : Option Place) (at : Place) (es : List Event) → task ≡ Some at → is_open at es ≡ false → task_waiters task es ≡ []
-nobody_waits task at es t e = ap (λ (o : Option Place). task_waiters o es) t ∙ ap (λ (o : Option Event). (state_of o).waiters) (none_there at es e)
+module _ (task : Option Place) (at : Place) (t : task ≡ Some at) where
+  pub not_caused : (k : Events) → is_open at k.events ≡ false → task_caused task k ≡ k
+  not_caused k e =
+      ap (λ (o : Option Place). task_caused o k) t
+      ∙ ap (λ (ps : List ℕ). record k { events = withdrawn ps (changed at (with_state caused) k.events); lists = unlisted ps k.lists }) (none_waits at k.events e)
+      ∙ ap (λ (es : List Event). record k { events = es }) (none_caused at k.events e)
+
+  pub nobody_waits : (es : List Event) → is_open at es ≡ false → task_waiters task es ≡ []
+  nobody_waits es e = ap (λ (o : Option Place). task_waiters o es) t ∙ none_waits at es e
+
+  pub none_told : (k : Events) (numbers : List ℕ) → is_open at k.events ≡ false → task_numbers task k numbers ≡ numbers
+  none_told k numbers e =
+      ap (λ (o : Option Place). task_numbers o k numbers) t
+      ∙ ap (λ (ps : List ℕ). told_positions at k.lists ps numbers) (none_waits at k.events e)

@@ -8,7 +8,7 @@ use Rattle.b67_control.specs.declared.Registers.{Registers}
 use Rattle.b67_store.specs.Store.{Stacks, Rows}
 use Rattle.b67_deeds.specs.declared.EventAct.TheVariants as act
 use Rattle.b67_deeds.specs.Deeds.{acts}
-use Rattle.b67_events.specs.Events.{Event, closed_from, waiters_at, done_at}
+use Rattle.b67_events.specs.Events.{Event, Events, closed_from, waiters_at, unlisted, done_at}
 use Rattle.b67_table.specs.declared.InterruptKind.{InterruptKind}
 use Rattle.b67_table.specs.declared.Leaving.{Leaving}
 use Rattle.b67_table.specs.Look.{Look, found, ◌>->◌}
@@ -17,6 +17,7 @@ use Rattle.b67_table.specs.Program.{Program, see}
 use Rattle.b67_table.specs.References.{popped, invalid}
 use Rattle.b67_table.specs.Rows.{is_result}
 use Rattle.b67_table.specs.Linkage.{leave_base, leave_other}
+use Rattle.b67_table.specs.Writes.{told_positions}
 use Rattle.b67_linkage.specs.Held.{Held, held, IsLinked}
 use Rattle.b67_linkage.specs.Leaving.{own_cells, frame_left, base_left}
 use Rattle.b67_reach.specs.declared.Stop.{Stop}
@@ -77,14 +78,18 @@ abbrev pub HasLeftBase : Stacks → Rows → List Registers → ℕ → ℕ → 
 HasLeftBase stacks rows all p next None = λ (a : Stacks) (b : Rows) (c : List Registers). ⊥
 HasLeftBase stacks rows all p next (Some r) = HasLeft (record (base_left (held stacks rows r)) { regs = record r { place = next } }) p all
 
--- the events after a task's event is caused, where it is open, and the processes that this releases
-abbrev pub task_caused : Option Place → List Event → List Event
-task_caused None events = events
-task_caused (Some task) events = done_at (acts act.Cause) 0 task events
+-- the kernel after a task's event is caused, where it is open, the processes that this releases, and the woken numbers then
+abbrev pub task_caused : Option Place → Events → Events
+task_caused None k = k
+task_caused (Some task) k = record k { events = done_at (acts act.Cause) 0 task k.events; lists = unlisted (waiters_at task k.events) k.lists }
 
 abbrev pub task_waiters : Option Place → List Event → List ℕ
 task_waiters None events = []
 task_waiters (Some task) events = waiters_at task events
+
+abbrev pub task_numbers : Option Place → Events → List ℕ → List ℕ
+task_numbers None k numbers = numbers
+task_numbers (Some task) k numbers = told_positions task k.lists (waiters_at task k.events) numbers
 
 -- the processes that EXIT releases, where these were released before
 abbrev pub released : Option Registers → List Event → List ℕ → List ℕ

@@ -142,8 +142,8 @@ fn leave_at_once<C: Core>(
 ) -> bool
     requires linked { IsLinkedIn (C.Core.stacks core.old) (C.Core.rows core.old) (numbered parts.old.regs.items process) }
     requires shown { IfSome (numbered parts.old.regs.items process) (λ r. IsShown r.ll r.display) }
-    ensures left { result ≡ true → (next : ℕ) → Acts process (program_in (leaves (C.Core.stacks core.old) (C.Core.rows core.old) value) (numbered parts.old.regs.items process) next) (image_of (C.Core.stacks core.old) (C.Core.rows core.old) kernel.old.events parts.old) (image_of (C.Core.stacks core.new) (C.Core.rows core.new) kernel.new.events parts.new) (Ok (tt {0})) }
-    ensures stays { result ≡ false → image_of (C.Core.stacks core.new) (C.Core.rows core.new) kernel.new.events parts.new ≡ image_of (C.Core.stacks core.old) (C.Core.rows core.old) kernel.old.events parts.old }
+    ensures left { result ≡ true → (next : ℕ) → Acts process (program_in (leaves (C.Core.stacks core.old) (C.Core.rows core.old) value) (numbered parts.old.regs.items process) next) (image_of (C.Core.stacks core.old) (C.Core.rows core.old) kernel.old parts.old) (image_of (C.Core.stacks core.new) (C.Core.rows core.new) kernel.new parts.new) (Ok (tt {0})) }
+    ensures stays { result ≡ false → image_of (C.Core.stacks core.new) (C.Core.rows core.new) kernel.new parts.new ≡ image_of (C.Core.stacks core.old) (C.Core.rows core.old) kernel.old parts.old }
     ensures states { parts.new.states ≡ parts.old.states }
     ensures started { parts.new.started ≡ parts.old.started }
     ensures processes { kernel.new.room ≡ kernel.old.room }
@@ -175,9 +175,9 @@ pub fn exit_at_once<C: Core>(
 ) -> bool
     requires linked { IsLinkedIn (C.Core.stacks core.old) (C.Core.rows core.old) (numbered parts.old.regs.items process) }
     requires shown { IfSome (numbered parts.old.regs.items process) (λ r. IsShown r.ll r.display) }
-    ensures left { result ≡ true → (next : ℕ) → Acts process (program_in exit (numbered parts.old.regs.items process) next) (image_of (C.Core.stacks core.old) (C.Core.rows core.old) kernel.old.events parts.old) (image_of (C.Core.stacks core.new) (C.Core.rows core.new) kernel.new.events parts.new) (Ok (tt {0})) }
+    ensures left { result ≡ true → (next : ℕ) → Acts process (program_in exit (numbered parts.old.regs.items process) next) (image_of (C.Core.stacks core.old) (C.Core.rows core.old) kernel.old parts.old) (image_of (C.Core.stacks core.new) (C.Core.rows core.new) kernel.new parts.new) (Ok (tt {0})) }
     ensures nobody { result ≡ true → (before : List ℕ) → released (numbered parts.old.regs.items process) kernel.old.events before ≡ before }
-    ensures stays { result ≡ false → image_of (C.Core.stacks core.new) (C.Core.rows core.new) kernel.new.events parts.new ≡ image_of (C.Core.stacks core.old) (C.Core.rows core.old) kernel.old.events parts.old }
+    ensures stays { result ≡ false → image_of (C.Core.stacks core.new) (C.Core.rows core.new) kernel.new parts.new ≡ image_of (C.Core.stacks core.old) (C.Core.rows core.old) kernel.old parts.old }
     ensures states { parts.new.states ≡ parts.old.states }
     ensures started { parts.new.started ≡ parts.old.started }
     ensures processes { kernel.new.room ≡ kernel.old.room }
@@ -200,8 +200,8 @@ pub fn return_at_once<C: Core>(
 ) -> bool
     requires linked { IsLinkedIn (C.Core.stacks core.old) (C.Core.rows core.old) (numbered parts.old.regs.items process) }
     requires shown { IfSome (numbered parts.old.regs.items process) (λ r. IsShown r.ll r.display) }
-    ensures left { result ≡ true → (next : ℕ) → Acts process (program_in return_value (numbered parts.old.regs.items process) next) (image_of (C.Core.stacks core.old) (C.Core.rows core.old) kernel.old.events parts.old) (image_of (C.Core.stacks core.new) (C.Core.rows core.new) kernel.new.events parts.new) (Ok (tt {0})) }
-    ensures stays { result ≡ false → image_of (C.Core.stacks core.new) (C.Core.rows core.new) kernel.new.events parts.new ≡ image_of (C.Core.stacks core.old) (C.Core.rows core.old) kernel.old.events parts.old }
+    ensures left { result ≡ true → (next : ℕ) → Acts process (program_in return_value (numbered parts.old.regs.items process) next) (image_of (C.Core.stacks core.old) (C.Core.rows core.old) kernel.old parts.old) (image_of (C.Core.stacks core.new) (C.Core.rows core.new) kernel.new parts.new) (Ok (tt {0})) }
+    ensures stays { result ≡ false → image_of (C.Core.stacks core.new) (C.Core.rows core.new) kernel.new parts.new ≡ image_of (C.Core.stacks core.old) (C.Core.rows core.old) kernel.old parts.old }
     ensures states { parts.new.states ≡ parts.old.states }
     ensures started { parts.new.started ≡ parts.old.started }
     ensures processes { kernel.new.room ≡ kernel.old.room }

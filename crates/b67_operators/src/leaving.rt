@@ -14,8 +14,9 @@ ghost use Rattle.b67_table.specs.Writes.{able_again};
 ghost use Rattle.b67_linkage.specs.Held.{held, IsLinked};
 ghost use Rattle.b67_linkage.specs.Leaving.{frame_left};
 ghost use Rattle.b67_reach.specs.Images.{image_of};
+ghost use Rattle.b67_reach.specs.Woken.{HasPlaces, KeepsPlaces};
 ghost use Rattle.b67_reach.specs.Answers.{looked, IsReady, Acts};
-ghost use Rattle.b67_operators.specs.Leaves.{IsLinkedIn, program_in, valued, leaves, HasLeftFrame, below_found, returned, ends, HasLeftBase, task_caused, task_waiters, released};
+ghost use Rattle.b67_operators.specs.Leaves.{IsLinkedIn, program_in, valued, leaves, HasLeftFrame, below_found, returned, ends, HasLeftBase, task_caused, task_waiters, task_numbers, released};
 
 use b67_control::{Registers, Sirw};
 use b67_events::{Kernel, Woken};
@@ -23,7 +24,7 @@ use b67_linkage::{leave_base, leave_frame, leaving};
 use b67_num::FaultKind;
 use b67_reach::{
     InterruptKind, Parts, ProcessState, Stop, as_indexed, frame_at, invalid, is_critical,
-    is_operand, popped, set_state, wake,
+    is_operand, popped, set_state, wake_all,
 };
 use b67_store::Core;
 use b67_table::Leaving;
@@ -121,7 +122,7 @@ fn leave<C: Core>(
     value: Option<Word>,
 ) -> Result<(), Stop>
     requires linked { IsLinkedIn (C.Core.stacks core.old) (C.Core.rows core.old) (numbered parts.old.regs.items process) }
-    ensures acts { (next : ℕ) → Acts process (program_in (leaves (C.Core.stacks core.old) (C.Core.rows core.old) value) (numbered parts.old.regs.items process) next) (image_of (C.Core.stacks core.old) (C.Core.rows core.old) kernel.old.events parts.old) (image_of (C.Core.stacks core.new) (C.Core.rows core.new) kernel.new.events parts.new) result }
+    ensures acts { (next : ℕ) → Acts process (program_in (leaves (C.Core.stacks core.old) (C.Core.rows core.old) value) (numbered parts.old.regs.items process) next) (image_of (C.Core.stacks core.old) (C.Core.rows core.old) kernel.old parts.old) (image_of (C.Core.stacks core.new) (C.Core.rows core.new) kernel.new parts.new) result }
     ensures processes { kernel.new.room ≡ kernel.old.room }
     ensures code { parts.new.code ≡ parts.old.code }
     ensures woken { parts.new.woken ≡ parts.old.woken }
@@ -154,15 +155,16 @@ fn leave_base_in<C: Core>(core: &mut C, all: &mut Vec<Registers>, process: u32, 
 fn cause_task(
     kernel: &mut Kernel,
     states: &mut Vec<ProcessState>,
+    numbers: &mut Vec<u32>,
     woken: &mut Woken,
     task: Option<Place>,
 )
-    requires { kernel.old.room ≤ vec_capacity woken.old.processes }
-    ensures events { kernel.new.events ≡ task_caused task kernel.old.events }
+    requires { HasPlaces kernel.old.room woken.old }
+    ensures kernel { kernel.new ≡ task_caused task kernel.old }
     ensures states { states.new.items ≡ able_again (task_waiters task kernel.old.events) states.old.items }
+    ensures numbers { numbers.new.items ≡ task_numbers task kernel.old numbers.old.items }
     ensures woken { woken.new.processes.items ≡ task_waiters task kernel.old.events }
-    ensures capacity { vec_capacity woken.old.processes ≤ vec_capacity woken.new.processes }
-    ensures processes { kernel.new.room ≡ kernel.old.room }
+    ensures capacity { KeepsPlaces woken.old woken.new }
 {
     woken.processes.clear();
     let Some(event) = task else {
@@ -170,7 +172,7 @@ fn cause_task(
     };
     if kernel.is_open(event) {
         kernel.cause(event, woken);
-        wake(states, &woken.processes);
+        wake_all(states, numbers, woken);
     }
 }
 
@@ -183,10 +185,10 @@ fn end<C: Core>(
     next: u16,
 ) -> Result<(), Stop>
     requires linked { IsLinkedIn (C.Core.stacks core.old) (C.Core.rows core.old) (numbered parts.old.regs.items process) }
-    requires room { kernel.old.room ≤ vec_capacity parts.old.woken.processes }
-    ensures acts { Acts process (program_in (ends (C.Core.stacks core.old) (C.Core.rows core.old)) (numbered parts.old.regs.items process) next) (image_of (C.Core.stacks core.old) (C.Core.rows core.old) kernel.old.events parts.old) (image_of (C.Core.stacks core.new) (C.Core.rows core.new) kernel.new.events parts.new) result }
+    requires room { HasPlaces kernel.old.room parts.old.woken }
+    ensures acts { Acts process (program_in (ends (C.Core.stacks core.old) (C.Core.rows core.old)) (numbered parts.old.regs.items process) next) (image_of (C.Core.stacks core.old) (C.Core.rows core.old) kernel.old parts.old) (image_of (C.Core.stacks core.new) (C.Core.rows core.new) kernel.new parts.new) result }
     ensures woken { OnOk result ((r : Registers) → numbered parts.old.regs.items process ≡ Some r → parts.new.woken.processes.items ≡ task_waiters r.task (closed_from r.stack 0 kernel.old.events)) }
-    ensures capacity { vec_capacity parts.old.woken.processes ≤ vec_capacity parts.new.woken.processes }
+    ensures capacity { KeepsPlaces parts.old.woken parts.new.woken }
     ensures processes { kernel.new.room ≡ kernel.old.room }
     ensures code { parts.new.code ≡ parts.old.code }
 {
@@ -198,7 +200,13 @@ fn end<C: Core>(
     }
     leave_base_in(core, &mut parts.regs, process, next);
     kernel.close_from(stack, 0);
-    cause_task(kernel, &mut parts.states, &mut parts.woken, task);
+    cause_task(
+        kernel,
+        &mut parts.states,
+        &mut parts.numbers,
+        &mut parts.woken,
+        task,
+    );
     set_state(&mut parts.states, process, ProcessState::Ended);
     Ok(())
 }
@@ -217,10 +225,10 @@ pub fn exit<C: Core>(
     next: u16,
 ) -> Result<(), Stop>
     requires linked { IsLinkedIn (C.Core.stacks core.old) (C.Core.rows core.old) (numbered parts.old.regs.items process) }
-    requires room { kernel.old.room ≤ vec_capacity parts.old.woken.processes }
-    ensures acts { Acts process (program_in exit (numbered parts.old.regs.items process) next) (image_of (C.Core.stacks core.old) (C.Core.rows core.old) kernel.old.events parts.old) (image_of (C.Core.stacks core.new) (C.Core.rows core.new) kernel.new.events parts.new) result }
+    requires room { HasPlaces kernel.old.room parts.old.woken }
+    ensures acts { Acts process (program_in exit (numbered parts.old.regs.items process) next) (image_of (C.Core.stacks core.old) (C.Core.rows core.old) kernel.old parts.old) (image_of (C.Core.stacks core.new) (C.Core.rows core.new) kernel.new parts.new) result }
     ensures woken { OnOk result (parts.new.woken.processes.items ≡ released (numbered parts.old.regs.items process) kernel.old.events parts.old.woken.processes.items) }
-    ensures capacity { vec_capacity parts.old.woken.processes ≤ vec_capacity parts.new.woken.processes }
+    ensures capacity { KeepsPlaces parts.old.woken parts.new.woken }
     ensures processes { kernel.new.room ≡ kernel.old.room }
     ensures code { parts.new.code ≡ parts.old.code }
 {
@@ -261,7 +269,7 @@ pub fn return_value<C: Core>(
     next: u16,
 ) -> Result<(), Stop>
     requires { IsLinkedIn (C.Core.stacks core.old) (C.Core.rows core.old) (numbered parts.old.regs.items process) }
-    ensures acts { Acts process (program_in return_value (numbered parts.old.regs.items process) next) (image_of (C.Core.stacks core.old) (C.Core.rows core.old) kernel.old.events parts.old) (image_of (C.Core.stacks core.new) (C.Core.rows core.new) kernel.new.events parts.new) result }
+    ensures acts { Acts process (program_in return_value (numbered parts.old.regs.items process) next) (image_of (C.Core.stacks core.old) (C.Core.rows core.old) kernel.old parts.old) (image_of (C.Core.stacks core.new) (C.Core.rows core.new) kernel.new parts.new) result }
     ensures processes { kernel.new.room ≡ kernel.old.room }
     ensures code { parts.new.code ≡ parts.old.code }
     ensures woken { parts.new.woken ≡ parts.old.woken }

@@ -1,2 +1,3 @@
 pub mod Criticals
 pub mod Looking
+pub mod Woken

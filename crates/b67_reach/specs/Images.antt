@@ -1,21 +1,23 @@
 -- The image of a machine: what its store, its kernel and its other parts hold.
-use Rattle.std.specs.Prelude.{ℕ, List, None}
+use Rattle.std.specs.Prelude.{ℕ, None}
 use Rattle.b67_list.specs.Numbered.{set_numbered}
 use Rattle.b67_control.specs.declared.Registers.{Registers}
 use Rattle.b67_store.specs.Store.{Stacks, Rows}
-use Rattle.b67_events.specs.Events.{Event}
+use Rattle.b67_events.specs.Events.{Events}
 use Rattle.b67_table.specs.Image.{Image}
 use Rattle.b67_reach.specs.declared.Parts.{Parts}
 
 -- the image of a machine that no fault has ended
-abbrev pub image_of : Stacks → Rows → List Event → Parts → Image
-image_of stacks rows events parts =
+abbrev pub image_of : Stacks → Rows → Events → Parts → Image
+image_of stacks rows kernel parts =
     record {
       stacks = stacks;
       rows = rows;
-      events = events;
+      events = kernel.events;
+      lists = kernel.lists;
       regs = parts.regs.items;
       states = parts.states.items;
+      numbers = parts.numbers.items;
       output = parts.output.items;
       started = parts.started;
       fault = None;

@@ -1,3 +1,4 @@
 pub mod Images
 pub mod Answers
 pub mod Criticals
+pub mod Woken

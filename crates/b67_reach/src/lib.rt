@@ -21,7 +21,7 @@ pub use reading::{
     as_indexed, cell_of, couple_cell, element, frame_at, from_top, invalid, is_operand, named,
     operand_in, popped, popped_two, reached, read_cell, sirw_cell,
 };
-pub use states::{set_state, wake};
+pub use states::{set_number, set_state, wake, wake_all, woken_number};
 pub use writing::{dropped, replaced};
 
 /// What stops an operator. One that is stopped changes nothing.
@@ -35,8 +35,8 @@ pub enum Stop {
     StackLimit,
 }
 
-/// What a machine has beside its store and its kernel. Registers and states stand by the processes' numbers, process 1
-/// first.
+/// What a machine has beside its store and its kernel. Registers, states and woken numbers stand by the processes'
+/// numbers, process 1 first.
 #[derive(Drop)]
 pub struct Parts {
     pub code: Code,
@@ -44,6 +44,9 @@ pub struct Parts {
     /// The lines that were written.
     pub output: Vec<Line>,
     pub states: Vec<ProcessState>,
+    /// The position of the event that released a process among those for which it waited, where it waited for several and
+    /// has not gone on since, else 0.
+    pub numbers: Vec<u32>,
     /// The processes that the last operator released.
     pub woken: Woken,
     /// How many processes there have been.

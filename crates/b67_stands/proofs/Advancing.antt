@@ -208,6 +208,7 @@ pub able_lives : (o : Option ProcessState) → is_able o ≡ true → is_live o 
 able_lives None e = cc
 able_lives (Some states.Able) e = refl
 able_lives (Some (states.WaitsFor at)) e = cc
+able_lives (Some states.WaitsAny) e = cc
 able_lives (Some (states.Procures at)) e = cc
 able_lives (Some states.Ended) e = cc
 

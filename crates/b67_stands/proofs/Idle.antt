@@ -18,6 +18,7 @@ able_at : (ss : List ProcessState) → some_able ss ≡ true → (k : ℕ) × (i
 able_at [] e = cc
 able_at (states.Able ∷ ss) e = (0, refl)
 able_at (states.WaitsFor at ∷ ss) e = let r = able_at ss e in (suc r.0, r.1)
+able_at (states.WaitsAny ∷ ss) e = let r = able_at ss e in (suc r.0, r.1)
 able_at (states.Procures at ∷ ss) e = let r = able_at ss e in (suc r.0, r.1)
 able_at (states.Ended ∷ ss) e = let r = able_at ss e in (suc r.0, r.1)
 

@@ -13,14 +13,14 @@ use Rattle.b67_action.proofs.acting.perform_plainly.Goals as goal
 
 pub returns-in-Own-clause-comes : goal.returns-in-Own-clause-comes
 returns-in-Own-clause-comes g c =
-    let img = image_of (g.C.Core.stacks c.args.core.now) (g.C.Core.rows c.args.core.now) c.args.kernel.now.events c.args.parts.now in
+    let img = image_of (g.C.Core.stacks c.args.core.now) (g.C.Core.rows c.args.core.now) c.args.kernel.now c.args.parts.now in
     let new = with_all (g.C.Core.stacks c.perform_own_in.new.core) (g.C.Core.rows c.perform_own_in.new.core) c.perform_own_in.new.all.items img in
     subst (λ (w : Row). Comes c.args.process (row_effect w c.args.parts.now.code c.args.op.now c.args.next c.args.process (numbered c.args.parts.now.regs.items c.args.process) img) img new c.perform_own_in.result)
     (sym c.in-Own.is) (c.perform_own_in.ensures.does img refl refl refl)
 
 pub returns-in-Words-clause-comes : goal.returns-in-Words-clause-comes
 returns-in-Words-clause-comes g c =
-    let img = image_of (g.C.Core.stacks c.args.core.now) (g.C.Core.rows c.args.core.now) c.args.kernel.now.events c.args.parts.now in
+    let img = image_of (g.C.Core.stacks c.args.core.now) (g.C.Core.rows c.args.core.now) c.args.kernel.now c.args.parts.now in
     let new = with_all (g.C.Core.stacks c.perform_words.new.core) (g.C.Core.rows c.perform_words.new.core) c.perform_words.new.all.items img in
     subst (λ (w : Row). Comes c.args.process (row_effect w c.args.parts.now.code c.args.op.now c.args.next c.args.process (numbered c.args.parts.now.regs.items c.args.process) img) img new c.perform_words.result)
     (sym c.in-Words.is)
@@ -29,21 +29,21 @@ returns-in-Words-clause-comes g c =
 
 pub returns-in-Own-clause-woken : goal.returns-in-Own-clause-woken
 returns-in-Own-clause-woken g c =
-    let img = image_of (g.C.Core.stacks c.args.core.now) (g.C.Core.rows c.args.core.now) c.args.kernel.now.events c.args.parts.now in
+    let img = image_of (g.C.Core.stacks c.args.core.now) (g.C.Core.rows c.args.core.now) c.args.kernel.now c.args.parts.now in
     let before = c.args.parts.now.woken.processes.items in
     on_ok c.perform_own_in.result _
     (subst (λ (w : Row). RowReleases w img (numbered c.args.parts.now.regs.items c.args.process) before before) (sym c.in-Own.is) refl)
 
 pub returns-in-Words-clause-woken : goal.returns-in-Words-clause-woken
 returns-in-Words-clause-woken g c =
-    let img = image_of (g.C.Core.stacks c.args.core.now) (g.C.Core.rows c.args.core.now) c.args.kernel.now.events c.args.parts.now in
+    let img = image_of (g.C.Core.stacks c.args.core.now) (g.C.Core.rows c.args.core.now) c.args.kernel.now c.args.parts.now in
     let before = c.args.parts.now.woken.processes.items in
     on_ok c.perform_words.result _
     (subst (λ (w : Row). RowReleases w img (numbered c.args.parts.now.regs.items c.args.process) before before) (sym c.in-Words.is) refl)
 
 pub returns-in-Exit-clause-woken : goal.returns-in-Exit-clause-woken
 returns-in-Exit-clause-woken g c =
-    let img = image_of (g.C.Core.stacks c.args.core.now) (g.C.Core.rows c.args.core.now) c.args.kernel.now.events c.args.parts.now in
+    let img = image_of (g.C.Core.stacks c.args.core.now) (g.C.Core.rows c.args.core.now) c.args.kernel.now c.args.parts.now in
     let before = c.args.parts.now.woken.processes.items in
     let after = c.exit.new.parts.woken.processes.items in
     on_same c.exit.result _ _
@@ -51,7 +51,7 @@ returns-in-Exit-clause-woken g c =
 
 pub returns-in-ReturnValue-clause-woken : goal.returns-in-ReturnValue-clause-woken
 returns-in-ReturnValue-clause-woken g c =
-    let img = image_of (g.C.Core.stacks c.args.core.now) (g.C.Core.rows c.args.core.now) c.args.kernel.now.events c.args.parts.now in
+    let img = image_of (g.C.Core.stacks c.args.core.now) (g.C.Core.rows c.args.core.now) c.args.kernel.now c.args.parts.now in
     let before = c.args.parts.now.woken.processes.items in
     let after = c.return_value.new.parts.woken.processes.items in
     on_ok c.return_value.result _

@@ -11,7 +11,7 @@ use Rattle.b67_action.proofs.entering.call.Goals as goal
 
 pub returns-then-makes-clause-woken : goal.returns-then-makes-clause-woken
 returns-then-makes-clause-woken g c =
-    let img = image_of (g.C.Core.stacks c.args.core.now) (g.C.Core.rows c.args.core.now) c.args.kernel.now.events c.args.parts.now in
+    let img = image_of (g.C.Core.stacks c.args.core.now) (g.C.Core.rows c.args.core.now) c.args.kernel.now c.args.parts.now in
     let e : intrinsic_numbered c.args.number ≡ Some c.in-Some.name = sym c.intrinsic_numbered.ensures ∙ c.in-Some.is in
     let k : makes (Some c.in-Some.name) ≡ true = sym c.makes.ensures ∙ c.if-makes.true in
     on_ok c.call_making.result _
@@ -20,7 +20,7 @@ returns-then-makes-clause-woken g c =
 
 pub returns-else-makes-clause-woken : goal.returns-else-makes-clause-woken
 returns-else-makes-clause-woken g c =
-    let img = image_of (g.C.Core.stacks c.args.core.now) (g.C.Core.rows c.args.core.now) c.args.kernel.now.events c.args.parts.now in
+    let img = image_of (g.C.Core.stacks c.args.core.now) (g.C.Core.rows c.args.core.now) c.args.kernel.now c.args.parts.now in
     let before = c.args.parts.now.woken.processes.items in
     let after = c.call_plainly.new.parts.woken.processes.items in
     let e : intrinsic_numbered c.args.number ≡ Some c.in-Some.name = sym c.intrinsic_numbered.ensures ∙ c.in-Some.is in

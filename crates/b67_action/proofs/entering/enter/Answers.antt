@@ -14,14 +14,14 @@ use Rattle.b67_action.proofs.entering.enter.Goals as goal
 
 pub returns-in-Err-clause-tries : goal.returns-in-Err-clause-tries
 returns-in-Err-clause-tries g c =
-    let img = image_of (g.C.Core.stacks c.args.core.now) (g.C.Core.rows c.args.core.now) c.args.kernel.now.events c.args.parts.now in
+    let img = image_of (g.C.Core.stacks c.args.core.now) (g.C.Core.rows c.args.core.now) c.args.kernel.now c.args.parts.now in
     enter_stops c.args.process c.args.parts.now.code img c.registers.result.now c.args.next (numbered c.args.parts.now.regs.items c.args.process) c.registers.ensures
     c.in-Err.stop c.in-Err.ensures.value
 
 pub returns-then-called-clause-tries : goal.returns-then-called-clause-tries
 returns-then-called-clause-tries g c =
-    let img = image_of (g.C.Core.stacks c.args.core.now) (g.C.Core.rows c.args.core.now) c.args.kernel.now.events c.args.parts.now in
-    let new = image_of (g.C.Core.stacks c.call.new.core) (g.C.Core.rows c.call.new.core) c.call.new.kernel.events c.call.new.parts in
+    let img = image_of (g.C.Core.stacks c.args.core.now) (g.C.Core.rows c.args.core.now) c.args.kernel.now c.args.parts.now in
+    let new = image_of (g.C.Core.stacks c.call.new.core) (g.C.Core.rows c.call.new.core) c.call.new.kernel c.call.new.parts in
     enter_calls c.args.process c.args.parts.now.code img c.registers.result.now c.args.next (numbered c.args.parts.now.regs.items c.args.process) c.registers.ensures
     c.in-Ok.called c.in-Ok.ensures.value new c.call.result (sym c.if-called.true) c.call.ensures.tries
 
@@ -32,7 +32,7 @@ returns-then-called-clause-making g c = λ m.
 
 pub returns-else-called-clause-tries : goal.returns-else-called-clause-tries
 returns-else-called-clause-tries g c =
-    let img = image_of (g.C.Core.stacks c.args.core.now) (g.C.Core.rows c.args.core.now) c.args.kernel.now.events c.args.parts.now in
+    let img = image_of (g.C.Core.stacks c.args.core.now) (g.C.Core.rows c.args.core.now) c.args.kernel.now c.args.parts.now in
     let new = with_all (g.C.Core.stacks c.enter_procedure.new.core) (g.C.Core.rows c.enter_procedure.new.core) c.enter_procedure.new.all.items img in
     subst (λ (res : Result (Unit {0}) Hindrance). Tries c.args.process (program_in (enter c.args.parts.now.code) (numbered c.args.parts.now.regs.items c.args.process) c.args.next) img new res)
     (sym c.hindered.ensures)
@@ -46,7 +46,7 @@ returns-else-called-clause-making g c = λ m. absurd (never_hindered c.enter_pro
 
 pub returns-then-called-clause-woken : goal.returns-then-called-clause-woken
 returns-then-called-clause-woken g c =
-    let img = image_of (g.C.Core.stacks c.args.core.now) (g.C.Core.rows c.args.core.now) c.args.kernel.now.events c.args.parts.now in
+    let img = image_of (g.C.Core.stacks c.args.core.now) (g.C.Core.rows c.args.core.now) c.args.kernel.now c.args.parts.now in
     on_same c.call.result _ _
     (enter_releases img (numbered c.args.parts.now.regs.items c.args.process) c.registers.result.now c.registers.ensures c.in-Ok.called c.in-Ok.ensures.value
     c.args.parts.now.woken.processes.items c.call.new.parts.woken.processes.items true c.if-called.true)
@@ -54,7 +54,7 @@ returns-then-called-clause-woken g c =
 
 pub returns-else-called-clause-woken : goal.returns-else-called-clause-woken
 returns-else-called-clause-woken g c =
-    let img = image_of (g.C.Core.stacks c.args.core.now) (g.C.Core.rows c.args.core.now) c.args.kernel.now.events c.args.parts.now in
+    let img = image_of (g.C.Core.stacks c.args.core.now) (g.C.Core.rows c.args.core.now) c.args.kernel.now c.args.parts.now in
     on_ok c.hindered.result _
     (enter_releases img (numbered c.args.parts.now.regs.items c.args.process) c.registers.result.now c.registers.ensures c.in-Ok.called c.in-Ok.ensures.value
     c.args.parts.now.woken.processes.items c.args.parts.now.woken.processes.items false c.if-called.false refl)

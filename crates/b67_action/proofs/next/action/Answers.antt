@@ -21,7 +21,7 @@ next_operator-requires-clause-level g c =
 
 pub returns-in_default-clause-came : goal.returns-in_default-clause-came
 returns-in_default-clause-came g c =
-    let img = image_of (g.C.Core.stacks c.args.core.now) (g.C.Core.rows c.args.core.now) c.args.kernel.now.events c.args.parts.now in
+    let img = image_of (g.C.Core.stacks c.args.core.now) (g.C.Core.rows c.args.core.now) c.args.kernel.now c.args.parts.now in
     let r = c.registers-regs.result.now in
     let none : found c.args.parts.now.code r.segment r.ll r.place ≡ None = sym c.next_operator.ensures.value ∙ c.in_default.is in
     (table_bad c.args.parts.now.code img c.args.process r c.requires.able c.registers-regs.ensures none, refl)
@@ -41,8 +41,9 @@ perform-answer-requires-clause-acting g c =
       number = now.number;
       within = now.within;
       idle = now.idle;
-      room = omega (arith, now.room, c.clear.ensures.capacity);
-      next = record { free = now.next.free; each = now.next.each; most = now.next.most };
+      unlisted = now.unlisted;
+      room = (omega (arith, now.room.0, c.clear.ensures.capacity), now.room.1);
+      next = record { free = now.next.free; each = now.next.each; numbers = now.next.numbers; most = now.next.most };
     }
 
 pub perform-answer-requires-clause-part : goal.perform-answer-requires-clause-part
@@ -52,8 +53,8 @@ perform-answer-requires-clause-part g c =
 
 pub index-requires : goal.index-requires
 index-requires g c =
-    let old = image_of (g.C.Core.stacks c.args.core.now) (g.C.Core.rows c.args.core.now) c.args.kernel.now.events c.args.parts.now in
-    let new = image_of (g.C.Core.stacks c.perform-answer.new.core) (g.C.Core.rows c.perform-answer.new.core) c.perform-answer.new.kernel.events c.perform-answer.new.parts in
+    let old = image_of (g.C.Core.stacks c.args.core.now) (g.C.Core.rows c.args.core.now) c.args.kernel.now c.args.parts.now in
+    let new = image_of (g.C.Core.stacks c.perform-answer.new.core) (g.C.Core.rows c.perform-answer.new.core) c.perform-answer.new.kernel c.perform-answer.new.parts in
     let after = state_after c.args.parts.now.code old new c.args.process c.registers-regs.result.now c.in-Some.op c.in-Some.next c.row_of-row.result c.registers-regs.ensures
     c.row_of-row.ensures.row c.requires.able c.in-Ok.ensures.comes in
     omega (arith, after.0, after.1)
@@ -63,8 +64,8 @@ returns-in-Ok-clause-came g c =
     let code = c.args.parts.now.code in
     let p = c.args.process in
     let r = c.registers-regs.result.now in
-    let old = image_of (g.C.Core.stacks c.args.core.now) (g.C.Core.rows c.args.core.now) c.args.kernel.now.events c.args.parts.now in
-    let new = image_of (g.C.Core.stacks c.perform-answer.new.core) (g.C.Core.rows c.perform-answer.new.core) c.perform-answer.new.kernel.events c.perform-answer.new.parts in
+    let old = image_of (g.C.Core.stacks c.args.core.now) (g.C.Core.rows c.args.core.now) c.args.kernel.now c.args.parts.now in
+    let new = image_of (g.C.Core.stacks c.perform-answer.new.core) (g.C.Core.rows c.perform-answer.new.core) c.perform-answer.new.kernel c.perform-answer.new.parts in
     let here : found code r.segment r.ll r.place ≡ Some (c.in-Some.op, c.in-Some.next) = sym c.next_operator.ensures.value ∙ c.in-Some.is in
     let after = state_after code old new p r c.in-Some.op c.in-Some.next c.row_of-row.result c.registers-regs.ensures c.row_of-row.ensures.row c.requires.able c.in-Ok.ensures.comes in
     subst (λ (d : Done). Came code old p d new) (sym c.went.ensures)
@@ -77,8 +78,8 @@ returns-in-Ok-clause-valid g c =
     let code = c.args.parts.now.code in
     let p = c.args.process in
     let r = c.registers-regs.result.now in
-    let old = image_of (g.C.Core.stacks c.args.core.now) (g.C.Core.rows c.args.core.now) c.args.kernel.now.events c.args.parts.now in
-    let new = image_of (g.C.Core.stacks c.perform-answer.new.core) (g.C.Core.rows c.perform-answer.new.core) c.perform-answer.new.kernel.events c.perform-answer.new.parts in
+    let old = image_of (g.C.Core.stacks c.args.core.now) (g.C.Core.rows c.args.core.now) c.args.kernel.now c.args.parts.now in
+    let new = image_of (g.C.Core.stacks c.perform-answer.new.core) (g.C.Core.rows c.perform-answer.new.core) c.perform-answer.new.kernel c.perform-answer.new.parts in
     let here : found code r.segment r.ll r.place ≡ Some (c.in-Some.op, c.in-Some.next) = sym c.next_operator.ensures.value ∙ c.in-Some.is in
     stays_valid code old new p (row_effect c.row_of-row.result code c.in-Some.op c.in-Some.next p (numbered old.regs p) old) c.perform-answer.result c.requires.valid c.requires.able
     (table_row code old p r c.registers-regs.ensures c.in-Some.op c.in-Some.next c.row_of-row.result c.row_of-row.ensures.row c.requires.able here)
@@ -89,8 +90,8 @@ returns-in-Err-clause-came g c =
     let code = c.args.parts.now.code in
     let p = c.args.process in
     let r = c.registers-regs.result.now in
-    let old = image_of (g.C.Core.stacks c.args.core.now) (g.C.Core.rows c.args.core.now) c.args.kernel.now.events c.args.parts.now in
-    let new = image_of (g.C.Core.stacks c.perform-answer.new.core) (g.C.Core.rows c.perform-answer.new.core) c.perform-answer.new.kernel.events c.perform-answer.new.parts in
+    let old = image_of (g.C.Core.stacks c.args.core.now) (g.C.Core.rows c.args.core.now) c.args.kernel.now c.args.parts.now in
+    let new = image_of (g.C.Core.stacks c.perform-answer.new.core) (g.C.Core.rows c.perform-answer.new.core) c.perform-answer.new.kernel c.perform-answer.new.parts in
     let here : found code r.segment r.ll r.place ≡ Some (c.in-Some.op, c.in-Some.next) = sym c.next_operator.ensures.value ∙ c.in-Some.is in
     subst (λ (d : Done). Came code old p d new) (sym c.hindered_by.ensures)
     (came_not code old new p (row_effect c.row_of-row.result code c.in-Some.op c.in-Some.next p (numbered old.regs p) old)
@@ -105,8 +106,8 @@ returns-in-Err-clause-valid g c =
     let code = c.args.parts.now.code in
     let p = c.args.process in
     let r = c.registers-regs.result.now in
-    let old = image_of (g.C.Core.stacks c.args.core.now) (g.C.Core.rows c.args.core.now) c.args.kernel.now.events c.args.parts.now in
-    let new = image_of (g.C.Core.stacks c.perform-answer.new.core) (g.C.Core.rows c.perform-answer.new.core) c.perform-answer.new.kernel.events c.perform-answer.new.parts in
+    let old = image_of (g.C.Core.stacks c.args.core.now) (g.C.Core.rows c.args.core.now) c.args.kernel.now c.args.parts.now in
+    let new = image_of (g.C.Core.stacks c.perform-answer.new.core) (g.C.Core.rows c.perform-answer.new.core) c.perform-answer.new.kernel c.perform-answer.new.parts in
     let here : found code r.segment r.ll r.place ≡ Some (c.in-Some.op, c.in-Some.next) = sym c.next_operator.ensures.value ∙ c.in-Some.is in
     stays_valid code old new p (row_effect c.row_of-row.result code c.in-Some.op c.in-Some.next p (numbered old.regs p) old) c.perform-answer.result c.requires.valid c.requires.able
     (table_row code old p r c.registers-regs.ensures c.in-Some.op c.in-Some.next c.row_of-row.result c.row_of-row.ensures.row c.requires.able here)
@@ -114,8 +115,8 @@ returns-in-Err-clause-valid g c =
 
 pub returns-in-Ok-clause-woken : goal.returns-in-Ok-clause-woken
 returns-in-Ok-clause-woken g c = λ performed.
-    let old = image_of (g.C.Core.stacks c.args.core.now) (g.C.Core.rows c.args.core.now) c.args.kernel.now.events c.args.parts.now in
-    let new = image_of (g.C.Core.stacks c.perform-answer.new.core) (g.C.Core.rows c.perform-answer.new.core) c.perform-answer.new.kernel.events c.perform-answer.new.parts in
+    let old = image_of (g.C.Core.stacks c.args.core.now) (g.C.Core.rows c.args.core.now) c.args.kernel.now c.args.parts.now in
+    let new = image_of (g.C.Core.stacks c.perform-answer.new.core) (g.C.Core.rows c.perform-answer.new.core) c.perform-answer.new.kernel c.perform-answer.new.parts in
     let released = c.perform-answer.new.parts.woken.processes.items in
     let r = c.registers-regs.result.now in
     let here : found c.args.parts.now.code r.segment r.ll r.place ≡ Some (c.in-Some.op, c.in-Some.next) = sym c.next_operator.ensures.value ∙ c.in-Some.is in
@@ -138,8 +139,8 @@ returns-in-Err-clause-woken g c = λ performed.
 
 pub returns-in-Ok-clause-able : goal.returns-in-Ok-clause-able
 returns-in-Ok-clause-able g c = λ performed.
-    let old = image_of (g.C.Core.stacks c.args.core.now) (g.C.Core.rows c.args.core.now) c.args.kernel.now.events c.args.parts.now in
-    let new = image_of (g.C.Core.stacks c.perform-answer.new.core) (g.C.Core.rows c.perform-answer.new.core) c.perform-answer.new.kernel.events c.perform-answer.new.parts in
+    let old = image_of (g.C.Core.stacks c.args.core.now) (g.C.Core.rows c.args.core.now) c.args.kernel.now c.args.parts.now in
+    let new = image_of (g.C.Core.stacks c.perform-answer.new.core) (g.C.Core.rows c.perform-answer.new.core) c.perform-answer.new.kernel c.perform-answer.new.parts in
     let released = c.perform-answer.new.parts.woken.processes.items in
     let r = c.registers-regs.result.now in
     let here : found c.args.parts.now.code r.segment r.ll r.place ≡ Some (c.in-Some.op, c.in-Some.next) = sym c.next_operator.ensures.value ∙ c.in-Some.is in

@@ -13,12 +13,12 @@ use Rattle.b67_action.proofs.onward.go_on.Goals as goal
 
 pub perform_ready-requires-clause-linked : goal.perform_ready-requires-clause-linked
 perform_ready-requires-clause-linked g c =
-    linked_in c.args.parts.now.code (image_of (g.C.Core.stacks c.args.core.now) (g.C.Core.rows c.args.core.now) c.args.kernel.now.events c.args.parts.now) c.args.process
+    linked_in c.args.parts.now.code (image_of (g.C.Core.stacks c.args.core.now) (g.C.Core.rows c.args.core.now) c.args.kernel.now c.args.parts.now) c.args.process
     c.registers-regs.result.now c.requires.valid c.requires.able c.registers-regs.ensures
 
 pub perform_ready-requires-clause-shown : goal.perform_ready-requires-clause-shown
 perform_ready-requires-clause-shown g c =
-    shown_in c.args.parts.now.code (image_of (g.C.Core.stacks c.args.core.now) (g.C.Core.rows c.args.core.now) c.args.kernel.now.events c.args.parts.now) c.args.process
+    shown_in c.args.parts.now.code (image_of (g.C.Core.stacks c.args.core.now) (g.C.Core.rows c.args.core.now) c.args.kernel.now c.args.parts.now) c.args.process
     c.registers-regs.result.now c.requires.valid c.requires.able c.registers-regs.ensures
 
 pub perform_ready-requires-clause-held : goal.perform_ready-requires-clause-held
@@ -41,8 +41,8 @@ returns-clause-went g c = λ done.
     c.registers-regs.ensures c.requires.table in
     let is_row = some_is (λ r'. IsRowOf r.place o r') c.row_at.result (c.in-Some.row, c.in-Some.next) c.in-Some.is (c.row_at.ensures code r.segment r.ll decoded) in
     let stands = row_stands r.place o c.in-Some.row c.in-Some.next is_row in
-    let old = image_of (g.C.Core.stacks c.args.core.now) (g.C.Core.rows c.args.core.now) c.args.kernel.now.events c.args.parts.now in
-    let new = image_of (g.C.Core.stacks c.perform_ready.new.core) (g.C.Core.rows c.perform_ready.new.core) c.perform_ready.new.kernel.events c.perform_ready.new.parts in
+    let old = image_of (g.C.Core.stacks c.args.core.now) (g.C.Core.rows c.args.core.now) c.args.kernel.now c.args.parts.now in
+    let new = image_of (g.C.Core.stacks c.perform_ready.new.core) (g.C.Core.rows c.perform_ready.new.core) c.perform_ready.new.kernel c.perform_ready.new.parts in
     subst (λ (released : List ℕ). HasGone code old p new released) (sym c.clear.ensures.items)
     (gone code old new p r stands.op c.in-Some.next c.requires.valid c.requires.able c.registers-regs.ensures stands.here
     (ap (λ v. v.items) c.perform_ready.ensures.states) c.counted.ensures.few c.in-Some.row stands.is

@@ -21,7 +21,7 @@ returns-in-Ok-clause-goes g c = λ done.
     let code = c.args.parts.now.code in
     let p = c.args.process in
     let regs = numbered c.args.parts.now.regs.items p in
-    let img = image_of (g.C.Core.stacks c.args.core.now) (g.C.Core.rows c.args.core.now) c.args.kernel.now.events c.args.parts.now in
+    let img = image_of (g.C.Core.stacks c.args.core.now) (g.C.Core.rows c.args.core.now) c.args.kernel.now c.args.parts.now in
     let new = with_all (g.C.Core.stacks c.perform_words.new.core) (g.C.Core.rows c.perform_words.new.core) c.perform_words.new.all.items img in
     let program = program_in (words_program c.in-Words.kind) regs c.args.next in
     subst (λ (q : Row). GoesBy (action_of q) code c.args.next p regs img new) (sym c.in-Words.is)
@@ -29,7 +29,7 @@ returns-in-Ok-clause-goes g c = λ done.
 
 pub returns-in-Err-clause-stays : goal.returns-in-Err-clause-stays
 returns-in-Err-clause-stays g c = λ none.
-    let img = image_of (g.C.Core.stacks c.args.core.now) (g.C.Core.rows c.args.core.now) c.args.kernel.now.events c.args.parts.now in
+    let img = image_of (g.C.Core.stacks c.args.core.now) (g.C.Core.rows c.args.core.now) c.args.kernel.now c.args.parts.now in
     let new = with_all (g.C.Core.stacks c.perform_words.new.core) (g.C.Core.rows c.perform_words.new.core) c.perform_words.new.all.items img in
     subst (λ (res : Result (Unit {0}) Stop). OnErr res (new ≡ img)) c.in-Err.is (c.perform_words.ensures.acts img refl refl refl).stays
 
@@ -38,7 +38,7 @@ returns-in-Enter-clause-goes g c = λ done.
     let code = c.args.parts.now.code in
     let p = c.args.process in
     let regs = numbered c.args.parts.now.regs.items p in
-    let img = image_of (g.C.Core.stacks c.args.core.now) (g.C.Core.rows c.args.core.now) c.args.kernel.now.events c.args.parts.now in
+    let img = image_of (g.C.Core.stacks c.args.core.now) (g.C.Core.rows c.args.core.now) c.args.kernel.now c.args.parts.now in
     let new = with_all (g.C.Core.stacks c.enter_in.new.core) (g.C.Core.rows c.enter_in.new.core) c.enter_in.new.all.items img in
     subst (λ (q : Row). GoesBy (action_of q) code c.args.next p regs img new) (sym c.in-Enter.is)
     ((λ op. comes_by p (program_in (enter code) regs c.args.next) img new well (c.enter_in.ensures.entered done code img refl refl refl)), enters_nobody img regs (c.enter_in.ensures.calls done))
@@ -47,7 +47,7 @@ pub returns-in-Enter-clause-stays : goal.returns-in-Enter-clause-stays
 returns-in-Enter-clause-stays g c = λ none.
     let st = g.C.Core.stacks c.args.core.now in
     let rows = g.C.Core.rows c.args.core.now in
-    let img = image_of st rows c.args.kernel.now.events c.args.parts.now in
+    let img = image_of st rows c.args.kernel.now c.args.parts.now in
     let more = g.C.Core.rows c.enter_in.new.core in
     let all = c.enter_in.new.all.items in
     let same = c.enter_in.ensures.stays none in
@@ -58,8 +58,8 @@ returns-in-Exit-clause-goes g c = λ done.
     let code = c.args.parts.now.code in
     let p = c.args.process in
     let regs = numbered c.args.parts.now.regs.items p in
-    let img = image_of (g.C.Core.stacks c.args.core.now) (g.C.Core.rows c.args.core.now) c.args.kernel.now.events c.args.parts.now in
-    let new = image_of (g.C.Core.stacks c.exit_at_once.new.core) (g.C.Core.rows c.exit_at_once.new.core) c.exit_at_once.new.kernel.events c.exit_at_once.new.parts in
+    let img = image_of (g.C.Core.stacks c.args.core.now) (g.C.Core.rows c.args.core.now) c.args.kernel.now c.args.parts.now in
+    let new = image_of (g.C.Core.stacks c.exit_at_once.new.core) (g.C.Core.rows c.exit_at_once.new.core) c.exit_at_once.new.kernel c.exit_at_once.new.parts in
     subst (λ (q : Row). GoesBy (action_of q) code c.args.next p regs img new) (sym c.in-Exit.is)
     ((λ op. comes_by p (program_in exit regs c.args.next) img new well (c.exit_at_once.ensures.left done c.args.next)), sym (c.exit_at_once.ensures.nobody done []))
 
@@ -68,7 +68,7 @@ returns-in-ReturnValue-clause-goes g c = λ done.
     let code = c.args.parts.now.code in
     let p = c.args.process in
     let regs = numbered c.args.parts.now.regs.items p in
-    let img = image_of (g.C.Core.stacks c.args.core.now) (g.C.Core.rows c.args.core.now) c.args.kernel.now.events c.args.parts.now in
-    let new = image_of (g.C.Core.stacks c.return_at_once.new.core) (g.C.Core.rows c.return_at_once.new.core) c.return_at_once.new.kernel.events c.return_at_once.new.parts in
+    let img = image_of (g.C.Core.stacks c.args.core.now) (g.C.Core.rows c.args.core.now) c.args.kernel.now c.args.parts.now in
+    let new = image_of (g.C.Core.stacks c.return_at_once.new.core) (g.C.Core.rows c.return_at_once.new.core) c.return_at_once.new.kernel c.return_at_once.new.parts in
     subst (λ (q : Row). GoesBy (action_of q) code c.args.next p regs img new) (sym c.in-ReturnValue.is)
     ((λ op. comes_by p (program_in return_value regs c.args.next) img new well (c.return_at_once.ensures.left done c.args.next)), refl)

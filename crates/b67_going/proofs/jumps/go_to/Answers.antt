@@ -1,5 +1,6 @@
 use Rattle.std.proofs.Common.{◌≡◌, refl, sym, ap, subst, ◌∙◌, ◌-◌, ◌<◌, ◌≤◌, ℕ, List, slice_set, Option, Some, Ok}
 use Rattle.b67_list.specs.Numbered.{numbered}
+use Rattle.b67_word.specs.declared.Place.{Place}
 use Rattle.b67_control.specs.declared.Registers.{Registers}
 use Rattle.b67_store.specs.Store.{words_of}
 use Rattle.b67_table.specs.GoingTo.{go_to, gone_to}
@@ -25,7 +26,7 @@ returns-in_err-may_go-clause-acts g c = λ next mark.
     let p = c.args.process in
     let all = c.args.parts.now.regs.items in
     let r = c.registers-regs.result.now in
-    let img = image_of st rows c.args.kernel.now.events c.args.parts.now in
+    let img = image_of st rows c.args.kernel.now c.args.parts.now in
     let code = c.args.parts.now.code in
     let t = tabled c.in_ok-target.target in
     let to = target_was (seen st (named_target r (arguments st r))) c.in_ok-target.target c.in_ok-target.ensures.value in
@@ -102,7 +103,7 @@ returns-clause-acts g c = λ next mark.
     let p = c.args.process in
     let all = c.args.parts.now.regs.items in
     let r = c.registers-regs.result.now in
-    let img = image_of st rows c.args.kernel.now.events c.args.parts.now in
+    let img = image_of st rows c.args.kernel.now c.args.parts.now in
     let code = c.args.parts.now.code in
     let t = tabled c.in_ok-target.target in
     let to = target_was (seen st (named_target r (arguments st r))) c.in_ok-target.target c.in_ok-target.ensures.value in
@@ -115,7 +116,9 @@ returns-clause-acts g c = λ next mark.
     let written = written_is all p r q c.registers-regs.ensures in
     let is = subst (λ (x : Registers). seen st (cutting x t.frame t.level) ≡ Ok k → changed p (gone_to x t k.passing k.display (words_of st x.stack)) img ≡ left) same
     (λ x. c.leave_above.ensures.changes k x p img refl refl refl) cut in
-    subst (λ (o : Option Registers). Acts p (called_in go_to code o next mark) img (record left { regs = slice_set all (p - 1) q }) (Ok tt)) (sym c.registers-regs.ensures)
-    (goes code r next mark img p t to k (record left { regs = slice_set all (p - 1) q }) q routes (calling st rows (numbered all p) r c.requires c.registers-regs.ensures).0.size
-    (is ∙ ap (λ (zs : List Registers). record left { regs = zs }) (sym written))
+    let new = record left { regs = slice_set all (p - 1) q; lists = c.leave_above.new.kernel.lists } in
+    subst (λ (o : Option Registers). Acts p (called_in go_to code o next mark) img new (Ok tt)) (sym c.registers-regs.ensures)
+    (goes code r next mark img p t to k new q routes (calling st rows (numbered all p) r c.requires c.registers-regs.ensures).0.size
+    (is ∙ ap (λ (zs : List Registers). record left { regs = zs }) (sym written)
+    ∙ ap (λ (z : List (List Place)). record left { regs = slice_set all (p - 1) q; lists = z }) (sym c.leave_above.ensures.lists))
     (ap (λ (zs : List Registers). numbered zs p) written ∙ then_there all p r q c.registers-regs.ensures) c.leave_above.ensures.room)

@@ -37,4 +37,5 @@ down-preserved g c =
           ∙ steps_down st c.args.from.stack c.args.target c.down.at count (λ (p : Passing). without_events c.args.from.stack p.frames c.down.kernel.events) c.down.steps b
           c.down-test.true c.if-at-target.false below
           ∙ ap (λ (z : List Event). seen st (passing n c.args.from.stack c.args.target (frame_with b.frame b.control.caller_cells) >-> (λ (p : Passing). found (without_events c.args.from.stack p.frames z)))) (sym events),
+      ap (λ (e : Events). e.lists) c.close_from.ensures ∙ c.down.invariant.4,
     )

@@ -10,6 +10,7 @@ invariant-down g l =
     (count : ℕ) × (l.kernel.room ≡ l.initial.kernel.room)
     × (seen (g.C.Core.stacks l.fn.core) (target_cells l.fn.from l.fn.cells l.fn.target) ≡ seen (g.C.Core.stacks l.fn.core) (passing l.steps l.fn.from.stack l.fn.target (record { frame = l.at; cells = count }) >-> (λ (p : Passing). found p.cells)))
     × (seen (g.C.Core.stacks l.fn.core) (target_events l.initial.kernel.events l.fn.from l.fn.cells l.fn.target) ≡ seen (g.C.Core.stacks l.fn.core) (passing l.steps l.fn.from.stack l.fn.target (record { frame = l.at; cells = count }) >-> (λ (p : Passing). found (without_events l.fn.from.stack p.frames l.kernel.events))))
+    × (l.kernel.lists ≡ l.initial.kernel.lists)
 
 abbrev pub decreases-down : goal.decreases-down
 decreases-down g l = l.steps

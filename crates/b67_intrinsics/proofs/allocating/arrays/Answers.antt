@@ -18,8 +18,8 @@ use Rattle.b67_intrinsics.proofs.MakingArrays.{making, arrays_is, made_then, too
 use Rattle.b67_intrinsics.proofs.allocating.arrays.Goals as goal
 
 pub returns-in_err-count-clause-acts : goal.returns-in_err-count-clause-acts
-returns-in_err-count-clause-acts g c = λ events.
-    let img = image_of (g.C.Core.stacks c.args.core.now) (g.C.Core.rows c.args.core.now) events c.args.parts.now in
+returns-in_err-count-clause-acts g c = λ kernel.
+    let img = image_of (g.C.Core.stacks c.args.core.now) (g.C.Core.rows c.args.core.now) kernel c.args.parts.now in
     let regs = numbered c.args.parts.now.regs.items c.args.process in
     let m = c.args.mark.now in
     let code = c.args.parts.now.code in
@@ -27,9 +27,9 @@ returns-in_err-count-clause-acts g c = λ events.
     (arrays_is img code c.args.next m regs) (c.in_err-count.ensures.leads img refl refl) c.from_residual.ensures.1
 
 pub returns-then-not-has_room-clause-acts : goal.returns-then-not-has_room-clause-acts
-returns-then-not-has_room-clause-acts g c = λ events.
+returns-then-not-has_room-clause-acts g c = λ kernel.
     let p = c.args.process in
-    let img = image_of (g.C.Core.stacks c.args.core.now) (g.C.Core.rows c.args.core.now) events c.args.parts.now in
+    let img = image_of (g.C.Core.stacks c.args.core.now) (g.C.Core.rows c.args.core.now) kernel c.args.parts.now in
     let regs = numbered c.args.parts.now.regs.items p in
     let m = c.args.mark.now in
     let code = c.args.parts.now.code in
@@ -40,9 +40,9 @@ returns-then-not-has_room-clause-acts g c = λ events.
     (too_long p img m c.args.next order c.registers.result.now c.registers.ensures (sym c.has_room.ensures ∙ c.if-not-has_room.true)))
 
 pub returns-in-Ok-clause-acts : goal.returns-in-Ok-clause-acts
-returns-in-Ok-clause-acts g c = λ events.
+returns-in-Ok-clause-acts g c = λ kernel.
     let p = c.args.process in
-    let img = image_of (g.C.Core.stacks c.args.core.now) (g.C.Core.rows c.args.core.now) events c.args.parts.now in
+    let img = image_of (g.C.Core.stacks c.args.core.now) (g.C.Core.rows c.args.core.now) kernel c.args.parts.now in
     let regs = numbered c.args.parts.now.regs.items p in
     let m = c.args.mark.now in
     let code = c.args.parts.now.code in

@@ -5,8 +5,6 @@ use Rattle.b67_deeds.specs.Deeds.{acts}
 use Rattle.b67_events.specs.Events.{Events, happened_at}
 use Rattle.b67_events.specs.declared.Took.{Took}
 use Rattle.b67_table.specs.declared.ProcessState.TheVariants.{WaitsFor}
-use Rattle.b67_table.specs.Writes as writes
-use Rattle.b67_table.specs.Writes.{written}
 use Rattle.b67_reach.specs.Images.{image_of}
 use Rattle.b67_intrinsics.specs.Called.{ended, state_after}
 use Rattle.b67_intrinsics.proofs.Acting.{waits_is, event_stops, event_ends}
@@ -14,7 +12,7 @@ use Rattle.b67_intrinsics.proofs.happening.wait.Goals as goal
 
 pub returns-in_err-place-clause-acts : goal.returns-in_err-place-clause-acts
 returns-in_err-place-clause-acts g c =
-    let img = image_of (g.C.Core.stacks c.args.core.now) (g.C.Core.rows c.args.core.now) c.args.kernel.now.events c.args.parts.now in
+    let img = image_of (g.C.Core.stacks c.args.core.now) (g.C.Core.rows c.args.core.now) c.args.kernel.now c.args.parts.now in
     event_stops (acts act.Wait) c.args.parts.now.code c.args.next c.args.mark.now c.args.process img
     (numbered c.args.parts.now.regs.items c.args.process) c.in_err-place.field-0.0 c.from_residual.result (c.in_err-place.ensures.leads img refl refl) c.from_residual.ensures.1
 
@@ -22,11 +20,14 @@ pub returns-clause-acts : goal.returns-clause-acts
 returns-clause-acts g c =
     let p = c.args.process in
     let at = c.in_ok-place.place in
-    let img = image_of (g.C.Core.stacks c.args.core.now) (g.C.Core.rows c.args.core.now) c.args.kernel.now.events c.args.parts.now in
+    let img = image_of (g.C.Core.stacks c.args.core.now) (g.C.Core.rows c.args.core.now) c.args.kernel.now c.args.parts.now in
+    let k = c.wait-took.new.self in
+    let xs = c.set_waiting.new.states.items in
+    let ns = c.args.parts.now.numbers.items in
+    let mid = record img { events = k.events; lists = k.lists; states = xs; numbers = ns } in
     event_ends (acts act.Wait) c.args.parts.now.code c.args.next c.args.mark.now p img (numbered c.args.parts.now.regs.items p) at
-    (ended (g.C.Core.stacks c.end.new.core) (g.C.Core.rows c.end.new.core) c.end.new.all.items img) (c.in_ok-place.ensures.leads img refl refl)
-    c.wait-took.new.self.events (ap (λ (e : Events). e.events) c.wait-took.ensures.after)
-    c.set_waiting.new.states.items
+    (ended (g.C.Core.stacks c.end.new.core) (g.C.Core.rows c.end.new.core) c.end.new.all.items mid) (c.in_ok-place.ensures.leads img refl refl) k xs ns
+    (ap (λ (e : Events). e.events) c.wait-took.ensures.after) (ap (λ (e : Events). e.lists) c.wait-took.ensures.after)
     (c.set_waiting.ensures ∙ ap (λ (t : Took). state_after t (WaitsFor at) p c.args.parts.now.states.items) c.wait-took.ensures.answer
     ∙ waits_is (happened_at at c.args.kernel.now.events) at p c.args.parts.now.states.items)
-    (c.end.ensures.acts (written p (writes.event_deed (acts act.Wait) at) img) refl refl refl)
+    refl (c.end.ensures.acts mid refl refl refl)

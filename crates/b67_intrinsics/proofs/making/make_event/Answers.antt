@@ -1,7 +1,7 @@
-use Rattle.std.proofs.Common.{[], ◌∷◌, refl, subst, sym, ap, Ok, List}
+use Rattle.std.proofs.Common.{[], ◌∷◌, refl, subst, sym, Ok}
 use Rattle.b67_word.specs.Word.{Word}
 use Rattle.b67_list.specs.Numbered.{numbered}
-use Rattle.b67_events.specs.Events.{Event, Events}
+use Rattle.b67_events.specs.Events.{Events}
 use Rattle.b67_table.specs.Intrinsics.{make_event}
 use Rattle.b67_table.specs.Writes as writes
 use Rattle.b67_table.specs.Writes.{written}
@@ -13,7 +13,7 @@ use Rattle.b67_intrinsics.proofs.making.make_event.Goals as goal
 
 pub returns-in_err-place-clause-acts : goal.returns-in_err-place-clause-acts
 returns-in_err-place-clause-acts g c =
-    let img = image_of (g.C.Core.stacks c.args.core.now) (g.C.Core.rows c.args.core.now) c.args.kernel.now.events c.args.parts.now in
+    let img = image_of (g.C.Core.stacks c.args.core.now) (g.C.Core.rows c.args.core.now) c.args.kernel.now c.args.parts.now in
     let regs = numbered c.args.parts.now.regs.items c.args.process in
     let m = c.args.mark.now in
     let program = called_in make_event c.args.parts.now.code regs c.args.next m in
@@ -24,17 +24,17 @@ returns-in_err-place-clause-acts g c =
 pub returns-clause-acts : goal.returns-clause-acts
 returns-clause-acts g c =
     let p = c.args.process in
-    let img = image_of (g.C.Core.stacks c.args.core.now) (g.C.Core.rows c.args.core.now) c.args.kernel.now.events c.args.parts.now in
+    let img = image_of (g.C.Core.stacks c.args.core.now) (g.C.Core.rows c.args.core.now) c.args.kernel.now c.args.parts.now in
     let regs = numbered c.args.parts.now.regs.items p in
     let m = c.args.mark.now in
     let program = called_in make_event c.args.parts.now.code regs c.args.next m in
     let at = c.in_ok-place.place in
     let w = writes.open_event at in
-    let new = record (ended (g.C.Core.stacks c.end_with.new.core) (g.C.Core.rows c.end_with.new.core) c.end_with.new.all.items img) { events = c.open_event.new.self.events } in
+    let new = record (ended (g.C.Core.stacks c.end_with.new.core) (g.C.Core.rows c.end_with.new.core) c.end_with.new.all.items img) { events = c.open_event.new.self.events; lists = c.open_event.new.self.lists } in
     let q = c.end_with.ensures.acts (written p w img) refl refl refl in
-    let events = ap (λ (e : Events). e.events) c.in-Ok.ensures.ok in
     let made : Acts p (finished_in regs m (c.pack.result ∷ []) c.args.next) (written p w img) new (Ok tt) =
-    subst (λ (es : List Event). Acts p (finished_in regs m (c.pack.result ∷ []) c.args.next) (written p w img) (record new { events = es }) (Ok tt)) (sym events) q in
+    subst (λ (k : Events). Acts p (finished_in regs m (c.pack.result ∷ []) c.args.next) (written p w img) (record new { events = k.events; lists = k.lists }) (Ok tt))
+    (sym c.in-Ok.ensures.ok) q in
     leads_on p img program (mark_tests_in regs m img.stacks) (opening regs m c.args.next) at new (Ok tt) (make_event_is img c.args.parts.now.code c.args.next m regs)
     (c.in_ok-place.ensures.leads img refl)
     (opened_then p img new m c.args.next at regs

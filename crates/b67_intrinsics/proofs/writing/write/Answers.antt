@@ -12,8 +12,8 @@ use Rattle.b67_intrinsics.proofs.LineTests.{adding, write_is, added_then}
 use Rattle.b67_intrinsics.proofs.writing.write.Goals as goal
 
 pub returns-in_err-line-clause-acts : goal.returns-in_err-line-clause-acts
-returns-in_err-line-clause-acts g c = λ events.
-    let img = image_of (g.C.Core.stacks c.args.core.now) (g.C.Core.rows c.args.core.now) events c.args.parts.now in
+returns-in_err-line-clause-acts g c = λ kernel.
+    let img = image_of (g.C.Core.stacks c.args.core.now) (g.C.Core.rows c.args.core.now) kernel c.args.parts.now in
     let regs = numbered c.args.parts.now.regs.items c.args.process in
     let m = c.args.mark.now in
     let code = c.args.parts.now.code in
@@ -21,9 +21,9 @@ returns-in_err-line-clause-acts g c = λ events.
     (write_is img code c.args.next m regs) (c.in_err-line.ensures.leads img refl) c.from_residual.ensures.1
 
 pub returns-clause-acts : goal.returns-clause-acts
-returns-clause-acts g c = λ events.
+returns-clause-acts g c = λ kernel.
     let p = c.args.process in
-    let img = image_of (g.C.Core.stacks c.args.core.now) (g.C.Core.rows c.args.core.now) events c.args.parts.now in
+    let img = image_of (g.C.Core.stacks c.args.core.now) (g.C.Core.rows c.args.core.now) kernel c.args.parts.now in
     let regs = numbered c.args.parts.now.regs.items p in
     let m = c.args.mark.now in
     let code = c.args.parts.now.code in

@@ -15,19 +15,19 @@ use Rattle.b67_machine.proofs.Machine.copy_private.Goals as goal
 pub floor-requires : goal.floor-requires
 floor-requires g c =
     let live = subst (λ (k : Kept). is_live (numbered k.image.states c.args.process) ≡ true) (sym c.self.view_is) c.requires.lives in
-    (live_are_linked c.self.inside.parts.code (image_of (g.C.Core.stacks c.self.inside.core) (g.C.Core.rows c.self.inside.core) c.self.inside.kernel.events c.self.inside.parts)
+    (live_are_linked c.self.inside.parts.code (image_of (g.C.Core.stacks c.self.inside.core) (g.C.Core.rows c.self.inside.core) c.self.inside.kernel c.self.inside.parts)
     c.args.process c.registers-regs.result.now c.self.invariant.0 live c.registers-regs.ensures).level
 
 pub take_words-requires-clause-linked : goal.take_words-requires-clause-linked
 take_words-requires-clause-linked g c =
     let live = subst (λ (k : Kept). is_live (numbered k.image.states c.args.process) ≡ true) (sym c.self.view_is) c.requires.lives in
-    live_are_linked c.self.inside.parts.code (image_of (g.C.Core.stacks c.self.inside.core) (g.C.Core.rows c.self.inside.core) c.self.inside.kernel.events c.self.inside.parts)
+    live_are_linked c.self.inside.parts.code (image_of (g.C.Core.stacks c.self.inside.core) (g.C.Core.rows c.self.inside.core) c.self.inside.kernel c.self.inside.parts)
     c.args.process c.registers-regs.result.now c.self.invariant.0 live c.registers-regs.ensures
 
 pub take_words-requires-clause-within : goal.take_words-requires-clause-within
 take_words-requires-clause-within g c =
     let live = subst (λ (k : Kept). is_live (numbered k.image.states c.args.process) ≡ true) (sym c.self.view_is) c.requires.lives in
-    let linked = live_are_linked c.self.inside.parts.code (image_of (g.C.Core.stacks c.self.inside.core) (g.C.Core.rows c.self.inside.core) c.self.inside.kernel.events c.self.inside.parts)
+    let linked = live_are_linked c.self.inside.parts.code (image_of (g.C.Core.stacks c.self.inside.core) (g.C.Core.rows c.self.inside.core) c.self.inside.kernel c.self.inside.parts)
     c.args.process c.registers-regs.result.now c.self.invariant.0 live c.registers-regs.ensures in
     subst (λ (n : ℕ). n ≤ c.registers-regs.result.now.s) (sym c.floor.ensures.value) linked.above
 
@@ -37,7 +37,7 @@ returns-clause-is_part g c =
     let r = c.registers-regs.result.now in
     let words = words_of (g.C.Core.stacks c.self.inside.core) r.stack in
     subst (λ (ws : List Word). IsPart (part_with r ws)) (sym (c.take_words.ensures ∙ ap (λ (n : ℕ). reverse (drop n words)) c.floor.ensures.value))
-    (valid_part c.self.inside.parts.code (image_of (g.C.Core.stacks c.self.inside.core) (g.C.Core.rows c.self.inside.core) c.self.inside.kernel.events c.self.inside.parts)
+    (valid_part c.self.inside.parts.code (image_of (g.C.Core.stacks c.self.inside.core) (g.C.Core.rows c.self.inside.core) c.self.inside.kernel c.self.inside.parts)
     c.args.process r c.self.invariant.0 live c.registers-regs.ensures)
 
 pub returns-clause-whole : goal.returns-clause-whole
@@ -46,5 +46,5 @@ returns-clause-whole g c =
     let r = c.registers-regs.result.now in
     let words = words_of (g.C.Core.stacks c.self.inside.core) r.stack in
     subst (λ (ws : List Word). IsWhole (part_with r ws)) (sym (c.take_words.ensures ∙ ap (λ (n : ℕ). reverse (drop n words)) c.floor.ensures.value))
-    (part_is c.self.inside.parts.code (image_of (g.C.Core.stacks c.self.inside.core) (g.C.Core.rows c.self.inside.core) c.self.inside.kernel.events c.self.inside.parts)
+    (part_is c.self.inside.parts.code (image_of (g.C.Core.stacks c.self.inside.core) (g.C.Core.rows c.self.inside.core) c.self.inside.kernel c.self.inside.parts)
     c.args.process r c.self.invariant.0 live c.registers-regs.ensures).size

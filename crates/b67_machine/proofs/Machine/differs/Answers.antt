@@ -12,7 +12,7 @@ use Rattle.b67_machine.proofs.Machine.differs.Goals as goal
 
 pub returns-in-Some : goal.returns-in-Some
 returns-in-Some g c =
-    let base = image_of (g.C.Core.stacks c.self.inside.core) (g.C.Core.rows c.self.inside.core) c.self.inside.kernel.events c.self.inside.parts in
+    let base = image_of (g.C.Core.stacks c.self.inside.core) (g.C.Core.rows c.self.inside.core) c.self.inside.kernel c.self.inside.parts in
     let r = c.registers-kept.result.now in
     let part : private_part c.args.self.now.image c.args.process ≡ Some (private_of base r) =
     ap (λ (k : Kept). private_part k.image c.args.process) (sym c.self.view_is) ∙ ap (λ (o : Option Registers). part_by (with_failure base c.self.inside.failure) o) c.registers-kept.ensures in
@@ -21,12 +21,12 @@ returns-in-Some g c =
 pub first_word-requires-clause-linked : goal.first_word-requires-clause-linked
 first_word-requires-clause-linked g c =
     let live = subst (λ (k : Kept). is_live (numbered k.image.states c.args.process) ≡ true) (sym c.self.view_is) c.requires.lives in
-    live_are_linked c.self.inside.parts.code (image_of (g.C.Core.stacks c.self.inside.core) (g.C.Core.rows c.self.inside.core) c.self.inside.kernel.events c.self.inside.parts)
+    live_are_linked c.self.inside.parts.code (image_of (g.C.Core.stacks c.self.inside.core) (g.C.Core.rows c.self.inside.core) c.self.inside.kernel c.self.inside.parts)
     c.args.process c.registers-kept.result.now c.self.invariant.0 live c.registers-kept.ensures
 
 pub returns-in-Some-first_word : goal.returns-in-Some-first_word
 returns-in-Some-first_word g c =
-    let base = image_of (g.C.Core.stacks c.self.inside.core) (g.C.Core.rows c.self.inside.core) c.self.inside.kernel.events c.self.inside.parts in
+    let base = image_of (g.C.Core.stacks c.self.inside.core) (g.C.Core.rows c.self.inside.core) c.self.inside.kernel c.self.inside.parts in
     let r = c.registers-kept.result.now in
     let part : private_part c.args.self.now.image c.args.process ≡ Some (private_of base r) =
     ap (λ (k : Kept). private_part k.image c.args.process) (sym c.self.view_is) ∙ ap (λ (o : Option Registers). part_by (with_failure base c.self.inside.failure) o) c.registers-kept.ensures in (

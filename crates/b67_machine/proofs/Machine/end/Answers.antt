@@ -11,7 +11,7 @@ pub returns-in-Some : goal.returns-in-Some
 returns-in-Some g c =
     let m : Kept = record {
       code = c.self.inside.parts.code;
-      image = with_failure (image_of (g.C.Core.stacks c.self.inside.core) (g.C.Core.rows c.self.inside.core) c.self.inside.kernel.events c.self.inside.parts) c.self.inside.failure;
+      image = with_failure (image_of (g.C.Core.stacks c.self.inside.core) (g.C.Core.rows c.self.inside.core) c.self.inside.kernel c.self.inside.parts) c.self.inside.failure;
       counts = c.self.inside.counts.items;
       released = c.self.inside.parts.woken.processes.items;
       limit = c.self.inside.limit;
@@ -26,7 +26,7 @@ pub returns-in-None : goal.returns-in-None
 returns-in-None g c =
     let m : Kept = record {
       code = c.self.inside.parts.code;
-      image = with_failure (image_of (g.C.Core.stacks c.self.inside.core) (g.C.Core.rows c.self.inside.core) c.self.inside.kernel.events c.self.inside.parts) c.self.inside.failure;
+      image = with_failure (image_of (g.C.Core.stacks c.self.inside.core) (g.C.Core.rows c.self.inside.core) c.self.inside.kernel c.self.inside.parts) c.self.inside.failure;
       counts = c.self.inside.counts.items;
       released = c.self.inside.parts.woken.processes.items;
       limit = c.self.inside.limit;

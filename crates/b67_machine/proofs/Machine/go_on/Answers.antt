@@ -10,7 +10,7 @@ use Rattle.b67_table.specs.Valid.{IsValid}
 use Rattle.b67_table.proofs.Lists.{numbered_within}
 use Rattle.b67_reach.specs.Images.{image_of}
 use Rattle.b67_action.specs.declared.done.Done.TheVariants.{Went}
-use Rattle.b67_action.proofs.Ready.{registers_there, if_some}
+use Rattle.b67_action.proofs.Ready.{registers_there, if_some, kept_places}
 use Rattle.b67_machine.specs.declared.Failure.{Failure}
 use Rattle.b67_machine.specs.Kept.{Kept, Counts}
 use Rattle.b67_machine.specs.Machines.{with_failure}
@@ -30,7 +30,7 @@ stays old code image released c i r =
 
 pub registers-regs-requires : goal.registers-regs-requires
 registers-regs-requires g c =
-    registers_there c.self.inside.parts.code (image_of (g.C.Core.stacks c.self.inside.core) (g.C.Core.rows c.self.inside.core) c.self.inside.kernel.events c.self.inside.parts) c.args.process
+    registers_there c.self.inside.parts.code (image_of (g.C.Core.stacks c.self.inside.core) (g.C.Core.rows c.self.inside.core) c.self.inside.kernel c.self.inside.parts) c.args.process
     c.self.invariant.0 (subst (λ (k : Kept). is_able (numbered k.image.states c.args.process) ≡ true) (sym c.self.view_is) c.requires.able)
 
 pub go_on-went-requires-clause-valid : goal.go_on-went-requires-clause-valid
@@ -49,8 +49,8 @@ count-requires-clause-most g c =
 pub returns-clause-went : goal.returns-clause-went
 returns-clause-went g c = λ done.
     let old = c.args.self.now in
-    let base = image_of (g.C.Core.stacks c.self.inside.core) (g.C.Core.rows c.self.inside.core) c.self.inside.kernel.events c.self.inside.parts in
-    let acted = image_of (g.C.Core.stacks c.go_on-went.new.core) (g.C.Core.rows c.go_on-went.new.core) c.go_on-went.new.kernel.events c.go_on-went.new.parts in
+    let base = image_of (g.C.Core.stacks c.self.inside.core) (g.C.Core.rows c.self.inside.core) c.self.inside.kernel c.self.inside.parts in
+    let acted = image_of (g.C.Core.stacks c.go_on-went.new.core) (g.C.Core.rows c.go_on-went.new.core) c.go_on-went.new.kernel c.go_on-went.new.parts in
     let new : Kept = record {
       code = c.go_on-went.new.parts.code;
       image = with_failure acted c.self.inside.failure;
@@ -80,24 +80,25 @@ returns-clause-calm g c = λ done.
 
 pub returns-clause-valid : goal.returns-clause-valid
 returns-clause-valid g c =
-    let acted = image_of (g.C.Core.stacks c.go_on-went.new.core) (g.C.Core.rows c.go_on-went.new.core) c.go_on-went.new.kernel.events c.go_on-went.new.parts in
+    let acted = image_of (g.C.Core.stacks c.go_on-went.new.core) (g.C.Core.rows c.go_on-went.new.core) c.go_on-went.new.kernel c.go_on-went.new.parts in
     let gone = c.go_on-went.ensures.went c.if-not-went.false in
     valid_with c.go_on-went.new.parts.code acted c.self.inside.failure refl (subst (λ (k : Code). IsValid k acted) (sym c.go_on-went.ensures.code) gone.valid)
 
 pub returns-then-self-clause-valid : goal.returns-then-self-clause-valid
 returns-then-self-clause-valid g c =
     subst (λ (k : Kept). IsValid k.code k.image) c.self.view_is
-    (valid_with c.self.inside.parts.code (image_of (g.C.Core.stacks c.self.inside.core) (g.C.Core.rows c.self.inside.core) c.self.inside.kernel.events c.self.inside.parts)
+    (valid_with c.self.inside.parts.code (image_of (g.C.Core.stacks c.self.inside.core) (g.C.Core.rows c.self.inside.core) c.self.inside.kernel c.self.inside.parts)
     c.self.inside.failure refl c.self.invariant.0)
 
 pub invariant_of-self : goal.invariant_of-self
 invariant_of-self g c =
-    let acted = image_of (g.C.Core.stacks c.go_on-went.new.core) (g.C.Core.rows c.go_on-went.new.core) c.go_on-went.new.kernel.events c.go_on-went.new.parts in
+    let acted = image_of (g.C.Core.stacks c.go_on-went.new.core) (g.C.Core.rows c.go_on-went.new.core) c.go_on-went.new.kernel c.go_on-went.new.parts in
     let same = c.go_on-went.ensures.stays c.if-not-went.true in (
       subst (λ (k : Code). IsValid k acted) (sym c.go_on-went.ensures.code) (subst (λ (i : Image). IsValid c.self.inside.parts.code i) (sym same) c.self.invariant.0),
       record {
         waiting = omega (arith, c.self.invariant.1.waiting, c.go_on-went.ensures.processes);
-        released = omega (arith, c.self.invariant.1.released, c.go_on-went.ensures.room, c.go_on-went.ensures.processes);
+        released = kept_places c.self.inside.kernel.room c.go_on-went.new.kernel.room c.self.inside.parts.woken c.go_on-went.new.parts.woken
+            c.self.invariant.1.released c.go_on-went.ensures.room c.go_on-went.ensures.processes;
       },
       c.self.invariant.2,
       subst (λ (k : Code). AreTables k c.self.inside.tables.items) (sym c.go_on-went.ensures.code) c.self.invariant.3,
@@ -105,7 +106,7 @@ invariant_of-self g c =
 
 pub returns-then-not-went-clause-valid : goal.returns-then-not-went-clause-valid
 returns-then-not-went-clause-valid g c =
-    let acted = image_of (g.C.Core.stacks c.go_on-went.new.core) (g.C.Core.rows c.go_on-went.new.core) c.go_on-went.new.kernel.events c.go_on-went.new.parts in
+    let acted = image_of (g.C.Core.stacks c.go_on-went.new.core) (g.C.Core.rows c.go_on-went.new.core) c.go_on-went.new.kernel c.go_on-went.new.parts in
     let same = c.go_on-went.ensures.stays c.if-not-went.true in
     valid_with c.go_on-went.new.parts.code acted c.self.inside.failure refl
     (subst (λ (k : Code). IsValid k acted) (sym c.go_on-went.ensures.code) (subst (λ (i : Image). IsValid c.self.inside.parts.code i) (sym same) c.self.invariant.0))
@@ -115,7 +116,7 @@ returns-then-not-went-clause-stays g c = λ none.
     let same = c.go_on-went.ensures.stays c.if-not-went.true in
     let kept : Kept = record {
       code = c.self.inside.parts.code;
-      image = with_failure (image_of (g.C.Core.stacks c.self.inside.core) (g.C.Core.rows c.self.inside.core) c.self.inside.kernel.events c.self.inside.parts) c.self.inside.failure;
+      image = with_failure (image_of (g.C.Core.stacks c.self.inside.core) (g.C.Core.rows c.self.inside.core) c.self.inside.kernel c.self.inside.parts) c.self.inside.failure;
       counts = c.self.inside.counts.items;
       released = c.self.inside.parts.woken.processes.items;
       limit = c.self.inside.limit;

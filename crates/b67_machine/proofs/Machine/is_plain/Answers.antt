@@ -22,14 +22,14 @@ use Rattle.b67_machine.proofs.Machine.is_plain.Goals as goal
 pub copy_words-requires-clause-linked : goal.copy_words-requires-clause-linked
 copy_words-requires-clause-linked g c =
     let able = subst (λ (k : Kept). is_able (numbered k.image.states c.args.process) ≡ true) (sym c.self.view_is) c.requires in
-    live_are_linked c.self.inside.parts.code (image_of (g.C.Core.stacks c.self.inside.core) (g.C.Core.rows c.self.inside.core) c.self.inside.kernel.events c.self.inside.parts)
+    live_are_linked c.self.inside.parts.code (image_of (g.C.Core.stacks c.self.inside.core) (g.C.Core.rows c.self.inside.core) c.self.inside.kernel c.self.inside.parts)
     c.args.process c.registers.result.now c.self.invariant.0 (live_of (numbered c.self.inside.parts.states.items c.args.process) able) c.registers.ensures
 
 pub burst_in_place-requires-clause-part : goal.burst_in_place-requires-clause-part
 burst_in_place-requires-clause-part g c =
     let able = subst (λ (k : Kept). is_able (numbered k.image.states c.args.process) ≡ true) (sym c.self.view_is) c.requires in
     let live = live_of (numbered c.self.inside.parts.states.items c.args.process) able in
-    let img = image_of (g.C.Core.stacks c.self.inside.core) (g.C.Core.rows c.self.inside.core) c.self.inside.kernel.events c.self.inside.parts in
+    let img = image_of (g.C.Core.stacks c.self.inside.core) (g.C.Core.rows c.self.inside.core) c.self.inside.kernel c.self.inside.parts in
     subst IsPart (ap (λ ws. part_with c.registers.result.now (reverse ws)) (sym c.copy_words.ensures.words))
     (valid_whole c.self.inside.parts.code img c.args.process c.registers.result.now c.self.invariant.0 live c.registers.ensures)
 
@@ -37,7 +37,7 @@ pub returns : goal.returns
 returns g c =
     let able = subst (λ (k : Kept). is_able (numbered k.image.states c.args.process) ≡ true) (sym c.self.view_is) c.requires in
     let code = c.self.inside.parts.code in
-    let base = image_of (g.C.Core.stacks c.self.inside.core) (g.C.Core.rows c.self.inside.core) c.self.inside.kernel.events c.self.inside.parts in
+    let base = image_of (g.C.Core.stacks c.self.inside.core) (g.C.Core.rows c.self.inside.core) c.self.inside.kernel c.self.inside.parts in
     let live = live_of (numbered c.self.inside.parts.states.items c.args.process) able in
     let st = g.C.Core.stacks c.self.inside.core in
     let rows = g.C.Core.rows c.self.inside.core in

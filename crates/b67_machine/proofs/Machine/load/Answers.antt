@@ -19,8 +19,8 @@ use Rattle.b67_machine.proofs.Failures.{without}
 use Rattle.b67_machine.proofs.Machine.load.Goals as goal
 
 loaded : (code : Code) (old_stacks stacks : Stacks) (old_rows rows : Rows) (kernel : Events) (parts : Parts) → NoneOpen old_stacks → NoneOpen old_rows → length old_rows ≤ row_limit
-    → All (λ (s : Segment). length s.words ≤ segment_limit) code.segments → image_of stacks rows kernel.events parts ≡ first_on old_stacks old_rows → parts.code ≡ code
-    → IsValid parts.code (image_of stacks rows kernel.events parts)
+    → All (λ (s : Segment). length s.words ≤ segment_limit) code.segments → image_of stacks rows kernel parts ≡ first_on old_stacks old_rows → parts.code ≡ code
+    → IsValid parts.code (image_of stacks rows kernel parts)
 loaded code old_stacks stacks old_rows rows kernel parts no_stack no_row few short image same =
     subst (λ (x : Image). IsValid parts.code x) (sym image)
     (first_on_is_valid old_stacks old_rows no_stack no_row parts.code few

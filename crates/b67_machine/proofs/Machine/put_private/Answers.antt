@@ -1,6 +1,5 @@
 use Rattle.std.specs.Prelude.{IfSome}
-use Rattle.std.specs.Vec.{vec_capacity}
-use Rattle.std.proofs.Common.{◌≡◌, refl, sym, ap, subst, ◌∙◌, ◌≤◌, Option, None, arith}
+use Rattle.std.proofs.Common.{◌≡◌, refl, sym, ap, subst, ◌∙◌, Option, None, arith}
 use Rattle.b67_list.specs.Numbered.{numbered}
 use Rattle.b67_control.specs.declared.Registers.{Registers}
 use Rattle.b67_segment.specs.declared.code.Code.{Code}
@@ -9,6 +8,7 @@ use Rattle.b67_table.specs.Private.{floor}
 use Rattle.b67_table.specs.Valid.{IsValid}
 use Rattle.b67_reach.specs.declared.Parts.{Parts}
 use Rattle.b67_reach.specs.Images.{image_of}
+use Rattle.b67_reach.specs.Woken.{HasPlaces}
 use Rattle.b67_machine.specs.declared.Failure.{Failure}
 use Rattle.b67_machine.specs.Kept.{Kept, Counts}
 use Rattle.b67_machine.specs.Machines.{with_failure}
@@ -22,7 +22,7 @@ use Rattle.b67_machine.proofs.Machine.put_private.Goals as goal
 pub put_part-requires-clause-linked : goal.put_part-requires-clause-linked
 put_part-requires-clause-linked g c =
     let old = c.args.self.now in
-    let base = image_of (g.C.Core.stacks c.self.inside.core) (g.C.Core.rows c.self.inside.core) c.self.inside.kernel.events c.self.inside.parts in
+    let base = image_of (g.C.Core.stacks c.self.inside.core) (g.C.Core.rows c.self.inside.core) c.self.inside.kernel c.self.inside.parts in
     let none : c.self.inside.failure ≡ None = none_kept c.self.inside.failure (ap (λ (k : Kept). k.image.fault) c.self.view_is ∙ (goes_on old c.requires.going).fault) in
     let image : old.image ≡ base = ap (λ (k : Kept). k.image) (sym c.self.view_is) ∙ ap (λ (f : Option Failure). with_failure base f) none in
     linked_there old c.self.inside.parts.code base c.args.process c.args.performed c.args.end.now (ap (λ (k : Kept). k.code) (sym c.self.view_is)) image
@@ -31,7 +31,7 @@ put_part-requires-clause-linked g c =
 pub put_part-requires-clause-room : goal.put_part-requires-clause-room
 put_part-requires-clause-room g c =
     let old = c.args.self.now in
-    let base = image_of (g.C.Core.stacks c.self.inside.core) (g.C.Core.rows c.self.inside.core) c.self.inside.kernel.events c.self.inside.parts in
+    let base = image_of (g.C.Core.stacks c.self.inside.core) (g.C.Core.rows c.self.inside.core) c.self.inside.kernel c.self.inside.parts in
     let none : c.self.inside.failure ≡ None = none_kept c.self.inside.failure (ap (λ (k : Kept). k.image.fault) c.self.view_is ∙ (goes_on old c.requires.going).fault) in
     let image : old.image ≡ base = ap (λ (k : Kept). k.image) (sym c.self.view_is) ∙ ap (λ (f : Option Failure). with_failure base f) none in
     room_there old c.self.inside.parts.code base c.args.process c.args.performed c.args.end.now (ap (λ (k : Kept). k.code) (sym c.self.view_is)) image
@@ -40,7 +40,7 @@ put_part-requires-clause-room g c =
 pub count-requires-clause-most : goal.count-requires-clause-most
 count-requires-clause-most g c =
     let old = c.args.self.now in
-    let base = image_of (g.C.Core.stacks c.self.inside.core) (g.C.Core.rows c.self.inside.core) c.self.inside.kernel.events c.self.inside.parts in
+    let base = image_of (g.C.Core.stacks c.self.inside.core) (g.C.Core.rows c.self.inside.core) c.self.inside.kernel c.self.inside.parts in
     let none : c.self.inside.failure ≡ None = none_kept c.self.inside.failure (ap (λ (k : Kept). k.image.fault) c.self.view_is ∙ (goes_on old c.requires.going).fault) in
     let image : old.image ≡ base = ap (λ (k : Kept). k.image) (sym c.self.view_is) ∙ ap (λ (f : Option Failure). with_failure base f) none in
     let n = number_there old c.self.inside.parts.code base c.args.process c.args.performed c.args.end.now (ap (λ (k : Kept). k.code) (sym c.self.view_is)) image
@@ -50,18 +50,18 @@ count-requires-clause-most g c =
 pub invariant_of-self : goal.invariant_of-self
 invariant_of-self g c =
     let old = c.args.self.now in
-    let base = image_of (g.C.Core.stacks c.self.inside.core) (g.C.Core.rows c.self.inside.core) c.self.inside.kernel.events c.self.inside.parts in
+    let base = image_of (g.C.Core.stacks c.self.inside.core) (g.C.Core.rows c.self.inside.core) c.self.inside.kernel c.self.inside.parts in
     let none : c.self.inside.failure ≡ None = none_kept c.self.inside.failure (ap (λ (k : Kept). k.image.fault) c.self.view_is ∙ (goes_on old c.requires.going).fault) in
     let image : old.image ≡ base = ap (λ (k : Kept). k.image) (sym c.self.view_is) ∙ ap (λ (f : Option Failure). with_failure base f) none in
-    let acted = image_of (g.C.Core.stacks c.put_part.new.core) (g.C.Core.rows c.put_part.new.core) c.self.inside.kernel.events c.put_part.new.parts in
+    let acted = image_of (g.C.Core.stacks c.put_part.new.core) (g.C.Core.rows c.put_part.new.core) c.self.inside.kernel c.put_part.new.parts in
     let s = stretched_there old c.self.inside.parts.code base c.args.process c.args.performed c.args.end.now (ap (λ (k : Kept). k.code) (sym c.self.view_is)) image
     c.self.invariant.0 c.requires.lives c.requires.stretch
-    acted (c.put_part.ensures.put c.self.inside.kernel.events) in
+    acted (c.put_part.ensures.put c.self.inside.kernel) in
     let code : c.put_part.new.parts.code ≡ c.self.inside.parts.code = ap (λ (q : Parts). q.code) c.put_part.ensures.others in (
       subst (λ (k : Code). IsValid k acted) (sym code) s.valid,
       record {
         waiting = c.self.invariant.1.waiting;
-        released = subst (λ (q : Parts). c.self.inside.kernel.room ≤ vec_capacity q.woken.processes) (sym c.put_part.ensures.others) c.self.invariant.1.released;
+        released = subst (λ (q : Parts). HasPlaces c.self.inside.kernel.room q.woken) (sym c.put_part.ensures.others) c.self.invariant.1.released;
       },
       c.count.ensures.length ∙ c.self.invariant.2,
       subst (λ (k : Code). AreTables k c.self.inside.tables.items) (sym code) c.self.invariant.3,
@@ -70,10 +70,10 @@ invariant_of-self g c =
 pub returns-clause-goes : goal.returns-clause-goes
 returns-clause-goes g c =
     let old = c.args.self.now in
-    let base = image_of (g.C.Core.stacks c.self.inside.core) (g.C.Core.rows c.self.inside.core) c.self.inside.kernel.events c.self.inside.parts in
+    let base = image_of (g.C.Core.stacks c.self.inside.core) (g.C.Core.rows c.self.inside.core) c.self.inside.kernel c.self.inside.parts in
     let none : c.self.inside.failure ≡ None = none_kept c.self.inside.failure (ap (λ (k : Kept). k.image.fault) c.self.view_is ∙ (goes_on old c.requires.going).fault) in
     let image : old.image ≡ base = ap (λ (k : Kept). k.image) (sym c.self.view_is) ∙ ap (λ (f : Option Failure). with_failure base f) none in
-    let acted = image_of (g.C.Core.stacks c.put_part.new.core) (g.C.Core.rows c.put_part.new.core) c.self.inside.kernel.events c.put_part.new.parts in
+    let acted = image_of (g.C.Core.stacks c.put_part.new.core) (g.C.Core.rows c.put_part.new.core) c.self.inside.kernel c.put_part.new.parts in
     let new : Kept = record {
       code = c.put_part.new.parts.code;
       image = with_failure acted c.self.inside.failure;
@@ -86,7 +86,7 @@ returns-clause-goes g c =
     c.self.invariant.0 c.requires.lives c.requires.stretch
     new
     (subst (λ (f : Option Failure). IfSome (numbered base.regs c.args.process) (λ (r : Registers). with_failure acted f ≡ with_private base c.args.process (floor r) c.args.end.now)) (sym none)
-    (c.put_part.ensures.put c.self.inside.kernel.events))
+    (c.put_part.ensures.put c.self.inside.kernel))
     (subst (λ (k : Kept). Counts k.counts c.args.process c.args.performed c.count.new.counts.items) c.self.view_is c.count.ensures.counts)
     (kept_is old new
     (ap (λ (q : Parts). q.code) c.put_part.ensures.others ∙ ap (λ (k : Kept). k.code) c.self.view_is)
@@ -96,12 +96,12 @@ returns-clause-goes g c =
 pub returns-clause-valid : goal.returns-clause-valid
 returns-clause-valid g c =
     let old = c.args.self.now in
-    let base = image_of (g.C.Core.stacks c.self.inside.core) (g.C.Core.rows c.self.inside.core) c.self.inside.kernel.events c.self.inside.parts in
+    let base = image_of (g.C.Core.stacks c.self.inside.core) (g.C.Core.rows c.self.inside.core) c.self.inside.kernel c.self.inside.parts in
     let none : c.self.inside.failure ≡ None = none_kept c.self.inside.failure (ap (λ (k : Kept). k.image.fault) c.self.view_is ∙ (goes_on old c.requires.going).fault) in
     let image : old.image ≡ base = ap (λ (k : Kept). k.image) (sym c.self.view_is) ∙ ap (λ (f : Option Failure). with_failure base f) none in
-    let acted = image_of (g.C.Core.stacks c.put_part.new.core) (g.C.Core.rows c.put_part.new.core) c.self.inside.kernel.events c.put_part.new.parts in
+    let acted = image_of (g.C.Core.stacks c.put_part.new.core) (g.C.Core.rows c.put_part.new.core) c.self.inside.kernel c.put_part.new.parts in
     let s = stretched_there old c.self.inside.parts.code base c.args.process c.args.performed c.args.end.now (ap (λ (k : Kept). k.code) (sym c.self.view_is)) image
     c.self.invariant.0 c.requires.lives c.requires.stretch
-    acted (c.put_part.ensures.put c.self.inside.kernel.events) in
+    acted (c.put_part.ensures.put c.self.inside.kernel) in
     valid_with c.put_part.new.parts.code acted c.self.inside.failure refl
     (subst (λ (k : Code). IsValid k acted) (ap (λ (q : Parts). q.code) (sym c.put_part.ensures.others)) s.valid)

@@ -7,7 +7,7 @@ use Rattle.b67_table.proofs.Lists.{numbered_from, numbered_within}
 use Rattle.b67_linkage.proofs.Linked.{live_are_linked}
 use Rattle.b67_reach.specs.Images.{image_of}
 use Rattle.b67_action.specs.Running.{HasRun}
-use Rattle.b67_action.proofs.Ready.{registers_there}
+use Rattle.b67_action.proofs.Ready.{registers_there, kept_places}
 use Rattle.b67_machine.specs.declared.Failure.{Failure}
 use Rattle.b67_machine.specs.Chaining.{released_after}
 use Rattle.b67_machine.specs.Kept.{Kept, Counts}
@@ -21,7 +21,7 @@ use Rattle.b67_machine.proofs.Machine.run_process.Goals as goal
 
 pub registers-regs-requires : goal.registers-regs-requires
 registers-regs-requires g c =
-    registers_there c.self.inside.parts.code (image_of (g.C.Core.stacks c.self.inside.core) (g.C.Core.rows c.self.inside.core) c.self.inside.kernel.events c.self.inside.parts) c.args.process
+    registers_there c.self.inside.parts.code (image_of (g.C.Core.stacks c.self.inside.core) (g.C.Core.rows c.self.inside.core) c.self.inside.kernel c.self.inside.parts) c.args.process
     c.self.invariant.0 (subst (λ (k : Kept). is_able (numbered k.image.states c.args.process) ≡ true) (sym c.self.view_is) c.requires.able)
 
 pub prepare-requires-clause-level : goal.prepare-requires-clause-level
@@ -30,12 +30,12 @@ prepare-requires-clause-level g c =
     omega (
       arith,
       (live_are_linked c.self.inside.parts.code
-          (image_of (g.C.Core.stacks c.self.inside.core) (g.C.Core.rows c.self.inside.core) c.self.inside.kernel.events c.self.inside.parts) c.args.process c.registers-regs.result.now
+          (image_of (g.C.Core.stacks c.self.inside.core) (g.C.Core.rows c.self.inside.core) c.self.inside.kernel c.self.inside.parts) c.args.process c.registers-regs.result.now
           c.self.invariant.0 (live_of (numbered c.self.inside.parts.states.items c.args.process) able) c.registers-regs.ensures).level,
     )
 
 pub run_in-ran-requires-clause-valid : goal.run_in-ran-requires-clause-valid
-run_in-ran-requires-clause-valid g c = (c.self.inside.kernel.events, c.self.invariant.0)
+run_in-ran-requires-clause-valid g c = (c.self.inside.kernel, c.self.invariant.0)
 
 pub count-requires-clause-most : goal.count-requires-clause-most
 count-requires-clause-most g c =
@@ -49,8 +49,8 @@ returns-clause-runs g c =
     let ran = c.run_in-ran.result in
     let parts = c.self.inside.parts in
     let v = c.self.invariant.0 in
-    let base = image_of (g.C.Core.stacks c.self.inside.core) (g.C.Core.rows c.self.inside.core) c.self.inside.kernel.events parts in
-    let acted = image_of (g.C.Core.stacks c.run_in-ran.new.core) (g.C.Core.rows c.run_in-ran.new.core) c.self.inside.kernel.events c.run_in-ran.new.parts in
+    let base = image_of (g.C.Core.stacks c.self.inside.core) (g.C.Core.rows c.self.inside.core) c.self.inside.kernel parts in
+    let acted = image_of (g.C.Core.stacks c.run_in-ran.new.core) (g.C.Core.rows c.run_in-ran.new.core) c.self.inside.kernel c.run_in-ran.new.parts in
     let none : c.self.inside.failure ≡ None = none_kept c.self.inside.failure (ap (λ (k : Kept). k.image.fault) c.self.view_is ∙ (goes_on old c.requires.going).fault) in
     let image : old.image ≡ base = ap (λ (k : Kept). k.image) (sym c.self.view_is) ∙ ap (λ (f : Option Failure). with_failure base f) none in
     let new : Kept = record {
@@ -62,7 +62,7 @@ returns-clause-runs g c =
       lacked = c.self.inside.lacked;
     } in
     let run = subst (λ (f : Option Failure). HasRun parts.code p c.args.most base ran (with_failure acted f)) (sym none)
-    (c.run_in-ran.ensures.ran c.self.inside.kernel.events v) in
+    (c.run_in-ran.ensures.ran c.self.inside.kernel v) in
     record {
       begun = subst (λ (k : Kept). IsValid k.code k.image) c.self.view_is (valid_with parts.code base c.self.inside.failure refl v);
       number = numbered_from parts.regs.items p c.registers-regs.result.now c.registers-regs.ensures;
@@ -79,15 +79,15 @@ returns-clause-runs g c =
 
 pub returns-clause-valid : goal.returns-clause-valid
 returns-clause-valid g c =
-    let acted = image_of (g.C.Core.stacks c.run_in-ran.new.core) (g.C.Core.rows c.run_in-ran.new.core) c.self.inside.kernel.events c.run_in-ran.new.parts in
+    let acted = image_of (g.C.Core.stacks c.run_in-ran.new.core) (g.C.Core.rows c.run_in-ran.new.core) c.self.inside.kernel c.run_in-ran.new.parts in
     valid_with c.run_in-ran.new.parts.code acted c.self.inside.failure refl
-    (subst (λ (k : Code). IsValid k acted) (sym c.run_in-ran.ensures.code) (c.run_in-ran.ensures.ran c.self.inside.kernel.events c.self.invariant.0).valid)
+    (subst (λ (k : Code). IsValid k acted) (sym c.run_in-ran.ensures.code) (c.run_in-ran.ensures.ran c.self.inside.kernel c.self.invariant.0).valid)
 
 pub invariant_of-self : goal.invariant_of-self
 invariant_of-self g c =
-    let acted = image_of (g.C.Core.stacks c.run_in-ran.new.core) (g.C.Core.rows c.run_in-ran.new.core) c.self.inside.kernel.events c.run_in-ran.new.parts in (
-      subst (λ (k : Code). IsValid k acted) (sym c.run_in-ran.ensures.code) (c.run_in-ran.ensures.ran c.self.inside.kernel.events c.self.invariant.0).valid,
-      record { waiting = c.self.invariant.1.waiting; released = omega (arith, c.self.invariant.1.released, c.run_in-ran.ensures.room) },
+    let acted = image_of (g.C.Core.stacks c.run_in-ran.new.core) (g.C.Core.rows c.run_in-ran.new.core) c.self.inside.kernel c.run_in-ran.new.parts in (
+      subst (λ (k : Code). IsValid k acted) (sym c.run_in-ran.ensures.code) (c.run_in-ran.ensures.ran c.self.inside.kernel c.self.invariant.0).valid,
+      record { waiting = c.self.invariant.1.waiting; released = kept_places c.self.inside.kernel.room c.self.inside.kernel.room c.self.inside.parts.woken c.run_in-ran.new.parts.woken c.self.invariant.1.released c.run_in-ran.ensures.room refl },
       c.count.ensures.length ∙ c.self.invariant.2,
       subst (λ (k : Code). AreTables k c.prepare.new.segments.items) (sym c.run_in-ran.ensures.code) c.prepare.ensures,
     )

@@ -39,12 +39,12 @@ returns-then-self-clause-steps g c =
 pub returns-then-self-clause-valid : goal.returns-then-self-clause-valid
 returns-then-self-clause-valid g c =
     subst (λ (k : Kept). IsValid k.code k.image) c.self.view_is
-    (valid_with c.self.inside.parts.code (image_of (g.C.Core.stacks c.self.inside.core) (g.C.Core.rows c.self.inside.core) c.self.inside.kernel.events c.self.inside.parts)
+    (valid_with c.self.inside.parts.code (image_of (g.C.Core.stacks c.self.inside.core) (g.C.Core.rows c.self.inside.core) c.self.inside.kernel c.self.inside.parts)
     c.self.inside.failure refl c.self.invariant.0)
 
 pub registers-regs-requires : goal.registers-regs-requires
 registers-regs-requires g c =
-    registers_there c.self.inside.parts.code (image_of (g.C.Core.stacks c.self.inside.core) (g.C.Core.rows c.self.inside.core) c.self.inside.kernel.events c.self.inside.parts) c.args.process
+    registers_there c.self.inside.parts.code (image_of (g.C.Core.stacks c.self.inside.core) (g.C.Core.rows c.self.inside.core) c.self.inside.kernel c.self.inside.parts) c.args.process
     c.self.invariant.0 (subst (λ (k : Kept). is_able (numbered k.image.states c.args.process) ≡ true) (sym c.self.view_is) c.requires.able)
 
 pub prepare-requires-clause-level : goal.prepare-requires-clause-level
@@ -53,7 +53,7 @@ prepare-requires-clause-level g c =
     omega (
       arith,
       (live_are_linked c.self.inside.parts.code
-          (image_of (g.C.Core.stacks c.self.inside.core) (g.C.Core.rows c.self.inside.core) c.self.inside.kernel.events c.self.inside.parts) c.args.process c.registers-regs.result.now
+          (image_of (g.C.Core.stacks c.self.inside.core) (g.C.Core.rows c.self.inside.core) c.self.inside.kernel c.self.inside.parts) c.args.process c.registers-regs.result.now
           c.self.invariant.0 (live_of (numbered c.self.inside.parts.states.items c.args.process) able) c.registers-regs.ensures).level,
     )
 
@@ -85,15 +85,15 @@ returns-clause-steps g c =
     let old = c.args.self.now in
     let new : Kept = record {
       code = c.action-done.new.parts.code;
-      image = with_failure (image_of (g.C.Core.stacks c.action-done.new.core) (g.C.Core.rows c.action-done.new.core) c.action-done.new.kernel.events c.action-done.new.parts)
+      image = with_failure (image_of (g.C.Core.stacks c.action-done.new.core) (g.C.Core.rows c.action-done.new.core) c.action-done.new.kernel c.action-done.new.parts)
           c.failure_of-self-inside.result;
       counts = c.count.new.counts.items;
       released = c.settle.new.released.items;
       limit = c.limit_of-self-inside.result;
       lacked = c.lacks-self-inside.result;
     } in
-    let base = image_of (g.C.Core.stacks c.self.inside.core) (g.C.Core.rows c.self.inside.core) c.self.inside.kernel.events c.self.inside.parts in
-    let acted = image_of (g.C.Core.stacks c.action-done.new.core) (g.C.Core.rows c.action-done.new.core) c.action-done.new.kernel.events c.action-done.new.parts in
+    let base = image_of (g.C.Core.stacks c.self.inside.core) (g.C.Core.rows c.self.inside.core) c.self.inside.kernel c.self.inside.parts in
+    let acted = image_of (g.C.Core.stacks c.action-done.new.core) (g.C.Core.rows c.action-done.new.core) c.action-done.new.kernel c.action-done.new.parts in
     let done = c.action-done.result in
     let none : c.self.inside.failure ≡ None = none_kept c.self.inside.failure (ap (λ (k : Kept). k.image.fault) c.self.view_is ∙ (goes_on old c.requires.going).fault) in
     let image : old.image ≡ base = ap (λ (k : Kept). k.image) (sym c.self.view_is) ∙ ap (λ (f : Option Failure). with_failure base f) none in
@@ -109,6 +109,6 @@ returns-clause-steps g c =
 
 pub returns-clause-valid : goal.returns-clause-valid
 returns-clause-valid g c =
-    let acted = image_of (g.C.Core.stacks c.action-done.new.core) (g.C.Core.rows c.action-done.new.core) c.action-done.new.kernel.events c.action-done.new.parts in
+    let acted = image_of (g.C.Core.stacks c.action-done.new.core) (g.C.Core.rows c.action-done.new.core) c.action-done.new.kernel c.action-done.new.parts in
     valid_with c.action-done.new.parts.code acted c.failure_of-self-inside.result refl
     (subst (λ (k : Code). IsValid k acted) (sym c.action-done.ensures.code) c.action-done.ensures.valid)

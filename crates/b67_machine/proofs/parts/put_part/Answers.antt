@@ -46,8 +46,8 @@ put_is img (suc k) (Some r) own part stacks rows n has at keeps s f w =
     ∙ ap (λ (x : List Registers). record img { stacks = put; regs = x }) regs_are
 
 pub returns-clause-put : goal.returns-clause-put
-returns-clause-put g c = λ events.
-    put_is (image_of (g.C.Core.stacks c.args.core.now) (g.C.Core.rows c.args.core.now) events c.args.parts.now) c.args.process
+returns-clause-put g c = λ kernel.
+    put_is (image_of (g.C.Core.stacks c.args.core.now) (g.C.Core.rows c.args.core.now) kernel c.args.parts.now) c.args.process
     (numbered c.args.parts.now.regs.items c.args.process) c.index_mut-own.result.now c.args.end.now (g.C.Core.stacks c.put_words.new.core)
     (g.C.Core.rows c.put_words.new.core) c.floor.result refl c.index_mut-own.ensures.value c.requires.keeps c.put_words.ensures.stacks c.floor.ensures.value
     c.put_words.ensures.rows

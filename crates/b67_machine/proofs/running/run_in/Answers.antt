@@ -28,8 +28,8 @@ run_own-ran-requires-clause-table g c =
     (c.decoded-table.ensures c.args.parts.now.code c.requires.tables)
 
 pub returns-then-ran-gt0-clause-ran : goal.returns-then-ran-gt0-clause-ran
-returns-then-ran-gt0-clause-ran g c = λ events v.
-    let img = image_of (g.C.Core.stacks c.args.core.now) (g.C.Core.rows c.args.core.now) events c.args.parts.now in
+returns-then-ran-gt0-clause-ran g c = λ kernel v.
+    let img = image_of (g.C.Core.stacks c.args.core.now) (g.C.Core.rows c.args.core.now) kernel c.args.parts.now in
     let p = c.args.process in
     let r = c.registers-regs.result.now in
     let q = c.index_mut-own.result.now in
@@ -38,8 +38,8 @@ returns-then-ran-gt0-clause-ran g c = λ events v.
     (c.run_own-ran.ensures.ran img p (stands_in c.args.parts.now.code img p r q v c.requires.able c.registers-regs.ensures c.index_mut-own.ensures.value))
 
 pub returns-else-ran-gt0-clause-ran : goal.returns-else-ran-gt0-clause-ran
-returns-else-ran-gt0-clause-ran g c = λ events v.
-    let img = image_of (g.C.Core.stacks c.args.core.now) (g.C.Core.rows c.args.core.now) events c.args.parts.now in
+returns-else-ran-gt0-clause-ran g c = λ kernel v.
+    let img = image_of (g.C.Core.stacks c.args.core.now) (g.C.Core.rows c.args.core.now) kernel c.args.parts.now in
     let p = c.args.process in
     let r = c.registers-regs.result.now in
     let q = c.index_mut-own.result.now in

@@ -16,7 +16,7 @@ pub returns-clause-left : goal.returns-clause-left
 returns-clause-left g c = λ done next.
     let st = g.C.Core.stacks c.args.core.now in
     let rows = g.C.Core.rows c.args.core.now in
-    let img = image_of st rows c.args.kernel.now.events c.args.parts.now in
+    let img = image_of st rows c.args.kernel.now c.args.parts.now in
     let r = c.registers-regs.result.now in
     let l = leaving_shown r c.in-Some.below in
     let here = place r.stack c.frame_of.result in
@@ -27,6 +27,6 @@ returns-clause-left g c = λ done next.
     ap (λ (e : Events). e.events) c.close_from.ensures ∙ ap (λ (n : ℕ). closed_from r.stack n c.args.kernel.now.events) c.from.ensures in
     other_goes c.args.process img r c.args.value c.registers-regs.ensures next here (ap (λ (n : ℕ). place r.stack n) c.frame_of.ensures)
     c.deref.result.now c.deref-2.result.now c.deref.ensures.value c.deref-2.ensures.value
-    l (g.C.Core.stacks c.leave_shown_in.new.core) (g.C.Core.rows c.leave_shown_in.new.core) c.leave_shown_in.new.all.items c.close_from.new.self.events
+    l (g.C.Core.stacks c.leave_shown_in.new.core) (g.C.Core.rows c.leave_shown_in.new.core) c.leave_shown_in.new.all.items c.close_from.new.self.events c.close_from.new.self.lists
     found (subst (λ (o : Option Registers). IsLinkedIn st rows o) c.registers-regs.ensures c.requires.linked)
-    (c.leave_shown_in.ensures.left r c.registers-regs.ensures) events_are
+    (c.leave_shown_in.ensures.left r c.registers-regs.ensures) events_are (ap (λ (e : Events). e.lists) c.close_from.ensures)
