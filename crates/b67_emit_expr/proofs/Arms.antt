@@ -1,6 +1,7 @@
 -- The forms of expression, each as it is matched.
-use Rattle.b67_deeds.specs.declared.EventTest.TheVariants as test
-use Rattle.std.proofs.Common.{◌≡◌, ℕ, Result, Ok, Err, List, [], ◌∷◌, refl, sym, ap, ◌∙◌, subst}
+use Rattle.b67_deeds.specs.declared.EventTest.{EventTest}
+use Rattle.b67_deeds.specs.Deeds.{tests}
+use Rattle.std.proofs.Common.{◌≡◌, ℕ, ◌+◌, ◌*◌, length, Result, Ok, Err, List, refl, sym, ap, ◌∙◌, subst}
 use Rattle.std.specs.Result.{OnOk}
 use Rattle.algol_tree.specs.declared.token.Spot.{Spot}
 use Rattle.algol_tree.specs.declared.tree.EventName.{EventName}
@@ -12,13 +13,13 @@ use Rattle.algol_tree.specs.Counts.{expr_tokens, variable_tokens, call_tokens}
 use Rattle.algol_tree.specs.Image.{expr, exprs, variable, call}
 use Rattle.algol_tree.specs.Plain as tree
 use Rattle.algol_tree.specs.Plain.{PExpr}
-use Rattle.b67_ops.specs.declared.intrinsic.Intrinsic.TheVariants.{Happened}
+use Rattle.b67_ops.specs.Intrinsics.{intrinsic_of}
 use Rattle.b67_segment.specs.Building.{Built}
 use Rattle.b67_templates.specs.Paying.{inline}
 use Rattle.b67_emitter.specs.declared.names.Names.{Names}
-use Rattle.b67_emitter.specs.Values.{meanings, HasCode, ValueEmitted, ValueWithExits, HasCall, CallEmitted, HasEvent, EventEmitted}
-use Rattle.b67_emit_expr.proofs.Shapes.{naming_is, call_is, calling_is, happened_is}
-use Rattle.b67_emit_expr.proofs.Forms.{listed_as, variable_form, happened_form, call_form}
+use Rattle.b67_emitter.specs.Values.{meanings, HasCode, ValueEmitted, ValueWithExits, HasCall, CallEmitted, HasEvents, EventsEmitted}
+use Rattle.b67_emit_expr.proofs.Shapes.{naming_is, call_is, calling_is}
+use Rattle.b67_emit_expr.proofs.Forms.{listed_as, variable_form, tested_form, call_form}
 
 pub on_ok_both : {T E P Q R : Type 0} (r : Result T E) → (P → Q → R) → OnOk r P → OnOk r Q → OnOk r R
 on_ok_both (Ok x) f p q = f p q
@@ -82,18 +83,15 @@ module _ (s : Names) (level : ℕ) where
     call_arm a b xs ys same h =
         emitted_as a b xs ys e (tree.call (call c)) calling (listed_as s level a b xs xs xs ys (tree.call (call c)) refl (sym same) (call_form s level a b xs (call c) h))
 
-  -- the test of an event
-  module _ (e : Expr) (event : EventName) (spot : Spot) (is : e ≡ expressions.Happened event spot) where
-    testing : expr e ≡ tree.tested test.Happened (event ∷ []) spot
-    testing = ap expr is ∙ happened_is event spot
+  -- a test of events
+  module _ (e : Expr) (x : EventTest) (es : List EventName) (spot : Spot) (is : expr e ≡ tree.tested x es spot) where
+    pub tested_syllables : inline (meanings s) (expr e) ≡ 4 + 2 * length es
+    tested_syllables = ap (inline (meanings s)) is
 
-    pub event_syllables : inline (meanings s) (expr e) ≡ 12
-    event_syllables = ap (inline (meanings s)) testing
+    pub tested_has : HasCode s level (expr e) → HasEvents s level es
+    tested_has h =
+        let has = has_as e (tree.tested x es spot) is h in
+        record { scopes = has.scopes; own = has.own; outer = has.outer; fits = has.fits.2 }
 
-    pub event_has : HasCode s level (expr e) → HasEvent s level event.name
-    event_has h =
-        let has = has_as e (tree.tested test.Happened (event ∷ []) spot) testing h in
-        record { scopes = has.scopes; own = has.own; outer = has.outer; fits = has.fits.1.0 }
-
-    pub event_arm : (a b : Built) (xs : List ℕ) → EventEmitted s level a b Happened event.name → ValueWithExits s level a b xs xs (expr e)
-    event_arm a b xs h = emitted_as a b xs xs e (tree.tested test.Happened (event ∷ []) spot) testing (happened_form s level a b xs event spot h)
+    pub tested_arm : (a b : Built) (xs : List ℕ) → EventsEmitted s level a b (intrinsic_of (tests x)) es → ValueWithExits s level a b xs xs (expr e)
+    tested_arm a b xs h = emitted_as a b xs xs e (tree.tested x es spot) is (tested_form s level a b xs x es spot h)

@@ -1,5 +1,7 @@
 -- The code of each form of expression, of the code of its parts.
-use Rattle.b67_deeds.specs.declared.EventTest.TheVariants as test
+use Rattle.b67_deeds.specs.declared.EventTest.{EventTest}
+use Rattle.b67_deeds.specs.Deeds.{tests}
+use Rattle.b67_ops.specs.Intrinsics.{intrinsic_of}
 use Rattle.std.proofs.Common.{◌≡◌, ℕ, ℤ, Bool, List, [], ◌∷◌, length, drop, refl, sym, ◌∙◌, subst}
 use Rattle.algol_tree.specs.declared.token.Spot.{Spot}
 use Rattle.algol_tree.specs.declared.tree.EventName.{EventName}
@@ -12,7 +14,6 @@ use Rattle.b67_ops.specs.declared.Operator.TheVariants as ops
 use Rattle.b67_ops.specs.declared.PlainKind.{PlainKind}
 use Rattle.b67_ops.specs.declared.PlainKind.TheVariants as kinds
 use Rattle.b67_ops.specs.declared.BranchKind.TheVariants.{Brfl, Brun}
-use Rattle.b67_ops.specs.declared.intrinsic.Intrinsic.TheVariants.{Happened}
 use Rattle.b67_segment.specs.Operators.{Placed, size}
 use Rattle.b67_segment.specs.Building.{Built, level_set}
 use Rattle.b67_templates.specs.Fragments.{Has, NumberAt, MovedAt, ReadyAt, BranchAt, operator_for, is_implication, truth_literal}
@@ -20,7 +21,7 @@ use Rattle.b67_templates.specs.Code.{ExprAt}
 use Rattle.b67_templates.specs.Emitting.{Emitted, EmittedWithExits}
 use Rattle.b67_emitter.specs.declared.names.Names.{Names}
 use Rattle.b67_emitter.specs.Aiming.{Aimed}
-use Rattle.b67_emitter.specs.Values.{ValueEmitted, ValueWithExits, CallEmitted, EventEmitted}
+use Rattle.b67_emitter.specs.Values.{ValueEmitted, ValueWithExits, CallEmitted, EventsEmitted}
 use Rattle.b67_emitter.proofs.Appends.{same_level}
 use Rattle.b67_emitter.proofs.Composing.{weaker, weaker_exits, no_exits, then, then_exits, all_aimed, aimed_later}
 use Rattle.b67_emit_expr.specs.Applying.{AppliedEmitted}
@@ -67,13 +68,13 @@ module _ (s : Names) where
         no_exits xs (weaker (λ qs. ExprAt scopes context qs level kind (tree.truth t spot) (size a.operators) (size b.operators) (size b.operators)) h (λ qs x. (fits, x)));
   }
 
-  pub happened_form : (level : ℕ) (a b : Built) (xs : List ℕ) (e : EventName) (spot : Spot) → EventEmitted s level a b Happened e.name →
-      ValueWithExits s level a b xs xs (tree.tested test.Happened (e ∷ []) spot)
-  happened_form level a b xs e spot h = record {
+  pub tested_form : (level : ℕ) (a b : Built) (xs : List ℕ) (x : EventTest) (es : List EventName) (spot : Spot) → EventsEmitted s level a b (intrinsic_of (tests x)) es →
+      ValueWithExits s level a b xs xs (tree.tested x es spot)
+  tested_form level a b xs x es spot h = record {
     code = λ scopes context kind fits.
         no_exits xs
-        (weaker (λ qs. ExprAt scopes context qs level kind (tree.tested test.Happened (e ∷ []) spot) (size a.operators) (size b.operators) (size b.operators)) (h.code scopes context fits.1.0)
-        (λ qs x. (fits.0, x)));
+        (weaker (λ qs. ExprAt scopes context qs level kind (tree.tested x es spot) (size a.operators) (size b.operators) (size b.operators)) (h.code scopes context fits.2)
+        (λ qs k. (fits.0, fits.1, k)));
   }
 
   -- ---- variables

@@ -1,6 +1,6 @@
 -- The plain tree of each form of expression.
 use Rattle.b67_deeds.specs.declared.EventTest.TheVariants as test
-use Rattle.std.proofs.Common.{rules, [], ◌∷◌, ◌≡◌, ◌+◌, ◌≤◌, ℤ, Bool, ap, sym, ◌∙◌, arith}
+use Rattle.std.proofs.Common.{List, rules, [], ◌∷◌, ◌≡◌, ◌+◌, ◌≤◌, ℤ, Bool, ap, sym, ◌∙◌, arith}
 use Rattle.std.specs.declared.boxed.Box.{Box}
 use Rattle.std.specs.declared.alloc.Global.{Global}
 use Rattle.algol_tree.specs.declared.token.Spot.{Spot}
@@ -44,8 +44,29 @@ call_is c = search (rules, calls.the_lemmas)
 pub calling_is : (c : Call) → expr (expressions.Call c) ≡ tree.call (call c)
 calling_is c = search (rules, expressions.the_lemmas)
 
-pub happened_is : (e : EventName) (spot : Spot) → expr (expressions.Happened e spot) ≡ tree.tested test.Happened (e ∷ []) spot
-happened_is e spot = search (rules, expressions.the_lemmas)
+pub happened_as : (e : Expr) (event : EventName) (spot : Spot) → e ≡ expressions.Happened event spot → expr e ≡ tree.tested test.Happened (event ∷ []) spot
+happened_as e event spot is = ap expr is ∙ shape
+  where
+    shape : expr (expressions.Happened event spot) ≡ tree.tested test.Happened (event ∷ []) spot
+    shape = search (rules, expressions.the_lemmas)
+
+pub available_as : (e : Expr) (event : EventName) (spot : Spot) → e ≡ expressions.Available event spot → expr e ≡ tree.tested test.Available (event ∷ []) spot
+available_as e event spot is = ap expr is ∙ shape
+  where
+    shape : expr (expressions.Available event spot) ≡ tree.tested test.Available (event ∷ []) spot
+    shape = search (rules, expressions.the_lemmas)
+
+pub fix_as : (e : Expr) (event : EventName) (spot : Spot) → e ≡ expressions.Fix event spot → expr e ≡ tree.tested test.Fix (event ∷ []) spot
+fix_as e event spot is = ap expr is ∙ shape
+  where
+    shape : expr (expressions.Fix event spot) ≡ tree.tested test.Fix (event ∷ []) spot
+    shape = search (rules, expressions.the_lemmas)
+
+pub wait_as : (e : Expr) (events : List EventName) (spot : Spot) → e ≡ expressions.WaitAny events spot → expr e ≡ tree.tested test.WaitAny events spot
+wait_as e events spot is = ap expr is ∙ shape
+  where
+    shape : expr (expressions.WaitAny events spot) ≡ tree.tested test.WaitAny events spot
+    shape = search (rules, expressions.the_lemmas)
 
 pub paren_is : (x : Box Expr Global) (spot : Spot) → expr (expressions.Paren x spot) ≡ tree.paren (expr x.value) spot
 paren_is x spot = search (rules, expressions.the_lemmas)

@@ -21,11 +21,13 @@ use crate::passing::{is_formal, passed_alone};
 use algol_tree::{Call, Expr, Op, Variable};
 use b67_emitter::{
     Names, aim, aim_exits, append_begun, append_branch, append_exit, append_moved, append_number,
-    append_on_event, append_passed, append_plain, append_reference, couple_of, lows_of, takes_name,
+    append_on_events, append_passed, append_plain, append_reference, couple_of, lows_of,
+    takes_name,
 };
 use b67_ops::{BranchKind, Intrinsic, PlainKind};
 use b67_segment::Builder;
 use std::alloc::AllocError;
+use std::slice::from_ref;
 
 /// An operand: its value stands at the place after it.
 #[cycle(values)]
@@ -334,6 +336,15 @@ fn value_with_exits(
         Expr::Two(op, a, b) => calculated(*op, a, b, names, out, exits),
         Expr::If(condition, x, y, _) => chosen(condition, x, y, names, out, exits),
         Expr::Call(c) => called(c, names, out, exits),
-        Expr::Happened(event, _) => append_on_event(Intrinsic::Happened, &event.name, names, out),
+        Expr::Happened(event, _) => {
+            append_on_events(Intrinsic::Happened, from_ref(event), names, out)
+        }
+        Expr::Available(event, _) => {
+            append_on_events(Intrinsic::Available, from_ref(event), names, out)
+        }
+        Expr::Fix(event, _) => append_on_events(Intrinsic::Fix, from_ref(event), names, out),
+        Expr::WaitAny(events, _) => {
+            append_on_events(Intrinsic::WaitAny, events.items(), names, out)
+        }
     }
 }

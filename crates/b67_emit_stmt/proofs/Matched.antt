@@ -1,5 +1,5 @@
 -- A statement whose plain tree is known: what it needs, and what its code is.
-use Rattle.std.proofs.Common.{◌≡◌, ℕ, ◌+◌, ◌≤◌, List, length, refl, sym, ap, ◌∙◌, subst, arith}
+use Rattle.std.proofs.Common.{◌≡◌, ℕ, ◌+◌, ◌≤◌, List, [], ◌∷◌, length, refl, sym, ap, ◌∙◌, subst, arith}
 use Rattle.std.specs.Prelude.{IsSome, Option}
 use Rattle.algol_tree.specs.declared.token.Spot.{Spot}
 use Rattle.b67_deeds.specs.declared.EventAct.{EventAct}
@@ -10,7 +10,7 @@ use Rattle.algol_tree.specs.declared.tree.Op.TheVariants as operators
 use Rattle.algol_tree.specs.declared.tree.PhraseText.{PhraseText}
 use Rattle.algol_tree.specs.Plain as tree
 use Rattle.algol_tree.specs.Plain.{PCall, PExpr, PExprs, PStmt}
-use Rattle.b67_emit_stmt.specs.Places.{Later, Place, AssignAt, CallStmtAt, ExprAt, GoToAt, OnEventAt, StartAt, StepAt, WriteAt}
+use Rattle.b67_emit_stmt.specs.Places.{Later, Place, AssignAt, CallStmtAt, ExprAt, GoToAt, OnEventsAt, StartAt, StepAt, WriteAt}
 use Rattle.b67_emit_stmt.specs.declared.draft.Known.{Known}
 use Rattle.algol_meaning.specs.Statements as meaning
 use Rattle.b67_segment.specs.declared.TheConstants.{MOST_SEGMENT_SYLLABLES}
@@ -213,13 +213,13 @@ module _ (s : Known) (a b : Draft) (p : PStmt) where
 
   pub event_emitted : (act : EventAct) (e : EventName) → p ≡ tree.event act e → b.exits.items ≡ a.exits.items → noted b ≡ noted a → HasFew a →
       ((sc : Place) (later : Later) → EventFits sc s (level_set a.out) e.name →
-      Emitted a.out b.out (λ qs. OnEventAt sc later qs (level_set a.out) (intrinsic_of (deeds.acts act)) e.name (size a.out.operators) (size b.out.operators))) →
+      Emitted a.out b.out (λ qs. OnEventsAt sc later qs (level_set a.out) (intrinsic_of (deeds.acts act)) (e.name ∷ []) (size a.out.operators) (size b.out.operators))) →
       size b.out.operators ≤ size a.out.operators + 6 → EmitsStmt s a b p
   event_emitted act e is xs fs few h short = λ sc fit.
       let level = level_set a.out in
       let F : PStmt → Type 0 = λ x. StmtFits sc s level x in
       let E : PStmt → Type 0 = λ x. Emits (stmt_syllables s x) a b (Stands sc level x a b) in
-      let code : Emits 6 a b (λ later qs target. OnEventAt sc later qs level (intrinsic_of (deeds.acts act)) e.name (size a.out.operators) (size b.out.operators)) =
+      let code : Emits 6 a b (λ later qs target. OnEventsAt sc later qs level (intrinsic_of (deeds.acts act)) (e.name ∷ []) (size a.out.operators) (size b.out.operators)) =
       piece {n = 6} {d = a} {e = b} xs fs few (λ later. h sc later (subst F is fit)) short in
       subst E (sym is) (emits_weaker (Stands sc level (tree.event act e) a b) code (omega arith) (λ later qs target hi x. x))
 

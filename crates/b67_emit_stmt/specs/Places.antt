@@ -60,8 +60,8 @@ module _ (sc : Place) (later : Later) (ps : List Placed) (level : ℕ) where
   abbrev pub GoToAt : Named → ℕ → ℕ → Type 0
   GoToAt n f t = label.GoToAt sc.scopes (context_in sc later level) ps level n f t
 
-  abbrev pub OnEventAt : Intrinsic → Named → ℕ → ℕ → Type 0
-  OnEventAt name n f t = event.OnEventAt sc.scopes (context_in sc later level) ps level name n f t
+  abbrev pub OnEventsAt : Intrinsic → List Named → ℕ → ℕ → Type 0
+  OnEventsAt name ns f t = event.OnEventsAt sc.scopes (context_in sc later level) ps level name ns f t
 
   abbrev pub EventsMadeAt : List Named → ℕ → ℕ → Type 0
   EventsMadeAt ns f t = event.EventsMadeAt sc.scopes (context_in sc later level) ps level ns f t

@@ -34,6 +34,9 @@ fn in_expr<'a>(e: &'a Expr, names: &Names, to: &mut Vec<&'a Expr>) -> Result<(),
         Expr::Number(_, _) => Ok(()),
         Expr::Truth(_, _) => Ok(()),
         Expr::Happened(_, _) => Ok(()),
+        Expr::Available(_, _) => Ok(()),
+        Expr::Fix(_, _) => Ok(()),
+        Expr::WaitAny(_, _) => Ok(()),
     }
 }
 

@@ -1,6 +1,6 @@
 //! Events: how they are made, and what statements do with them.
 
-ghost use Rattle.std.specs.Prelude.{◌≡◌, ◌+◌, ◌*◌, ◌≤◌, List, length, IsSome, OnOk};
+ghost use Rattle.std.specs.Prelude.{◌≡◌, ◌+◌, ◌*◌, ◌≤◌, List, ◌∷◌, [], length, IsSome, OnOk};
 ghost use Rattle.algol_tree.specs.declared.tree.Named.{Named};
 ghost use Rattle.b67_segment.specs.declared.TheConstants.{MOST_SEGMENT_SYLLABLES};
 ghost use Rattle.b67_segment.specs.Operators.{size};
@@ -10,14 +10,15 @@ ghost use Rattle.b67_deeds.specs.Deeds.{acts};
 ghost use Rattle.b67_ops.specs.Intrinsics.{intrinsic_of};
 ghost use Rattle.b67_emitter.specs.Values.{AreNear};
 ghost use Rattle.b67_emit_stmt.specs.Fits.{EventFits};
-ghost use Rattle.b67_emit_stmt.specs.Places.{Later, Place, EventsMadeAt, OnEventAt};
+ghost use Rattle.b67_emit_stmt.specs.Places.{Later, Place, EventsMadeAt, OnEventsAt};
 
 use crate::draft::StmtEmitter;
-use algol_tree::{EventAct, Named};
-use b67_emitter::{ExprEmitter, append_all, append_intrinsic, append_on_event};
+use algol_tree::{EventAct, EventName};
+use b67_emitter::{ExprEmitter, append_all, append_intrinsic, append_on_events};
 use b67_ops::{Intrinsic, PlainKind};
 use b67_segment::Builder;
 use std::alloc::AllocError;
+use std::slice::from_ref;
 
 /// The intrinsic that does what a statement does with an event.
 fn intrinsic_for(act: EventAct) -> Intrinsic
@@ -25,6 +26,7 @@ fn intrinsic_for(act: EventAct) -> Intrinsic
 {
     match act {
         EventAct::Cause => Intrinsic::Cause,
+        EventAct::CauseAndReset => Intrinsic::CauseAndReset,
         EventAct::Reset => Intrinsic::Reset,
         EventAct::Wait => Intrinsic::Wait,
         EventAct::Procure => Intrinsic::Procure,
@@ -48,15 +50,20 @@ pub(crate) fn append_events(many: usize, out: &mut Builder) -> Result<(), AllocE
 }
 
 impl<'a, E: ExprEmitter> StmtEmitter<'a, E> {
-    /// What a statement does with an event: CAUSE, RESET, WAIT, PROCURE or LIBERATE.
-    pub(crate) fn act(&self, act: EventAct, n: &Named, out: &mut Builder) -> Result<(), AllocError>
+    /// What a statement does with an event: CAUSE, CAUSEANDRESET, RESET, WAIT, PROCURE or LIBERATE.
+    pub(crate) fn act(
+        &self,
+        act: EventAct,
+        e: &EventName,
+        out: &mut Builder,
+    ) -> Result<(), AllocError>
         requires set { IsSome out.old.level }
         requires near { AreNear self.now.known.now.names.now }
-        requires fits { (sc : Place) × EventFits sc self.now.known.now (level_set out.old) n.now }
+        requires fits { (sc : Place) × EventFits sc self.now.known.now (level_set out.old) e.now.name }
         requires room { size out.old.operators + 6 ≤ MOST_SEGMENT_SYLLABLES }
-        ensures code { OnOk result ((sc : Place) (later : Later) → EventFits sc self.now.known.now (level_set out.old) n.now → Emitted out.old out.new (λ qs. OnEventAt sc later qs (level_set out.old) (intrinsic_of (acts act)) n.now (size out.old.operators) (size out.new.operators))) }
+        ensures code { OnOk result ((sc : Place) (later : Later) → EventFits sc self.now.known.now (level_set out.old) e.now.name → Emitted out.old out.new (λ qs. OnEventsAt sc later qs (level_set out.old) (intrinsic_of (acts act)) (e.now.name ∷ []) (size out.old.operators) (size out.new.operators))) }
         ensures size { OnOk result (size out.new.operators ≤ size out.old.operators + 6) }
     {
-        append_on_event(intrinsic_for(act), n, self.known.names, out)
+        append_on_events(intrinsic_for(act), from_ref(e), self.known.names, out)
     }
 }

@@ -97,7 +97,7 @@ impl<'a, E: ExprEmitter> StmtEmitter<'a, E> {
             Stmt::Write(_, _, phrases, items) => self.write(phrases.items(), items.items(), to),
             Stmt::Label(n, s) => self.labelled(s, n, to),
             Stmt::GoTo(n) => self.go_to(n, &mut to.out),
-            Stmt::Event(act, e) => self.act(*act, &e.name, &mut to.out),
+            Stmt::Event(act, e) => self.act(*act, e, &mut to.out),
             Stmt::Process(c, task) => self.start(c, task, &mut to.out),
         }
     }

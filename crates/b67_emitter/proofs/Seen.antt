@@ -5,7 +5,7 @@ use Rattle.std.proofs.Math.Pow.{pow_mono}
 use Rattle.algol_tree.specs.declared.TheConstants.{MOST_BLOCK_CELLS}
 use Rattle.b67_ops.specs.declared.Couple.{Couple}
 use Rattle.b67_ops.specs.declared.intrinsic.Intrinsic.{Intrinsic}
-use Rattle.b67_ops.specs.declared.intrinsic.Intrinsic.TheVariants.{GoTo, Select, Arrays, Event, Start, Write, Wait, Cause, Reset, Happened, Procure, Liberate}
+use Rattle.b67_ops.specs.declared.intrinsic.Intrinsic.TheVariants.{GoTo, Select, Arrays, Event, Start, Write, Wait, Cause, Reset, Happened, Procure, Liberate, WaitAny, CauseAndReset, Available, Fix}
 use Rattle.b67_ops.specs.Intrinsics.{couple_of_intrinsic}
 use Rattle.b67_ops.specs.Spelling.{index_bits, IsSeen}
 use Rattle.b67_ops.proofs.Couples.{level_bits-within}
@@ -26,6 +26,10 @@ intrinsic_near Reset = lit< tt
 intrinsic_near Happened = lit< tt
 intrinsic_near Procure = lit< tt
 intrinsic_near Liberate = lit< tt
+intrinsic_near WaitAny = lit< tt
+intrinsic_near CauseAndReset = lit< tt
+intrinsic_near Available = lit< tt
+intrinsic_near Fix = lit< tt
 
 module _ (level : ℕ) where
   wide_index : 2 + MOST_BLOCK_CELLS ≤ 2 ^ index_bits level

@@ -1,9 +1,11 @@
 -- What names mean, and what a call promises that appends the code of an expression, or of what an assignment stores through.
 use Rattle.std.specs.Prelude.{◌≡◌, ℕ, ◌+◌, ◌<◌, ◌≤◌, Bool, true, false, Option, Some, None, List, map}
+use Rattle.std.specs.List.{AllByRecursion}
 use Rattle.std.specs.BTreeMap.{get}
 use Rattle.algol_tree.specs.declared.TheConstants.{MOST_BLOCK_CELLS}
 use Rattle.algol_tree.specs.declared.token.Spot.{Spot}
 use Rattle.algol_tree.specs.declared.tree.Kind.{Kind}
+use Rattle.algol_tree.specs.declared.tree.EventName.{EventName}
 use Rattle.algol_tree.specs.declared.tree.Named.{Named}
 use Rattle.algol_tree.specs.contracts.token.SpotOrd.TheImpl.{ghosts}
 use Rattle.algol_tree.specs.Plain as tree
@@ -32,7 +34,7 @@ use Rattle.b67_templates.specs.Contexts.{Context}
 use Rattle.b67_templates.specs.Fragments.{Has}
 use Rattle.b67_templates.specs.Cells.{parameter_wants, IsArray}
 use Rattle.b67_templates.specs.Code.{ExprAt, SubscriptsAt, PlaceAt, CallAt, ActualsAt, RoutineAt}
-use Rattle.b67_templates.specs.Events.{OnEventAt, TaskAt}
+use Rattle.b67_templates.specs.Events.{names_of, OnEventsAt, TaskAt}
 use Rattle.b67_templates.specs.Emitting.{Emitted, EmittedWithExits}
 use Rattle.b67_templates.specs.Fitting.{Meant, a_variable, a_name, a_procedure, an_event, another, is_event, Target, Told, on_left, PlaceFits, ExprFits, ProcedureFits, ActualsFit, ArrayFits, EventFits, TaskFits, SubscriptsFit}
 use Rattle.b67_templates.specs.Paying.{modes_of, inline, inline_given}
@@ -212,18 +214,18 @@ filled_syllables s (tree.called n es) = inline_given (meanings s) (modes_of (mea
 
 -- ---- events
 
--- an intrinsic on the event has code at that level: the name fits there or further out, in whatever program names have this meaning
-pub record HasEvent (s : Names) (level : ℕ) (n : Named) : Type 0 where
+-- an intrinsic on the events has code at that level: each name fits there or further out, in whatever program names have these meanings
+pub record HasEvents (s : Names) (level : ℕ) (es : List EventName) : Type 0 where
   pub scopes : Scopes
   pub own : ℕ
   pub outer : own ≤ level
-  pub fits : EventFits scopes (meanings s) own n
+  pub fits : AllByRecursion (EventFits scopes (meanings s) own) (names_of es)
 
--- From the first builder to the second the code of the intrinsic on the event was appended.
-pub record EventEmitted (s : Names) (level : ℕ) (before after : Built) (name : Intrinsic) (n : Named) : Type 0 where
+-- From the first builder to the second the code of the intrinsic on the events was appended.
+pub record EventsEmitted (s : Names) (level : ℕ) (before after : Built) (name : Intrinsic) (es : List EventName) : Type 0 where
   pub code :
-      (scopes : Scopes) (context : Context) → EventFits scopes (meanings s) context.level n →
-      Emitted before after (λ qs. OnEventAt scopes context qs level name n (size before.operators) (size after.operators))
+      (scopes : Scopes) (context : Context) → AllByRecursion (EventFits scopes (meanings s) context.level) (names_of es) →
+      Emitted before after (λ qs. OnEventsAt scopes context qs level name (names_of es) (size before.operators) (size after.operators))
 
 -- the task of a process has code at that level, where it has one: the name fits there or further out
 pub record HasTask (s : Names) (level : ℕ) (task : Option Named) : Type 0 where

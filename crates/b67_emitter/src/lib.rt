@@ -21,7 +21,7 @@ pub use appending::{
 };
 pub use calling::{append_begun, append_dropped, append_intrinsic, append_passed};
 pub use entering::{append_control, append_controls, append_entry, append_routine};
-pub use events::{append_on_event, append_task};
+pub use events::{append_on_events, append_task};
 pub use expressions::{ExprEmitter, array_of, couple_of, left_of, lows_of, result_of};
 pub use meanings::{
     Given, event_of, given_of, has_cell, is_name, name_alone, takes_name, target_of,

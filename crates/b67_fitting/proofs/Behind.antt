@@ -8,7 +8,8 @@ use Rattle.algol_tree.specs.declared.tree.Kind.{Kind}
 use Rattle.algol_tree.specs.declared.tree.Heading.{Heading}
 use Rattle.algol_tree.specs.declared.tree.PhraseText.{PhraseText}
 use Rattle.algol_tree.specs.declared.tree.Spec.{Spec}
-use Rattle.algol_tree.specs.Expressions.{IsEvent, declared, of_task}
+use Rattle.algol_tree.specs.Expressions as expressions
+use Rattle.algol_tree.specs.Expressions.{IsEvent, IsEvents, declared, of_task}
 use Rattle.algol_tree.specs.Headings as headings
 use Rattle.algol_tree.specs.Headings.{IsTyped, IsNames, IsFile, IsFiles, IsLiteral, IsLows, IsSpec, IsSpecs, IsValues, IsHeading}
 use Rattle.algol_tree.specs.Statements as grammar
@@ -22,6 +23,10 @@ module _ (P : Token → Type 0) where
   pub behind_event : {from : List Token} {e : EventName} {rest : List Token} → IsEvent from e rest → All from → All rest
   behind_event (declared t n rest k) w = w.1
   behind_event (of_task t u v n rest k c s) w = w.1.1.1
+
+  pub behind_events : {from : List Token} {es : List EventName} {rest : List Token} → IsEvents from es rest → All from → All rest
+  behind_events (expressions.last e from rest x) w = behind_event x w
+  behind_events (expressions.comma t e es from after rest x i y) w = behind_events y (behind_event x w).1
 
   pub behind_names : {from : List Token} {ns : List Named} {rest : List Token} → IsNames from ns rest → All from → All rest
   behind_names (headings.last t n rest k) w = w.1

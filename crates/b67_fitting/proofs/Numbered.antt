@@ -1,12 +1,14 @@
 -- The numbers of what is read from tokens are whole, where the tokens are right.
-use Rattle.std.proofs.Common.{arith, ℕ, ◌≤◌, List, length, subst}
+use Rattle.std.proofs.Common.{refl, arith, ℕ, ◌≤◌, Bool, true, false, List, length, subst}
 use Rattle.algol_tree.specs.declared.level.Level.{Level}
 use Rattle.algol_tree.specs.declared.token.Spot.{Spot}
 use Rattle.algol_tree.specs.declared.token.Token.{Token}
+use Rattle.b67_deeds.specs.Deeds.{tests, is_of_several}
+use Rattle.algol_tree.specs.declared.tree.EventName.{EventName}
 use Rattle.algol_tree.specs.declared.tree.Kind.{Kind}
 use Rattle.algol_tree.specs.declared.tree.Named.{Named}
 use Rattle.algol_tree.specs.Expressions as grammar
-use Rattle.algol_tree.specs.Expressions.{IsPart, IsMore, IsExprs}
+use Rattle.algol_tree.specs.Expressions.{IsPart, IsMore, IsExprs, IsEvents}
 use Rattle.algol_tree.specs.Headings as headings
 use Rattle.algol_tree.specs.Headings.{IsNames}
 use Rattle.algol_tree.specs.Operators.{Part}
@@ -17,8 +19,8 @@ use Rattle.algol_tree.specs.Statements as statements
 use Rattle.algol_tree.specs.Statements.{decls_and, IsWholes, IsActuals, IsSubscripts, IsItems, IsPair, IsPairs, IsSegments, IsStmt, IsStmts, IsDecl, IsDecls, IsBody}
 use Rattle.b67_templates.specs.Fragments.{IsWhole}
 use Rattle.b67_fitting.specs.Numbers.{SourcesHaveWholeNumbers}
-use Rattle.b67_fitting.specs.Wholes.{NumbersWhole, AllWhole, BoundsWhole, StmtWhole, StmtsWhole, DeclsWhole, BodyWhole, HasWholeNumbers}
-use Rattle.b67_fitting.proofs.Behind.{behind_event, behind_names, behind_files, behind_typed, behind_heading, behind_task, behind_to, behind_phrases}
+use Rattle.b67_fitting.specs.Wholes.{AreNamed, NumbersWhole, AllWhole, BoundsWhole, StmtWhole, StmtsWhole, DeclsWhole, BodyWhole, HasWholeNumbers}
+use Rattle.b67_fitting.proofs.Behind.{behind_event, behind_events, behind_names, behind_files, behind_typed, behind_heading, behind_task, behind_to, behind_phrases}
 use Rattle.b67_fitting.proofs.HeadingsWhole.{Read, literal_whole, heading_whole}
 use Rattle.b67_fitting.proofs.Lexed.{KindRight, TokenRight, AreRight, text_right}
 
@@ -28,6 +30,15 @@ use Rattle.b67_fitting.proofs.Lexed.{KindRight, TokenRight, AreRight, text_right
 call_whole : {free d : ℕ} {from : List Token} {es : PExprs} {rest : List Token} (n : Named) → IsExprs free d from es rest → AllWhole es → NumbersWhole (call (called n es))
 call_whole n (grammar.one d e from rest x) w = w
 call_whole n (grammar.comma t d e es from after rest x i y) w = w
+
+-- one event is named, or one at least
+one_named : (several : Bool) → AreNamed several 1
+one_named true = omega arith
+one_named false = refl
+
+some_named : {from : List Token} {es : List EventName} {rest : List Token} → IsEvents from es rest → 1 ≤ length es
+some_named (grammar.last e from rest x) = omega arith
+some_named (grammar.comma t e es from after rest x i y) = omega arith
 
 mutual
   part_whole : {free : ℕ} {p : Part} {d : ℕ} {from : List Token} {e : PExpr} {rest : List Token} → IsPart free p d from e rest → AreRight from → Read (NumbersWhole e) rest
@@ -63,7 +74,8 @@ mutual
   part_whole (grammar.called_with t u v n d es from rest k i o x j) w =
       let one = exprs_whole x w.1.1 in
       (call_whole n x one.0, one.1.1)
-  part_whole (grammar.asked t u v d event from rest i j o x k) w = (tt, (behind_event TokenRight x w.1.1).1)
+  part_whole (grammar.asked t u v test d event from rest i j o x k) w = (one_named (is_of_several (tests test)), (behind_event TokenRight x w.1.1).1)
+  part_whole (grammar.waited t u v d events from rest i j o x k) w = (some_named x, (behind_events TokenRight x w.1.1).1)
   part_whole (grammar.grouped t u d e from rest i o x j) w =
       let one = part_whole x w.1 in
       (one.0, one.1.1)

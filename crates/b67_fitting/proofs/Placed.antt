@@ -283,7 +283,7 @@ module _ (blocks : List Block) (sc : Scopes) (told : Told) where
       fits_expr k (tree.call (tree.called n es)) t g x =
           let c = g.0.0.0.called t.0 level at t.1 in
           (c.callee, c.fits, fits_actuals_of n es t.0 c (fits_actuals t.0 t.0.params (specified t.0 t.2) es t.4 (inside_call n es t.0 t.1 g.1) (called_wants n es t.0 c x)), c.result_is ∙ t.3)
-      fits_expr k (tree.tested z es spot) t g x = (t.0, fits_events (map (λ (e : EventName). e.name) es) g.0.0 t.1)
+      fits_expr k (tree.tested z es spot) t g x = (t.0, t.1, fits_events (map (λ (e : EventName). e.name) es) g.0.0 t.2)
       fits_expr k (tree.paren e spot) t g x = fits_expr k e t g.1 x
       fits_expr k (tree.plus e spot) t g x = (t.0, fits_expr types.Number e t.1 g.1 x)
       fits_expr k (tree.neg e spot) t g x = (t.0, fits_expr types.Number e t.1 g.1 x)

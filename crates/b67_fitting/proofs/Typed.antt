@@ -1,8 +1,14 @@
 -- Expressions at which no rule is broken are of a kind, and so are the parts of them.
 use Rattle.algol_tree.proofs.Alone.{named_alone}
 use Rattle.std.specs.List.{AllByRecursion}
+use Rattle.b67_limits.specs.declared.TheConstants.{MOST_EVENTS}
+use Rattle.b67_deeds.specs.declared.EventTest.{EventTest}
+use Rattle.b67_deeds.specs.Deeds.{tests, is_of_several}
+use Rattle.algol_tree.specs.declared.token.Spot.{Spot}
 use Rattle.algol_tree.specs.declared.tree.EventName.{EventName}
-use Rattle.std.specs.Prelude.{if◌then◌else◌}
+use Rattle.std.specs.Prelude.{◌≤◌, ◌==◌, ◌||◌, nat_lt, Bool, false, if◌then◌else◌}
+use Rattle.std.proofs.lemmas.Bool.{ltb-false}
+use Rattle.std.proofs.lemmas.List.{length-map}
 use Rattle.std.proofs.Common.{flat_map, sym, arith, ◌≡◌, ◌⊎◌, inl, inr, not, true, is_some, List, [], ◌∷◌, ◌++◌, map, length, Option, Some, None, refl, ap, ◌∙◌, subst}
 use Rattle.algol_tree.specs.declared.tree.Kind.{Kind}
 use Rattle.algol_tree.specs.declared.tree.Kind.TheVariants as types
@@ -19,10 +25,11 @@ use Rattle.algol_tree.specs.Plain.{name_alone, PExpr, PExprs}
 use Rattle.algol_tree.specs.Sites.{Part, expression, here, sites, is_of_value, wants_value, name_part, actual_part, actual_part_by, inside_expr, inside_list, inside_actuals}
 use Rattle.algol_tree.specs.Sorts.{is_named_in, class_in, formals_of}
 use Rattle.algol_tree.specs.Surroundings.{Surroundings, class_of, formals_of_class, declared_as}
-use Rattle.algol_tree.specs.Types.{given_by, taken_by, element_type, result_type, type_of}
+use Rattle.algol_tree.specs.Types.{given_by, taken_by, told_by, element_type, result_type, type_of}
 use Rattle.b67_templates.specs.Fragments.{IsWhole}
+use Rattle.b67_templates.specs.Events.{names_of, AreSoMany}
 use Rattle.b67_fitting.proofs.Headings.{HeadingSpecified}
-use Rattle.b67_fitting.specs.Wholes.{NumbersWhole, AllWhole}
+use Rattle.b67_fitting.specs.Wholes.{AreNamed, NumbersWhole, AllWhole}
 use Rattle.b67_fitting.proofs.Lists.{each_front, each_back, nil_front, nil_back}
 use Rattle.b67_fitting.proofs.Actuals.{IsArrayActual, array_actual, IsEventActual, event_actual}
 use Rattle.b67_fitting.proofs.Specified.{IsSpecified, as_value, as_name, as_array, as_event, AreSpecified, specified}
@@ -39,6 +46,21 @@ actual_part_is e f h = by (name_alone e) refl
     by : (o : Option Named) → name_alone e ≡ o → actual_part_by o e f ≡ expression e
     by None g = refl
     by (Some n) g = ap (name_part n) h ∙ ap expression (sym (named_alone e n g))
+
+-- where no count is wrong, as many events are named as may be
+so_many : (x : EventTest) (es : List EventName) (spot : Spot) → AreNamed (is_of_several (tests x)) (length es) →
+    if_so ((length es == 0) || nat_lt MOST_EVENTS (length es)) spot ≡ [] →
+    AreSoMany (tests x) (names_of es)
+so_many x es spot h w = by (is_of_several (tests x)) h (few (length es == 0) (nat_lt MOST_EVENTS (length es)) refl w)
+  where
+    few : (none many : Bool) → nat_lt MOST_EVENTS (length es) ≡ many → if_so (none || many) spot ≡ [] → length es ≤ MOST_EVENTS
+    few true many e k = absurd (let clash : spot ∷ [] ≡ [] = k in cc)
+    few false true e k = absurd (let clash : spot ∷ [] ≡ [] = k in cc)
+    few false false e k = ltb-false MOST_EVENTS (length es) e
+
+    by : (b : Bool) → AreNamed b (length es) → length es ≤ MOST_EVENTS → (1 ≤ length (names_of es)) × (length (names_of es) ≤ (if b then MOST_EVENTS else 1))
+    by true k m = (omega (arith, k, length-map es (λ (e : EventName). e.name)), omega (arith, m, length-map es (λ (e : EventName). e.name)))
+    by false k m = (omega (arith, k, length-map es (λ (e : EventName). e.name)), omega (arith, k, length-map es (λ (e : EventName). e.name)))
 
 module _ (a : Surroundings) where
   abbrev pub IsOf : Kind → Named → Type 0
@@ -70,7 +92,7 @@ module _ (a : Surroundings) where
     TypedExpr k (tree.if c x y spot) = TypedExpr types.Truth c × TypedExpr k x × TypedExpr k y
     TypedExpr k (tree.call (tree.called n es)) =
         (h : Heading) × (class_of a n ≡ class.procedure h) × HeadingSpecified h × (h.kind ≡ Some k) × TypedActuals (formals_of h) es
-    TypedExpr k (tree.tested x es spot) = (k ≡ types.Truth) × AreEventful (map (λ (e : EventName). e.name) es)
+    TypedExpr k (tree.tested x es spot) = (k ≡ told_by x) × AreSoMany (tests x) (names_of es) × AreEventful (names_of es)
 
     -- actuals of these parameters: of simple ones values, and names of arrays and of events
     pub TypedActuals : List Formal → PExprs → Type 0
@@ -179,7 +201,8 @@ module _ (blocks : List Block) (a : Surroundings) (plain : KnowsPlain a) where
           is = ap result_type f.class_is ∙ f.kind_is;
           typed = (h, f.class_is, f.built, f.kind_is, typed_actuals h h.params (specified h f.built) (tree.more e es) w many inside);
         }
-    typed (tree.tested x es spot) w c = record { kind = types.Truth; is = refl; typed = (refl, eventful es c.0.known c.0.typed) }
+    typed (tree.tested x es spot) w c =
+        record { kind = told_by x; is = refl; typed = (refl, so_many x es spot w c.0.counted, eventful es c.0.known c.0.typed) }
     typed (tree.paren e spot) w c =
         let h = typed e w c.1 in
         record { kind = h.kind; is = h.is; typed = h.typed }

@@ -1,14 +1,20 @@
 -- The numbers of a program are whole: the magnitude of each number in its expressions is at most the greatest that the machine has. And
--- each call in an expression has actuals, each array one dimension or two, and each declaration of arrays a name, as in a tree that was
--- read from a text, where a name by itself reads as a variable.
-use Rattle.std.specs.Prelude.{ℤ, ◌≤◌, List, [], ◌∷◌, length}
+-- each call in an expression has actuals, each test of events names as many as it may at least, each array has one dimension or two, and each
+-- declaration of arrays a name, as in a tree that was read from a text, where a name by itself reads as a variable.
+use Rattle.std.specs.Prelude.{ℕ, ℤ, ◌≡◌, ◌≤◌, Bool, true, false, List, [], ◌∷◌, length}
 use Rattle.std.specs.List.{AllByRecursion}
+use Rattle.b67_deeds.specs.Deeds.{tests, is_of_several}
 use Rattle.algol_tree.specs.declared.tree.Spec.{Spec}
 use Rattle.algol_tree.specs.declared.tree.Spec.TheVariants as spec
 use Rattle.algol_tree.specs.Plain as tree
 use Rattle.algol_tree.specs.Plain.{PExpr, PExprs, PPair, PStmt, PStmts, PDecl, PDecls, PBody, PProgram}
 use Rattle.b67_templates.specs.Fragments.{IsWhole}
 use Rattle.b67_templates.specs.Code.{AreDimensions}
+
+-- one event is named, or where several may be, one at least
+abbrev pub AreNamed : Bool → ℕ → Type 0
+AreNamed true many = 1 ≤ many
+AreNamed false many = many ≡ 1
 
 abbrev mutual
   pub NumbersWhole : PExpr → Type 0
@@ -22,6 +28,7 @@ abbrev mutual
   NumbersWhole (tree.not e spot) = NumbersWhole e
   NumbersWhole (tree.two op x y) = NumbersWhole x × NumbersWhole y
   NumbersWhole (tree.if c x y spot) = NumbersWhole c × NumbersWhole x × NumbersWhole y
+  NumbersWhole (tree.tested x es spot) = AreNamed (is_of_several (tests x)) (length es)
   NumbersWhole _ = Unit {0}
 
   pub AllWhole : PExprs → Type 0

@@ -25,7 +25,8 @@ pub fn labels_of_programs_stand()
     ensures { LabelsStand }
 {}
 
-/// Law: each number in a source is whole, so that the machine has it, each array has one dimension or two, and each declaration of
+/// Law: each number in a source is whole, so that the machine has it, each test of events names one, or one at least where it is a wait for
+/// several, each array has one dimension or two, and each declaration of
 /// arrays has a name.
 pub fn numbers_of_sources_are_whole()
     ensures { SourcesHaveWholeNumbers }

@@ -20,6 +20,7 @@ use Rattle.b67_templates.specs.Code.{StepSign, up, down, still, SignedAt}
 use Rattle.b67_standing.specs.Stepping.{Slot, Step, push_number, push_truth, push_reference, stuff, move, exchange, calculate, negate, invert, false_stays, false_goes, true_stays, true_goes, go, call, announce, summon, drop, counts, spent, within, past, within_literal, past_literal}
 use Rattle.b67_standing.specs.Standing.{line_begun, start_begun, IsLast, of_row, of_element, ActionAt, Acted}
 use Rattle.b67_standing.specs.Laws.{LeadsHaveRoom, ActionsHaveRoom, StepsGoForward}
+use Rattle.b67_standing.proofs.OnEvents.{acted_on-length}
 use Rattle.b67_standing.proofs.Leading.{forward, all_forward, leads_within}
 use Rattle.b67_standing.proofs.Actuals.{operands-length, given_slots-above}
 
@@ -91,12 +92,10 @@ module _ (sc : Scopes) (context : Context) (ps : List Placed) (level most : ℕ)
       omega (arith, room, last_within n r.couple r.array.lows ks r.subscript slots below r.lies, ap length l.1)
   acted_within (asks.makes_arrays kind ns pairs vs) pc slots h rests.done at after l room = omega (arith, ap length l.1)
   acted_within (asks.makes_event n) pc slots h rests.done at after l room = omega (arith, ap length l.1)
-  acted_within (asks.event_deed (deeds.tests x) (n ∷ [])) pc slots h (rests.value v) at after l room = omega (arith, room, ap length (h.2).lies, ap length l.1)
-  acted_within (asks.event_deed (deeds.tests x) []) pc slots h (rests.value v) at after l room = absurd h.2
-  acted_within (asks.event_deed (deeds.tests x) (n ∷ m ∷ ns)) pc slots h (rests.value v) at after l room = absurd h.2
-  acted_within (asks.event_deed (deeds.acts act) (n ∷ [])) pc slots h rests.done at after l room = omega (arith, room, ap length (h.2).lies, ap length l.1)
-  acted_within (asks.event_deed (deeds.acts act) []) pc slots h rests.done at after l room = absurd h.2
-  acted_within (asks.event_deed (deeds.acts act) (n ∷ m ∷ ns)) pc slots h rests.done at after l room = absurd h.2
+  acted_within (asks.event_deed (deeds.tests x) ns) pc slots h (rests.value v) at after l room =
+      omega (arith, room, acted_on-length sc context ps level most (deeds.tests x) ns pc h.0 slots h.1 h.2, ap length l.1)
+  acted_within (asks.event_deed (deeds.acts act) ns) pc slots h rests.done at after l room =
+      omega (arith, room, acted_on-length sc context ps level most (deeds.acts act) ns pc h.0 slots h.1 h.2, ap length l.1)
   acted_within (asks.starts n gs task) pc slots h rests.done at after l room =
       let r = h.3 in
       omega (arith, room, ap length r.lies, given_slots-above (parameter_wants sc h.0) gs (start_begun r.couple r.tasked h.2), ap length l.1)

@@ -5,6 +5,7 @@ pub mod Asking
 pub mod Actuals
 pub mod Halves
 pub mod Subscripts
+pub mod OnEvents
 pub mod Settling
 pub mod Putting
 pub mod Rests

@@ -24,11 +24,12 @@ use Rattle.b67_templates.specs.Cells.{parameter_wants}
 use Rattle.b67_templates.specs.Labels.{GoToAt}
 use Rattle.b67_deeds.specs.Deeds as deeds
 use Rattle.b67_ops.specs.Intrinsics.{intrinsic_of}
-use Rattle.b67_templates.specs.Events.{OnEventAt, TaskAt}
+use Rattle.b67_templates.specs.Events.{OnEventsAt, TaskAt}
 use Rattle.b67_templates.specs.Code.{FormatIs, CallStmtAt, StartAt, StmtAt, StmtsAt, WriteAt}
 use Rattle.b67_templates.specs.Depths.{depth, stmt_depth, stmts_depth}
 use Rattle.b67_standing.specs.Stepping.{Slot, operand, reference, intrinsic, control, mark, HasRoom, push_number, push_reference, call, announce, summon, Leads, there, first}
 use Rattle.b67_standing.specs.Standing.{pend, call_begun, start_begun, IsTask, Follows, WhileAt, ComesTo}
+use Rattle.b67_standing.proofs.OnEvents.{all_named, events_named, events_there}
 use Rattle.b67_standing.proofs.Leading.{depth-positive, pend-length, leads_by, follows_before, follows_run}
 use Rattle.b67_standing.proofs.Asking.{deed_asks, going_asks, enters_asks}
 use Rattle.b67_standing.proofs.Actuals.{ComesFilled}
@@ -74,13 +75,13 @@ module _ (sc : Scopes) (context : Context) (ps : List Placed) (level most : ℕ)
 
   -- ---- events and labels
 
-  acted_at : (act : EventAct) (e : EventName) (f t u : ℕ) → OnEventAt sc context ps level (intrinsic_of (deeds.acts act)) e.name f t → Goes ps level t u → Doing (tree.event act e) f u
+  acted_at : (act : EventAct) (e : EventName) (f t u : ℕ) → OnEventsAt sc context ps level (intrinsic_of (deeds.acts act)) (e.name ∷ []) f t → Goes ps level t u →
+      Doing (tree.event act e) f u
   acted_at act e f t u h g k r follows room c =
-      let begun = intrinsic (intrinsic_of (deeds.acts act)) ∷ mark ∷ pend k in
-      after_rest sc context ps level most
-      (first (call (intrinsic_of (deeds.acts act)) h.intrinsic (omega (arith, room))) (first (push_reference h.couple h.reference (omega (arith, room))) there))
-      (stays_here sc context ps level most h.referred (reference h.couple ∷ begun) (rests.acting act e.name k) (deed_asks (deeds.acts act) (e.name ∷ []))
-      (t, record { couple = h.couple; is_event = h.is_event; lies = refl; stands = h.enter }, follows_before sc context ps level most k g follows))
+      let one = e.name ∷ [] in
+      after_rest sc context ps level most (events_named sc context ps level most (deeds.acts act) one f t h (pend k) (omega (arith, room)))
+      (stays_here sc context ps level most h.referred (all_named sc context ps level most (deeds.acts act) one f t h (pend k)) (rests.acting act e.name k) (deed_asks (deeds.acts act) one)
+      (t, events_there sc context ps level most (deeds.acts act) one f t h (pend k) (omega arith, omega arith), follows_before sc context ps level most k g follows))
 
   -- what waits is dropped
   gone_at : (n : Named) (f t u : ℕ) → GoToAt sc context ps level n f t → Doing (tree.go_to n) f u

@@ -7,14 +7,13 @@ use Rattle.algol_tree.specs.declared.tree.Named.{Named}
 use Rattle.algol_tree.specs.Plain as tree
 use Rattle.algol_tree.specs.Plain.{PExpr, PExprs}
 use Rattle.algol_tree.specs.Sorts.{Sort}
-use Rattle.algol_tree.specs.Types.{given_by, taken_by}
+use Rattle.algol_tree.specs.Types.{given_by, taken_by, told_by}
 use Rattle.algol_tree.specs.Scopes.{Scopes}
 use Rattle.b67_num.specs.declared.NumFault.{NumFault}
 use Rattle.algol_meaning.specs.Value.{Value}
 use Rattle.algol_meaning.specs.Rest as rests
 use Rattle.b67_deeds.specs.declared.EventTest.{EventTest}
 use Rattle.b67_deeds.specs.Deeds as deeds
-use Rattle.b67_ops.specs.Intrinsics.{intrinsic_of}
 use Rattle.algol_meaning.specs.Rest.{Given, Hole, Actuals, Half, val, busy, HalfGiven, Answer}
 use Rattle.algol_meaning.specs.Settle.{subscripted_of, right_of, left_of, negated_of, inverted_of, condition_of, called_of, valued_of, half_of, settle, settle_actuals, put, put_actuals}
 use Rattle.algol_meaning.specs.Asks.{Ask, nothing, reads, reads_element, indexes, passes, event_deed, fails, ask_hole, ask_actuals}
@@ -120,8 +119,8 @@ module _ (sc : Scopes) (context : Context) (ps : List Placed) (level most : ℕ)
   element_answered k n ks v pc next slots below to r same g (rests.place p) at left l = absurd l
   element_answered k n ks v pc next slots below to r same g rests.entered at left l = absurd l
 
-  tested_answered : (k : Kind) (x : EventTest) (ns : List Named) (pc next : ℕ) (slots below : List Slot) (to : ℕ) → k ≡ types.Truth →
-      (r : ActsOnAt sc context ps level most (intrinsic_of (deeds.tests x)) ns pc next slots below) → Goes ps level next to → (a : Answer) (at : ℕ) (left : List Slot) →
+  tested_answered : (k : Kind) (x : EventTest) (ns : List Named) (pc next : ℕ) (slots below : List Slot) (to : ℕ) → k ≡ told_by x →
+      (r : ActsOnAt sc context ps level most (deeds.tests x) ns pc next slots below) → Goes ps level next to → (a : Answer) (at : ℕ) (left : List Slot) →
       Acted sc context ps level most (event_deed (deeds.tests x) ns) pc slots (next, below, r) a at left → Coming k at left (half_of a) below to
   tested_answered k x ns pc next slots below to same r g (rests.value v) at left l =
       here sc context ps level most k at left (val v) below to (subst (λ z. Goes ps level z to) (sym l.0) g, l.1, subst (λ z. HasKind z v) (sym same) l.2)

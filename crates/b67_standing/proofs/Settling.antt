@@ -1,6 +1,6 @@
 -- From the start of its code an expression comes, by private operators only, to where the machine stands for it after the silent steps.
-use Rattle.std.proofs.Common.{◌≡◌, refl, sym, ap, ◌∙◌, subst, ℕ, ◌≤◌, arith, Bool, true, List, [], ◌∷◌, map, Some}
-use Rattle.std.proofs.lemmas.List.{append-nil}
+use Rattle.std.proofs.Common.{◌≡◌, refl, sym, ap, ◌∙◌, subst, ℕ, ◌≤◌, arith, Bool, true, ◌+◌, List, [], ◌∷◌, length, Some}
+use Rattle.std.proofs.lemmas.List.{append-nil, length-map}
 use Rattle.algol_tree.specs.declared.tree.Kind.{Kind}
 use Rattle.algol_tree.specs.declared.tree.Kind.TheVariants as types
 use Rattle.algol_tree.specs.declared.tree.EventName.{EventName}
@@ -12,7 +12,7 @@ use Rattle.algol_tree.specs.Plain as tree
 use Rattle.algol_tree.specs.Plain.{PExpr, PExprs}
 use Rattle.algol_tree.specs.Sorts.{Sort, procedure_in}
 use Rattle.algol_tree.specs.Blocks.{block_numbered}
-use Rattle.algol_tree.specs.Types.{given_by, taken_by}
+use Rattle.algol_tree.specs.Types.{given_by, taken_by, told_by}
 use Rattle.algol_tree.specs.Scopes.{Scopes}
 use Rattle.algol_meaning.specs.Value.{number, truth}
 use Rattle.algol_meaning.specs.Rest as rests
@@ -27,11 +27,12 @@ use Rattle.b67_templates.specs.Fragments.{Has, Goes, stop, over}
 use Rattle.b67_templates.specs.Cells as wants
 use Rattle.b67_templates.specs.Cells.{Wanted, parameter_wants, IsProcedure, IsRead, of_variable, of_formal}
 use Rattle.b67_templates.specs.Code.{NameAt, reads, calls, ExprAt, ActualsAt}
-use Rattle.b67_templates.specs.Events.{OnEventsAt}
+use Rattle.b67_templates.specs.Events.{names_of, AreSoMany, OnEventsAt}
 use Rattle.b67_templates.specs.Depths.{depth}
-use Rattle.b67_standing.specs.Stepping.{Slot, operand, reference, intrinsic, mark, HasRoom, push_number, push_truth, push_reference, call, summon, there, first}
+use Rattle.b67_standing.specs.Stepping.{Slot, operand, reference, mark, HasRoom, push_number, push_truth, summon, there, first}
 use Rattle.b67_standing.specs.Standing.{given_slots, call_begun, AreGiven}
 use Rattle.b67_standing.proofs.Leading.{depth-positive}
+use Rattle.b67_standing.proofs.OnEvents.{all_named, events_named, events_there}
 use Rattle.b67_standing.proofs.Actuals.{given_slots-length, Filled, ComesFilled, after_filled, ActualsOn, actual_stands, array_stands, event_stands, name_stands}
 use Rattle.b67_standing.proofs.Values.{variable_reads, formal_reads, procedure_enters}
 use Rattle.b67_standing.proofs.Halves.{Comes, here, after, of_kind, negated_at, inverted_at, left_at, condition_at}
@@ -87,17 +88,12 @@ module _ (sc : Scopes) (context : Context) (ps : List Placed) (level most : ℕ)
       here sc context ps level most k pc slots (busy (rests.argument n x)) below to (callee, couple, filled, next, e, p, s, h, g)
 
   -- a test of events
-  event_tested : (x : EventTest) (ns : List Named) (f t u : ℕ) → OnEventsAt sc context ps level (intrinsic_of (deeds.tests x)) ns f t → Goes ps level t u → (below : List Slot) →
-      HasRoom most below 3 → Coming types.Truth f below (busy (rests.tests x ns)) below u
-  event_tested x [] f t u h g below room = absurd h
-  event_tested x (n ∷ m ∷ ns) f t u h g below room = absurd h
-  event_tested x (n ∷ []) f t u h g below room =
-      let name = intrinsic_of (deeds.tests x) in
-      let begun = intrinsic name ∷ mark ∷ below in
-      after sc context ps level most types.Truth
-      (first (call name h.intrinsic (omega (arith, room))) (first (push_reference h.couple h.reference (omega (arith, room))) there))
-      (here sc context ps level most types.Truth h.referred (reference h.couple ∷ begun) (busy (rests.tests x (n ∷ []))) below u
-      (t, refl, record { couple = h.couple; is_event = h.is_event; lies = refl; stands = h.enter }, g))
+  event_tested : (x : EventTest) (ns : List Named) (f t u : ℕ) → AreSoMany (deeds.tests x) ns → OnEventsAt sc context ps level (intrinsic_of (deeds.tests x)) ns f t → Goes ps level t u →
+      (below : List Slot) → HasRoom most below (2 + length ns) → Coming (told_by x) f below (busy (rests.tests x ns)) below u
+  event_tested x ns f t u many h g below room =
+      after sc context ps level most (told_by x) (events_named sc context ps level most (deeds.tests x) ns f t h below room)
+      (here sc context ps level most (told_by x) h.referred (all_named sc context ps level most (deeds.tests x) ns f t h below) (busy (rests.tests x ns)) below u
+      (t, refl, events_there sc context ps level most (deeds.tests x) ns f t h below many, g))
 
   mutual
     pub settle_at : (k : Kind) (e : PExpr) (f t u : ℕ) → ExprAt sc context ps level k e f t u → Goes ps level t u → (below : List Slot) → HasRoom most below (depth e) →
@@ -143,8 +139,8 @@ module _ (sc : Scopes) (context : Context) (ps : List Placed) (level most : ℕ)
         (after sc context ps level most k filled.leads
         (called_stands k n h.0 b.couple (settled h.0) filled.at filled.with_slots below c.1 t u b.procedure filled.fills c.4 h.2 (omega (arith, room)) g)))
     settle_at k (tree.tested x es spot) f t u h g below room =
-        let ns = map (λ (e : EventName). e.name) es in
-        of_kind sc context ps level most f below (busy (rests.tests x ns)) below u h.0 (event_tested x ns f t u h.1 g below room)
+        of_kind sc context ps level most f below (busy (rests.tests x (names_of es))) below u h.0
+        (event_tested x (names_of es) f t u h.1 h.2 g below (omega (arith, room, length-map es (λ (e : EventName). e.name))))
 
     -- the actuals come to lie there one after another
     pub actuals_at : (es : PExprs) (sorts : List Sort) (after all : List Wanted) (f filled : ℕ) (begun : List Slot) → ActualsAt sc context ps level sorts after es f filled →

@@ -7,7 +7,7 @@ use Rattle.algol_tree.specs.declared.tree.Named.{Named}
 use Rattle.algol_tree.specs.declared.tree.PhraseText.{PhraseText}
 use Rattle.algol_tree.specs.Plain as tree
 use Rattle.algol_tree.specs.Plain.{PExpr, PExprs, PPair, PStmt, PStmts, PDecls}
-use Rattle.algol_tree.specs.Types.{given_by, taken_by}
+use Rattle.algol_tree.specs.Types.{given_by, taken_by, told_by}
 use Rattle.algol_tree.specs.declared.token.Spot.{Spot}
 use Rattle.algol_tree.specs.Blocks.{block_numbered, number_at}
 use Rattle.algol_tree.specs.Scopes.{Scopes}
@@ -25,16 +25,17 @@ use Rattle.b67_ops.specs.declared.TheConstants.{OUTER_LEVEL}
 use Rattle.b67_ops.specs.declared.Operator.TheVariants as ops
 use Rattle.b67_ops.specs.declared.PlainKind.TheVariants as kinds
 use Rattle.b67_ops.specs.declared.BranchKind.TheVariants.{Brfl, Brtr, Brun}
-use Rattle.b67_ops.specs.declared.intrinsic.Intrinsic.{Intrinsic}
 use Rattle.b67_ops.specs.declared.intrinsic.Intrinsic.TheVariants.{Write, Select, Arrays, Event, Start, GoTo}
 use Rattle.b67_segment.specs.Operators.{Placed}
 use Rattle.b67_templates.specs.Contexts as yielding
 use Rattle.b67_templates.specs.Contexts.{Yields, yields_of, Context}
 use Rattle.b67_templates.specs.Fragments.{IsWhole, HasKind, Has, moved, MovedAt, ReadyAt, BranchAt, TurnAt, Goes, code_at, operator_for, is_implication}
 use Rattle.b67_templates.specs.Cells as wants
-use Rattle.b67_templates.specs.Cells.{Wanted, parameter_wants, Agrees, procedures, IsVariable, IsFormalName, IsProcedure, IsDeclaredArray, IsFormalArray, IsArray, IsDeclaredEvent, IsFormalEvent, IsEvent, IsOwnActual}
+use Rattle.b67_templates.specs.Cells.{Wanted, parameter_wants, Agrees, procedures, IsVariable, IsFormalName, IsProcedure, IsDeclaredArray, IsFormalArray, IsArray, IsDeclaredEvent, IsFormalEvent, AreEvents, IsOwnActual}
+use Rattle.b67_templates.specs.Events.{AreSoMany}
 use Rattle.b67_templates.specs.Labels.{IsLabel}
 use Rattle.b67_deeds.specs.Deeds as deeds
+use Rattle.b67_deeds.specs.Deeds.{EventDeed}
 use Rattle.b67_ops.specs.Intrinsics.{intrinsic_of}
 use Rattle.b67_templates.specs.Code.{FormatIs, DroppedAt, ResultAt, AreDimensions, HasNoCounts, in_block, ReadAt, ExprAt, SecondAt, ActualsAt, BoundsAt, LineAt, TableAt, PastAt, StepAt, StmtAt, CasesAt, InnerAt, ThruAt, KAt, exprs_count, stmts_count}
 use Rattle.b67_templates.specs.Arguments.{arguments_in_decls, arguments_in_stmts}
@@ -74,6 +75,11 @@ given_slot _ _ = mark
 abbrev pub given_slots : List Wanted → List Given → List Slot → List Slot
 given_slots (w ∷ wanted) (g ∷ gs) below = given_slots wanted gs (given_slot w g ∷ below)
 given_slots _ _ below = below
+
+-- the references of these cells, the last on top
+abbrev pub references : List Couple → List Slot → List Slot
+references [] below = below
+references (c ∷ cs) below = references cs (reference c ∷ below)
 
 -- the start of a call: a mark, the reference of the procedure's control word
 abbrev pub call_begun : Couple → List Slot → List Slot
@@ -256,18 +262,14 @@ module _ (sc : Scopes) (context : Context) (ps : List Placed) (level most : ℕ)
 
   -- ---- events and labels
 
-  -- the reference of an event's cell, or of a parameter that stands for it, lies on that of an intrinsic, and that on a mark
-  pub record ActsAt (name : Intrinsic) (n : Named) (pc next : ℕ) (slots below : List Slot) : Type 0 where
-    pub couple : Couple
-    pub is_event : IsEvent sc context.level n couple
-    pub lies : slots ≡ reference couple ∷ intrinsic name ∷ mark ∷ below
+  -- the references of the cells of as many events as this may be done with, or of the parameters that stand for them, lie on that of its
+  -- intrinsic, and that on a mark
+  pub record ActsOnAt (x : EventDeed) (ns : List Named) (pc next : ℕ) (slots below : List Slot) : Type 0 where
+    pub many : AreSoMany x ns
+    pub couples : List Couple
+    pub are_events : AreEvents sc context.level ns couples
+    pub lies : slots ≡ references couples (intrinsic (intrinsic_of x) ∷ mark ∷ below)
     pub stands : Has ps level pc (ops.Plain kinds.Entr) next
-
-  -- .. of the event of a list of one
-  abbrev pub ActsOnAt : Intrinsic → List Named → ℕ → ℕ → List Slot → List Slot → Type 0
-  ActsOnAt name (n ∷ []) pc next slots below = ActsAt name n pc next slots below
-  ActsOnAt name [] pc next slots below = ⊥
-  ActsOnAt name (n ∷ m ∷ ns) pc next slots below = ⊥
 
   -- the reference of an intrinsic lies on a mark, with nothing below: after the entry PUSH makes a cell of the event's word
   pub record MakesEventAt (pc next : ℕ) (slots : List Slot) : Type 0 where
@@ -355,7 +357,7 @@ module _ (sc : Scopes) (context : Context) (ps : List Placed) (level most : ℕ)
     Holds k (enter n gs) pc slots below to =
         (callee : ℕ) × (next : ℕ) × CallsAt n gs callee pc next slots below × ((block_numbered sc.blocks callee).result ≡ Some k) × HasRoom most below 2 × Goes ps level next to
     Holds k (tests x ns) pc slots below to =
-        (next : ℕ) × (k ≡ types.Truth) × ActsOnAt (intrinsic_of (deeds.tests x)) ns pc next slots below × Goes ps level next to
+        (next : ℕ) × (k ≡ told_by x) × ActsOnAt (deeds.tests x) ns pc next slots below × Goes ps level next to
     Holds k (broken op v w fault) pc slots below to = (next : ℕ) × (k ≡ given_by op) × BreaksAt op v w fault pc next slots below
     Holds k (left op h b) pc slots below to =
         (m : ℕ) × (r : ℕ) × (n : ℕ) × (next : ℕ) × (k ≡ given_by op) × Holds (taken_by op) h pc slots below m × ReadyAt ps level (is_implication op) m r
@@ -460,7 +462,7 @@ module _ (sc : Scopes) (context : Context) (ps : List Placed) (level most : ℕ)
   StandsFor (turning k) pc slots = (l : ℕ) × (next : ℕ) × TurnAt ps level pc l next × (slots ≡ pend k) × Follows k l
   -- all that lies below is dropped
   StandsFor (going n) pc slots = (next : ℕ) × (below : List Slot) × GoesToAt n pc next slots below
-  StandsFor (acting act n k) pc slots = (next : ℕ) × ActsAt (intrinsic_of (deeds.acts act)) n pc next slots (pend k) × Follows k next
+  StandsFor (acting act n k) pc slots = (next : ℕ) × ActsOnAt (deeds.acts act) (n ∷ []) pc next slots (pend k) × Follows k next
   StandsFor (line phrases vs k) pc slots = (next : ℕ) × WriteAt phrases vs pc next slots (pend k) × Follows k next
   StandsFor (entering_block (tree.body spot ds ss) k) pc slots = (next : ℕ) × EntersAt spot ds ss pc next slots (pend k) × Follows k next
   StandsFor (entering n gs k) pc slots =
@@ -566,7 +568,7 @@ module _ (sc : Scopes) (context : Context) (ps : List Placed) (level most : ℕ)
   ActionAt (stores (element_of r ks) v) pc slots = (next : ℕ) × (below : List Slot) × FoundStoreAt (element_of r ks) v pc next slots below
   ActionAt (makes_arrays kind ns pairs vs) pc slots = (next : ℕ) × MakesAt ns pairs vs pc next slots
   ActionAt (makes_event n) pc slots = (next : ℕ) × MakesEventAt pc next slots
-  ActionAt (event_deed x ns) pc slots = (next : ℕ) × (below : List Slot) × ActsOnAt (intrinsic_of x) ns pc next slots below
+  ActionAt (event_deed x ns) pc slots = (next : ℕ) × (below : List Slot) × ActsOnAt x ns pc next slots below
   ActionAt (goes_to n) pc slots = (next : ℕ) × (below : List Slot) × GoesToAt n pc next slots below
   ActionAt (passes n) pc slots = (wanted : Wanted) × (next : ℕ) × (below : List Slot) × PassesAt n wanted pc next slots below
   ActionAt (fails fault) pc slots =
@@ -610,8 +612,8 @@ module _ (sc : Scopes) (context : Context) (ps : List Placed) (level most : ℕ)
   Acted (stores (element_of r ks) v) pc slots a done at after = (at ≡ a.0) × (after ≡ a.1)
   Acted (makes_arrays kind ns pairs vs) pc slots a done at after = (at ≡ a.0) × (after ≡ [])
   Acted (makes_event n) pc slots a done at after = (at ≡ a.0) × (after ≡ [])
-  -- a test leaves a truth
-  Acted (event_deed (deeds.tests x) ns) pc slots a (value v) at after = (at ≡ a.0) × (after ≡ operand v ∷ a.1) × HasKind types.Truth v
+  -- a test leaves what it tells; a process that waits for several events stands where it stood, until that tells it which of them it was
+  Acted (event_deed (deeds.tests x) ns) pc slots a (value v) at after = (at ≡ a.0) × (after ≡ operand v ∷ a.1) × HasKind (told_by x) v
   Acted (event_deed (deeds.acts act) ns) pc slots a done at after = (at ≡ a.0) × (after ≡ a.1)
   Acted (starts n gs task) pc slots a done at after = (at ≡ a.1) × (after ≡ a.2)
   Acted (passes n) pc slots a (cell c) at after = (at ≡ a.1) × (after ≡ descriptor (passed_held a.0 c) ∷ a.2) × IsPassed a.0 c

@@ -1,8 +1,9 @@
 -- Tokens pay for code in place, twice, and for that of the actuals with cells, once.
-use Rattle.std.proofs.Common.{ℕ, ◌+◌, ◌*◌, ◌≤◌, if◌then◌else◌, Bool, true, false, List, [], ◌∷◌, arith}
+use Rattle.std.proofs.Common.{ℕ, ◌+◌, ◌*◌, ◌≤◌, if◌then◌else◌, Bool, true, false, List, [], ◌∷◌, length, arith}
+use Rattle.algol_tree.specs.declared.tree.EventName.{EventName}
 use Rattle.algol_tree.specs.Plain as tree
 use Rattle.algol_tree.specs.Plain.{PExpr, PExprs}
-use Rattle.algol_tree.specs.Counts.{expr_tokens, exprs_tokens}
+use Rattle.algol_tree.specs.Counts.{events_tokens, expr_tokens, exprs_tokens}
 use Rattle.b67_templates.specs.Cells.{has_place}
 use Rattle.b67_templates.specs.Fitting.{Told}
 use Rattle.b67_templates.specs.Paying.{modes_of, routine_syllables, has_cell, own_routine, given_syllables, inline, inline_all, inline_given, routines, routines_all, routines_given, TokensPay}
@@ -17,6 +18,12 @@ one_given : (told : Told) (mode : Bool) (e : PExpr) (i r t : ℕ) → 2 * i + r 
 one_given told false e i r t paid = omega (arith, paid)
 one_given told true e i r t paid = one_named (has_cell told e) (has_place e) i r t paid
 
+-- each event of a list has a token, and between two there is one
+events_few : (es : List EventName) → 2 * length es ≤ events_tokens es + 1
+events_few [] = omega arith
+events_few (e ∷ []) = omega arith
+events_few (e ∷ f ∷ es) = omega (arith, events_few (f ∷ es))
+
 module _ (told : Told) where
   mutual
     paid : (e : PExpr) → 2 * inline told e + routines told e ≤ 24 * expr_tokens e
@@ -26,7 +33,7 @@ module _ (told : Told) where
     paid (tree.variable (tree.subscripted n (tree.more e es))) = omega (arith, paid e, paid_all es)
     paid (tree.call (tree.called n tree.none)) = omega arith
     paid (tree.call (tree.called n (tree.more e es))) = omega (arith, paid_given (modes_of (told.meant n.spot)) (tree.more e es))
-    paid (tree.tested t e spot) = omega arith
+    paid (tree.tested t es spot) = omega (arith, events_few es)
     paid (tree.paren e spot) = omega (arith, paid e)
     paid (tree.plus e spot) = omega (arith, paid e)
     paid (tree.neg e spot) = omega (arith, paid e)

@@ -311,6 +311,12 @@ pub data IsEvent (sc : Scopes) (level : ℕ) (n : Named) (couple : Couple) : Typ
   declared_event : IsDeclaredEvent sc level n couple → IsEvent sc level n couple
   formal_event : IsFormalEvent sc level n couple → IsEvent sc level n couple
 
+-- .. each of these names, with the couple of its cell
+abbrev pub AreEvents : Scopes → ℕ → List Named → List Couple → Type 0
+AreEvents sc level [] [] = Unit {0}
+AreEvents sc level (n ∷ ns) (c ∷ cs) = IsEvent sc level n c × AreEvents sc level ns cs
+AreEvents sc level _ _ = ⊥
+
 -- In the text of the block with this number, of this level, the actual has a cell, and this is the couple of it.
 pub record IsOwnActual (sc : Scopes) (block level : ℕ) (e : PExpr) (kind : Kind) (couple : Couple) : Type 0 where
   pub own : own_actual sc (by_name kind) e ≡ record { expr = e; kind = kind } ∷ []

@@ -1,10 +1,9 @@
 -- Where the code of each construct stands: from one place to the place after it. What is left early goes on at a third place, to which
 -- branches lead from the place after the code; so a branch never leads to a branch.
-use Rattle.std.specs.Prelude.{◌≡◌, ℕ, zero, suc, ◌+◌, ◌≤◌, ℤ, pos, neg_ℤ, int_lt, ◌==◌, if◌then◌else◌, Bool, true, false, List, [], ◌∷◌, ◌++◌, length, map, replicate, Option, Some, None, slice_get}
+use Rattle.std.specs.Prelude.{◌≡◌, ℕ, zero, suc, ◌+◌, ◌≤◌, ℤ, pos, neg_ℤ, int_lt, ◌==◌, if◌then◌else◌, Bool, true, false, List, [], ◌∷◌, ◌++◌, length, replicate, Option, Some, None, slice_get}
 use Rattle.algol_tree.specs.declared.tree.Op.TheVariants as operators
 use Rattle.algol_tree.specs.declared.tree.Kind.{Kind}
 use Rattle.algol_tree.specs.declared.tree.Kind.TheVariants as types
-use Rattle.algol_tree.specs.declared.tree.EventName.{EventName}
 use Rattle.algol_tree.specs.declared.tree.Named.{Named}
 use Rattle.b67_deeds.specs.Deeds as deeds
 use Rattle.b67_ops.specs.Intrinsics.{intrinsic_of}
@@ -13,7 +12,7 @@ use Rattle.algol_tree.specs.declared.tree.PhraseText.TheVariants as phrase
 use Rattle.algol_tree.specs.Plain as tree
 use Rattle.algol_tree.specs.Plain.{PExpr, PExprs, PPair, PStmt, PStmts, PDecls}
 use Rattle.algol_tree.specs.Spelling.{value_of}
-use Rattle.algol_tree.specs.Types.{given_by, taken_by}
+use Rattle.algol_tree.specs.Types.{given_by, taken_by, told_by}
 use Rattle.algol_tree.specs.Sorts.{Sort, is_variable}
 use Rattle.algol_tree.specs.Blocks.{block_numbered, number_at}
 use Rattle.algol_tree.specs.Scopes.{Scopes}
@@ -36,7 +35,7 @@ use Rattle.algol_paths.specs.Arrays.{DeclaredArray, Shape, shape_of}
 use Rattle.b67_templates.specs.Cells as wants
 use Rattle.b67_templates.specs.Cells.{parameter_cells, Wanted, Agrees, parameter_wants, variables, control_segments, Actual, actuals_in_block, has_place, IsVariable, IsFormalName, IsRead, IsProcedure, IsDeclaredArray, IsFormalArray, IsArray, IsOwnActual}
 use Rattle.b67_templates.specs.Labels.{GoToAt}
-use Rattle.b67_templates.specs.Events.{OnEventAt, OnEventsAt, EventActualAt, EventMadeAt, EventsMadeAt, TaskAt}
+use Rattle.b67_templates.specs.Events.{names_of, AreSoMany, OnEventsAt, EventActualAt, EventMadeAt, EventsMadeAt, TaskAt}
 
 -- ---- context
 
@@ -181,7 +180,7 @@ module _ (sc : Scopes) (context : Context) (ps : List Placed) (level : ℕ) wher
     ExprAt k (tree.call (tree.called n es)) f t u =
         (callee : ℕ) × CallAt n callee (ActualsAt (sorts_of ((block_numbered sc.blocks callee).parameters)) (parameter_wants sc callee) es) f t × ((block_numbered sc.blocks callee).result ≡ Some k)
     ExprAt k (tree.tested x es spot) f t u =
-        (k ≡ types.Truth) × OnEventsAt sc context ps level (intrinsic_of (deeds.tests x)) (map (λ (e : EventName). e.name) es) f t
+        (k ≡ told_by x) × AreSoMany (deeds.tests x) (names_of es) × OnEventsAt sc context ps level (intrinsic_of (deeds.tests x)) (names_of es) f t
 
     -- The last subscript, moved by its lower bound, lies under the reference of the array, or under the descriptor of its row, once the
     -- first subscript has led to that.
@@ -431,7 +430,7 @@ module _ (sc : Scopes) where
     StmtAt context ps level (tree.write n spot phrases es) f t u = WriteAt sc context ps level phrases es f t
     StmtAt context ps level (tree.label n s) f t u = (context.labels n.spot ≡ Some f) × StmtAt context ps level s f t u
     StmtAt context ps level (tree.go_to n) f t u = GoToAt sc context ps level n f t
-    StmtAt context ps level (tree.event act e) f t u = OnEventAt sc context ps level (intrinsic_of (deeds.acts act)) e.name f t
+    StmtAt context ps level (tree.event act e) f t u = OnEventsAt sc context ps level (intrinsic_of (deeds.acts act)) (e.name ∷ []) f t
     StmtAt context ps level (tree.process (tree.called n es) task) f t u = StartAt sc context ps level n es task f t
 
     pub StmtsAt : Context → List Placed → ℕ → PStmts → ℕ → ℕ → ℕ → Type 0

@@ -22,8 +22,8 @@ abbrev mutual
   depth (tree.variable (tree.subscripted n (tree.more e es))) = 5 + line_depth (tree.more e es)
   -- a mark, a reference, the actuals
   depth (tree.call (tree.called n es)) = 2 + line_depth es
-  -- a mark, a reference, that of the event
-  depth (tree.tested t e spot) = 3
+  -- a mark, a reference, those of the events
+  depth (tree.tested t es spot) = 2 + length es
   depth _ = 1
 
   -- the items of a line, or the actuals of a call

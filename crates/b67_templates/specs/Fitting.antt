@@ -6,7 +6,6 @@ use Rattle.algol_tree.specs.declared.token.Spot.{Spot}
 use Rattle.algol_tree.specs.declared.tree.Kind.{Kind}
 use Rattle.algol_tree.specs.declared.tree.Kind.TheVariants as types
 use Rattle.std.specs.List.{AllByRecursion}
-use Rattle.algol_tree.specs.declared.tree.EventName.{EventName}
 use Rattle.algol_tree.specs.declared.tree.Named.{Named}
 use Rattle.algol_tree.specs.declared.tree.PhraseText.{PhraseText}
 use Rattle.algol_tree.specs.declared.tree.PhraseText.TheVariants as phrase
@@ -15,7 +14,7 @@ use Rattle.algol_tree.specs.Lexes.{is_printable, is_quote}
 use Rattle.algol_tree.specs.Spelling.{value_of}
 use Rattle.algol_tree.specs.Plain as tree
 use Rattle.algol_tree.specs.Plain.{PExpr, PExprs, PPair, PStmt, PStmts, PDecls}
-use Rattle.algol_tree.specs.Types.{given_by, taken_by}
+use Rattle.algol_tree.specs.Types.{given_by, taken_by, told_by}
 use Rattle.algol_tree.specs.Sorts.{Sort, is_variable, is_formal}
 use Rattle.algol_tree.specs.Blocks.{block_numbered, number_at}
 use Rattle.algol_tree.specs.Cells.{first_spot}
@@ -30,6 +29,8 @@ use Rattle.algol_paths.specs.Arrays.{Shape, Lows}
 use Rattle.b67_templates.specs.Cells as wants
 use Rattle.b67_templates.specs.Cells.{Wanted, parameter_wants, Agrees, variables, procedures, actuals_in_block, made_of, IsVariable, IsFormalName, IsRead, IsProcedure, IsArray, IsDeclaredEvent, IsFormalEvent, IsOwnActual}
 use Rattle.b67_templates.specs.Labels.{IsLabel}
+use Rattle.b67_deeds.specs.Deeds as deeds
+use Rattle.b67_templates.specs.Events.{names_of, AreSoMany}
 use Rattle.b67_templates.specs.Code.{AreParts, AreDimensions, numbers_in, exprs_count}
 
 -- each byte of the text is printable and no quote
@@ -171,7 +172,7 @@ module _ (sc : Scopes) (told : Told) (level : ℕ) where
       ExprFits k (tree.if c x y spot) = ExprFits types.Truth c × ExprFits k x × ExprFits k y
       ExprFits k (tree.call (tree.called n es)) =
           (callee : ℕ) × ProcedureFits n callee × ActualsFit (sorts_of ((block_numbered sc.blocks callee).parameters)) (parameter_wants sc callee) es × ((block_numbered sc.blocks callee).result ≡ Some k)
-      ExprFits k (tree.tested x es spot) = (k ≡ types.Truth) × AllByRecursion EventFits (map (λ (e : EventName). e.name) es)
+      ExprFits k (tree.tested x es spot) = (k ≡ told_by x) × AreSoMany (deeds.tests x) (names_of es) × AllByRecursion EventFits (names_of es)
 
       -- a subscript for each of these lower bounds
       pub SubscriptsFit : List ℤ → PExprs → Type 0

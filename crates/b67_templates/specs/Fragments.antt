@@ -11,6 +11,7 @@ use Rattle.b67_num.specs.Whole.{most}
 use Rattle.b67_word.specs.Word.{Word, word, operand}
 use Rattle.b67_control.specs.declared.Pcw.{Pcw}
 use Rattle.b67_control.specs.Control.{Fits_pcw, pcw_word}
+use Rattle.b67_ops.specs.declared.Couple.{Couple}
 use Rattle.b67_ops.specs.declared.Operator.{Operator}
 use Rattle.b67_ops.specs.declared.Operator.TheVariants as ops
 use Rattle.b67_ops.specs.declared.PlainKind.{PlainKind}
@@ -149,6 +150,11 @@ module _ (ps : List Placed) (level : ℕ) where
   -- a mark, and the reference of an intrinsic
   abbrev pub IntrinsicAt : Intrinsic → ℕ → ℕ → Type 0
   IntrinsicAt name from to = (m : ℕ) × Has from (ops.Plain kinds.Mkst) m × Has m (ops.Namc (couple_of_intrinsic name)) to
+
+  -- the references of these cells, one after another
+  abbrev pub ReferencesAt : List Couple → ℕ → ℕ → Type 0
+  ReferencesAt [] from to = from ≡ to
+  ReferencesAt (c ∷ cs) from to = (m : ℕ) × Has from (ops.Namc c) m × ReferencesAt cs m to
 
   -- a mark, the control word of the code that begins at a place one level further in, and the entry of it
   pub record EntryAt (segment begin from to : ℕ) : Type 0 where

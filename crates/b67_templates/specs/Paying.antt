@@ -1,6 +1,6 @@
 -- How many syllables the code of an expression has where it stands, and how many that of the actuals in it which have cells: so the two together
 -- are paid by the tokens, although an actual with subscripts has its code twice.
-use Rattle.std.specs.Prelude.{ℕ, ◌+◌, ◌*◌, ◌≤◌, ◌&&◌, not, if◌then◌else◌, Bool, true, false, List, [], ◌∷◌, Option, Some, None, slice_get}
+use Rattle.std.specs.Prelude.{ℕ, ◌+◌, ◌*◌, ◌≤◌, ◌&&◌, not, if◌then◌else◌, Bool, true, false, List, [], ◌∷◌, length, Option, Some, None, slice_get}
 use Rattle.algol_tree.specs.Plain as tree
 use Rattle.algol_tree.specs.Plain.{PExpr, PExprs}
 use Rattle.algol_tree.specs.Counts.{expr_tokens}
@@ -53,7 +53,7 @@ module _ (told : Told) where
     pub inline : PExpr → ℕ
     inline (tree.variable (tree.subscripted n (tree.more e es))) = 36 + inline e + inline_all es
     inline (tree.call (tree.called n es)) = 12 + inline_given (modes_of (told.meant n.spot)) es
-    inline (tree.tested t e spot) = 12
+    inline (tree.tested t es spot) = 4 + 2 * length es
     inline (tree.paren e spot) = inline e
     inline (tree.plus e spot) = inline e
     inline (tree.neg e spot) = 12 + inline e

@@ -1,5 +1,6 @@
-use Rattle.std.proofs.Common.{◌≡◌, ℕ, ◌+◌, ◌*◌, ◌≤◌, ◌<◌, Bool, true, false, List, drop, length, get_or, ℤ, pos, to_z, of_z, w64, option_copied, refl, sym, ap, ◌∙◌, subst, arith}
+use Rattle.std.proofs.Common.{◌≡◌, ℕ, ◌+◌, ◌*◌, ◌≤◌, ◌<◌, Bool, true, false, List, [], ◌∷◌, drop, length, get_or, ℤ, pos, to_z, of_z, w64, option_copied, refl, sym, ap, ◌∙◌, subst, arith}
 use Rattle.std.proofs.lemmas.List.{drop_all}
+use Rattle.b67_deeds.specs.declared.EventTest.TheVariants as test
 use Rattle.std.proofs.lemmas.Result.{on_ok_weaker}
 use Rattle.algol_tree.specs.declared.tree.Expr.{Expr}
 use Rattle.algol_tree.specs.Counts.{expr_tokens, exprs_tokens}
@@ -13,14 +14,14 @@ use Rattle.b67_templates.specs.Emitting.{Emitted}
 use Rattle.b67_templates.specs.Paying.{mode_at, given_syllables, inline, inline_given}
 use Rattle.b67_emitter.specs.Values.{meant, meanings, filled_syllables}
 use Rattle.b67_emitter.proofs.Appends.{same_level}
-use Rattle.b67_emit_expr.proofs.Shapes.{call_long, number_is, truth_is, paren_as, plus_as, neg_as, not_as, two_as, if_as}
+use Rattle.b67_emit_expr.proofs.Shapes.{call_long, happened_as, available_as, fix_as, wait_as, number_is, truth_is, paren_as, plus_as, neg_as, not_as, two_as, if_as}
 use Rattle.b67_emit_expr.proofs.Couples.{code_on, set_after, first_code, second_code, paren_code, plus_code, neg_code, not_code, condition_code, then_code, else_code}
 use Rattle.b67_emit_expr.proofs.Forms.{listed_as, plain_as, number_form, truth_form, moved_form, paren_form, plus_form, neg_form, not_form, applied_form, exits_aimed, operands_form, calculated_form, chosen_form}
 use Rattle.b67_emit_expr.proofs.Listed.{nowhere, list_grown, exits_lie, exits_back, hole_lies}
 use Rattle.b67_emit_expr.proofs.Called.{known_call, seen_call, call_syllables, rest_syllables, call_on, begin_left, next_is, next_tokens, next_syllables, next_wanted, next_one, filled_form, called_form}
 use Rattle.b67_emit_expr.proofs.Passed.{wanted_on, actual_on, wanted_as, actual_as, known_passed, known_actual, seen_actual, actual_syllables, passed_form, actual_code, value_form}
 use Rattle.b67_emit_expr.proofs.Modes.{own_modes, given_named, given_valued}
-use Rattle.b67_emit_expr.proofs.Arms.{on_ok_both, has_as, emitted_as, variable_as, variable_syllables, variable_has, variable_arm, calling_tokens, calling_syllables, call_has, call_arm, event_syllables, event_has, event_arm}
+use Rattle.b67_emit_expr.proofs.Arms.{on_ok_both, has_as, emitted_as, variable_as, variable_syllables, variable_has, variable_arm, calling_tokens, calling_syllables, call_has, call_arm, tested_syllables, tested_has, tested_arm}
 use Rattle.b67_emit_expr.proofs.Subscripts.{first_tokens, both_tokens, first_syllables, both_syllables, subscripts_fewer, read_back, told_list, known_lows, known_element, seen_element, some_subscripts, as_many_lows, own_syllables, first_has, first_back, first_whole, second_has, second_back, second_whole, one_form, two_form}
 use Rattle.b67_emit_expr.proofs.Elements.{is_element, some_in, none_in, element_has, element_form, alone_has, alone_syllables, alone_form}
 use Rattle.b67_emit_expr.proofs.values.+values.Goals as goal
@@ -687,26 +688,69 @@ value_with_exits-returns-in-Call-clause-code t c =
     c.called.new.exits.items same h)
     c.called.ensures.code c.called.ensures.exits
 
-pub value_with_exits-append_on_event-requires-clause-code : goal.value_with_exits-append_on_event-requires-clause-code
-value_with_exits-append_on_event-requires-clause-code t c =
-    event_has c.args.names.now (level_set c.args.out.now) c.args.e.now c.in-Happened.event c.in-Happened.field-1 c.in-Happened.is c.requires.code
+pub value_with_exits-append_on_events-requires-clause-code : goal.value_with_exits-append_on_events-requires-clause-code
+value_with_exits-append_on_events-requires-clause-code t c = rw c.from_ref.ensures.value (tested_has c.args.names.now (level_set c.args.out.now) c.args.e.now test.Happened (c.in-Happened.event ∷ []) c.in-Happened.field-1 (happened_as c.args.e.now c.in-Happened.event c.in-Happened.field-1 c.in-Happened.is) c.requires.code)
 
-pub value_with_exits-append_on_event-requires-clause-room : goal.value_with_exits-append_on_event-requires-clause-room
-value_with_exits-append_on_event-requires-clause-room t c =
-    omega (arith, event_syllables c.args.names.now (level_set c.args.out.now) c.args.e.now c.in-Happened.event c.in-Happened.field-1 c.in-Happened.is, c.requires.room)
+pub value_with_exits-append_on_events-requires-clause-room : goal.value_with_exits-append_on_events-requires-clause-room
+value_with_exits-append_on_events-requires-clause-room t c = omega (arith, tested_syllables c.args.names.now (level_set c.args.out.now) c.args.e.now test.Happened (c.in-Happened.event ∷ []) c.in-Happened.field-1 (happened_as c.args.e.now c.in-Happened.event c.in-Happened.field-1 c.in-Happened.is), ap length c.from_ref.ensures.value, c.requires.room)
 
 pub value_with_exits-returns-in-Happened-clause-code : goal.value_with_exits-returns-in-Happened-clause-code
 value_with_exits-returns-in-Happened-clause-code t c =
-    on_ok_weaker c.append_on_event.result
-    (event_arm c.args.names.now (level_set c.args.out.now) c.args.e.now c.in-Happened.event c.in-Happened.field-1 c.in-Happened.is c.args.out.now c.append_on_event.new.out
-    c.args.exits.now.items)
-    c.append_on_event.ensures.code
+    on_ok_weaker c.append_on_events.result
+    (λ h. tested_arm c.args.names.now (level_set c.args.out.now) c.args.e.now test.Happened (c.in-Happened.event ∷ []) c.in-Happened.field-1 (happened_as c.args.e.now c.in-Happened.event c.in-Happened.field-1 c.in-Happened.is) c.args.out.now c.append_on_events.new.out c.args.exits.now.items (rw c.from_ref.ensures.value at h))
+    c.append_on_events.ensures.code
 
 pub value_with_exits-returns-in-Happened-clause-size : goal.value_with_exits-returns-in-Happened-clause-size
 value_with_exits-returns-in-Happened-clause-size t c =
-    on_ok_weaker c.append_on_event.result
-    (λ wide. omega (arith, event_syllables c.args.names.now (level_set c.args.out.now) c.args.e.now c.in-Happened.event c.in-Happened.field-1 c.in-Happened.is, wide))
-    c.append_on_event.ensures.size
+    on_ok_weaker c.append_on_events.result (λ wide. omega (arith, tested_syllables c.args.names.now (level_set c.args.out.now) c.args.e.now test.Happened (c.in-Happened.event ∷ []) c.in-Happened.field-1 (happened_as c.args.e.now c.in-Happened.event c.in-Happened.field-1 c.in-Happened.is), ap length c.from_ref.ensures.value, wide)) c.append_on_events.ensures.size
+
+pub value_with_exits-append_on_events-requires-in-Available-clause-code : goal.value_with_exits-append_on_events-requires-in-Available-clause-code
+value_with_exits-append_on_events-requires-in-Available-clause-code t c = rw c.from_ref-in-Available.ensures.value (tested_has c.args.names.now (level_set c.args.out.now) c.args.e.now test.Available (c.in-Available.event ∷ []) c.in-Available.field-1 (available_as c.args.e.now c.in-Available.event c.in-Available.field-1 c.in-Available.is) c.requires.code)
+
+pub value_with_exits-append_on_events-requires-in-Available-clause-room : goal.value_with_exits-append_on_events-requires-in-Available-clause-room
+value_with_exits-append_on_events-requires-in-Available-clause-room t c = omega (arith, tested_syllables c.args.names.now (level_set c.args.out.now) c.args.e.now test.Available (c.in-Available.event ∷ []) c.in-Available.field-1 (available_as c.args.e.now c.in-Available.event c.in-Available.field-1 c.in-Available.is), ap length c.from_ref-in-Available.ensures.value, c.requires.room)
+
+pub value_with_exits-returns-in-Available-clause-code : goal.value_with_exits-returns-in-Available-clause-code
+value_with_exits-returns-in-Available-clause-code t c =
+    on_ok_weaker c.append_on_events-in-Available.result
+    (λ h. tested_arm c.args.names.now (level_set c.args.out.now) c.args.e.now test.Available (c.in-Available.event ∷ []) c.in-Available.field-1 (available_as c.args.e.now c.in-Available.event c.in-Available.field-1 c.in-Available.is) c.args.out.now c.append_on_events-in-Available.new.out c.args.exits.now.items (rw c.from_ref-in-Available.ensures.value at h))
+    c.append_on_events-in-Available.ensures.code
+
+pub value_with_exits-returns-in-Available-clause-size : goal.value_with_exits-returns-in-Available-clause-size
+value_with_exits-returns-in-Available-clause-size t c =
+    on_ok_weaker c.append_on_events-in-Available.result (λ wide. omega (arith, tested_syllables c.args.names.now (level_set c.args.out.now) c.args.e.now test.Available (c.in-Available.event ∷ []) c.in-Available.field-1 (available_as c.args.e.now c.in-Available.event c.in-Available.field-1 c.in-Available.is), ap length c.from_ref-in-Available.ensures.value, wide)) c.append_on_events-in-Available.ensures.size
+
+pub value_with_exits-append_on_events-requires-in-Fix-clause-code : goal.value_with_exits-append_on_events-requires-in-Fix-clause-code
+value_with_exits-append_on_events-requires-in-Fix-clause-code t c = rw c.from_ref-in-Fix.ensures.value (tested_has c.args.names.now (level_set c.args.out.now) c.args.e.now test.Fix (c.in-Fix.event ∷ []) c.in-Fix.field-1 (fix_as c.args.e.now c.in-Fix.event c.in-Fix.field-1 c.in-Fix.is) c.requires.code)
+
+pub value_with_exits-append_on_events-requires-in-Fix-clause-room : goal.value_with_exits-append_on_events-requires-in-Fix-clause-room
+value_with_exits-append_on_events-requires-in-Fix-clause-room t c = omega (arith, tested_syllables c.args.names.now (level_set c.args.out.now) c.args.e.now test.Fix (c.in-Fix.event ∷ []) c.in-Fix.field-1 (fix_as c.args.e.now c.in-Fix.event c.in-Fix.field-1 c.in-Fix.is), ap length c.from_ref-in-Fix.ensures.value, c.requires.room)
+
+pub value_with_exits-returns-in-Fix-clause-code : goal.value_with_exits-returns-in-Fix-clause-code
+value_with_exits-returns-in-Fix-clause-code t c =
+    on_ok_weaker c.append_on_events-in-Fix.result
+    (λ h. tested_arm c.args.names.now (level_set c.args.out.now) c.args.e.now test.Fix (c.in-Fix.event ∷ []) c.in-Fix.field-1 (fix_as c.args.e.now c.in-Fix.event c.in-Fix.field-1 c.in-Fix.is) c.args.out.now c.append_on_events-in-Fix.new.out c.args.exits.now.items (rw c.from_ref-in-Fix.ensures.value at h))
+    c.append_on_events-in-Fix.ensures.code
+
+pub value_with_exits-returns-in-Fix-clause-size : goal.value_with_exits-returns-in-Fix-clause-size
+value_with_exits-returns-in-Fix-clause-size t c =
+    on_ok_weaker c.append_on_events-in-Fix.result (λ wide. omega (arith, tested_syllables c.args.names.now (level_set c.args.out.now) c.args.e.now test.Fix (c.in-Fix.event ∷ []) c.in-Fix.field-1 (fix_as c.args.e.now c.in-Fix.event c.in-Fix.field-1 c.in-Fix.is), ap length c.from_ref-in-Fix.ensures.value, wide)) c.append_on_events-in-Fix.ensures.size
+
+pub value_with_exits-append_on_events-requires-in-WaitAny-clause-code : goal.value_with_exits-append_on_events-requires-in-WaitAny-clause-code
+value_with_exits-append_on_events-requires-in-WaitAny-clause-code t c = rw (c.deref-in-WaitAny.ensures.value ∙ c.items.ensures) (tested_has c.args.names.now (level_set c.args.out.now) c.args.e.now test.WaitAny c.in-WaitAny.events c.in-WaitAny.field-1 (wait_as c.args.e.now c.in-WaitAny.events c.in-WaitAny.field-1 c.in-WaitAny.is) c.requires.code)
+
+pub value_with_exits-append_on_events-requires-in-WaitAny-clause-room : goal.value_with_exits-append_on_events-requires-in-WaitAny-clause-room
+value_with_exits-append_on_events-requires-in-WaitAny-clause-room t c = omega (arith, tested_syllables c.args.names.now (level_set c.args.out.now) c.args.e.now test.WaitAny c.in-WaitAny.events c.in-WaitAny.field-1 (wait_as c.args.e.now c.in-WaitAny.events c.in-WaitAny.field-1 c.in-WaitAny.is), ap length (c.deref-in-WaitAny.ensures.value ∙ c.items.ensures), c.requires.room)
+
+pub value_with_exits-returns-in-WaitAny-clause-code : goal.value_with_exits-returns-in-WaitAny-clause-code
+value_with_exits-returns-in-WaitAny-clause-code t c =
+    on_ok_weaker c.append_on_events-in-WaitAny.result
+    (λ h. tested_arm c.args.names.now (level_set c.args.out.now) c.args.e.now test.WaitAny c.in-WaitAny.events c.in-WaitAny.field-1 (wait_as c.args.e.now c.in-WaitAny.events c.in-WaitAny.field-1 c.in-WaitAny.is) c.args.out.now c.append_on_events-in-WaitAny.new.out c.args.exits.now.items (rw (c.deref-in-WaitAny.ensures.value ∙ c.items.ensures) at h))
+    c.append_on_events-in-WaitAny.ensures.code
+
+pub value_with_exits-returns-in-WaitAny-clause-size : goal.value_with_exits-returns-in-WaitAny-clause-size
+value_with_exits-returns-in-WaitAny-clause-size t c =
+    on_ok_weaker c.append_on_events-in-WaitAny.result (λ wide. omega (arith, tested_syllables c.args.names.now (level_set c.args.out.now) c.args.e.now test.WaitAny c.in-WaitAny.events c.in-WaitAny.field-1 (wait_as c.args.e.now c.in-WaitAny.events c.in-WaitAny.field-1 c.in-WaitAny.is), ap length (c.deref-in-WaitAny.ensures.value ∙ c.items.ensures), wide)) c.append_on_events-in-WaitAny.ensures.size
 
 pub value_with_exits-value_with_exits-requires : goal.value_with_exits-value_with_exits-requires
 value_with_exits-value_with_exits-requires t c =
@@ -886,7 +930,16 @@ pub value_with_exits-returns-in-Call-clause-level : goal.value_with_exits-return
 value_with_exits-returns-in-Call-clause-level t c = c.called.ensures.level
 
 pub value_with_exits-returns-in-Happened-clause-level : goal.value_with_exits-returns-in-Happened-clause-level
-value_with_exits-returns-in-Happened-clause-level t c = c.append_on_event.ensures.level
+value_with_exits-returns-in-Happened-clause-level t c = c.append_on_events.ensures.level
+
+pub value_with_exits-returns-in-Available-clause-level : goal.value_with_exits-returns-in-Available-clause-level
+value_with_exits-returns-in-Available-clause-level t c = c.append_on_events-in-Available.ensures.level
+
+pub value_with_exits-returns-in-Fix-clause-level : goal.value_with_exits-returns-in-Fix-clause-level
+value_with_exits-returns-in-Fix-clause-level t c = c.append_on_events-in-Fix.ensures.level
+
+pub value_with_exits-returns-in-WaitAny-clause-level : goal.value_with_exits-returns-in-WaitAny-clause-level
+value_with_exits-returns-in-WaitAny-clause-level t c = c.append_on_events-in-WaitAny.ensures.level
 
 pub chosen-operand-requires : goal.chosen-operand-requires
 chosen-operand-requires t c =
