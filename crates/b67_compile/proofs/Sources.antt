@@ -1,9 +1,10 @@
 -- What is known of a tree that some text is, from the mere fact that there is such a text: each of these facts has one proof at most.
-use Rattle.std.proofs.Common.{ap, List, [], ◌∷◌}
+use Rattle.std.proofs.Common.{ap, ℕ, Bool, true, false, List, [], ◌∷◌, length}
 use Rattle.std.proofs.Props.{props}
 use Rattle.std.proofs.Math.Logic.{∥∥₁_elim}
 use Rattle.std.specs.Coded.{×_prop, Π_prop, Unit-prop, le_prop}
 use Rattle.std.specs.List.{AllByRecursion-prop}
+use Rattle.b67_deeds.specs.Deeds.{tests, is_of_several}
 use Rattle.algol_tree.specs.declared.tree.PhraseText.{PhraseText}
 use Rattle.algol_tree.specs.declared.tree.PhraseText.TheVariants as phrase
 use Rattle.algol_tree.specs.declared.tree.Spec.{Spec}
@@ -14,7 +15,7 @@ use Rattle.algol_tree.specs.Plain.{PExpr, PExprs, PPair, PStmt, PStmts, PDecl, P
 use Rattle.algol_front.proofs.Ordered.{IsSource}
 use Rattle.b67_templates.specs.Names.{StmtNamed, StmtsNamed, DeclNamed, DeclsNamed, HasNames}
 use Rattle.b67_fitting.specs.Texts.{PhrasePlain, StmtPlain, StmtsPlain, DeclPlain, DeclsPlain, HasPlainTexts}
-use Rattle.b67_fitting.specs.Wholes.{NumbersWhole, AllWhole, BoundsWhole, SpecWhole, StmtWhole, StmtsWhole, DeclWhole, DeclsWhole, HasWholeNumbers}
+use Rattle.b67_fitting.specs.Wholes.{AreNamed, NumbersWhole, AllWhole, BoundsWhole, SpecWhole, StmtWhole, StmtsWhole, DeclWhole, DeclsWhole, HasWholeNumbers}
 use Rattle.b67_fitting.proofs.NamesRead.{sources_named}
 use Rattle.b67_fitting.proofs.Numbered.{sources_whole}
 use Rattle.b67_fitting.proofs.Written.{sources_plain}
@@ -94,6 +95,10 @@ four {A} {B} {C} {D} a b c d x y =
     ap (λ (t : A × (B × (C × D))). let u : A × B × C × D = (t.0, t.1.0, t.1.1.0, t.1.1.1) in u)
     (×_prop a (×_prop b (×_prop c d)) (x.0, (x.1, (x.2, x.3))) (y.0, (y.1, (y.2, y.3))))
 
+named_once : (several : Bool) (many : ℕ) → IsProp (AreNamed several many)
+named_once true many = le_prop
+named_once false many = Prim.hlevel props
+
 mutual
   numbers_whole : (e : PExpr) → IsProp (NumbersWhole e)
   numbers_whole (tree.number z spot) = le_prop
@@ -106,6 +111,7 @@ mutual
   numbers_whole (tree.not e spot) = numbers_whole e
   numbers_whole (tree.two op x y) = ×_prop (numbers_whole x) (numbers_whole y)
   numbers_whole (tree.if c x y spot) = three (numbers_whole c) (numbers_whole x) (numbers_whole y)
+  numbers_whole (tree.tested x es spot) = named_once (is_of_several (tests x)) (length es)
   numbers_whole _ = Unit-prop
 
   all_whole : (es : PExprs) → IsProp (AllWhole es)

@@ -1,10 +1,10 @@
 -- What holds of each line that a format of a code makes holds of each line of the output of a run.
-use Rattle.std.proofs.Common.{◌≡◌, refl, subst, sym, ℕ, zero, suc, ◌+◌, ◌-◌, ◌&&◌, Bool, true, false, not, ℤ, List, [], ◌∷◌, ◌++◌, All, take, drop, Option, Some, None, Result, Ok, Err, cond}
+use Rattle.std.proofs.Common.{◌≡◌, refl, subst, sym, ℕ, zero, suc, ◌+◌, ◌-◌, ◌&&◌, Bool, true, false, not, ℤ, pos, List, [], ◌∷◌, ◌++◌, All, take, drop, Option, Some, None, Result, Ok, Err, cond}
 use Rattle.std.specs.Prelude.{nat_lt, nat_le, nat_eq, length}
 use Rattle.std.proofs.lemmas.List.Elements.{All-nil, All-push}
 use Rattle.b67_list.specs.Numbered.{numbered}
 use Rattle.b67_word.specs.declared.Place.{Place}
-use Rattle.b67_word.specs.Word.{Word, truth}
+use Rattle.b67_word.specs.Word.{Word, operand, truth}
 use Rattle.b67_control.specs.declared.Registers.{Registers}
 use Rattle.b67_control.specs.declared.Mscw.{Mscw}
 use Rattle.b67_control.specs.declared.Pcw.{Pcw}
@@ -46,13 +46,13 @@ use Rattle.b67_table.specs.Program.{Test, answer, fault, asked, ◌>>=◌, see, 
 use Rattle.b67_table.specs.Program.{write as write_on}
 use Rattle.b67_table.specs.Moves.{dropped, replaced, pushed}
 use Rattle.b67_table.specs.Chains.{place, broken, mark_at, rebuilt}
-use Rattle.b67_table.specs.Limits.{most_cells, most_processes}
+use Rattle.b67_table.specs.Limits.{most_cells, most_events, most_processes}
 use Rattle.b67_table.specs.Linkage.{entering, entered, leaving, left, entry, accidental, control_word, entered_mark, selected, closed_by, rows_closed, array_closed, arrays_closed, frame_left, is_critical, if_not_critical, caused_by, leave_base, leave_other, leave}
 use Rattle.b67_table.specs.GoingTo.{Passed, Passing, Target, frames_left, passed_frames, passed_by, target_of, gone_to, go_to}
 use Rattle.b67_table.specs.Arrays.{Extents, one, two, array_word, rows_made, array_made, arrays_made, as_indexed, element, subscripted, index_in, index_or_fault, index, index_and_load, index_mother, subscripted_element, if_held}
-use Rattle.b67_table.specs.Arguments.{if_chained, finished_at, wholes, three, event_of}
+use Rattle.b67_table.specs.Arguments.{if_chained, finished_at, wholes, three, event_of, events_of, no_such}
 use Rattle.b67_table.specs.Lines.{line_for}
-use Rattle.b67_table.specs.Intrinsics.{case_in, case_place, wanted, extents, gone_to_case, select, arrays, write, make_event, on_event, tell_event, row_of_intrinsic, intrinsic_row, intrinsic}
+use Rattle.b67_table.specs.Intrinsics.{case_in, case_place, wanted, extents, gone_to_case, select, arrays, write, make_event, on_event, tell_event, gone_on, gone_or_waiting, woken_or_not, wait_for_any, row_of_intrinsic, intrinsic_row}
 use Rattle.b67_table.specs.Starting.{starting, first_display, first_words, begun, on_path, frames_with, named_frames, start_process}
 use Rattle.b67_table.specs.References.{invalid, cell_place, cell_word, couple_cell, cell_of, named, reached, popped, popped_two, operand_in}
 use Rattle.b67_table.specs.Rows.{Row, private_part, action, turn, value_pushed, value_or_entry, value_call, loaded, load_value, is_passed, load_through, cell_or_entry, evaluate, after_store, kept_words, store_by, store, level_below, enter_procedure, enter_by, marked, enter, is_result, return_value, acts, plain_row, row}
@@ -340,8 +340,25 @@ module _ (P : List ℕ → Type 0) where
 
       tell_adds : (x : EventTest) (words : List Word) → Good (tell_event x code r after m words)
       tell_adds x [] = tt
-      tell_adds x (w ∷ []) = test_any (event_of r w) _ (λ c. chained_adds _ (finished_adds (truth (told img (questions.event_answer x (cell_place c))) ∷ []) after))
+      tell_adds x (w ∷ []) = test_any (event_of r w) _ (λ c. chained_adds _ (still (writes.event_deed (deeds.tests x) (cell_place c)) _ (λ p img. refl)
+          (finished_adds (truth (told img (questions.event_answer x (cell_place c))) ∷ []) after)))
       tell_adds x (w ∷ y ∷ words) = tt
+
+      gone_on_adds : (n : ℕ) → Adds (gone_on r after m n)
+      gone_on_adds n = finished_adds (operand (pos n) ∷ []) after
+
+      waiting_adds : (places : List Place) (o : Option ℕ) → Good (gone_or_waiting r after m places o)
+      waiting_adds places None = still (writes.wait_any places) done (λ p img. refl) ends
+      waiting_adds places (Some n) = gone_on_adds n
+
+      woken_adds : (places : List Place) (n : ℕ) → Good (woken_or_not r after m places n)
+      woken_adds places zero = waiting_adds places (told img (questions.first_happened places))
+      woken_adds places (suc n) = still writes.go_on (gone_on r after m (suc n)) (λ p img. refl) (gone_on_adds (suc n))
+
+      several_adds : (words : List Word) → Good (wait_for_any code r after m words)
+      several_adds words =
+          gives_by img Adds (nat_le 1 (length words) && nat_le (length words) most_events) _ no_such
+          (λ b. test_any (events_of r words) _ (λ places. chained_adds _ (woken_adds places (told img (questions.woken r.stack))))) (λ b. tt)
 
       start_adds : (words : List Word) → Good (start_process code r after m words)
       start_adds words =
@@ -363,6 +380,10 @@ module _ (P : List ℕ → Type 0) where
       intrinsic_by names.Happened words = tell_adds test.Happened words
       intrinsic_by names.Procure words = on_event_adds (deeds.acts act.Procure) words
       intrinsic_by names.Liberate words = on_event_adds (deeds.acts act.Liberate) words
+      intrinsic_by names.WaitAny words = several_adds words
+      intrinsic_by names.CauseAndReset words = on_event_adds (deeds.acts act.CauseAndReset) words
+      intrinsic_by names.Available words = tell_adds test.Available words
+      intrinsic_by names.Fix words = tell_adds test.Fix words
 
       named_by : (o : Option Intrinsic) (words : List Word) → Good (intrinsic_row o code r after m words)
       named_by None words = tt

@@ -17,12 +17,12 @@ use Rattle.algol_tree.specs.Blocks.{Block, block_numbered}
 use Rattle.algol_tree.specs.Scopes.{Scopes, use_of}
 use Rattle.algol_meaning.specs.declared.TheConstants.{MOST_STARTED}
 use Rattle.algol_meaning.specs.Value.{Value, Bounds, ArrayCell, Cell, simple, event, array, named, reference, Reference, whole_of}
-use Rattle.b67_deeds.specs.Events.{EventState}
+use Rattle.b67_deeds.specs.Events.{EventState, left_by}
 use Rattle.algol_meaning.specs.Rest.{Place, own, there, element_of, Answer, done}
 use Rattle.algol_meaning.specs.Settle.{block_of}
-use Rattle.algol_meaning.specs.World.{State, Process, Part, World, instance_at, with_instance, cell_at, followed, array_in, add_cells, set_able, set_all_able, process_at}
+use Rattle.algol_meaning.specs.World.{State, Process, Part, World, instance_at, with_instance, cell_at, followed, array_in, add_cells, set_able, set_all_able, process_at, waits_any}
 use Rattle.algol_meaning.specs.Critical.{some_depends, some_depends_on_any, is_evaluation, own_instances}
-use Rattle.algol_meaning.specs.Events.{Released, event_at, change_event, released, caused_by_end}
+use Rattle.algol_meaning.specs.Events.{Released, event_at, change_event, first_happened, is_among, joined_all, list_in, forgotten, withdrawn, woken_by, all_withdrawn, released, caused_by_end}
 use Rattle.algol_meaning.specs.Instances.{leave, Cut, cut_at}
 use Rattle.algol_meaning.specs.Arrays.{subscript_place, new_arrays, has_wrong_size, has_no_room, bounds_of}
 use Rattle.b67_deeds.specs.declared.Letter.TheVariants as actions
@@ -59,8 +59,32 @@ changed_many : (w : World) (r : Reference) (c : Option (EventState → EventStat
 changed_many w r None = refl
 changed_many w r (Some change) = refl
 
+forgotten_many : (w : World) (p : ℕ) (rs : List Reference) → many (forgotten w p rs) ≡ many w
+forgotten_many w p [] = refl
+forgotten_many w p (r ∷ rs) = forgotten_many (change_event w r (Some (left_by p))) p rs
+
+withdrawn_many : (w : World) (r : Reference) (ps : List ℕ) → many (all_withdrawn w r ps) ≡ many w
+withdrawn_many w r [] = refl
+withdrawn_many w r (p ∷ ps) =
+    withdrawn_many (withdrawn w r p) r ps
+    ∙ length_set_numbered (forgotten w p (list_in ((process_at w p).state))).processes p (record (process_at w p) { woken = woken_by r (process_at w p) })
+    ∙ forgotten_many w p (list_in ((process_at w p).state))
+
+joined_many : (w : World) (p : ℕ) (seen rs : List Reference) → many (joined_all w p seen rs) ≡ many w
+joined_many w p seen [] = refl
+joined_many w p seen (r ∷ rs) =
+    let next : World = change_event w r (deed (deeds.tests test.WaitAny) p (event_at w r)).change in
+    by_bool (is_among seen r) (joined_many w p (r ∷ seen) rs) (joined_many next p (r ∷ seen) rs ∙ changed_many w r (deed (deeds.tests test.WaitAny) p (event_at w r)).change)
+  where
+    by_bool : (b : Bool) → many (joined_all w p (r ∷ seen) rs) ≡ many w →
+        many (joined_all (change_event w r (deed (deeds.tests test.WaitAny) p (event_at w r)).change) p (r ∷ seen) rs) ≡ many w →
+        many (if b then joined_all w p (r ∷ seen) rs else (joined_all (change_event w r (deed (deeds.tests test.WaitAny) p (event_at w r)).change) p (r ∷ seen) rs)) ≡ many w
+    by_bool true e f = e
+    by_bool false e f = f
+
 released_many : (w : World) (r : Reference) (d : Deed) → many ((released w r d).world) ≡ many w
-released_many w r d = able_many (change_event w r d.change) d.frees ∙ changed_many w r d.change
+released_many w r d =
+    able_many (all_withdrawn (change_event w r d.change) r d.withdraws) d.frees ∙ withdrawn_many (change_event w r d.change) r d.withdraws ∙ changed_many w r d.change
 
 task_many : (w : World) (p : ℕ) (t : Option Reference) → many ((caused_by_end w p t).world) ≡ many w
 task_many w p None = refl
@@ -71,6 +95,7 @@ task_many w p (Some r) = released_many w r (deed (deeds.acts act.Cause) p (event
 -- an action that may release others, also where its process has no task
 abbrev pub is_releasing : Letter → Bool
 is_releasing actions.Cause = true
+is_releasing actions.CauseAndReset = true
 is_releasing actions.Liberate = true
 is_releasing _ = false
 
@@ -193,10 +218,21 @@ module _ (sc : Scopes) (w : World) (p : ℕ) (q : Process) (part : Part) (outer 
   did_stays x r d deeds.waits = stops_stays (deeds.letter_of x) (released w r d).world _ (released_many w r d)
   did_stays x r d deeds.procures = stops_stays (deeds.letter_of x) (released w r d).world _ (released_many w r d)
 
-  does_stays : (x : EventDeed) (ns : List Named) → Stays (choices.does_with sc w p q part outer x ns)
-  does_stays x [] = record { none = refl; same = refl }
-  does_stays x (n ∷ ns) =
+  does_first_stays : (x : EventDeed) (ns : List Named) → Stays (choices.does_with_first sc w p q part outer x ns)
+  does_first_stays x [] = record { none = refl; same = refl }
+  does_first_stays x (n ∷ ns) =
       let r = followed w (choices.here sc w p q part outer n) in did_stays x r (deed x p (event_at w r)) ((deed x p (event_at w r)).next)
+
+  waits_stay : (rs : List Reference) (o : Option ℕ) → Stays (choices.waits_for_any sc w p q part outer rs o)
+  waits_stay rs None = record { none = refl; same = set (joined_all w p [] rs) (record q { state = waits_any rs }) (joined_many w p [] rs) }
+  waits_stay rs (Some n) = record { none = refl; same = length_set_numbered w.processes p _ }
+
+  wakes_stay : (woken : ℕ) (rs : List Reference) → Stays (choices.wakes_or_waits sc w p q part outer woken rs)
+  wakes_stay zero rs = waits_stay rs (first_happened w rs)
+  wakes_stay (suc n) rs = record { none = refl; same = length_set_numbered w.processes p _ }
+
+  does_stays : (x : EventDeed) (ns : List Named) → Stays (choices.does_with sc w p q part outer x ns)
+  does_stays x ns = by_bool (deeds.is_of_several x) _ _ (wakes_stay q.woken (choices.all_followed sc w p q part outer ns)) (does_first_stays x ns)
 
   arrays_stay : (kind : Kind) (ns : List Named) (bs : List Bounds) → Stays (choices.made_arrays sc w p q part outer kind ns bs)
   arrays_stay kind ns bs =
@@ -353,9 +389,22 @@ module _ (sc : Scopes) (w : World) (p : ℕ) (q : Process) (part : Part) (outer 
       frees_if (some_depends_on_any w.processes (own_instances cut.newer)) _ _ (frees_fails fault.CriticalBlockExit)
       (frees_gone (own_instances cut.newer) (block_numbered sc.blocks ((instance_at w i).block)) n cut.from)
 
+  frees_waits : (rs : List Reference) (o : Option ℕ) → ReleasesNone q.task (choices.waits_for_any sc w p q part outer rs o)
+  frees_waits rs None = record { none = refl; calm = refl; idle = tt }
+  frees_waits rs (Some n) = record { none = refl; calm = refl; idle = tt }
+
+  frees_wakes : (woken : ℕ) (rs : List Reference) → ReleasesNone q.task (choices.wakes_or_waits sc w p q part outer woken rs)
+  frees_wakes zero rs = frees_waits rs (first_happened w rs)
+  frees_wakes (suc n) rs = record { none = refl; calm = refl; idle = tt }
+
   frees_tested : (x : EventTest) (ns : List Named) → ReleasesNone q.task (choices.does_with sc w p q part outer (deeds.tests x) ns)
-  frees_tested x [] = record { none = refl; calm = refl; idle = tt }
+  frees_tested test.WaitAny ns = frees_wakes q.woken (choices.all_followed sc w p q part outer ns)
+  frees_tested test.Happened [] = record { none = refl; calm = refl; idle = tt }
+  frees_tested test.Available [] = record { none = refl; calm = refl; idle = tt }
+  frees_tested test.Fix [] = record { none = refl; calm = refl; idle = tt }
   frees_tested test.Happened (n ∷ ns) = record { none = refl; calm = refl; idle = tt }
+  frees_tested test.Available (n ∷ ns) = record { none = refl; calm = refl; idle = tt }
+  frees_tested test.Fix (n ∷ ns) = record { none = refl; calm = refl; idle = tt }
 
   pub frees : (k : Ask) → NoEvent k → NoTask q.task outer k → ReleasesNone q.task (choice_of sc w p q part outer k)
   frees nothing h idle = record { none = refl; calm = refl; idle = tt }

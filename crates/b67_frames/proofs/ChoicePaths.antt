@@ -1,29 +1,29 @@
 -- Each action keeps the stacks of all processes but for the newest instances of the one that acts, and so the paths from the instances that stand on.
-use Rattle.std.proofs.Common.{◌≡◌, ◌⊎◌, inl, inr, refl, sym, ap, ◌∙◌, subst, ℕ, List, [], ◌∷◌, ◌++◌, length, Option, Some, None, Bool, true, false}
+use Rattle.std.proofs.Common.{◌≡◌, ◌⊎◌, inl, inr, refl, sym, ap, ◌∙◌, subst, ℕ, zero, suc, pos, List, [], ◌∷◌, ◌++◌, length, Option, Some, None, Bool, true, false}
 use Rattle.std.specs.Prelude.{if◌then◌else◌, ◌==◌, nat_lt}
 use Rattle.b67_list.specs.Numbered.{numbered, set_numbered}
 use Rattle.b67_num.specs.declared.FaultKind.TheVariants as fault
 use Rattle.b67_num.specs.Whole.{fault_of}
 use Rattle.b67_deeds.specs.Deeds as deeds
 use Rattle.b67_deeds.specs.Deeds.{EventDeed, Deed, Next, deed}
-use Rattle.algol_standing.proofs.Listed.{changed_processes}
+use Rattle.algol_laws.proofs.Releasing.{changed_processes, forgotten_processes, joined_processes}
 use Rattle.algol_tree.specs.declared.tree.Named.{Named}
 use Rattle.algol_tree.specs.Blocks.{Block, block_numbered}
 use Rattle.algol_tree.specs.Scopes.{Scopes}
 use Rattle.algol_meaning.specs.declared.TheConstants.{MOST_STARTED}
-use Rattle.algol_meaning.specs.Value.{Value, whole_of, Reference, ArrayCell, Cell, simple, event, array, named, reference}
-use Rattle.b67_deeds.specs.Events.{EventState}
-use Rattle.algol_meaning.specs.World.{Instance, Part, Process, State, able, waits_for, procures, ended, World, instance_at, or_no_instance, cell_at, cells_with, followed, process_at, or_no_process, with_process, set_able, set_all_able}
+use Rattle.algol_meaning.specs.Value.{Value, number, whole_of, Reference, ArrayCell, Cell, simple, event, array, named, reference}
+use Rattle.b67_deeds.specs.Events.{EventState, left_by}
+use Rattle.algol_meaning.specs.World.{Instance, Part, Process, State, able, waits_for, waits_any, procures, ended, World, instance_at, or_no_instance, cell_at, cells_with, followed, process_at, or_no_process, with_process, set_able, set_all_able}
 use Rattle.algol_meaning.specs.Critical.{is_evaluation, own_instances, some_depends, some_depends_on_any}
 use Rattle.algol_meaning.specs.Arrays.{has_wrong_size, has_no_room, bounds_of}
-use Rattle.algol_meaning.specs.Events.{event_at, set_event, change_event, released, caused_by_end}
+use Rattle.algol_meaning.specs.Events.{event_at, set_event, change_event, first_happened, joined_all, list_in, forgotten, woken_by, withdrawn, all_withdrawn, released, caused_by_end}
 use Rattle.algol_meaning.specs.Instances.{leave, Cut, cut_at}
 use Rattle.algol_meaning.specs.Rest as rests
-use Rattle.algol_meaning.specs.Rest.{Answer, done, entered}
+use Rattle.algol_meaning.specs.Rest.{Answer, done, value, entered}
 use Rattle.algol_meaning.specs.Statements.{items_from, settle_items}
 use Rattle.algol_meaning.specs.Asks as asks
 use Rattle.algol_meaning.specs.Asks.{Ask, ask, resume}
-use Rattle.algol_meaning.specs.Choice.{Choice, choice, choice_in, choice_of, is_subscripted, nth_exists, home, here, fails, read_of, resolved_of, indexed_at, element_read_at, stored, left, left_with, left_or_ended, gone, gone_to, goes_to, told, did, does_with}
+use Rattle.algol_meaning.specs.Choice.{Choice, choice, choice_in, choice_of, is_subscripted, nth_exists, home, here, fails, read_of, resolved_of, indexed_at, element_read_at, stored, left, left_with, left_or_ended, gone, gone_to, goes_to, told, did, does_with_first, all_followed, waits_for_any, wakes_or_waits, does_with}
 use Rattle.algol_standing.specs.Skeleton.{IsIn}
 use Rattle.algol_standing.specs.Worlds.{IsStanding, IsOnPath}
 use Rattle.algol_standing.proofs.Jumping.{cut_all}
@@ -46,10 +46,24 @@ alike_able xs v (p ∷ ps) pairs =
         let here : process_at v p ≡ o.0 = ap or_no_process o.1 in
         (ap (λ (y : Process). y.critical) here ∙ (o.2).0, ap (λ (y : Process). own_instances y.todo) here ∙ (o.2).1)
 
-pub able_alike : (w v : World) (ps : List ℕ) → v.processes ≡ w.processes → HaveAlike w.processes (set_all_able v ps).processes
-able_alike w v ps same =
-    alike_pairs w.processes (set_all_able v ps).processes
-    (alike_able w.processes v ps (subst (λ (xs : List Process). AllPairs AreAlike w.processes xs) (sym same) (pairs_self AreAlike (λ x. (refl, refl)) w.processes)))
+-- and those that wait for no other event either, but for their woken numbers
+alike_withdrawn : (xs : List Process) (v : World) (r : Reference) (ps : List ℕ) → AllPairs AreAlike xs v.processes → AllPairs AreAlike xs (all_withdrawn v r ps).processes
+alike_withdrawn xs v r [] pairs = pairs
+alike_withdrawn xs v r (p ∷ ps) pairs =
+    alike_withdrawn xs (withdrawn v r p) r ps
+    (subst (λ (ys : List Process). AllPairs AreAlike xs (set_numbered ys p (record (process_at v p) { woken = woken_by r (process_at v p) }))) (sym (forgotten_processes v p (list_in (process_at v p).state)))
+    (pairs_then_set AreAlike AreAlike (λ x y f. f) xs v.processes p (record (process_at v p) { woken = woken_by r (process_at v p) }) pairs (λ x e. same x (numbered_forth AreAlike xs v.processes p x pairs e))))
+  where
+    same : (x : Process) → (y : Process) × (numbered v.processes p ≡ Some y) × AreAlike x y → AreAlike x (record (process_at v p) { woken = woken_by r (process_at v p) })
+    same x o =
+        let here : process_at v p ≡ o.0 = ap or_no_process o.1 in
+        (ap (λ (y : Process). y.critical) here ∙ (o.2).0, ap (λ (y : Process). own_instances y.todo) here ∙ (o.2).1)
+
+pub released_alike : (w v : World) (r : Reference) (gone ps : List ℕ) → v.processes ≡ w.processes → HaveAlike w.processes (set_all_able (all_withdrawn v r gone) ps).processes
+released_alike w v r gone ps same =
+    alike_pairs w.processes (set_all_able (all_withdrawn v r gone) ps).processes
+    (alike_able w.processes (all_withdrawn v r gone) ps
+    (alike_withdrawn w.processes v r gone (subst (λ (xs : List Process). AllPairs AreAlike w.processes xs) (sym same) (pairs_self AreAlike (λ x. (refl, refl)) w.processes))))
 
 able_instances : (v : World) (ps : List ℕ) → (set_all_able v ps).instances ≡ v.instances
 able_instances v [] = refl
@@ -82,6 +96,15 @@ left_set v is r e are i y inside f = by_number (numbered_cases v.instances r.ins
         ∙ ap (λ (o : Option Instance). (or_no_instance o).left) h.3
         ∙ are i h.2 inside h.3
     by_number (inr h) = are i y inside h.1
+
+-- .. or where processes wait for events no more
+left_forgotten : (v : World) (is : List ℕ) (p : ℕ) (rs : List Reference) → AreLeft v is → AreLeft (forgotten v p rs) is
+left_forgotten v is p [] are = are
+left_forgotten v is p (r ∷ rs) are = left_forgotten (set_event v r (left_by p (event_at v r))) is p rs (left_set v is r (left_by p (event_at v r)) are)
+
+left_withdrawn : (v : World) (is : List ℕ) (r : Reference) (ps : List ℕ) → AreLeft v is → AreLeft (all_withdrawn v r ps) is
+left_withdrawn v is r [] are = are
+left_withdrawn v is r (p ∷ ps) are = left_withdrawn (withdrawn v r p) is r ps (left_forgotten v is p (list_in (process_at v p).state) are)
 
 left_gone : (v : World) → HasFacts v → (is : List ℕ) → AreLeft v is → (i : ℕ) → IsIn is i → IsStanding v i → ⊥
 left_gone v facts is are i inside st =
@@ -150,7 +173,7 @@ module _ (sc : Scopes) (w : World) (p : ℕ) (q : Process) (part : Part) (outer 
   -- the end of the process
   ends_keep : (newer : List ℕ) (q' : Process) → q'.critical ≡ q.critical → own_instances (part ∷ outer) ≡ newer ++ own_instances q'.todo → (o : Option Reference) → Keeps (with_process (caused_by_end (leave w newer) p o).world p q')
   ends_keep newer q' critical fewer None = leaves_keep (leave w newer) newer q' (left_alike newer) (left_are w newer) critical fewer
-  ends_keep newer q' critical fewer (Some r) = leaves_keep (caused_by_end v p (Some r)).world newer q' (able_alike w (set_event v r e) ps (leave_processes w newer)) are critical fewer
+  ends_keep newer q' critical fewer (Some r) = leaves_keep (caused_by_end v p (Some r)).world newer q' (released_alike w (set_event v r e) r ps ps (leave_processes w newer)) are critical fewer
     where
       v : World
       v = leave w newer
@@ -161,9 +184,13 @@ module _ (sc : Scopes) (w : World) (p : ℕ) (q : Process) (part : Part) (outer 
       ps : List ℕ
       ps = (event_at v r).waiters
 
-      are : AreLeft (set_all_able (set_event v r e) ps) newer
+      after : World
+      after = all_withdrawn (set_event v r e) r ps
+
+      are : AreLeft (set_all_able (all_withdrawn (set_event v r e) r ps) ps) newer
       are i y inside f =
-          left_set v newer r e (left_are w newer) i y inside (ap (λ (xs : List Instance). numbered xs i) (sym (able_instances (set_event v r e) ps)) ∙ f)
+          left_withdrawn (set_event v r e) newer r ps (left_set v newer r e (left_are w newer)) i y inside
+          (ap (λ (xs : List Instance). numbered xs i) (sym (able_instances after ps)) ∙ f)
 
   own_first : is_evaluation part.purpose ≡ false → (parts : List Part) → own_instances (part ∷ parts) ≡ part.instance ∷ own_instances parts
   own_first owns parts = ap (λ (b : Bool). if b then own_instances parts else part.instance ∷ own_instances parts) owns
@@ -257,17 +284,32 @@ module _ (sc : Scopes) (w : World) (p : ℕ) (q : Process) (part : Part) (outer 
   did_keeps x r d n = by n
     where
       alike : HaveAlike w.processes (released w r d).world.processes
-      alike = able_alike w (change_event w r d.change) d.frees (changed_processes w r d.change)
+      alike = released_alike w (change_event w r d.change) r d.withdraws d.frees (changed_processes w r d.change)
 
       by : (m : Next) → KeepsHere (did sc w p q part outer x r d m)
       by deeds.goes = answers (released w r d).world alike (told sc w p q part outer d.answer)
       by deeds.waits = waits (released w r d).world alike (waits_for r)
       by deeds.procures = waits (released w r d).world alike (procures r)
 
-  does_keeps : (x : EventDeed) (ns : List Named) → KeepsHere (does_with sc w p q part outer x ns)
-  does_keeps x [] = none_moves w refl
-  does_keeps x (n ∷ ns) =
+  first_keeps : (x : EventDeed) (ns : List Named) → KeepsHere (does_with_first sc w p q part outer x ns)
+  first_keeps x [] = none_moves w refl
+  first_keeps x (n ∷ ns) =
       let r = followed w (here sc w p q part outer n) in did_keeps x r (deed x p (event_at w r)) ((deed x p (event_at w r)).next)
+
+  several_keep : (n : ℕ) (rs : List Reference) → KeepsHere (wakes_or_waits sc w p q part outer n rs)
+  several_keep zero rs = by (first_happened w rs)
+    where
+      by : (o : Option ℕ) → KeepsHere (waits_for_any sc w p q part outer rs o)
+      by None =
+          goes_keep (joined_all w p [] rs) (record q { state = waits_any rs })
+          (subst (λ (xs : List Process). HaveAlike w.processes xs) (sym (joined_processes w p [] rs)) (alike_self w.processes)) refl own
+      by (Some n) = answers w same_all (value (number (pos n)))
+  several_keep (suc n) rs = goes_keep w (record q { todo = record part { rest = resume sc part.rest (value (number (pos (suc n)))) } ∷ outer; woken = 0 }) same_all refl refl
+
+  does_keeps : (x : EventDeed) (ns : List Named) → KeepsHere (does_with sc w p q part outer x ns)
+  does_keeps x ns =
+      either (deeds.is_of_several x) (wakes_or_waits sc w p q part outer q.woken (all_followed sc w p q part outer ns)) (does_with_first sc w p q part outer x ns)
+      (several_keep q.woken (all_followed sc w p q part outer ns)) (first_keeps x ns)
 
   choice_keeps : (x : Ask) → KeepsHere (choice_of sc w p q part outer x)
   choice_keeps asks.nothing = none_moves w refl

@@ -11,7 +11,7 @@ use Rattle.b67_control.specs.declared.Irw.{Irw}
 use Rattle.b67_control.specs.declared.Registers.{Registers}
 use Rattle.b67_control.specs.declared.Sirw.{Sirw}
 use Rattle.b67_control.specs.Control.{as_irw, as_sirw, event_word}
-use Rattle.b67_events.specs.Events.{Event as EventThere, is_open, state_at, opened, deed_at, done_at}
+use Rattle.b67_events.specs.Events.{is_open, state_at, opened, deed_at}
 use Rattle.b67_ops.specs.declared.Operator.TheVariants as ops
 use Rattle.b67_ops.specs.declared.PlainKind.TheVariants as kinds
 use Rattle.b67_ops.specs.declared.intrinsic.Intrinsic.{Intrinsic}
@@ -19,7 +19,6 @@ use Rattle.b67_ops.specs.declared.intrinsic.Intrinsic.TheVariants.{Event}
 use Rattle.b67_segment.specs.declared.code.Code.{Code}
 use Rattle.b67_store.specs.Store.{word_at, with_stack}
 use Rattle.b67_table.specs.declared.Cell.{Cell}
-use Rattle.b67_table.specs.declared.ProcessState.{ProcessState}
 use Rattle.b67_table.specs.declared.Reached.{Reached}
 use Rattle.b67_table.specs.Arguments.{IntrinsicRow, if_open, event_in, event_of, if_chained, finished_at}
 use Rattle.b67_table.specs.Chains.{place}
@@ -33,11 +32,11 @@ use Rattle.b67_table.specs.Program.{Change, Program, answer, asked, changed, eff
 use Rattle.b67_table.specs.References.{cell_place, cell_in, irw_or_sirw, reached, reached_in, one_sirw, no_second}
 use Rattle.b67_table.specs.Rows.{row, enter}
 use Rattle.b67_table.specs.Table.{raw, operator_at}
-use Rattle.b67_letters.specs.Releases.{change_releases, effect_releases, fetched_releases, registers_releases}
+use Rattle.b67_letters.specs.Releases.{effect_releases, fetched_releases, registers_releases}
 use Rattle.b67_table.specs.Writes as writes
-use Rattle.b67_table.specs.Writes.{states_after}
+use Rattle.b67_table.specs.Writes.{with_deed}
 use Rattle.b67_deeds.specs.declared.EventTest.{EventTest}
-use Rattle.b67_deeds.specs.Deeds.{EventDeed, answers}
+use Rattle.b67_deeds.specs.Deeds.{EventDeed, tests, answers}
 use Rattle.b67_cores.specs.Cores.{Core, HasCore, stack_of, with_core}
 use Rattle.b67_rows.proofs.IntrinsicRows.{CallsIntrinsic, without_call, entered_asked, entered, chained_asked, chained_is, cut_words}
 use Rattle.b67_rows.proofs.Rows.{raw_is}
@@ -143,56 +142,75 @@ module _ (code : Code) (img : Image) (p : ℕ) (core : Core) (has : HasCore img 
 
   -- whom it releases
   pub acted_releases : (x : EventDeed) → row_of_intrinsic name ≡ on_event x →
-      registers_releases code img p (numbered img.regs p) ≡ change_releases p (event_deed x (cell_place cell) (finished_at core.registers c.m [] next)) img
+      registers_releases code img p (numbered img.regs p) ≡ (deed_at x p (cell_place cell) img.events).frees
   unfolding row
   acted_releases x is =
       ap (registers_releases code img p) has.registers
       ∙ ap (fetched_releases code img p core.registers) there
       ∙ ap (effect_releases p img) (acted_asked x is)
+      ∙ append-nil ((deed_at x p (cell_place cell) img.events).frees)
 
   -- what the event answers comes in their place
   abbrev told_there : EventTest → Bool
   told_there x = answers x (state_at (cell_place cell) img.events)
 
-  event_told : (x : EventTest) → row_of_intrinsic name ≡ tell_event x → raw code img p ≡ gives (changed p (finished_at core.registers c.m (words.truth (told_there x) ∷ []) next) img)
-  event_told x is =
-      entered code img p core has next there name (word ∷ []) reference marked below c
-      ∙ ap (λ (row : IntrinsicRow). effect_of p img (asked img (row code core.registers next c.m (word ∷ [])))) is
-      ∙ ap (effect_of p img)
-      (event_reached code img p core.registers word cell reaches
-      (λ (d : Cell). if_chained core.registers c.m (event_answer x (cell_place d) (λ (told : Bool). answer (finished_at core.registers c.m (words.truth told ∷ []) next)))) there_open
-      ∙ chained_asked code img p core has next there name (word ∷ []) reference marked below c
-      (event_answer x (cell_place cell) (λ (told : Bool). answer (finished_at core.registers c.m (words.truth told ∷ []) next))))
+  -- asking it is a deed as well
+  abbrev told_so : EventTest → Bool → Program
+  told_so x told = answer (event_deed (tests x) (cell_place cell) (finished_at core.registers c.m (words.truth told ∷ []) next))
+
+  told_asked : (x : EventTest) → row_of_intrinsic name ≡ tell_event x →
+      asked img (enter code core.registers next) ≡ gives (event_deed (tests x) (cell_place cell) (finished_at core.registers c.m (words.truth (told_there x) ∷ []) next))
+  told_asked x is =
+      entered_asked code img p core has next there name (word ∷ []) reference marked below c
+      ∙ ap (λ (row : IntrinsicRow). asked img (row code core.registers next c.m (word ∷ []))) is
+      ∙ event_reached code img p core.registers word cell reaches
+      (λ (d : Cell). if_chained core.registers c.m (event_answer x (cell_place d)
+      (λ (told : Bool). answer (event_deed (tests x) (cell_place d) (finished_at core.registers c.m (words.truth told ∷ []) next))))) there_open
+      ∙ chained_asked code img p core has next there name (word ∷ []) reference marked below c (event_answer x (cell_place cell) (told_so x))
+
+  event_told : (x : EventTest) → row_of_intrinsic name ≡ tell_event x →
+      raw code img p ≡ gives (changed p (event_deed (tests x) (cell_place cell) (finished_at core.registers c.m (words.truth (told_there x) ∷ []) next)) img)
+  unfolding row
+  event_told x is = raw_is code img p core has (ops.Plain kinds.Entr) next there ∙ ap (effect_of p img) (told_asked x is)
+
+  -- whom that releases
+  pub told_releases : (x : EventTest) → row_of_intrinsic name ≡ tell_event x →
+      registers_releases code img p (numbered img.regs p) ≡ (deed_at (tests x) p (cell_place cell) img.events).frees
+  unfolding row
+  told_releases x is =
+      ap (registers_releases code img p) has.registers
+      ∙ ap (fetched_releases code img p core.registers) there
+      ∙ ap (effect_releases p img) (told_asked x is)
+      ∙ append-nil ((deed_at (tests x) p (cell_place cell) img.events).frees)
 
   -- ---- the image after it
 
   abbrev r' : Registers
   r' = core.registers
 
-  abbrev pub events_then : EventDeed → List EventThere
-  events_then x = done_at x p (cell_place cell) img.events
+  abbrev at : Place
+  at = cell_place cell
 
-  abbrev pub states_then : EventDeed → List ProcessState
-  states_then x = states_after (deed_at x p (cell_place cell) img.events) (cell_place cell) p img.states
-
-  -- what is done changes events and states only
+  -- what is done changes no word and no registers of others
   pub acted_raw : (x : EventDeed) → row_of_intrinsic name ≡ on_event x →
-      raw code img p ≡ gives (record (with_core img p (without_call core below c.m.df next)) { events = events_then x; states = states_then x })
+      raw code img p ≡ gives (with_deed (deed_at x p (cell_place cell) img.events) (cell_place cell) p (with_core img p (without_call core below c.m.df next)))
   acted_raw x is =
       event_acted x is
-      ∙ ap (λ (ws : List Word). gives (record (with_registers (with_stacks img (with_stack img.stacks r'.stack ws)) p ((without_call core below c.m.df next).registers)) { events = events_then x; states = states_then x }))
+      ∙ ap (λ (ws : List Word). gives (with_deed (deed_at x p at img.events) at p (with_registers (with_stacks img (with_stack img.stacks r'.stack ws)) p ((without_call core below c.m.df next).registers))))
       (cut_words code img p core has next there name (word ∷ []) reference marked below c)
 
   -- the core with a truth value in place of the call
   abbrev pub told_core : Bool → Core
-  told_core happened =
-      record core { words = words.truth happened ∷ below; registers = record core.registers { s = core.registers.f + 1; f = core.registers.f - c.m.df; place = next } }
+  told_core told =
+      record core { words = words.truth told ∷ below; registers = record core.registers { s = core.registers.f + 1; f = core.registers.f - c.m.df; place = next } }
 
-  pub told_raw : (x : EventTest) → row_of_intrinsic name ≡ tell_event x → raw code img p ≡ gives (with_core img p (told_core (answers x (state_at (cell_place cell) img.events))))
+  pub told_raw : (x : EventTest) → row_of_intrinsic name ≡ tell_event x →
+      raw code img p ≡ gives (with_deed (deed_at (tests x) p (cell_place cell) img.events) (cell_place cell) p (with_core img p (told_core (answers x (state_at (cell_place cell) img.events)))))
   told_raw x is =
       let told : Bool = told_there x in
+      let after : Image = with_deed (deed_at (tests x) p at img.events) at p img in
       event_told x is
-      ∙ ap (λ (ws : List Word). gives (changed p (pushed r'.stack (words.truth told ∷ []) (registers ((told_core told).registers) done)) (with_stacks img (with_stack img.stacks r'.stack ws))))
+      ∙ ap (λ (ws : List Word). gives (changed p (pushed r'.stack (words.truth told ∷ []) (registers ((told_core told).registers) done)) (with_stacks after (with_stack img.stacks r'.stack ws))))
       (cut_words code img p core has next there name (word ∷ []) reference marked below c)
-      ∙ ap (λ (i : Image). gives i) (pushed_do p img r'.stack (stack_of core) has.stack (words.truth told ∷ []) (core.below ++ reverse below) (registers ((told_core told).registers) done))
-      ∙ ap (λ (ws : List Word). gives (with_registers (with_stacks img (with_stack img.stacks r'.stack ws)) p ((told_core told).registers))) (sym (stack-over core.below (words.truth told ∷ []) below))
+      ∙ ap (λ (i : Image). gives i) (pushed_do p after r'.stack (stack_of core) has.stack (words.truth told ∷ []) (core.below ++ reverse below) (registers ((told_core told).registers) done))
+      ∙ ap (λ (ws : List Word). gives (with_registers (with_stacks after (with_stack img.stacks r'.stack ws)) p ((told_core told).registers))) (sym (stack-over core.below (words.truth told ∷ []) below))

@@ -7,7 +7,6 @@ use Rattle.b67_list.specs.Numbered.{set_numbered}
 use Rattle.algol_meaning.specs.Value.{Cell, simple, event, array, named, reference}
 use Rattle.algol_meaning.specs.World.{NamedCell}
 use Rattle.b67_deeds.specs.declared.Letter.TheVariants as act
-use Rattle.b67_deeds.specs.declared.Letter.{Letter}
 use Rattle.b67_word.specs.declared.Place.{Place}
 use Rattle.b67_word.specs.Word.{Word}
 use Rattle.b67_control.specs.declared.Pcw.{Pcw}

@@ -54,5 +54,6 @@ pub mod NamedEvents
 pub mod EventsChanged
 pub mod EventCells
 pub mod EventRows
+pub mod SeveralRows
 pub mod BlockedRow
 pub mod BadJumpRow

@@ -73,6 +73,10 @@ lies_there names.Reset = refl
 lies_there names.Happened = refl
 lies_there names.Procure = refl
 lies_there names.Liberate = refl
+lies_there names.WaitAny = refl
+lies_there names.CauseAndReset = refl
+lies_there names.Available = refl
+lies_there names.Fix = refl
 
 pub no_further : (name : Intrinsic) → as_sirw (intrinsic_pcw (number_of name)) ≡ None
 no_further name = as_sirw-other (intrinsic_pcw (number_of name)) (λ k. let is = sym (pcw_kind (control_of name)) ∙ k in cc)

@@ -73,6 +73,10 @@ numbers_small names.Reset = lit< tt
 numbers_small names.Happened = lit< tt
 numbers_small names.Procure = lit< tt
 numbers_small names.Liberate = lit< tt
+numbers_small names.WaitAny = lit< tt
+numbers_small names.CauseAndReset = lit< tt
+numbers_small names.Available = lit< tt
+numbers_small names.Fix = lit< tt
 
 -- ---- kinds of words
 

@@ -234,7 +234,7 @@ module _ (tree : PProgram) (code : Code) (texts : Texts) (nested : AreNested (sc
       are_made =
           cells_are_made tree code texts nested fragments cells_made keeps order w lay img p q part outer bound core s able_is able_p owns ms made_first new_cells allotted descriptors added Arrays
           (operands (arrays_given n pairs vs) (intrinsic Arrays ∷ mark ∷ [])) (a.1.lies ∙ given_lie n pairs vs) c.arguments entered made a.0 a.1.stands a.1.push (answered done a.0 [] (refl, refl))
-          (omega (arith, a.1.some, made_arrays_many kind ns pairs)) (omega (arith, a.1.room, made_arrays_many kind ns pairs)) (rows_after ns bs img.rows) img.events arrays_now events_now MakeArrays refl
+          (omega (arith, a.1.some, made_arrays_many kind ns pairs)) (omega (arith, a.1.room, made_arrays_many kind ns pairs)) (rows_after ns bs img.rows) img.events arrays_now events_now (λ m there listed. listed) MakeArrays refl
           (arrays_raw code img p core s.has made there c.arguments c.reference c.marked c.others none c.calls w ns a.1.some few_arrays bs dimensional (c.wholes ∙ ap (λ zs. Some zs) (given_whole n pairs vs)) s.by.arrays.counted right room)
           chosen
 

@@ -6,13 +6,16 @@ use Rattle.algol_tree.specs.Blocks.{block_numbered}
 use Rattle.algol_tree.specs.Plain.{PProgram}
 use Rattle.algol_tree.specs.Scopes.{Scopes, scopes_of}
 use Rattle.algol_meaning.specs.Critical.{referred_in}
-use Rattle.algol_meaning.specs.Rest.{done}
+use Rattle.algol_meaning.specs.Rest.{Answer}
 use Rattle.algol_meaning.specs.Value.{Cell}
 use Rattle.algol_tree.specs.Sorts.{same_name}
-use Rattle.algol_meaning.specs.World.{NamedCell, Instance, Process, Part, State, lives, World, or_no_instance, with_process, cells_with}
+use Rattle.algol_meaning.specs.World.{NamedCell, Instance, Process, Part, State, lives, World, or_no_instance, with_process, cells_with, instance_at}
 use Rattle.algol_meaning.specs.Asks.{resume}
+use Rattle.algol_meaning.specs.Events.{list_in}
 use Rattle.algol_paths.specs.Arrays.{Made, all_to_make, all_left_to_make}
 use Rattle.algol_paths.specs.Laws.{RestsKeepToTheirText, AllIsMadeInOrder}
+use Rattle.algol_paths.specs.Texts.{InAnswer}
+use Rattle.algol_paths.specs.Blocks.{IsSeen}
 use Rattle.algol_standing.specs.Skeleton.{IsIn}
 use Rattle.algol_standing.specs.Worlds.{referred_in_cells, IsStanding, IsOwn}
 use Rattle.algol_standing.proofs.Seen.{in_front, in_back, in_either}
@@ -22,7 +25,7 @@ use Rattle.b67_segment.specs.declared.code.Code.{Code}
 use Rattle.b67_store.specs.Store.{stack_at, word_at, stack_limit}
 use Rattle.b67_table.specs.declared.ProcessState.{ProcessState}
 use Rattle.b67_table.specs.Chains.{place}
-use Rattle.b67_table.specs.Image.{Image}
+use Rattle.b67_table.specs.Image.{Image, woken_number}
 use Rattle.b67_table.specs.Private.{floor}
 use Rattle.b67_templates.specs.Cells.{simple_cells}
 use Rattle.b67_templates.specs.Programs.{Texts}
@@ -43,6 +46,7 @@ use Rattle.b67_frames.proofs.Linked.{begins_core}
 use Rattle.b67_frames.proofs.Onward.{StandOn}
 use Rattle.b67_scenes.specs.Pictures.{Living, living, PicturesBy}
 use Rattle.b67_scenes.specs.States.{StateIs}
+use Rattle.b67_scenes.specs.Waiting.{AreAwaiting, WaitsAre}
 use Rattle.b67_scenes.proofs.Ancestors.{all_laid}
 use Rattle.b67_scenes.proofs.Finding.{Found, found_laid}
 use Rattle.b67_scenes.proofs.Kept.{LeavesAlone, alike_but}
@@ -52,12 +56,15 @@ use Rattle.b67_scenes.proofs.Stage.{comes_to}
 use Rattle.b67_scenes.proofs.Staying.{text_in, level_in, context_in, most_in}
 use Rattle.b67_scenes.proofs.StoringFrames.{IsStored, put, length_put, changed, stored_world, others_at, ChangedCells}
 use Rattle.b67_scenes.proofs.StoringOthers.{stored_pictured}
-use Rattle.b67_scenes.proofs.Tasks.{EventsStay, state_stays, events_kept, events_beside}
+use Rattle.b67_scenes.proofs.Tasks.{EventsStay, state_stays, events_kept, events_beside, events_same}
+use Rattle.b67_scenes.proofs.Waiting.{still_awaiting, waits_kept, waits_still}
 use Rattle.b67_pictures.proofs.Alone.{IsAfter, dependent_but, stands_on, leaves_alone}
 use Rattle.b67_pictures.proofs.GoingOn.{goes_along}
 use Rattle.b67_pictures.proofs.InFrame.{SameFrame}
 use Rattle.b67_pictures.proofs.OwnStored.{own_goes_along}
 use Rattle.b67_pictures.proofs.WordPut.{put_word, IsOnlyStored, put_only, stacks_beside, core_beside, core_put}
+use Rattle.b67_events.specs.Events.{Event, waiters_at}
+use Rattle.b67_deeds.specs.Listed.{IsListed}
 
 -- a process has one core, so far as there are words below the floor
 pub same_floor : (img : Image) (p : ℕ) (a b : Core) → HasCore img p a → HasCore img p b → length a.below ≡ length b.below
@@ -85,7 +92,7 @@ refers_fewer (d ∷ cells) name c none r inside = by_name (same_name d.name name
     by_name false later m = further later (in_either (referred_in d.cell) (referred_in_cells (cells_with cells name c)) r m)
 
 module _ (tree : PProgram) (code : Code) (texts : Texts) (fragments : FragmentsArePerformed) (kept : RestsKeepToTheirText) (order : AllIsMadeInOrder) (w : World) (lay : Layout) (img : Image)
-    (p : ℕ) (q : Process) (part : Part) (outer : List Part) (bound : ℕ) (core : Core) (s : Scene tree code texts w lay img p q part outer bound core) (unmade : all_left_to_make part.rest ≡ all_to_make part.rest)
+    (p : ℕ) (q : Process) (part : Part) (outer : List Part) (bound : ℕ) (core : Core) (s : Scene tree code texts w lay img p q part outer bound core) (unmade : all_left_to_make part.rest ≡ all_to_make part.rest) (answer : Answer) (nameless : InAnswer (IsSeen (scopes_of tree) ((instance_at w part.instance).block)) answer)
     (i : ℕ) (f : Found tree code texts w lay img i) (x : Instance) (at : numbered w.instances i ≡ Some x) (with_cells : List NamedCell) (far : ℕ) (word : Option Word) (many : length with_cells ≡ length x.cells)
     (short : IsStored word → far < length (simple_cells (scopes_of tree) (block_numbered (scopes_of tree).blocks x.block))) (low : IsStored word → length f.lies.frame.lower + 2 + far < length f.core.below)
     (keeps : KeepsArrays (scopes_of tree) w (stored_world w i x at with_cells) lay lay i) (fewer : (r : ℕ) → IsIn (referred_in_cells with_cells) r → IsIn (referred_in_cells x.cells) r)
@@ -94,7 +101,7 @@ module _ (tree : PProgram) (code : Code) (texts : Texts) (fragments : FragmentsA
     ChangedCells (simple_cells (scopes_of tree) (block_numbered (scopes_of tree).blocks x.block)) (lay.rows i) with_cells simple values (put word values far) declared descriptors)
     (words : List Word) (registers : Registers) (frame_is : SameFrame core.registers registers) (pc : ℕ) (slots : List Slot)
     (there : CoreAt (scopes_of tree) s.stands.held code (text_in tree texts w part) (level_in tree w part) pc slots (record { below = core.below; words = words; registers = registers })) (few : length slots ≤ most_in tree w part)
-    (comes : ComesTo (scopes_of tree) (context_in tree code texts w part s.stands.frame.gives) (text_in tree texts w part) (level_in tree w part) (most_in tree w part) (resume (scopes_of tree) part.rest done) pc slots)
+    (comes : ComesTo (scopes_of tree) (context_in tree code texts w part s.stands.frame.gives) (text_in tree texts w part) (level_in tree w part) (most_in tree w part) (resume (scopes_of tree) part.rest answer) pc slots)
     (small : size (record { below = core.below; words = words; registers = registers }) ≤ stack_limit) (able_is : lives q.state ≡ true) (state : State) where
   abbrev sc : Scopes
   sc = scopes_of tree
@@ -107,7 +114,7 @@ module _ (tree : PProgram) (code : Code) (texts : Texts) (fragments : FragmentsA
   k = high + 2 + far
 
   abbrev part' : Part
-  part' = record part { rest = resume sc part.rest done }
+  part' = record part { rest = resume sc part.rest answer }
 
   abbrev q' : Process
   q' = record q { todo = part' ∷ outer; state = state }
@@ -117,7 +124,7 @@ module _ (tree : PProgram) (code : Code) (texts : Texts) (fragments : FragmentsA
 
   -- the world after it
   abbrev pub changed_world : World
-  changed_world = with_process (stored_world w i x at with_cells) p (record q { todo = record part { rest = resume (scopes_of tree) part.rest done } ∷ outer; state = state })
+  changed_world = with_process (stored_world w i x at with_cells) p (record q { todo = record part { rest = resume (scopes_of tree) part.rest answer } ∷ outer; state = state })
 
   abbrev before : Core
   before = record { below = core.below; words = words; registers = registers }
@@ -181,16 +188,19 @@ module _ (tree : PProgram) (code : Code) (texts : Texts) (fragments : FragmentsA
   -- ---- the image after it: all is there but the word and the core
 
   module _ (base : Image) (same : (m : ℕ) (other : Core) → HasCore img m other → HasCore base m other) (stacks : base.stacks ≡ img.stacks)
-      (after : IsAfter (scopes_of tree) w (with_process (stored_world w i x at with_cells) p (record q { todo = record part { rest = resume (scopes_of tree) part.rest done } ∷ outer; state = state })) p)
-      (arrays : ArraysAre (scopes_of tree) (with_process (stored_world w i x at with_cells) p (record q { todo = record part { rest = resume (scopes_of tree) part.rest done } ∷ outer; state = state })) lay base.rows)
-      (events : EventsAre (scopes_of tree) (with_process (stored_world w i x at with_cells) p (record q { todo = record part { rest = resume (scopes_of tree) part.rest done } ∷ outer; state = state })) lay base.events)
-      (output : base.output ≡ img.output) (fault : base.fault ≡ img.fault) (started : base.started ≡ img.started) (many_states : length base.states ≡ length img.states)
+      (after : IsAfter (scopes_of tree) w (with_process (stored_world w i x at with_cells) p (record q { todo = record part { rest = resume (scopes_of tree) part.rest answer } ∷ outer; state = state })) p)
+      (arrays : ArraysAre (scopes_of tree) (with_process (stored_world w i x at with_cells) p (record q { todo = record part { rest = resume (scopes_of tree) part.rest answer } ∷ outer; state = state })) lay base.rows)
+      (events : EventsAre (scopes_of tree) (with_process (stored_world w i x at with_cells) p (record q { todo = record part { rest = resume (scopes_of tree) part.rest answer } ∷ outer; state = state })) lay base.events)
+      (list_same : list_in state ≡ list_in q.state) (lists : base.lists ≡ img.lists) (numbers : base.numbers ≡ img.numbers) (awaiting : AreAwaiting base) (output : base.output ≡ img.output) (fault : base.fault ≡ img.fault) (started : base.started ≡ img.started) (many_states : length base.states ≡ length img.states)
       (states : (m : ℕ) → m ≢ p → numbered base.states m ≡ numbered img.states m) (lives_so : lives state ≡ true) (state_is : StateIs (scopes_of tree) w lay state (numbered base.states p)) where
     has : HasCore base p core
     has = same p core s.has
 
     state_then : StateIs sc changed_world lay state (numbered base.states p)
     state_then = state_stays sc w changed_world lay lay events_stay (λ j f there. there) state (numbered base.states p) state_is
+
+    waits_then : WaitsAre sc changed_world lay base
+    waits_then = waits_still sc w changed_world lay lay events_stay (λ j f there. there) img base s.by.waits p q q' s.at refl list_same refl lists numbers awaiting
 
     system : stack_at base.stacks 0 ≡ stack_at img.stacks 0
     system = ap (λ ss. stack_at ss 0) stacks
@@ -210,13 +220,13 @@ module _ (tree : PProgram) (code : Code) (texts : Texts) (fragments : FragmentsA
 
       living_own : Living tree code texts changed_world lay (with_core base p own_core) p q'
       living_own =
-          own_goes_along tree code texts fragments kept order w lay img p q part outer bound core s unmade i x at with_cells high own_laid far k refl word many short keeps facts fewer changes own words registers frame_is pc slots there few comes
+          own_goes_along tree code texts fragments kept order w lay img p q part outer bound core s unmade answer nameless i x at with_cells high own_laid far k refl word many short keeps facts fewer changes own words registers frame_is pc slots there few comes
           state (on after) (with_core base p own_core) has_own small after.climb (all_laid changed_world lay after.climb.facts (s.by.laid ∙ as_many)) events_stay
 
-      pub own_pictured : PicturesBy tree code texts (with_process (stored_world w i x at with_cells) p (record q { todo = record part { rest = resume (scopes_of tree) part.rest done } ∷ outer; state = state })) lay
+      pub own_pictured : PicturesBy tree code texts (with_process (stored_world w i x at with_cells) p (record q { todo = record part { rest = resume (scopes_of tree) part.rest answer } ∷ outer; state = state })) lay
           (with_core base p (over (put word core.below (length f.lies.frame.lower + 2 + far)) (record { below = core.below; words = words; registers = registers })))
       own_pictured =
-          comes_to tree code texts w lay img s.by p q s.at changed_world lay (with_core base p own_core) q' refl (s.by.laid ∙ as_many) arrays events
+          comes_to tree code texts w lay img s.by p q s.at changed_world lay (with_core base p own_core) q' refl (s.by.laid ∙ as_many) arrays events (record { numbers = waits_then.numbers; woken = waits_then.woken; lists = waits_then.lists; awaiting = waits_then.awaiting })
           (λ r other. alike_but sc w changed_world lay r i x (changed w i x at with_cells) (alone after r other) at (λ (e : r ≡ x.process). other (e ∙ mine ∙ here)) refl events_stay)
           (output ∙ s.by.output) refl fault started many_states states (system_stays base p core own_core has same_stack q w s.at ∙ system)
           (λ r other_core apart had. others_have base p core own_core has same_stack r other_core apart (same r other_core had)) (living lives_so state_then living_own)
@@ -242,7 +252,7 @@ module _ (tree : PProgram) (code : Code) (texts : Texts) (fragments : FragmentsA
 
       living_here : Living tree code texts changed_world lay result p q'
       living_here =
-          goes_along tree code texts fragments kept order w lay img p q part outer bound core s unmade done tt before refl frame_is s.stands.held s.stands.held_are pc slots there few comes changed_world lay state (on after) same_own
+          goes_along tree code texts fragments kept order w lay img p q part outer bound core s unmade answer nameless before refl frame_is s.stands.held s.stands.held_are pc slots there few comes changed_world lay state (on after) same_own
           (λ j y is of_it. refl) events_stay (s.by.laid ∙ as_many) at_later result has_here small after.climb
 
       -- its process has the word below its floor
@@ -252,10 +262,17 @@ module _ (tree : PProgram) (code : Code) (texts : Texts) (fragments : FragmentsA
       only : IsOnlyStored base (put_word word base (place f.number k))
       only = put_only base f.number k word
 
+      -- nobody waits for others
+      waits_there : WaitsAre sc changed_world lay result
+      waits_there =
+          waits_kept sc changed_world changed_world lay lay (λ j. events_same changed_world changed_world j refl) (λ j f there. there) base result waits_then (ap length only.numbers ∙ waits_then.numbers) (λ r. (refl, refl)) only.lists
+          (λ r. ap (λ (ns : List ℕ). woken_number ns r) only.numbers)
+          (still_awaiting base result waits_then.awaiting (λ r there listed. subst (λ (es : List Event). IsListed (waiters_at there es) r) only.events listed) only.states only.lists)
+
       nobody : f.number ≢ 0
       nobody e = none_some (ap (λ (n : ℕ). numbered w.processes n) (sym e) ∙ f.is)
 
-      pub other_pictured : PicturesBy tree code texts (with_process (stored_world w i x at with_cells) p (record q { todo = record part { rest = resume (scopes_of tree) part.rest done } ∷ outer; state = state })) lay
+      pub other_pictured : PicturesBy tree code texts (with_process (stored_world w i x at with_cells) p (record q { todo = record part { rest = resume (scopes_of tree) part.rest answer } ∷ outer; state = state })) lay
           (with_core (put_word word base (place f.number (length f.lies.frame.lower + 2 + far))) p (record { below = core.below; words = words; registers = registers }))
       other_pictured =
           stored_pictured tree code texts w lay f.number i x at with_cells high laid far k refl word many short keeps facts fewer changes p q' (alone after) img result mine
@@ -263,6 +280,6 @@ module _ (tree : PProgram) (code : Code) (texts : Texts) (fragments : FragmentsA
           (λ c had. others_have with_it p core before has_so same_stack f.number (over (put word c.below k) c) other (core_put base f.number k word c (low_there c had) (same f.number c had)))
           (λ r c apart elsewhere had. others_have with_it p core before has_so same_stack r c apart (core_beside base f.number k word r c elsewhere (same r c had)))
           (λ r apart. ap (λ (ss : List ProcessState). numbered ss r) only.states ∙ states r apart) s.by q s.at (subst (λ rows. ArraysAre sc changed_world lay rows) (sym only.rows) arrays)
-          (subst (λ es. EventsAre sc changed_world lay es) (sym only.events) events) (only.output ∙ output ∙ s.by.output) (only.fault ∙ fault) (only.started ∙ started) (ap length only.states ∙ many_states)
+          (subst (λ es. EventsAre sc changed_world lay es) (sym only.events) events) waits_there (only.output ∙ output ∙ s.by.output) (only.fault ∙ fault) (only.started ∙ started) (ap length only.states ∙ many_states)
           (system_stays with_it p core before has_so same_stack q w s.at ∙ stacks_beside base f.number k word 0 nobody ∙ system)
           (living lives_so (subst (λ (ss : List ProcessState). StateIs sc changed_world lay state (numbered ss p)) (sym only.states) state_then) living_here)

@@ -11,7 +11,7 @@ use Rattle.b67_ops.specs.declared.PlainKind.TheVariants as kinds
 use Rattle.b67_segment.specs.declared.code.Code.{Code}
 use Rattle.b67_store.specs.Store.{Rows, words_of}
 use Rattle.b67_deeds.specs.Events.{caused}
-use Rattle.b67_events.specs.Events.{Event, closed_from, waiters_at, changed as with_event, with_state}
+use Rattle.b67_events.specs.Events.{Event, closed_from, waiters_at, changed as with_event, with_state, withdrawn, unlisted}
 use Rattle.b67_table.specs.Effect.{gives}
 use Rattle.b67_table.specs.Image.{Image, with_rows}
 use Rattle.b67_table.specs.Linkage.{arrays_closed, caused_by, frame_left, is_critical, leave_base, leave_other}
@@ -21,7 +21,7 @@ use Rattle.b67_table.specs.Questions.{live_criticals, told}
 use Rattle.b67_table.specs.Questions as questions
 use Rattle.b67_table.specs.Rows.{row, exit}
 use Rattle.b67_table.specs.Table.{raw, operator_at}
-use Rattle.b67_table.specs.Writes.{written, able_again}
+use Rattle.b67_table.specs.Writes.{written, able_again, told_positions}
 use Rattle.b67_table.specs.Writes as writes
 use Rattle.b67_table.specs.declared.ProcessState.TheVariants.{Ended}
 use Rattle.b67_letters.proofs.Calm.{arrays_have}
@@ -41,12 +41,14 @@ module _ (code : Code) (img : Image) (p : ℕ) (core : Core) (has : HasCore img 
   abbrev left : Registers
   left = record r { place = next }
 
-  -- the image in which it has ended, and its task's event is caused
+  -- the image in which it has ended, its task's event is caused, and who waited for that waits for nothing
   abbrev pub caused_at : Image
   caused_at =
       record (ended_at img rows p (record core.registers { place = next })) {
-        events = with_event task (with_state caused) (closed_from core.registers.stack 0 img.events);
+        events = withdrawn (waiters_at task (closed_from core.registers.stack 0 img.events)) (with_event task (with_state caused) (closed_from core.registers.stack 0 img.events));
+        lists = unlisted (waiters_at task (closed_from core.registers.stack 0 img.events)) img.lists;
         states = set_numbered (able_again (waiters_at task (closed_from core.registers.stack 0 img.events)) img.states) p Ended;
+        numbers = told_positions task img.lists (waiters_at task (closed_from core.registers.stack 0 img.events)) img.numbers;
       }
 
   pub caused_raw : raw code img p ≡ gives caused_at

@@ -6,15 +6,17 @@ use Rattle.algol_tree.specs.Plain.{PProgram}
 use Rattle.algol_tree.specs.Scopes.{Scopes, scopes_of}
 use Rattle.algol_meaning.specs.Value.{Reference}
 use Rattle.algol_meaning.specs.Rest.{done}
-use Rattle.algol_meaning.specs.World.{Instance, Process, Part, ended, World, instance_at, with_instance, with_process}
+use Rattle.algol_meaning.specs.World.{Instance, Process, Part, ended, World, instance_at, with_instance, with_process, is_able, process_at}
 use Rattle.b67_deeds.specs.declared.Letter.TheVariants.{End}
+use Rattle.b67_deeds.specs.Listed.{IsListed}
 use Rattle.algol_meaning.specs.Asks.{Ask, leaves, ask}
 use Rattle.algol_meaning.specs.Critical.{some_depends, is_evaluation}
-use Rattle.algol_meaning.specs.Events.{caused_by_end}
+use Rattle.algol_meaning.specs.Events.{caused_by_end, list_in}
 use Rattle.algol_meaning.specs.Instances.{leave}
 use Rattle.algol_meaning.specs.Choice.{Choice, choice, choice_of, left_with, left_or_ended, ended_releasing, fails}
 use Rattle.b67_num.specs.declared.FaultKind.TheVariants as fault
 use Rattle.b67_word.specs.Word.{Word}
+use Rattle.b67_word.specs.declared.Place.{Place}
 use Rattle.b67_control.specs.declared.Registers.{Registers}
 use Rattle.b67_ops.specs.declared.Operator.TheVariants as ops
 use Rattle.b67_ops.specs.declared.PlainKind.TheVariants as kinds
@@ -53,15 +55,18 @@ use Rattle.b67_frames.specs.Frames.{Owned}
 use Rattle.b67_frames.specs.Events.{EventsAre}
 use Rattle.b67_frames.proofs.EventsLow.{IsElsewhere, event_outside}
 use Rattle.b67_scenes.proofs.Scene.{Scene, frame_is}
-use Rattle.b67_scenes.proofs.Stage.{state_there, choice_is, comes_to, gives_within}
+use Rattle.b67_scenes.proofs.Stage.{state_there, choice_is, comes_to, gives_within, process_is}
 use Rattle.b67_scenes.proofs.Staying.{text_in, level_in, context_in, most_in}
 use Rattle.b67_scenes.proofs.Worlds.{held_of}
-use Rattle.b67_events.specs.Events.{is_from, closed_from}
+use Rattle.b67_events.specs.Events.{is_from, closed_from, waiters_at}
 use Rattle.b67_frames.proofs.EventsKept.{events_left, events_unchanged}
 use Rattle.b67_rows.proofs.Parting.{IsSameBut, same_but}
 use Rattle.b67_scenes.specs.Depending.{TaskIs}
+use Rattle.b67_scenes.specs.Waiting.{WaitsAre}
 use Rattle.b67_scenes.proofs.Tasks as tasks
 use Rattle.b67_scenes.proofs.Tasks.{EventsStay}
+use Rattle.b67_scenes.proofs.Waiting.{awaiting_beside, fewer_closed, waits_still}
+use Rattle.b67_scenes.proofs.Idle.{idle_list, idle_nowhere}
 use Rattle.b67_pictures.proofs.Blocked.{critical_frame}
 use Rattle.b67_frames.specs.Arrays.{ArraysAre}
 use Rattle.b67_table.specs.declared.ProcessState.{ProcessState}
@@ -224,10 +229,19 @@ module _ (tree : PProgram) (code : Code) (texts : Texts) (closing : FramesClose)
         chosen : choice sc w p ≡ record { action = End; world = w'; released = []; started = None }
         chosen = chosen_by free ∙ ap (λ (t : Option Reference). ended_releasing sc w p q part [] (caused_by_end (leave w (i ∷ [])) p t)) without_task
 
-        pictured : IsLater → PicturesBy tree code texts w' lay after
-        pictured after_it =
+        -- nobody waits for others, and it waited for none
+        waits_now : is_able ((process_at w p).state) ≡ true → WaitsAre sc w' lay after
+        waits_now able_now =
+            let nobody : (at : Place) → IsListed (waiters_at at img.events) p → ⊥ = idle_nowhere tree code texts w lay img s.by p able_now in
+            waits_still sc w w' lay lay events_stay (λ j f there_is. there_is) img after s.by.waits p q q' s.at refl
+            (sym (sym (ap (λ (x : Process). list_in x.state) (process_is w p q s.at)) ∙ idle_list tree code texts w lay img s.by p able_now)) refl refl refl
+            (awaiting_beside img after s.by.waits.awaiting p (λ at listed. absurd (nobody at (fewer_closed core.registers.stack 0 img.events p at listed))) (λ r at other listed. fewer_closed core.registers.stack 0 img.events r at listed)
+            (λ r other. numbered_other img.states p r Ended (λ e. other (sym e))) (λ r other. refl))
+
+        pictured : is_able ((process_at w p).state) ≡ true → IsLater → PicturesBy tree code texts w' lay after
+        pictured able_now after_it =
             comes_to tree code texts w lay img s.by p q s.at w' lay after q' refl (s.by.laid ∙ sym (length_set_numbered w.instances i left_instance)) (arrays_unchanged sc left_world w' lay shut.rows refl arrays_left_world)
-            (events_unchanged sc left_world w' lay after.events refl events_left_world) (alike after_it) s.by.output refl refl refl
+            (events_unchanged sc left_world w' lay after.events refl events_left_world) (waits_now able_now) (alike after_it) s.by.output refl refl refl
             (length_set_numbered img.states p Ended) (λ r other. numbered_other img.states p r Ended (λ e. other (sym e))) system_stays others
             (dead refl (numbered_set img.states p state_now.0 Ended state_now.1))
 
@@ -251,4 +265,4 @@ module _ (tree : PProgram) (code : Code) (texts : Texts) (closing : FramesClose)
             table_is
             (exit_action code img p core s.has a.0 there s.stands.frame.mark s.stands.frame.control s.stands.frame.cells below_is s.stands.counted base shut.rows shut.changes critical_free after table_is
             ∙ ap (λ (c : Choice). Some c.action) (sym chosen))
-            (λ may. subst (λ (c : Choice). Pictures tree code texts c.world after) (sym chosen) (lay, pictured (after_choice sc w w' p q facts may s.at (ap (λ (c : Choice). c.world) chosen))))
+            (λ may. subst (λ (c : Choice). Pictures tree code texts c.world after) (sym chosen) (lay, pictured may.able (after_choice sc w w' p q facts may s.at (ap (λ (c : Choice). c.world) chosen))))

@@ -483,7 +483,7 @@ module _ (tree : PProgram) (code : Code) (texts : Texts) (nested : LiesNested tr
         pub pictured : PicturesBy tree code texts w' lay (with_core img p new)
         pictured =
             goes_on tree code texts w lay img s.by p q s.at w' lay (with_core img p new) q' refl able_is s.by.laid (arrays_unchanged sc w w' lay img.rows refl s.by.arrays)
-            (events_unchanged sc w w' lay img.events refl s.by.events) (λ r other. alike_by sc w w' lay r (leaves_alone sc w w' lay lay p facts after_it (λ j st later. keeps_same sc w w' lay lay j refl refl) (λ j g there. there) laid_all (dependent_but w.processes p q q' s.at refl (λ e. e)) r other) refl) s.by.output refl refl refl refl (system_stays img p core new s.has refl q w s.at)
+            (events_unchanged sc w w' lay img.events refl s.by.events) refl refl refl refl (λ m there listed. listed) (λ r other. alike_by sc w w' lay r (leaves_alone sc w w' lay lay p facts after_it (λ j st later. keeps_same sc w w' lay lay j refl refl) (λ j g there. there) laid_all (dependent_but w.processes p q q' s.at refl (λ e. e)) r other) refl) s.by.output refl refl refl refl (system_stays img p core new s.has refl q w s.at)
             (state_stays sc w w' lay lay (λ j. events_same w w' j refl) (λ j f laid. laid) q.state (numbered img.states p) able_p) (others_have img p core new s.has refl) living_now
 
     -- where the operator enters the code of the actual, and the choice is the entry, the operator does it

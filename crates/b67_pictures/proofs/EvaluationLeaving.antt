@@ -80,6 +80,7 @@ use Rattle.b67_scenes.proofs.Scene.{Scene}
 use Rattle.b67_scenes.proofs.Stage.{choice_is, gives_within, goes_on}
 use Rattle.b67_scenes.proofs.Staying.{text_in, level_in, context_in, most_in}
 use Rattle.b67_scenes.proofs.Worlds.{held_of}
+use Rattle.b67_scenes.proofs.Waiting.{fewer_closed}
 use Rattle.algol_standing.specs.Worlds.{IsStanding, IsOnPath, IsOwn, newest_own}
 use Rattle.b67_pictures.specs.Acting.{Does, gave}
 use Rattle.b67_pictures.proofs.Alone.{IsAfter, dependent_but, after_choice, stands_on, leaves_alone}
@@ -264,7 +265,7 @@ module _ (tree : PProgram) (code : Code) (texts : Texts) (stand : HaveTexts tree
       pictured after_it =
           goes_on tree code texts w lay img s.by p q s.at w' lay now q' refl able_is s.by.laid
           (subst (λ (rows : Rows). ArraysAre sc w' lay rows) (sym (rows_are tree code texts w lay img p q part next parts bound core s img.rows none_closed)) (arrays_unchanged sc w w' lay img.rows refl s.by.arrays))
-          events_now (alike after_it) s.by.output refl refl refl refl (system_stays img p core new s.has refl q w s.at)
+          events_now refl refl refl refl (λ m there listed. fewer_closed core.registers.stack (length (s.around.0.below ++ reverse s.around.0.words)) img.events m there listed) (alike after_it) s.by.output refl refl refl refl (system_stays img p core new s.has refl q w s.at)
           (state_stays sc w w' lay lay (λ j. events_same w w' j refl) (λ j f laid. laid) q.state (numbered img.states p) able_p) others (here after_it)
 
       chosen : ask part.rest ≡ leaves r → choice sc w p ≡ record { action = Leave; world = w'; released = []; started = None }

@@ -3,8 +3,8 @@ use Rattle.std.proofs.Common.{◌≡◌, ◌≢◌, ◌⊎◌, inl, inr, refl, s
 use Rattle.b67_list.specs.Numbered.{numbered}
 use Rattle.algol_tree.specs.Plain.{PProgram}
 use Rattle.algol_tree.specs.Scopes.{Scopes, scopes_of}
-use Rattle.algol_meaning.specs.Events.{set_event}
-use Rattle.algol_meaning.specs.Rest.{done}
+use Rattle.algol_meaning.specs.Events.{set_event, list_in}
+use Rattle.algol_meaning.specs.Rest.{Answer}
 use Rattle.algol_meaning.specs.Value.{Reference, event}
 use Rattle.b67_deeds.specs.Events.{EventState}
 use Rattle.algol_meaning.specs.World as meant
@@ -12,6 +12,8 @@ use Rattle.algol_meaning.specs.World.{NamedCell, Instance, Process, Part, State,
 use Rattle.algol_meaning.specs.Asks.{resume}
 use Rattle.algol_paths.specs.Arrays.{all_to_make, all_left_to_make}
 use Rattle.algol_paths.specs.Laws.{RestsKeepToTheirText, AllIsMadeInOrder}
+use Rattle.algol_paths.specs.Texts.{InAnswer}
+use Rattle.algol_paths.specs.Blocks.{IsSeen}
 use Rattle.b67_word.specs.declared.Place.{Place}
 use Rattle.b67_word.specs.Word.{Word}
 use Rattle.b67_events.specs.Events.{Event, changed as with_event}
@@ -29,7 +31,6 @@ use Rattle.b67_standing.specs.Standing.{ComesTo}
 use Rattle.b67_cores.specs.Cores.{Core, size, HasCore, with_core}
 use Rattle.b67_cores.specs.Stretches.{CoreAt, FragmentsArePerformed}
 use Rattle.b67_templates.specs.Nested.{AreNested}
-use Rattle.b67_rows.proofs.IntrinsicRows.{without_call}
 use Rattle.b67_rows.proofs.Numbers.{same_or_not}
 use Rattle.b67_frames.specs.Arrays.{Layout, ArraysAre}
 use Rattle.b67_frames.specs.Events.{event_there, EventsAre}
@@ -39,6 +40,7 @@ use Rattle.b67_frames.proofs.OwnCells.{OwnCells}
 use Rattle.b67_frames.proofs.OwnEvents.{OwnEvent}
 use Rattle.b67_scenes.specs.Pictures.{PicturesBy}
 use Rattle.b67_scenes.specs.States.{StateIs}
+use Rattle.b67_scenes.specs.Waiting.{AreAwaiting}
 use Rattle.b67_scenes.proofs.EventHomes.{cell_there, own_there}
 use Rattle.b67_scenes.proofs.EventThere.{as_many, cells_changed, event_keeps, arrays_after, events_after}
 use Rattle.b67_scenes.proofs.Finding.{found_laid}
@@ -48,15 +50,19 @@ use Rattle.b67_scenes.proofs.Staying.{text_in, level_in, context_in, most_in}
 use Rattle.b67_scenes.proofs.StoringFrames.{stored_world}
 use Rattle.b67_pictures.proofs.Alone.{IsAfter}
 use Rattle.b67_pictures.proofs.Changing.{refers_fewer, own_pictured, other_pictured}
+use Rattle.b67_pictures.proofs.InFrame.{SameFrame}
+use Rattle.b67_control.specs.declared.Registers.{Registers}
 
 -- who lives in a world lives in its image
 lives_there : (sc : Scopes) (w : World) (lay : Layout) (x : State) (o : Option ProcessState) → StateIs sc w lay x o → lives x ≡ true → is_live o ≡ true
 lives_there sc w lay meant.able (Some image_states.Able) is e = refl
 lives_there sc w lay (meant.waits_for r) (Some (image_states.WaitsFor at)) is e = refl
+lives_there sc w lay (meant.waits_any rs) (Some image_states.WaitsAny) is e = refl
 lives_there sc w lay (meant.procures r) (Some (image_states.Procures at)) is e = refl
 lives_there sc w lay meant.ended (Some image_states.Ended) is e = cc
 lives_there sc w lay meant.able _ is e = absurd is
 lives_there sc w lay (meant.waits_for r) _ is e = absurd is
+lives_there sc w lay (meant.waits_any rs) _ is e = absurd is
 lives_there sc w lay (meant.procures r) _ is e = absurd is
 lives_there sc w lay meant.ended _ is e = absurd is
 
@@ -74,20 +80,26 @@ module _ (tree : PProgram) (code : Code) (texts : Texts) (w : World) (lay : Layo
 -- the floor.
 module _ (tree : PProgram) (code : Code) (texts : Texts) (nested : AreNested (scopes_of tree)) (fragments : FragmentsArePerformed) (kept : RestsKeepToTheirText) (order : AllIsMadeInOrder) (w : World) (lay : Layout) (img : Image)
     (p : ℕ) (q : Process) (part : Part) (outer : List Part) (bound : ℕ) (core : Core) (s : Scene tree code texts w lay img p q part outer bound core) (able_is : lives q.state ≡ true) (unmade : all_left_to_make part.rest ≡ all_to_make part.rest)
+    (answer : Answer) (nameless : InAnswer (IsSeen (scopes_of tree) ((instance_at w part.instance).block)) answer)
     (r : Reference) (l : Seen tree code texts w lay img p q part outer bound core s r.instance) (number : ℕ)
     (found : OwnEvent (scopes_of tree) w lay l.found.lies.part.instance l.found.lies.owned.framed.instance (own_there tree code texts nested w lay img p q part outer bound core s l) r.name number)
     (later : EventState) (change : Event → Event) (stays : StaysInPlace change)
     (becomes : change (event_there (cell_place (cell_there tree code texts nested w lay img p q part outer bound core s l number)) found.cell)
     ≡ event_there (cell_place (cell_there tree code texts nested w lay img p q part outer bound core s l number)) later)
     (state : State) (lives_now : lives state ≡ true) (states : List ProcessState) (many_states : length states ≡ length img.states) (state_is : StateIs (scopes_of tree) w lay state (numbered states p)) (states_are : (m : ℕ) → m ≢ p → numbered states m ≡ numbered img.states m)
-    (words : List Word) (df next : ℕ) (below : List Slot) (held : length below ≤ most_in tree w part)
-    (there : CoreAt (scopes_of tree) s.stands.held code (text_in tree texts w part) (level_in tree w part) next below (without_call core words df next))
-    (comes : ComesTo (scopes_of tree) (context_in tree code texts w part s.stands.frame.gives) (text_in tree texts w part) (level_in tree w part) (most_in tree w part) (resume (scopes_of tree) part.rest done) next below)
-    (smaller : size (without_call core words df next) ≤ stack_limit)
+    (list_same : list_in state ≡ list_in q.state)
+    (words : List Word) (registers : Registers) (frame_is : SameFrame core.registers registers) (next : ℕ) (below : List Slot) (held : length below ≤ most_in tree w part)
+    (there : CoreAt (scopes_of tree) s.stands.held code (text_in tree texts w part) (level_in tree w part) next below (record { below = core.below; words = words; registers = registers }))
+    (comes : ComesTo (scopes_of tree) (context_in tree code texts w part s.stands.frame.gives) (text_in tree texts w part) (level_in tree w part) (most_in tree w part) (resume (scopes_of tree) part.rest answer) next below)
+    (smaller : size (record { below = core.below; words = words; registers = registers }) ≤ stack_limit)
+    (awaiting : AreAwaiting (record img {
+      events = with_event (cell_place (cell_there tree code texts nested w lay img p q part outer bound core s l number)) change img.events;
+      states = states;
+    }))
     (after : IsAfter (scopes_of tree) w
     (with_process
     (stored_world w r.instance l.found.lies.owned.framed.instance (instance_there tree code texts w lay img p q part outer bound core s r l) (cells_with l.found.lies.owned.framed.instance.cells r.name (event later))) p
-    (record q { todo = record part { rest = resume (scopes_of tree) part.rest done } ∷ outer; state = state })) p) where
+    (record q { todo = record part { rest = resume (scopes_of tree) part.rest answer } ∷ outer; state = state })) p) where
   abbrev sc : Scopes
   sc = scopes_of tree
 
@@ -115,7 +127,7 @@ module _ (tree : PProgram) (code : Code) (texts : Texts) (nested : AreNested (sc
   stored = stored_world w i instance (instance_there tree code texts w lay img p q part outer bound core s r l) cells'
 
   abbrev w' : World
-  w' = with_process stored p (record q { todo = record part { rest = resume sc part.rest done } ∷ outer; state = state })
+  w' = with_process stored p (record q { todo = record part { rest = resume sc part.rest answer } ∷ outer; state = state })
 
   abbrev base : Image
   base = record img { events = with_event at change img.events; states = states }
@@ -141,21 +153,21 @@ module _ (tree : PProgram) (code : Code) (texts : Texts) (nested : AreNested (sc
       PicturesBy tree code texts
       (with_process
       (stored_world w r.instance l.found.lies.owned.framed.instance (instance_there tree code texts w lay img p q part outer bound core s r l) (cells_with l.found.lies.owned.framed.instance.cells r.name (event later))) p
-      (record q { todo = record part { rest = resume (scopes_of tree) part.rest done } ∷ outer; state = state })) lay
+      (record q { todo = record part { rest = resume (scopes_of tree) part.rest answer } ∷ outer; state = state })) lay
       (with_core (record img {
         events = with_event (cell_place (cell_there tree code texts nested w lay img p q part outer bound core s l number)) change img.events;
         states = states;
-      }) p (without_call core words df next))
+      }) p (record { below = core.below; words = words; registers = registers }))
   event_pictured = by_number (same_or_not l.found.number p)
     where
-      by_number : (l.found.number ≡ p) ⊎ (l.found.number ≢ p) → PicturesBy tree code texts w' lay (with_core base p (without_call core words df next))
+      by_number : (l.found.number ≡ p) ⊎ (l.found.number ≢ p) → PicturesBy tree code texts w' lay (with_core base p (record { below = core.below; words = words; registers = registers }))
       by_number (inl here) =
-          own_pictured tree code texts fragments kept order w lay img p q part outer bound core s unmade i l.found instance (instance_there tree code texts w lay img p q part outer bound core s r l) cells' 0 None
+          own_pictured tree code texts fragments kept order w lay img p q part outer bound core s unmade answer nameless i l.found instance (instance_there tree code texts w lay img p q part outer bound core s r l) cells' 0 None
           (as_many sc w lay i instance has_it.0 r.name number has_it.1 later) (λ set. absurd set) (λ set. absurd set) (event_keeps sc w lay i instance has_it.0 r.name number has_it.1 later)
-          (refers_fewer instance.cells r.name (event later) refl) (cells_changed sc w lay i instance has_it.0 r.name number has_it.1 later) words (without_call core words df next).registers (record { is = refl }) next below there held comes
-          smaller able_is state base same refl after arrays_now events_now refl refl refl many_states states_are lives_now state_is here
+          (refers_fewer instance.cells r.name (event later) refl) (cells_changed sc w lay i instance has_it.0 r.name number has_it.1 later) words registers frame_is next below there held comes
+          smaller able_is state base same refl after arrays_now events_now list_same refl refl awaiting refl refl refl many_states states_are lives_now state_is here
       by_number (inr other) =
-          other_pictured tree code texts fragments kept order w lay img p q part outer bound core s unmade i l.found instance (instance_there tree code texts w lay img p q part outer bound core s r l) cells' 0 None
+          other_pictured tree code texts fragments kept order w lay img p q part outer bound core s unmade answer nameless i l.found instance (instance_there tree code texts w lay img p q part outer bound core s r l) cells' 0 None
           (as_many sc w lay i instance has_it.0 r.name number has_it.1 later) (λ set. absurd set) (λ set. absurd set) (event_keeps sc w lay i instance has_it.0 r.name number has_it.1 later)
-          (refers_fewer instance.cells r.name (event later) refl) (cells_changed sc w lay i instance has_it.0 r.name number has_it.1 later) words (without_call core words df next).registers (record { is = refl }) next below there held comes
-          smaller able_is state base same refl after arrays_now events_now refl refl refl many_states states_are lives_now state_is other
+          (refers_fewer instance.cells r.name (event later) refl) (cells_changed sc w lay i instance has_it.0 r.name number has_it.1 later) words registers frame_is next below there held comes
+          smaller able_is state base same refl after arrays_now events_now list_same refl refl awaiting refl refl refl many_states states_are lives_now state_is other

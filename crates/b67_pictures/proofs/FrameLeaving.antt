@@ -52,6 +52,7 @@ use Rattle.b67_scenes.proofs.Scene.{Scene}
 use Rattle.b67_scenes.proofs.Stage.{choice_is, gives_within, goes_on}
 use Rattle.b67_scenes.proofs.Tasks as tasks
 use Rattle.b67_scenes.proofs.Worlds.{held_of}
+use Rattle.b67_scenes.proofs.Waiting.{fewer_closed}
 use Rattle.algol_standing.specs.Worlds.{IsStanding, IsOwn}
 use Rattle.b67_pictures.specs.Acting.{Does, gave}
 use Rattle.b67_pictures.proofs.Alone.{IsAfter, dependent_but, after_choice, stands_on, leaves_alone}
@@ -193,7 +194,7 @@ module _ (tree : PProgram) (code : Code) (texts : Texts) (stand : HaveTexts tree
       pictured : IsLater → PicturesBy tree code texts w' lay now
       pictured after_it =
           goes_on tree code texts w lay img s.by p q s.at w' lay now q' refl able_is as_many
-          (subst (λ (rows : Rows). ArraysAre sc w' lay rows) (sym (rows_are tree code texts w lay img p q part next parts bound core s shut.rows shut.changes)) (arrays_unchanged sc (leave w (i ∷ [])) w' lay shut.rows refl shut.are)) events_now (alike after_it)
+          (subst (λ (rows : Rows). ArraysAre sc w' lay rows) (sym (rows_are tree code texts w lay img p q part next parts bound core s shut.rows shut.changes)) (arrays_unchanged sc (leave w (i ∷ [])) w' lay shut.rows refl shut.are)) events_now refl refl refl refl (λ m there listed. fewer_closed core.registers.stack (length (u.below ++ reverse u.words)) img.events m there listed) (alike after_it)
           s.by.output refl refl refl refl (system_stays img p core new s.has refl q w s.at)
           (tasks.state_stays sc w w' lay lay (tasks.events_left w w' same_now) (λ j f laid. laid) q.state (numbered img.states p) able_p) others (here after_it)
 

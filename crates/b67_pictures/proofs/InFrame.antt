@@ -19,7 +19,7 @@ use Rattle.b67_segment.specs.declared.code.Code.{Code}
 use Rattle.b67_templates.specs.Programs.{Texts}
 use Rattle.b67_store.specs.Store.{stack_limit}
 use Rattle.b67_scenes.specs.States.{StateIs}
-use Rattle.b67_table.specs.Image.{Image}
+use Rattle.b67_table.specs.Image.{Image, woken_number}
 use Rattle.b67_table.specs.Effect as effects
 use Rattle.b67_table.specs.Outcome as outcomes
 use Rattle.b67_table.specs.Private.{frame}
@@ -49,9 +49,11 @@ use Rattle.b67_scenes.proofs.Kept.{alike_by}
 use Rattle.b67_scenes.proofs.Landing.{steps_none, living_of}
 use Rattle.b67_scenes.proofs.Scene.{Scene}
 use Rattle.b67_scenes.specs.Depending.{CriticalIs, TaskIs}
+use Rattle.b67_scenes.specs.Waiting.{WaitsAre}
 use Rattle.b67_scenes.proofs.Tasks.{task_stays, state_stays, events_same}
-use Rattle.b67_scenes.proofs.Stage.{gives_within, limit_beyond, goes_on, weight_of}
+use Rattle.b67_scenes.proofs.Stage.{gives_within, limit_beyond, weight_of, goes_on_so, process_is}
 use Rattle.b67_scenes.proofs.Staying.{text_in, level_in, context_in, most_in, FrameStill, frame_still, frame_low, chained_stays, top_stays, parts_weigh, known_stays, names_in}
+use Rattle.b67_scenes.proofs.Waiting.{waits_told}
 use Rattle.b67_pictures.specs.Acting.{MayAct, Does, gave, stopped}
 use Rattle.b67_pictures.proofs.Alone.{IsAfter, after_choice, dependent_but, stands_on, leaves_alone}
 use Rattle.b67_templates.specs.Contexts.{Yields}
@@ -66,18 +68,19 @@ module _ (tree : PProgram) (code : Code) (texts : Texts) (fragments : FragmentsA
     (a : Answer) (nameless : InAnswer (IsSeen (scopes_of tree) ((instance_at w part.instance).block)) a) (out : List (List ℕ)) (new : Core) (below : new.below ≡ core.below) (frame_is : SameFrame core.registers new.registers)
     (known : List Known) (known_are : AreKnown (scopes_of tree) w lay (IsInReach w (part ∷ outer)) part.instance known)
     (pc : ℕ) (slots : List Slot) (there : CoreAt (scopes_of tree) known code (text_in tree texts w part) (level_in tree w part) pc slots new) (few : length slots ≤ most_in tree w part)
-    (comes : ComesTo (scopes_of tree) (context_in tree code texts w part s.stands.frame.gives) (text_in tree texts w part) (level_in tree w part) (most_in tree w part) (resume (scopes_of tree) part.rest a) pc slots) where
+    (comes : ComesTo (scopes_of tree) (context_in tree code texts w part s.stands.frame.gives) (text_in tree texts w part) (level_in tree w part) (most_in tree w part) (resume (scopes_of tree) part.rest a) pc slots)
+    (woken : ℕ) (numbers : List ℕ) (many_numbers : length numbers ≡ length img.numbers) (numbered_so : woken_number numbers p ≡ woken) (numbered_others : (r : ℕ) → r ≢ p → woken_number numbers r ≡ woken_number img.numbers r) where
   abbrev pub part' : Part
   part' = record part { rest = resume (scopes_of tree) part.rest a }
 
   abbrev pub q' : Process
-  q' = record q { todo = part' ∷ outer }
+  q' = record q { todo = part' ∷ outer; woken = woken }
 
   abbrev pub w' : World
   w' = with_process (record w { output = out }) p q'
 
   abbrev pub after : Image
-  after = record (with_core img p new) { output = out }
+  after = record (with_core img p new) { output = out; numbers = numbers }
 
   same_stack : new.registers.stack ≡ core.registers.stack
   same_stack = ap (λ (r : Registers). r.stack) frame_is.is
@@ -149,9 +152,14 @@ module _ (tree : PProgram) (code : Code) (texts : Texts) (fragments : FragmentsA
         ∙ sym (parts_weigh tree code texts w w' lay lay p (length core.below) stay laid part outer core s.stands s.around all_low)
         ∙ sym (weight_of tree w' p q' (part' ∷ outer) (numbered_set w.processes p q q' s.at) refl)) s.light
 
+    -- nobody waits for others
+    waits_then : WaitsAre (scopes_of tree) w' lay after
+    waits_then =
+        waits_told (scopes_of tree) w w' lay lay (λ j. events_same w w' j refl) (λ j f laid_there. laid_there) img after s.by.waits p q q' s.at refl refl refl many_numbers numbered_so numbered_others s.by.waits.awaiting
+
     pub in_frame : size new ≤ stack_limit → PicturesBy tree code texts w' lay after
     in_frame small =
-        goes_on tree code texts w lay img s.by p q s.at w' lay after q' refl able_is s.by.laid (arrays_unchanged (scopes_of tree) w w' lay img.rows refl s.by.arrays) (events_unchanged (scopes_of tree) w w' lay img.events refl s.by.events) (λ r other. alike_by (scopes_of tree) w w' lay r (leaves_alone (scopes_of tree) w w' lay lay p facts after_it (λ j st later. keeps_same (scopes_of tree) w w' lay lay j refl refl) (λ j f there. there) laid (dependent_but w.processes p q q' s.at refl (λ e. e)) r other) refl) refl refl refl refl refl
+        goes_on_so tree code texts w lay img s.by p q s.at w' lay after q' refl able_is s.by.laid (arrays_unchanged (scopes_of tree) w w' lay img.rows refl s.by.arrays) (events_unchanged (scopes_of tree) w w' lay img.events refl s.by.events) waits_then (λ r other. alike_by (scopes_of tree) w w' lay r (leaves_alone (scopes_of tree) w w' lay lay p facts after_it (λ j st later. keeps_same (scopes_of tree) w w' lay lay j refl refl) (λ j f there. there) laid (dependent_but w.processes p q q' s.at refl (λ e. e)) r other) refl) refl refl refl refl refl
         (system_stays img p core new s.has same_stack q w s.at)
         (state_stays (scopes_of tree) w w' lay lay (λ j. events_same w w' j refl) (λ j f laid. laid) q.state (numbered img.states p) able_p) others
         (living_of tree code texts w' lay after after_it.climb (all_laid w' lay after_it.climb.facts s.by.laid) fragments p q' part' outer bound new new (record {
@@ -184,9 +192,9 @@ module _ (tree : PProgram) (code : Code) (texts : Texts) (fragments : FragmentsA
           light = light';
         }))
 
-  pub does_in_frame : (action : Letter) → plain code img p ≡ false → raw code img p ≡ effects.gives after → choice (scopes_of tree) w p ≡ record { action = action; world = w'; released = []; started = None } →
+  pub does_numbered : (action : Letter) → plain code img p ≡ false → raw code img p ≡ effects.gives after → choice (scopes_of tree) w p ≡ record { action = action; world = w'; released = []; started = None } →
       (table code img p ≡ outcomes.gives after → letter code img p ≡ Some action) → Does tree code texts w img p
-  does_in_frame action not_plain raw_is chosen acts = by_size (most_or_more new.registers.s stack_limit)
+  does_numbered action not_plain raw_is chosen acts = by_size (most_or_more new.registers.s stack_limit)
     where
       after_so : MayAct (scopes_of tree) w p → IsAfter (scopes_of tree) w w' p
       after_so may =
@@ -199,3 +207,23 @@ module _ (tree : PProgram) (code : Code) (texts : Texts) (fragments : FragmentsA
           (λ may. subst (λ (c : Choice). Pictures tree code texts c.world after) (sym chosen) (lay, in_frame (after_so may) (omega (arith, small, there.is.top))))
       by_size (inr long) =
           stopped not_plain (limit_beyond code img after p new.registers raw_is has_here.registers long) (omega (arith, long, top_is, few, room', s.light))
+
+-- .. with the woken number that it had
+module _ (tree : PProgram) (code : Code) (texts : Texts) (fragments : FragmentsArePerformed) (keeps : RestsKeepToTheirText) (order : AllIsMadeInOrder) (w : World) (lay : Layout) (img : Image)
+    (p : ℕ) (q : Process) (part : Part) (outer : List Part) (bound : ℕ) (core : Core) (s : Scene tree code texts w lay img p q part outer bound core) (able_is : lives q.state ≡ true) (able_p : StateIs (scopes_of tree) w lay q.state (numbered img.states p))
+    (unmade : all_left_to_make part.rest ≡ all_to_make part.rest)
+    (a : Answer) (nameless : InAnswer (IsSeen (scopes_of tree) ((instance_at w part.instance).block)) a) (out : List (List ℕ)) (new : Core) (below : new.below ≡ core.below) (frame_is : SameFrame core.registers new.registers)
+    (known : List Known) (known_are : AreKnown (scopes_of tree) w lay (IsInReach w (part ∷ outer)) part.instance known)
+    (pc : ℕ) (slots : List Slot) (there : CoreAt (scopes_of tree) known code (text_in tree texts w part) (level_in tree w part) pc slots new) (few : length slots ≤ most_in tree w part)
+    (comes : ComesTo (scopes_of tree) (context_in tree code texts w part s.stands.frame.gives) (text_in tree texts w part) (level_in tree w part) (most_in tree w part) (resume (scopes_of tree) part.rest a) pc slots) where
+  pub does_in_frame : (action : Letter) → plain code img p ≡ false → raw code img p ≡ effects.gives (record (with_core img p new) { output = out }) →
+      choice (scopes_of tree) w p ≡ record {
+        action = action;
+        world = with_process (record w { output = out }) p (record q { todo = record part { rest = resume (scopes_of tree) part.rest a } ∷ outer });
+        released = [];
+        started = None;
+      } →
+      (table code img p ≡ outcomes.gives (record (with_core img p new) { output = out }) → letter code img p ≡ Some action) → Does tree code texts w img p
+  does_in_frame =
+      does_numbered tree code texts fragments keeps order w lay img p q part outer bound core s able_is able_p unmade a nameless out new below frame_is known known_are pc slots there few comes
+      q.woken img.numbers refl (s.by.waits.woken p ∙ ap (λ (x : Process). x.woken) (process_is w p q s.at)) (λ r other. refl)

@@ -78,7 +78,7 @@ use Rattle.b67_scenes.specs.Reaches as reaching
 use Rattle.b67_scenes.proofs.Ancestors.{all_laid}
 use Rattle.b67_scenes.proofs.Kept.{AreAlike}
 use Rattle.b67_scenes.proofs.JumpCut.{LieStill, Way}
-use Rattle.b67_scenes.proofs.JumpEvents.{events_jump}
+use Rattle.b67_scenes.proofs.JumpEvents.{events_jump, fewer_left}
 use Rattle.b67_scenes.proofs.JumpWorld.{leave_processes, leave_output, leave_fault, leave_many, leave_same, same_up, leave_below, leave_events, leave_alike}
 use Rattle.b67_scenes.proofs.Landing.{steps_none, living_of}
 use Rattle.b67_scenes.proofs.PassedCriticals.{passed_agree}
@@ -464,7 +464,7 @@ module _ (tree : PProgram) (code : Code) (texts : Texts) (lies : LiesNested tree
     pictured : PicturesBy tree code texts w' lay now
     pictured =
         goes_on tree code texts w lay img s.by p q s.at w' lay now q' (ap (λ (qs : List Process). set_numbered qs p q') (leave_processes left w)) able_is as_many
-        (arrays_unchanged sc (leave w left) w' lay closed.rows refl closed.are) events_now alike
+        (arrays_unchanged sc (leave w left) w' lay closed.rows refl closed.are) events_now refl refl refl refl (λ m there listed. fewer_left core.registers.stack down.passed img.events m there listed) alike
         (s.by.output ∙ sym (leave_output left w)) (leave_fault left w) refl refl refl (system_stays img p core new s.has refl q w s.at)
         (state_stays sc w w' lay lay (leave_events w lay p (length down.front) left q') (λ k f laid. laid) q.state (numbered img.states p) able_p) others living_now
 

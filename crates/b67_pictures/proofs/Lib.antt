@@ -1,5 +1,14 @@
 pub mod Deeds
 pub mod Alone
+pub mod SameShape
+pub mod EventMoving
+pub mod SameEvents
+pub mod Walking
+pub mod LettingGo
+pub mod Waiters
+pub mod SeveralEvents
+pub mod JoiningEvents
+pub mod SeveralActions
 pub mod InFrame
 pub mod StoreElsewhereRow
 pub mod Changing
@@ -55,7 +64,7 @@ pub mod ElementActions
 pub mod Releasing
 pub mod GrownCells
 pub mod MakingCells
-pub mod AskingEvents
+pub mod OnEvents
 pub mod MakingEvents
 pub mod EventChanging
 pub mod ActingEvents

@@ -10,6 +10,7 @@ use Rattle.algol_meaning.specs.Critical.{is_evaluation}
 use Rattle.algol_meaning.specs.Rest.{done}
 use Rattle.algol_meaning.specs.World.{NamedCell, Process, Part, lives, World, instance_at, or_no_instance, Instance}
 use Rattle.b67_deeds.specs.declared.Letter.{Letter}
+use Rattle.b67_deeds.specs.Listed.{IsListed}
 use Rattle.algol_meaning.specs.Asks.{resume}
 use Rattle.algol_meaning.specs.Choice.{Choice, choice}
 use Rattle.algol_paths.specs.Arrays.{Made, all_to_make, all_left_to_make}
@@ -21,7 +22,7 @@ use Rattle.b67_word.specs.declared.Place.{Place}
 use Rattle.b67_word.specs.Word.{Word}
 use Rattle.b67_control.specs.Display.{place_at}
 use Rattle.b67_control.specs.declared.Registers.{Registers}
-use Rattle.b67_events.specs.Events.{Event}
+use Rattle.b67_events.specs.Events.{Event, waiters_at}
 use Rattle.b67_ops.specs.declared.Operator.TheVariants as ops
 use Rattle.b67_ops.specs.declared.PlainKind.TheVariants as kinds
 use Rattle.b67_ops.specs.declared.intrinsic.Intrinsic.{Intrinsic}
@@ -29,7 +30,7 @@ use Rattle.b67_segment.specs.Operators.{Placed}
 use Rattle.b67_segment.specs.declared.code.Code.{Code}
 use Rattle.b67_store.specs.Store.{Rows, stack_limit}
 use Rattle.b67_table.specs.Effect as effects
-use Rattle.b67_table.specs.Image.{Image}
+use Rattle.b67_table.specs.Image.{Image, woken_number}
 use Rattle.b67_table.specs.Limits.{most_cells}
 use Rattle.b67_table.specs.Outcome as outcomes
 use Rattle.b67_table.specs.Private.{frame}
@@ -279,7 +280,8 @@ module _ (tree : PProgram) (code : Code) (texts : Texts) (nested : AreNested (sc
         })
 
   -- where the rows and events are those of the world after it, an operator that leaves that does it
-  module _ (arrays_now : ArraysAre (scopes_of tree) w' lay' rows) (events_now : EventsAre (scopes_of tree) w' lay' events) (action : Letter) (acts : (Some (letter_of name)) ≡ Some action)
+  module _ (arrays_now : ArraysAre (scopes_of tree) w' lay' rows) (events_now : EventsAre (scopes_of tree) w' lay' events)
+      (fewer : (m : ℕ) (there : Place) → IsListed (waiters_at there events) m → IsListed (waiters_at there img.events) m) (action : Letter) (acts : Some (letter_of (woken_number img.numbers core.registers.stack) name) ≡ Some action)
       (raw_is : raw code img p ≡ effects.gives (with_core (record img { rows = rows; events = events }) p (with_descriptors core descriptors c.calls.m.df made)))
       (chosen : choice (scopes_of tree) w p ≡ record { action = action; world = w'; released = []; started = None }) where
     making_it : IsMaking w part.instance
@@ -306,7 +308,7 @@ module _ (tree : PProgram) (code : Code) (texts : Texts) (nested : AreNested (sc
 
     pictured : MayAct sc w p → size new ≤ stack_limit → PicturesBy tree code texts w' lay' after
     pictured may small =
-        goes_on tree code texts w lay img s.by p q s.at w' lay' after q' refl able_is as_many arrays_now events_now
+        goes_on tree code texts w lay img s.by p q s.at w' lay' after q' refl able_is as_many arrays_now events_now refl refl refl refl fewer
         (alike (after_so may) (low_so may))
         s.by.output refl refl refl refl (system_stays img p core new s.has refl q w s.at)
         (state_stays sc w w' lay lay' (frames.events_stay tree code texts nested keeps order w lay img p q part outer bound core s owns ms makes new_cells allotted descriptors added (on (after_so may) (low_so may))) (λ j f laid. laid)

@@ -56,6 +56,7 @@ use Rattle.b67_scenes.proofs.Scene.{Scene}
 use Rattle.b67_scenes.proofs.Stage.{choice_is}
 use Rattle.b67_scenes.proofs.Staying.{text_in, level_in, context_in, most_in}
 use Rattle.b67_scenes.proofs.Worlds.{held_of}
+use Rattle.b67_scenes.proofs.Waiting.{fewer_opened}
 use Rattle.algol_standing.specs.Worlds.{IsOwn}
 use Rattle.b67_pictures.specs.Acting.{Does}
 use Rattle.b67_pictures.proofs.MakingCells.{none_left, cells_are_made}
@@ -216,5 +217,6 @@ module _ (tree : PProgram) (code : Code) (texts : Texts) (nested : AreNested (sc
   making_event =
       cells_are_made tree code texts nested fragments cells_made keeps order w lay img p q part outer bound core s able_is able_p owns ms made_first (one ∷ []) (none_allotted ∷ []) (event_word (record {}) ∷ []) added Event
       (intrinsic Event ∷ mark ∷ []) a.1.lies [] entered a.1.made a.0 a.1.stands a.1.push (answered done a.0 [] (refl, refl)) (omega arith) (omega (arith, ap length a.1.lies, s.stands.few)) img.rows
-      (opened (place core.registers.stack core.registers.f) img.events) arrays_now events_now MakeEvent refl
+      (opened (place core.registers.stack core.registers.f) img.events) arrays_now events_now
+      (λ m there listed. fewer_opened (place core.registers.stack core.registers.f) img.events m there listed) MakeEvent refl
       (event_raw code img p core s.has a.1.made there entered.reference entered.marked entered.others none entered.calls) chosen

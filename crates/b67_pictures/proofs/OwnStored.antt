@@ -7,12 +7,14 @@ use Rattle.algol_tree.specs.Cells.{level_of}
 use Rattle.algol_tree.specs.Plain.{PProgram}
 use Rattle.algol_tree.specs.Scopes.{Scopes, scopes_of}
 use Rattle.algol_meaning.specs.Critical.{is_evaluation}
-use Rattle.algol_meaning.specs.Rest.{done}
+use Rattle.algol_meaning.specs.Rest.{Answer}
 use Rattle.algol_meaning.specs.World.{NamedCell, Instance, Process, Part, State, World, instance_at, with_process}
 use Rattle.algol_meaning.specs.Asks.{resume}
 use Rattle.algol_paths.specs.Arrays.{Made, all_to_make, all_left_to_make}
 use Rattle.algol_paths.specs.Laws.{RestsKeepToTheirText, AllIsMadeInOrder}
 use Rattle.algol_paths.specs.Segments.{segment_of}
+use Rattle.algol_paths.specs.Texts.{InAnswer}
+use Rattle.algol_paths.specs.Blocks.{IsSeen}
 use Rattle.algol_standing.specs.Skeleton.{IsIn}
 use Rattle.algol_standing.specs.Worlds.{referred_in_cells, IsOwn}
 use Rattle.b67_word.specs.Word.{Word}
@@ -55,7 +57,7 @@ use Rattle.b67_scenes.proofs.Tasks.{EventsStay, task_stays}
 use Rattle.b67_pictures.proofs.InFrame.{SameFrame}
 
 module _ (tree : PProgram) (code : Code) (texts : Texts) (fragments : FragmentsArePerformed) (kept : RestsKeepToTheirText) (order : AllIsMadeInOrder) (w : World) (lay : Layout) (img : Image)
-    (p : ℕ) (q : Process) (part : Part) (outer : List Part) (bound : ℕ) (core : Core) (s : Scene tree code texts w lay img p q part outer bound core) (unmade : all_left_to_make part.rest ≡ all_to_make part.rest)
+    (p : ℕ) (q : Process) (part : Part) (outer : List Part) (bound : ℕ) (core : Core) (s : Scene tree code texts w lay img p q part outer bound core) (unmade : all_left_to_make part.rest ≡ all_to_make part.rest) (answer : Answer) (nameless : InAnswer (IsSeen (scopes_of tree) ((instance_at w part.instance).block)) answer)
     (i : ℕ) (x : Instance) (at : numbered w.instances i ≡ Some x) (with_cells : List NamedCell) (high : ℕ) (laid : numbered lay.places i ≡ Some (place p high)) (far k : ℕ) (place_is : k ≡ high + 2 + far)
     (word : Option Word) (many : length with_cells ≡ length x.cells) (short : IsStored word → far < length (simple_cells (scopes_of tree) (block_numbered (scopes_of tree).blocks x.block)))
     (keeps : KeepsArrays (scopes_of tree) w (stored_world w i x at with_cells) lay lay i) (facts : HasFacts w) (fewer : (r : ℕ) → IsIn (referred_in_cells with_cells) r → IsIn (referred_in_cells x.cells) r)
@@ -64,7 +66,7 @@ module _ (tree : PProgram) (code : Code) (texts : Texts) (fragments : FragmentsA
     ChangedCells (simple_cells (scopes_of tree) (block_numbered (scopes_of tree).blocks x.block)) (lay.rows i) with_cells simple values (put word values far) declared descriptors)
     (own : IsOwn (part ∷ outer) i) (words : List Word) (registers : Registers) (frame_is : SameFrame core.registers registers) (pc : ℕ) (slots : List Slot)
     (there : CoreAt (scopes_of tree) s.stands.held code (text_in tree texts w part) (level_in tree w part) pc slots (record { below = core.below; words = words; registers = registers })) (few : length slots ≤ most_in tree w part)
-    (comes : ComesTo (scopes_of tree) (context_in tree code texts w part s.stands.frame.gives) (text_in tree texts w part) (level_in tree w part) (most_in tree w part) (resume (scopes_of tree) part.rest done) pc slots)
+    (comes : ComesTo (scopes_of tree) (context_in tree code texts w part s.stands.frame.gives) (text_in tree texts w part) (level_in tree w part) (most_in tree w part) (resume (scopes_of tree) part.rest answer) pc slots)
     (state : State) where
   abbrev sc : Scopes
   sc = scopes_of tree
@@ -79,7 +81,7 @@ module _ (tree : PProgram) (code : Code) (texts : Texts) (fragments : FragmentsA
   st = s.stands
 
   abbrev part' : Part
-  part' = record part { rest = resume sc part.rest done }
+  part' = record part { rest = resume sc part.rest answer }
 
   abbrev q' : Process
   q' = record q { todo = part' ∷ outer; state = state }
@@ -141,7 +143,7 @@ module _ (tree : PProgram) (code : Code) (texts : Texts) (fragments : FragmentsA
       ∙ sym (weight_of tree w' p q' (part' ∷ outer) (numbered_set w.processes p q q' s.at) refl)) s.light
 
   -- the world with the process's part gone on has the same instances
-  module _ (on : StandOn (scopes_of tree) w (with_process (stored_world w i x at with_cells) p (record q { todo = record part { rest = resume (scopes_of tree) part.rest done } ∷ outer; state = state })) lay lay) where
+  module _ (on : StandOn (scopes_of tree) w (with_process (stored_world w i x at with_cells) p (record q { todo = record part { rest = resume (scopes_of tree) part.rest answer } ∷ outer; state = state })) lay lay) where
     abbrev stay : StayBelow sc stored w' lay lay p (suc (length frames.frame.lower))
     stay =
         record {
@@ -174,9 +176,9 @@ module _ (tree : PProgram) (code : Code) (texts : Texts) (fragments : FragmentsA
           control_is = still.frame.control_is;
           level_is = still.frame.level_is;
           gives = still.frame.gives;
-          text = kept.resumed sc ((instance_at w' part.instance).block) part.rest done still.frame.text tt;
+          text = kept.resumed sc ((instance_at w' part.instance).block) part.rest answer still.frame.text (subst (λ (m : ℕ). InAnswer (IsSeen (scopes_of tree) m) answer) block_is nameless);
           shape = shape_on tree code texts w' lay p part outer (length still.frame.lower) still.frame.mark still.frame.control still.frame.cells still.frame.home still.frame.gives part'.rest
-              (sym unmade ∙ sym (order.resumed sc ((instance_at w' part.instance).block) part.rest done still.frame.text)) (expression_resumed sc part.rest done) still.frame.shape;
+              (sym unmade ∙ sym (order.resumed sc ((instance_at w' part.instance).block) part.rest answer still.frame.text)) (expression_resumed sc part.rest answer) still.frame.shape;
         }
 
     -- what is known of descriptors and references holds as it did
@@ -190,14 +192,14 @@ module _ (tree : PProgram) (code : Code) (texts : Texts) (fragments : FragmentsA
 
     abbrev Comes : ℕ → Yields → Type 0
     Comes c y =
-        ComesTo sc (in_routine y (context_of code texts sc c)) (texts.placed (segment_of sc.blocks c)) (run_level (is_evaluation part.purpose) (level_of (block_numbered sc.blocks c))) (most_around tree c) (resume sc part.rest done) pc slots
+        ComesTo sc (in_routine y (context_of code texts sc c)) (texts.placed (segment_of sc.blocks c)) (run_level (is_evaluation part.purpose) (level_of (block_numbered sc.blocks c))) (most_around tree c) (resume sc part.rest answer) pc slots
 
     pub own_goes_along : (after : Image) → HasCore after p (over (put word core.below k) (record { below = core.below; words = words; registers = registers })) → size (record { below = core.below; words = words; registers = registers }) ≤ stack_limit →
-        CanClimb (scopes_of tree) (with_process (stored_world w i x at with_cells) p (record q { todo = record part { rest = resume (scopes_of tree) part.rest done } ∷ outer; state = state })) →
-        AreLaid (with_process (stored_world w i x at with_cells) p (record q { todo = record part { rest = resume (scopes_of tree) part.rest done } ∷ outer; state = state })) lay →
-        EventsStay w (with_process (stored_world w i x at with_cells) p (record q { todo = record part { rest = resume (scopes_of tree) part.rest done } ∷ outer; state = state })) →
-        Living tree code texts (with_process (stored_world w i x at with_cells) p (record q { todo = record part { rest = resume (scopes_of tree) part.rest done } ∷ outer; state = state })) lay after p
-        (record q { todo = record part { rest = resume (scopes_of tree) part.rest done } ∷ outer; state = state })
+        CanClimb (scopes_of tree) (with_process (stored_world w i x at with_cells) p (record q { todo = record part { rest = resume (scopes_of tree) part.rest answer } ∷ outer; state = state })) →
+        AreLaid (with_process (stored_world w i x at with_cells) p (record q { todo = record part { rest = resume (scopes_of tree) part.rest answer } ∷ outer; state = state })) lay →
+        EventsStay w (with_process (stored_world w i x at with_cells) p (record q { todo = record part { rest = resume (scopes_of tree) part.rest answer } ∷ outer; state = state })) →
+        Living tree code texts (with_process (stored_world w i x at with_cells) p (record q { todo = record part { rest = resume (scopes_of tree) part.rest answer } ∷ outer; state = state })) lay after p
+        (record q { todo = record part { rest = resume (scopes_of tree) part.rest answer } ∷ outer; state = state })
     own_goes_along after has small climb laid' events_stay =
         living_of tree code texts w' lay after climb laid' fragments p q' part' outer bound new new (record {
           todo = refl;

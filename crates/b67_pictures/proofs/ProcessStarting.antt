@@ -165,6 +165,7 @@ module _ (tree : PProgram) (code : Code) (texts : Texts) (fragments : FragmentsA
             (home (scopes_of tree) w p q part outer n ∷ referred_by (given_cells (scopes_of tree) w p q part outer gs) ++ referred_by_task (task_of (scopes_of tree) w p q part outer task)));
         task = task_of (scopes_of tree) w p q part outer task;
         state = able;
+        woken = 0;
       }
 
   abbrev q' : Process
@@ -256,6 +257,9 @@ module _ (tree : PProgram) (code : Code) (texts : Texts) (fragments : FragmentsA
           fault = refl;
           started = refl;
           states = refl;
+          events = refl;
+          lists = refl;
+          numbers = refl;
           system = system_stays img p core new s.has refl q w s.at;
           many = omega (arith, length_set_numbered img.regs p new.registers, counted, s.by.started, s.by.states);
           others = λ k other apart has.
@@ -300,7 +304,7 @@ module _ (tree : PProgram) (code : Code) (texts : Texts) (fragments : FragmentsA
 
       pictured : PicturesBy tree code texts world_after lay' after
       pictured =
-          starts_by tree code texts w lay img s.by p q q' s.at made begun_process image_onward registers words (omega (arith, s.by.started)) room (gone counted) refl able_is able_p apart
+          starts_by tree code texts w lay img s.by p q q' s.at made begun_process image_onward registers words (omega (arith, s.by.started)) room (gone counted) refl refl refl refl able_is able_p apart
           (arrays_joined sc w world_after lay lay' made refl (no_elements (simple_cells sc (block_numbered sc.blocks callee)) made.cells b.cell_words b.cells)
           (no_rows (simple_cells sc (block_numbered sc.blocks callee)) made.cells b.cell_words b.cells) (λ k. refl) img.rows s.by.arrays)
           (events_joined sc w world_after lay lay' made refl (cells_length (simple_cells sc (block_numbered sc.blocks callee)) made.cells b.cell_words b.cells)

@@ -55,6 +55,11 @@ harmless letters.Reset e = inl refl
 harmless letters.Happened e = inl refl
 harmless letters.Procure e = inl refl
 harmless letters.Liberate e = cc
+harmless letters.CauseAndReset e = cc
+harmless letters.WaitAny e = inl refl
+harmless letters.Woke e = inl refl
+harmless letters.Available e = inl refl
+harmless letters.Fix e = inl refl
 
 released_none : (code : Code) (img : Image) (p : ℕ) (r : Registers) → numbered img.regs p ≡ Some r → (x : Letter) → (x ≡ End → r.task ≡ None) → letter code img p ≡ Some x → is_releasing x ≡ false
     → releases code img p ≡ []

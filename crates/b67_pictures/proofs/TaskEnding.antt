@@ -1,9 +1,10 @@
 -- The end of a process that has a task: its last part is left, the event of its task is caused, and who waits for that is able again.
-use Rattle.algol_standing.proofs.Awaiting.{awaits_lives}
+use Rattle.algol_standing.proofs.Pairs.{stack_back, stack_forth}
 use Rattle.b67_pictures.proofs.Deeds.{waiting_not_able}
 use Rattle.b67_deeds.specs.Listed.{IsListed}
-use Rattle.std.proofs.Common.{◌≡◌, ◌≢◌, ◌⊎◌, inl, inr, refl, sym, ap, ◌∙◌, subst, ℕ, ◌+◌, List, [], ◌∷◌, zero, suc, length, Option, Some, None, true, false, arith}
-use Rattle.std.specs.Prelude.{slice_get, slice_set}
+use Rattle.std.proofs.Common.{◌≡◌, ◌≢◌, ◌⊎◌, inl, inr, refl, sym, ap, ◌∙◌, subst, ℕ, ◌+◌, List, [], ◌∷◌, zero, suc, length, Option, Some, None, true, false, arith, Bool}
+use Rattle.std.specs.Prelude.{slice_get, slice_set, if◌then◌else◌}
+use Rattle.std.specs.Option.{option_map}
 use Rattle.b67_list.specs.Numbered.{numbered, set_numbered}
 use Rattle.algol_tree.specs.Blocks.{block_numbered}
 use Rattle.algol_tree.specs.Plain.{PProgram}
@@ -11,32 +12,32 @@ use Rattle.algol_tree.specs.Scopes.{Scopes, scopes_of}
 use Rattle.b67_deeds.specs.declared.Letter.TheVariants.{End}
 use Rattle.algol_meaning.specs.Asks.{leaves, ask}
 use Rattle.algol_meaning.specs.Choice.{Choice, choice, ended_releasing}
-use Rattle.algol_meaning.specs.Critical.{some_depends, is_evaluation}
-use Rattle.algol_meaning.specs.Events.{event_at, set_event, released, caused_by_end}
+use Rattle.algol_meaning.specs.Critical.{some_depends, is_evaluation, own_instances}
+use Rattle.algol_meaning.specs.Events.{event_at, set_event, caused_by_end, list_in, all_withdrawn}
 use Rattle.algol_meaning.specs.Instances.{leave}
 use Rattle.algol_meaning.specs.Rest.{done}
 use Rattle.algol_meaning.specs.Value.{Reference, event}
 use Rattle.b67_deeds.specs.Events.{EventState, caused}
-use Rattle.algol_meaning.specs.World.{NamedCell, Instance, Process, Part, waits_for, is_able, lives, World, instance_at, or_no_instance, process_at, with_process, cell_in, cell_at, event_in, cells_with, set_all_able}
-use Rattle.algol_standing.specs.Skeleton.{IsIn}
+use Rattle.algol_meaning.specs.World.{NamedCell, Instance, Process, Part, is_able, lives, World, instance_at, or_no_instance, process_at, with_process, cell_in, cell_at, event_in, cells_with, set_all_able}
+use Rattle.algol_standing.specs.Skeleton.{IsIn, Stack}
 use Rattle.algol_standing.specs.Skeleton as skeletons
-use Rattle.algol_standing.specs.Worlds.{AreListed, IsOwn, IsStanding, IsOnPath, referred_in_cells}
+use Rattle.algol_standing.specs.Worlds.{AreListed, IsOwn, IsStanding, IsOnPath, referred_in_cells, newest_own, stack_of}
 use Rattle.b67_word.specs.declared.Place.{Place}
 use Rattle.b67_events.specs.Events as kernel
-use Rattle.b67_events.specs.Events.{Event, waiters_at, closed_from, changed as with_event, with_state}
+use Rattle.b67_events.specs.Events.{Event, waiters_at, closed_from, changed as with_event, with_state, list_of}
 use Rattle.b67_ops.specs.declared.Operator.TheVariants as ops
 use Rattle.b67_ops.specs.declared.PlainKind.TheVariants as kinds
 use Rattle.b67_segment.specs.declared.code.Code.{Code}
 use Rattle.b67_table.specs.Chains.{place}
 use Rattle.b67_table.specs.declared.ProcessState.{ProcessState}
 use Rattle.b67_table.specs.declared.ProcessState.TheVariants.{Ended}
-use Rattle.b67_table.specs.Image.{Image, with_states}
+use Rattle.b67_table.specs.Image.{Image}
 use Rattle.b67_table.specs.Linkage.{is_critical}
 use Rattle.b67_table.specs.Outcome as outcomes
 use Rattle.b67_table.specs.Outcome.{Outcome}
 use Rattle.b67_table.specs.Questions.{live_criticals}
 use Rattle.b67_table.specs.Table.{table}
-use Rattle.b67_table.specs.Writes.{able_again}
+use Rattle.b67_table.specs.Writes.{able_again, told_positions}
 use Rattle.b67_templates.specs.Cells.{made_base}
 use Rattle.b67_templates.specs.Programs.{Texts}
 use Rattle.b67_letters.specs.Releases.{registers_releases, released_by, releases}
@@ -59,10 +60,11 @@ use Rattle.b67_frames.proofs.OwnCells.{OwnCells, framed_cells}
 use Rattle.b67_frames.proofs.OwnEvents.{OwnEvent, known_event}
 use Rattle.b67_scenes.specs.Depending.{IsEventAt}
 use Rattle.b67_scenes.specs.Pictures.{Pictured, dead, Pictures, PicturesBy}
+use Rattle.b67_scenes.specs.Waiting.{ListIs, WaitsAre}
 use Rattle.b67_scenes.proofs.EventThere as there
 use Rattle.b67_scenes.proofs.Ancestors.{AreLaid, all_laid}
 use Rattle.b67_scenes.proofs.Finding.{Found, found_laid, find}
-use Rattle.b67_scenes.proofs.Freeing.{LivesIn, lives_waiting, all_freed, freed_beside, able_beside}
+use Rattle.b67_scenes.proofs.Freeing.{able_beside, numbered_swap}
 use Rattle.b67_scenes.proofs.Kept.{LeavesAlone, alike_but, pictured_alike}
 use Rattle.b67_scenes.proofs.Scene.{Scene}
 use Rattle.b67_scenes.proofs.Stage.{process_is, comes_by, gives_within}
@@ -71,29 +73,26 @@ use Rattle.b67_scenes.proofs.StoringFrames.{changed, stored_world, others_at, sa
 use Rattle.b67_scenes.proofs.StoringOthers.{others_stored}
 use Rattle.b67_scenes.proofs.TaskStanding.{TaskStands, task_stands}
 use Rattle.b67_scenes.proofs.Tasks as tasks
+use Rattle.b67_scenes.proofs.Waiting.{waits_still, awaiting_beside, fewer_closed}
+use Rattle.b67_scenes.proofs.Idle.{idle_list, idle_nowhere}
+use Rattle.b67_scenes.proofs.Worlds.{own_listed}
+use Rattle.b67_scenes.proofs.Tasks.{EventsStay, event_stays}
 use Rattle.b67_pictures.specs.Acting.{MayAct, Does, gave}
 use Rattle.b67_pictures.proofs.Alone as alone
-use Rattle.b67_pictures.proofs.Alone.{IsAfter, free_still, after_states, freed_states, freed_instances}
+use Rattle.b67_pictures.proofs.Alone.{IsAfter, free_still}
 use Rattle.b67_pictures.proofs.Changing.{refers_fewer}
 use Rattle.b67_pictures.proofs.EventLow.{event_low, event_was_low}
 use Rattle.b67_pictures.proofs.LeftInstances.{keeps_left}
 use Rattle.b67_pictures.proofs.Ending as ending
 use Rattle.b67_pictures.proofs.EndReleases.{caused_at, caused_raw, end_releases}
+use Rattle.b67_pictures.proofs.EventMoving.{IsOwned}
+use Rattle.b67_pictures.proofs.Walking.{changed_there}
+use Rattle.b67_pictures.proofs.SameShape.{IsSameShape, shape_back, after_shape, event_moves, states_self, stays_shape}
+use Rattle.b67_pictures.proofs.Waiters.{among_each, owner_lives, owned_standing, WaitsHere, waits_here}
+use Rattle.b67_pictures.proofs.LettingGo.{stay_events, list_events, Waiter, IsWaiter, let_go_all, let_go_beside, let_go_is, let_go_all_shape, all_gone}
+use Rattle.b67_events.proofs.Listed.{same_place-true, same_place-self}
 
 -- ---- lists
-
-swap_slices : {A : Type 0} (xs : List A) (k j : ℕ) (x y : A) → k ≢ j → slice_set (slice_set xs k x) j y ≡ slice_set (slice_set xs j y) k x
-swap_slices [] k j x y other = refl
-swap_slices (z ∷ zs) zero zero x y other = absurd (other refl)
-swap_slices (z ∷ zs) zero (suc j) x y other = refl
-swap_slices (z ∷ zs) (suc k) zero x y other = refl
-swap_slices (z ∷ zs) (suc k) (suc j) x y other = ap (λ (ys : List _). z ∷ ys) (swap_slices zs k j x y (λ e. other (ap suc e)))
-
-numbered_swap : {A : Type 0} (xs : List A) (k j : ℕ) (x y : A) → k ≢ j → set_numbered (set_numbered xs k x) j y ≡ set_numbered (set_numbered xs j y) k x
-numbered_swap xs zero zero x y other = refl
-numbered_swap xs zero (suc j) x y other = refl
-numbered_swap xs (suc k) zero x y other = refl
-numbered_swap xs (suc k) (suc j) x y other = swap_slices xs k j x y (λ e. other (ap suc e))
 
 slice_same : {A : Type 0} (xs : List A) (k : ℕ) (x : A) → slice_get xs k ≡ Some x → slice_set xs k x ≡ xs
 slice_same [] k x e = cc
@@ -269,9 +268,9 @@ module _ (tree : PProgram) (code : Code) (texts : Texts) (closing : FramesClose)
   world_is = there.event_world sc v lay j x own_cells r.name e.made.number found later
 
   abbrev choice_by : EventState → Choice
-  choice_by y = ended_releasing sc w p q part [] (record { world = set_all_able (set_event v r (caused y)) y.waiters; processes = y.waiters })
+  choice_by y = ended_releasing sc w p q part [] (record { world = set_all_able (all_withdrawn (set_event v r (caused y)) r y.waiters) y.waiters; processes = y.waiters })
 
-  chosen : choice sc w p ≡ record { action = End; world = with_process (set_all_able (set_event v r later) c.waiters) p q'; released = c.waiters; started = None }
+  chosen : choice sc w p ≡ record { action = End; world = with_process (set_all_able (all_withdrawn (set_event v r later) r c.waiters) c.waiters) p q'; released = c.waiters; started = None }
   chosen =
       ending.chosen_by tree code texts closing w lay img p q part bound core s owns asks free
       ∙ ap (λ (o : Option Reference). ended_releasing sc w p q part [] (caused_by_end (leave w (i ∷ [])) p o)) has_task
@@ -367,6 +366,46 @@ module _ (tree : PProgram) (code : Code) (texts : Texts) (closing : FramesClose)
   path_was k m skeletons.here = skeletons.here
   path_was k m (skeletons.down {b = l} n path) = skeletons.down (record { number = n.number; stack = n.stack; is = n.is; next = n.next }) (path_was l m path)
 
+  -- who waits then waited before, for another event
+  waited_before : (m : ℕ) (to : Place) → IsListed (waiters_at to now.events) m → IsListed (waiters_at to img.events) m × (to ≢ task)
+  waited_before m to m_listed = by_place (kernel.same_place at to) refl (subst (λ (z : Option Event). IsListed (kernel.state_of z).waiters m) (changed_there at to caused open_events) m_listed)
+    where
+      by_place : (b : Bool) → kernel.same_place at to ≡ b → IsListed (kernel.state_of (if b then option_map (with_state caused) (kernel.event_at to open_events) else kernel.event_at to open_events)).waiters m →
+          IsListed (waiters_at to img.events) m × (to ≢ task)
+      by_place true same_at l =
+          let to_is : task ≡ to = task_is ∙ same_place-true at to same_at in
+          absurd (subst (λ (z : Option Event). IsListed (kernel.state_of (option_map (with_state caused) z)).waiters m) (ap (λ (z : Place). kernel.event_at z open_events) (sym to_is) ∙ open_as) l)
+      by_place false other l = (
+        fewer_closed core.registers.stack 0 img.events m to l,
+        λ (z : to ≡ task). let clash : false ≡ true = sym other ∙ same_place-self at to (sym (z ∙ task_is)) in cc,
+      )
+
+  abbrev stopped : World
+  stopped = with_process v p q'
+
+  stay_first : EventsStay w stopped
+  stay_first = ending.events_stay tree code texts closing w lay img p q part bound core s owns
+
+  caused_shape : IsSameShape stopped (with_process (set_event v r later) p q')
+  caused_shape = record { instances = event_moves v r c later means; processes = states_self (set_numbered v.processes p q') }
+
+  stay_then : EventsStay w (with_process (set_event v r later) p q')
+  stay_then k name z z_is =
+      let one = stay_first k name z z_is in
+      let two = stays_shape stopped (with_process (set_event v r later) p q') caused_shape k name one.1.0 one.1.1 in
+      (two.0 ∙ one.0, two.1)
+
+  waits_now : is_able ((process_at w p).state) ≡ true → WaitsAre sc w' lay now
+  waits_now able_now =
+      subst (λ (z : World). WaitsAre sc (with_process z p q') lay now) world_is
+      (waits_still sc w (with_process (set_event v r later) p q') lay lay stay_then (λ k f there_is. there_is) img now s.by.waits p q q' s.at refl
+      (sym idle_so) refl refl refl
+      (awaiting_beside img now s.by.waits.awaiting p (λ to m_listed. absurd (idle_nowhere tree code texts w lay img s.by p able_now to (waited_before p to m_listed).0)) (λ m to other m_listed. (waited_before m to m_listed).0)
+      (λ m other. numbered_other img.states p m Ended (λ same_p. other (sym same_p))) (λ m other. refl)))
+    where
+      idle_so : list_in q.state ≡ []
+      idle_so = ap (λ (z : Process). list_in z.state) (sym (process_is w p q s.at)) ∙ idle_list tree code texts w lay img s.by p able_now
+
   module _ (after_it : IsAfter sc w w' p) where
     on_then : StandOn sc u w' lay lay
     on_then =
@@ -398,28 +437,91 @@ module _ (tree : PProgram) (code : Code) (texts : Texts) (closing : FramesClose)
         (process_is w' m o now_is) (numbered_other img.states p m Ended (λ (same_p : p ≡ m). other (sym same_p)))
         (λ k has. same_core m k (ending.others tree code texts closing w lay img p q part bound core s owns asks a m k other has)) (pictured_first m o other there_is pictured)
 
-    pictured_now : PicturesBy tree code texts w' lay now
-    pictured_now =
+    pictured_now : is_able ((process_at w p).state) ≡ true → PicturesBy tree code texts w' lay now
+    pictured_now able_now =
         comes_by tree code texts w lay img s.by p q s.at w' lay now q' refl
         (s.by.laid ∙ sym (length_set_numbered w.instances i _) ∙ sym (length_set_numbered v.instances j (changed v j x own_cells.is (cells_with x.cells r.name (event later)))))
         (arrays_unchanged sc stored w' lay before.rows refl
         (there.arrays_after sc v lay j x own_cells r.name e.made.number found later before.rows (ending.arrays_left_world tree code texts closing w lay img p q part bound core s owns asks a)))
         (events_unchanged sc stored w' lay now.events refl
         (there.events_after sc v lay j x own_cells r.name e.made.number found later (place h.number high) laid (with_state caused) (λ z. refl) refl open_events open_before))
-        s.by.output refl refl refl (length_set_numbered img.states p Ended) (ending.system_stays tree code texts closing w lay img p q part bound core s owns asks a) others_now
+        (waits_now able_now) s.by.output refl refl refl (length_set_numbered img.states p Ended) (ending.system_stays tree code texts closing w lay img p q part bound core s owns asks a) others_now
         (dead refl (numbered_set img.states p (ending.state_now tree code texts closing w lay img p q part bound core s owns asks a).0 Ended (ending.state_now tree code texts closing w lay img p q part bound core s owns asks a).1))
 
-    pictured_caused : PicturesBy tree code texts (with_process (set_event v r later) p q') lay now
-    pictured_caused = subst (λ (u : World). PicturesBy tree code texts (with_process u p q') lay now) (sym world_is) pictured_now
+    pictured_caused : is_able ((process_at w p).state) ≡ true → PicturesBy tree code texts (with_process (set_event v r later) p q') lay now
+    pictured_caused able_now = subst (λ (u : World). PicturesBy tree code texts (with_process u p q') lay now) (sym world_is) (pictured_now able_now)
 
-  alive_then : (IsListed c.waiters p → ⊥) → (k : ℕ) → IsListed c.waiters k → LivesIn (with_process (set_event v r later) p q') k
-  alive_then none k is =
-      let waits : LivesIn w k = lives_waiting w k ((process_at w k).state) refl (awaits_lives ((process_at w k).state) r (listed.waiters k is)) in
+  -- ---- who is released
+
+  waiter : (k : ℕ) → IsListed c.waiters k → WaitsHere tree code texts w lay img s.by s.ok r task k
+  waiter k m = waits_here tree code texts w lay img s.by s.ok r task e k (listed.waiters k m)
+
+  abbrev caused_world : World
+  caused_world = with_process (set_event v r later) p q'
+
+  still_there : (IsListed c.waiters p → ⊥) → (k : ℕ) → IsListed c.waiters k → (o : Process) → numbered w.processes k ≡ Some o → numbered caused_world.processes k ≡ Some o
+  still_there none k m o is = numbered_other w.processes p k q' (λ (same_p : p ≡ k). none (subst (IsListed c.waiters) (sym same_p) m)) ∙ is
+
+  waiters_then : (IsListed c.waiters p → ⊥) → (k : ℕ) → IsListed c.waiters k → Waiter caused_world k
+  waiters_then none k m =
+      let o : WaitsHere tree code texts w lay img s.by s.ok r task k = waiter k m in
       record {
-        process = waits.process;
-        is = numbered_other w.processes p k q' (λ (e : p ≡ k). none (subst (IsListed c.waiters) (sym e) is)) ∙ waits.is;
-        alive = waits.alive;
+        process = o.process;
+        is = still_there none k m o.process o.is;
+        alive = o.alive;
+        events = stay_events w caused_world stay_then (list_in (o.process).state)
+            (list_events sc w lay (list_in (o.process).state) (list_of k img.lists) (subst (λ (z : Process). ListIs sc w lay (list_in z.state) (list_of k img.lists)) (process_is w k o.process o.is) (s.by.waits.lists k)));
       }
+
+  shape_then : (IsListed c.waiters p → ⊥) → IsSameShape caused_world (let_go_all caused_world r c.waiters)
+  shape_then none = let_go_all_shape c.waiters caused_world r listed.once_waiting (waiters_then none)
+
+  -- what stands then is owned by another process that lives
+  owned_then : (k : ℕ) → IsStanding caused_world k → IsOwned caused_world k
+  owned_then k st = by (stack_back caused_world st.number st.stack st.is)
+    where
+      by_process : (y : Process) → numbered caused_world.processes st.number ≡ Some y → IsIn (own_instances y.todo) k → (p ≡ st.number) ⊎ (p ≢ st.number) → IsOwned caused_world k
+      by_process y is inside (inl same_p) =
+          let ended_one : q' ≡ y = some_same (sym (numbered_set w.processes p q q' s.at) ∙ ap (λ (n : ℕ). numbered caused_world.processes n) same_p ∙ is) in
+          absurd (subst (λ (z : Process). IsIn (own_instances z.todo) k) (sym ended_one) inside)
+      by_process y is inside (inr other) =
+          let before_is : numbered w.processes st.number ≡ Some y = sym (numbered_other w.processes p st.number q' other) ∙ is in
+          record { number = st.number; process = y; is = is; alive = owner_lives tree code texts w lay img s.by s.ok st.number y before_is k inside; own = own_listed y.todo k inside }
+
+      by : ((st.stack.own ≡ []) × (st.stack.evaluations ≡ []) × (st.stack.live ≡ false)) ⊎ ((y : Process) × (numbered caused_world.processes st.number ≡ Some y) × (st.stack ≡ stack_of y)) → IsOwned caused_world k
+      by (inl f) = absurd (subst (λ (ks : List ℕ). IsIn ks k) f.0 st.inside)
+      by (inr f) = by_process f.0 f.1 (subst (λ (z : Stack). IsIn z.own k) f.2 st.inside) (same_or_not p st.number)
+
+  waits_then : (IsListed c.waiters p → ⊥) → IsAfter sc w caused_world p → (k : ℕ) → IsListed c.waiters k → IsWaiter tree code texts lay caused_world now k
+  waits_then none after_it k m =
+      let o : WaitsHere tree code texts w lay img s.by s.ok r task k = waiter k m in
+      let top : ℕ = newest_own (o.process).todo in
+      let stands_before : IsStanding w top = record { number = k; stack = stack_of o.process; is = stack_forth w k o.process o.is; inside = o.inside } in
+      let stands_now : IsStanding caused_world top = record { number = k; stack = stack_of o.process; is = stack_forth caused_world k o.process (still_there none k m o.process o.is); inside = o.inside } in
+      record {
+        process = o.process;
+        is = still_there none k m o.process o.is;
+        alive = o.alive;
+        owned = among_each caused_world (list_in (o.process).state) (list_in (o.process).state) (λ z among. among)
+            (λ z among. owned_then z.instance (after_it.climb.facts.on_path top z.instance stands_now (after_it.paths top z.instance stands_before stands_now (o.paths z among))));
+        within = λ to m_listed. let was = waited_before k to m_listed in o.within to was.1 was.0;
+      }
+
+  lies_then : IsEventAt sc caused_world lay r task
+  lies_then = event_stays sc w caused_world lay lay stay_then (λ k f there_is. there_is) r task e
+
+  task_owned : IsOwned caused_world r.instance
+  task_owned = by_number (owned_standing tree code texts w lay img s.by s.ok j t.stands)
+    where
+      by_number : IsOwned w j → IsOwned caused_world j
+      by_number o =
+          record {
+            number = o.number;
+            process = o.process;
+            is = numbered_other w.processes p o.number q' (λ (same_p : p ≡ o.number). absurd (omega (arith, t.older j (subst (λ (z : Process). IsOwn z.todo j) (some_same (sym o.is ∙ ap (numbered w.processes) (sym same_p) ∙ s.at)) o.own)))) ∙ o.is;
+            alive = o.alive;
+            own = o.own;
+          }
 
   -- ---- and after
 
@@ -432,31 +534,43 @@ module _ (tree : PProgram) (code : Code) (texts : Texts) (closing : FramesClose)
       (ending.below_is tree code texts closing w lay img p q part bound core s owns asks a) s.stands.counted (ending.base tree code texts closing w lay img p q part bound core s owns asks a)
       (ending.shut tree code texts closing w lay img p q part bound core s owns asks a).rows (ending.shut tree code texts closing w lay img p q part bound core s owns asks a).changes critical_free task tasked
 
-  abbrev with_them : List ProcessState → Image
-  with_them states = with_states now states
+  abbrev image_by : Place → List ℕ → List ProcessState → Image
+  image_by y ws states =
+      record before {
+        events = kernel.withdrawn ws (with_event y (with_state caused) open_events);
+        lists = kernel.unlisted ws img.lists;
+        states = states;
+        numbers = told_positions task img.lists ws img.numbers;
+      }
 
   -- the machine releases them before it ends the process
-  after_is : (IsListed c.waiters p → ⊥) → with_states now (able_again c.waiters now.states) ≡ after
+  after_is : (IsListed c.waiters p → ⊥) → image_by at c.waiters (able_again c.waiters now.states) ≡ after
   after_is none =
-      ap with_them (able_beside c.waiters p Ended img.states none)
-      ∙ ap (λ (ws : List ℕ). with_them (set_numbered (able_again ws img.states) p Ended)) (sym waiters_there)
-      ∙ ap (λ (y : Place). record (with_them (set_numbered (able_again (waiters_at task open_events) img.states) p Ended)) { events = with_event y (with_state caused) open_events }) (sym task_is)
+      ap (image_by at c.waiters) (able_beside c.waiters p Ended img.states none)
+      ∙ ap (λ (ws : List ℕ). image_by at ws (set_numbered (able_again ws img.states) p Ended)) (sym waiters_there)
+      ∙ ap (λ (y : Place). image_by y (waiters_at task open_events) (set_numbered (able_again (waiters_at task open_events) img.states) p Ended)) (sym task_is)
 
-  abbrev W : World
-  W = set_all_able (with_process (set_event v r later) p q') c.waiters
+  abbrev final : World
+  final = with_process (set_all_able (all_withdrawn (set_event v r later) r c.waiters) c.waiters) p q'
+
+  final_is : (IsListed c.waiters p → ⊥) → let_go_all caused_world r c.waiters ≡ final
+  final_is none =
+      let_go_beside c.waiters (set_event v r later) r p q' none ∙ ap (λ (z : World). with_process z p q') (sym (let_go_is c.waiters (set_event v r later) r listed.once_waiting))
+
+  after_caused : MayAct sc w p → IsAfter sc w caused_world p
+  after_caused may =
+      after_shape sc w final caused_world p (alone.after_choice sc w final p q facts may s.at (ap (λ (y : Choice). y.world) chosen))
+      (shape_back caused_world final (subst (λ (z : World). IsSameShape caused_world z) (final_is (waiter_apart may.able)) (shape_then (waiter_apart may.able))))
 
   after_so : MayAct sc w p → IsAfter sc w w' p
-  after_so may =
-      subst (λ (z : World). IsAfter sc w (with_process z p q') p) world_is
-      (after_states sc w W (with_process (set_event v r later) p q') p
-      (alone.after_choice sc w W p q facts may s.at (ap (λ (y : Choice). y.world) chosen ∙ sym (freed_beside c.waiters (set_event v r later) p q' (waiter_apart may.able))))
-      (sym (freed_instances c.waiters (with_process (set_event v r later) p q'))) (freed_states c.waiters (with_process (set_event v r later) p q') (alive_then (waiter_apart may.able))))
+  after_so may = subst (λ (z : World). IsAfter sc w (with_process z p q') p) world_is (after_caused may)
 
-  pictured : MayAct sc w p → PicturesBy tree code texts (with_process (set_all_able (set_event v r later) c.waiters) p q') lay after
+  pictured : MayAct sc w p → PicturesBy tree code texts final lay after
   pictured may =
-      subst (λ (z : World). PicturesBy tree code texts z lay after) (freed_beside c.waiters (set_event v r later) p q' (waiter_apart may.able))
-      (subst (λ (z : Image). PicturesBy tree code texts (set_all_able (with_process (set_event v r later) p q') c.waiters) lay z) (after_is (waiter_apart may.able))
-      (all_freed tree code texts lay c.waiters (with_process (set_event v r later) p q') now (subst (λ (z : World). HasFacts (with_process z p q')) (sym world_is) (after_so may).climb.facts) (pictured_caused (after_so may)) (alive_then (waiter_apart may.able))))
+      subst (λ (z : World). PicturesBy tree code texts z lay after) (final_is (waiter_apart may.able))
+      (subst (λ (z : Image). PicturesBy tree code texts (let_go_all caused_world r c.waiters) lay z) (after_is (waiter_apart may.able))
+      (all_gone tree code texts lay c.waiters caused_world now (pictured_caused (after_so may) may.able) (after_caused may).climb.facts r task lies_then task_owned listed.once_waiting (waits_then (waiter_apart may.able) (after_caused may))
+      img.lists (λ k m. refl)))
 
   table_is : table code img p ≡ outcomes.gives after
   table_is =

@@ -20,6 +20,8 @@ put_word (Some x) img at = with_stacks img (with_word img.stacks at x)
 pub record IsOnlyStored (img later : Image) : Type 0 where
   pub rows : later.rows ≡ img.rows
   pub events : later.events ≡ img.events
+  pub lists : later.lists ≡ img.lists
+  pub numbers : later.numbers ≡ img.numbers
   pub states : later.states ≡ img.states
   pub registers : later.regs ≡ img.regs
   pub output : later.output ≡ img.output
@@ -44,8 +46,8 @@ module _ (img : Image) (n k : ℕ) where
   stacks_beside (Some x) m apart = stack_other img.stacks n m (slice_set (words_or (stack_at img.stacks n)) k x) apart
 
   pub put_only : (word : Option Word) → IsOnlyStored img (put_word word img (place n k))
-  put_only None = record { rows = refl; events = refl; states = refl; registers = refl; output = refl; fault = refl; started = refl }
-  put_only (Some x) = record { rows = refl; events = refl; states = refl; registers = refl; output = refl; fault = refl; started = refl }
+  put_only None = record { rows = refl; events = refl; lists = refl; numbers = refl; states = refl; registers = refl; output = refl; fault = refl; started = refl }
+  put_only (Some x) = record { rows = refl; events = refl; lists = refl; numbers = refl; states = refl; registers = refl; output = refl; fault = refl; started = refl }
 
   pub core_beside : (word : Option Word) (m : ℕ) (core : Core) → m ≢ n → HasCore img m core → HasCore (put_word word img (place n k)) m core
   core_beside word m core apart has =

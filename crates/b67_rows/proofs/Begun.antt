@@ -48,7 +48,7 @@ set_numbered_front xs ys (suc k) x y e = set-front xs ys k x y e
 -- a process with these registers, and with these words for its stack, is able, and has the next number
 abbrev pub with_process : Image → Registers → List Word → Image
 with_process img r words =
-    record img { stacks = opened_at img.stacks r.stack words; regs = img.regs ++ r ∷ []; states = img.states ++ Able ∷ []; started = img.started + 1 }
+    record img { stacks = opened_at img.stacks r.stack words; regs = img.regs ++ r ∷ []; states = img.states ++ Able ∷ []; numbers = img.numbers ++ 0 ∷ []; started = img.started + 1 }
 
 -- it is the same whether another process has another core before or after that
 pub core_beside : (img : Image) (r : Registers) (words : List Word) (p : ℕ) (core : Core) (old : List Word) (o : Registers) → stack_at img.stacks core.registers.stack ≡ Some old → numbered img.regs p ≡ Some o →

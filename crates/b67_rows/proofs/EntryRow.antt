@@ -19,7 +19,7 @@ use Rattle.b67_table.specs.declared.InterruptKind.{InterruptKind}
 use Rattle.b67_table.specs.declared.InterruptKind.TheVariants.{BadCode}
 use Rattle.b67_table.specs.Effect.{Effect, gives}
 use Rattle.b67_table.specs.Outcome as outcomes
-use Rattle.b67_table.specs.Image.{Image, with_stacks, with_registers}
+use Rattle.b67_table.specs.Image.{Image, woken_number, with_stacks, with_registers}
 use Rattle.b67_table.specs.Limits.{end_of_code, most_cells}
 use Rattle.b67_table.specs.Linkage.{control_word, entered_mark, if_fits, is_home, if_home, entering, entered, entry}
 use Rattle.b67_table.specs.Look.{Look, found, stops, at, ◌>->◌, valid, read_as, seen}
@@ -213,9 +213,9 @@ module _ (code : Code) (img : Image) (p : ℕ) (core : Core) (has : HasCore img 
   pub enter_action : table code img p ≡ outcomes.gives (with_core img p new) → letter code img p ≡ Some act.Enter
   enter_action t =
       action_is code img p core has (ops.Plain kinds.Entr) next there (outcomes.gives (with_core img p new)) t
-      ∙ ap (λ (o : Option Word). (told_by (called_letter img) (seen img.stacks (valid o >-> (λ (above : Word). called_by above (cell_of r above)))))) control_there
-      ∙ ap (λ (x : Result Pcw InterruptKind). (told_by (called_letter img) x)) e.calls
-      ∙ ap (λ (b : Bool). (if b then intrinsic_letter (intrinsic_numbered c.number) else Some Enter)) e.no_intrinsic
+      ∙ ap (λ (o : Option Word). (told_by (called_letter img r.stack) (seen img.stacks (valid o >-> (λ (above : Word). called_by above (cell_of r above)))))) control_there
+      ∙ ap (λ (x : Result Pcw InterruptKind). (told_by (called_letter img r.stack) x)) e.calls
+      ∙ ap (λ (b : Bool). (if b then intrinsic_letter (woken_number img.numbers r.stack) (intrinsic_numbered c.number) else Some Enter)) e.no_intrinsic
 
   -- the new core is one, where the display names the frame
   pub new_is : place_at display c.level ≡ Some (place r.stack r.f) → IsCore new

@@ -2,10 +2,16 @@
 use Rattle.std.proofs.Common.{◌+◌, ◌*◌, ◌≤◌, List, [], ◌∷◌, length, arith}
 use Rattle.algol_tree.specs.Plain as tree
 use Rattle.algol_tree.specs.Plain.{PExpr, PExprs, PPair, PStmt, PStmts, PDecls}
-use Rattle.algol_tree.specs.Counts.{expr_tokens, exprs_tokens, pairs_tokens, stmt_tokens, stmts_tokens, decls_tokens}
+use Rattle.algol_tree.specs.Counts.{events_tokens, expr_tokens, exprs_tokens, pairs_tokens, stmt_tokens, stmts_tokens, decls_tokens}
+use Rattle.algol_tree.specs.declared.tree.EventName.{EventName}
 use Rattle.b67_templates.specs.Arguments.{arguments_in, arguments_among, arguments_given, arguments_in_pairs, arguments_in_decls, arguments_in_stmt, arguments_in_stmts}
 use Rattle.b67_templates.specs.Cells.{procedures}
 use Rattle.b67_templates.specs.Depths.{depth, line_depth, bounds_depth, decls_depth, stmt_depth, stmts_depth}
+
+events_small : (es : List EventName) → length es ≤ events_tokens es + 1
+events_small [] = omega arith
+events_small (e ∷ []) = omega arith
+events_small (e ∷ f ∷ es) = omega (arith, events_small (f ∷ es))
 
 mutual
   pub depth_small : (e : PExpr) → depth e ≤ 2 * expr_tokens e
@@ -15,7 +21,7 @@ mutual
   depth_small (tree.variable (tree.subscripted n (tree.more e es))) = omega (arith, depth_small e, line_small es)
   depth_small (tree.call (tree.called n tree.none)) = omega arith
   depth_small (tree.call (tree.called n (tree.more e es))) = omega (arith, depth_small e, line_small es)
-  depth_small (tree.tested x es spot) = omega arith
+  depth_small (tree.tested x es spot) = omega (arith, events_small es)
   depth_small (tree.paren e spot) = omega (arith, depth_small e)
   depth_small (tree.plus e spot) = omega (arith, depth_small e)
   depth_small (tree.neg e spot) = omega (arith, depth_small e)

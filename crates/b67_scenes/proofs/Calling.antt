@@ -26,7 +26,7 @@ use Rattle.b67_store.specs.Store.{words_of, words_or, word_at}
 use Rattle.b67_table.specs.Arguments.{wholes_in, joined}
 use Rattle.b67_table.specs.Beginning.{base_mark, intrinsic_pcw, system_stack}
 use Rattle.b67_table.specs.Chains.{place}
-use Rattle.b67_table.specs.Image.{Image}
+use Rattle.b67_table.specs.Image.{Image, woken_number}
 use Rattle.b67_table.specs.declared.Cell.{Cell}
 use Rattle.b67_table.specs.declared.Reached.{Reached}
 use Rattle.b67_table.specs.Look.{Look, ◌>->◌, valid, seen}
@@ -78,6 +78,10 @@ is_numbered names.Reset = record { small = lit< tt; lies = refl; named = refl }
 is_numbered names.Happened = record { small = lit< tt; lies = refl; named = refl }
 is_numbered names.Procure = record { small = lit< tt; lies = refl; named = refl }
 is_numbered names.Liberate = record { small = lit< tt; lies = refl; named = refl }
+is_numbered names.CauseAndReset = record { small = lit< tt; lies = refl; named = refl }
+is_numbered names.WaitAny = record { small = lit< tt; lies = refl; named = refl }
+is_numbered names.Available = record { small = lit< tt; lies = refl; named = refl }
+is_numbered names.Fix = record { small = lit< tt; lies = refl; named = refl }
 
 pcw_read : (name : Intrinsic) → as_pcw (intrinsic_pcw (number_of name)) ≡ Some (intrinsic_in name)
 pcw_read name = as_pcw-pcw_word (intrinsic_in name) (lit< tt, (lit< tt, (lit< tt, (lit< tt, (omega (arith, (is_numbered name).small), tt)))))
@@ -206,7 +210,7 @@ module _ (tree : PProgram) (code : Code) (texts : Texts) (w : World) (lay : Layo
     pub marked : Word
     pub others : List Word
     pub calls : CallsIntrinsic img core name arguments reference marked others
-    pub action : operator_letter (ops.Plain kinds.Entr) img core.registers ≡ Some (letter_of name)
+    pub action : operator_letter (ops.Plain kinds.Entr) img core.registers ≡ Some (letter_of (woken_number img.numbers core.registers.stack) name)
     pub after_at : (pc : ℕ) → CoreAt sc s.stands.held code (text_in tree texts w part) (level_in tree w part) pc below (without_call core others calls.m.df pc)
     pub few : length below ≤ most_in tree w part
 
@@ -309,10 +313,10 @@ module _ (tree : PProgram) (code : Code) (texts : Texts) (w : World) (lay : Layo
     entry_cell = record { frame = place 0 0; index = number_of name }
 
     abbrev found_in : Look Pcw → Option Letter
-    found_in l = told_by (called_letter img) (seen img.stacks l)
+    found_in l = told_by (called_letter img core.registers.stack) (seen img.stacks l)
 
     -- the intrinsic is what ENTR calls
-    action_is_called : operator_letter (ops.Plain kinds.Entr) img core.registers ≡ Some (letter_of name)
+    action_is_called : operator_letter (ops.Plain kinds.Entr) img core.registers ≡ Some (letter_of (woken_number img.numbers core.registers.stack) name)
     action_is_called =
         ap (λ (o : Option Word). found_in (valid o >-> (λ (above : Word). called_by above (cell_of core.registers above)))) reference_lies
         ∙ ap (λ (o : Option Irw). found_in (called_by i.word (irw_or_sirw core.registers o (as_sirw i.word)))) reads_reference
@@ -320,7 +324,7 @@ module _ (tree : PProgram) (code : Code) (texts : Texts) (w : World) (lay : Layo
         ∙ ap (λ (o : Option Word). found_in (reached_in entry_cell o >-> (λ (v : Reached). one_sirw (as_sirw v.word) v) >-> (λ (v : Reached). valid (as_pcw v.word)))) entry_lies
         ∙ ap (λ (o : Option Sirw). found_in (one_sirw o (record { word = intrinsic_pcw (number_of name); cell = entry_cell }) >-> (λ (v : Reached). valid (as_pcw v.word)))) (pcw_no_sirw name)
         ∙ ap (λ (o : Option Pcw). found_in (valid o)) (pcw_read name)
-        ∙ ap (λ (o : Option Intrinsic). intrinsic_letter o) intrinsic_is.named
+        ∙ ap (λ (o : Option Intrinsic). intrinsic_letter (woken_number img.numbers core.registers.stack) o) intrinsic_is.named
 
     after_call : (pc : ℕ) → CoreAt sc s.stands.held code (text_in tree texts w part) (level_in tree w part) pc below (without_call core k.words_below df pc)
     after_call pc =
@@ -366,7 +370,7 @@ module _ (tree : PProgram) (code : Code) (texts : Texts) (w : World) (lay : Layo
     pub others : List Word
     pub calls : CallsIntrinsic img core name arguments reference marked others
     pub wholes : wholes_in (reverse arguments) ≡ Some (wholes_of vs)
-    pub action : operator_letter (ops.Plain kinds.Entr) img core.registers ≡ Some (letter_of name)
+    pub action : operator_letter (ops.Plain kinds.Entr) img core.registers ≡ Some (letter_of (woken_number img.numbers core.registers.stack) name)
     pub after_at : (pc : ℕ) → CoreAt (scopes_of tree) s.stands.held code (text_in tree texts w part) (level_in tree w part) pc below (without_call core others calls.m.df pc)
     pub few : length below ≤ most_in tree w part
 

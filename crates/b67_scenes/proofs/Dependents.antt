@@ -19,7 +19,7 @@ use Rattle.b67_segment.specs.declared.code.Code.{Code}
 use Rattle.b67_events.specs.Events.{same_place}
 use Rattle.b67_table.specs.Chains.{place}
 use Rattle.b67_table.specs.declared.ProcessState.{ProcessState}
-use Rattle.b67_table.specs.declared.ProcessState.TheVariants.{Able, WaitsFor, Procures, Ended}
+use Rattle.b67_table.specs.declared.ProcessState.TheVariants.{Able, WaitsFor, WaitsAny, Procures, Ended}
 use Rattle.b67_table.specs.Image.{Image, is_ended, is_live}
 use Rattle.b67_table.specs.Questions.{with_critical, unless, live_criticals}
 use Rattle.b67_templates.specs.Programs.{Texts}
@@ -126,6 +126,7 @@ not_ended : (s : ProcessState) → is_live (Some s) ≡ true → is_ended s ≡ 
 not_ended Ended live = cc
 not_ended Able live = refl
 not_ended (WaitsFor at) live = refl
+not_ended WaitsAny live = refl
 not_ended (Procures at) live = refl
 
 -- ---- of a picture

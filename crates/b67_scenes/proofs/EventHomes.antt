@@ -32,7 +32,7 @@ use Rattle.b67_templates.specs.Programs.{Texts}
 use Rattle.b67_cores.specs.Cores.{Core}
 use Rattle.b67_templates.specs.Nested.{AreNested}
 use Rattle.b67_faithful.proofs.Contradictions.{some_same}
-use Rattle.b67_rows.proofs.AskedElements.{array_asked, ArraySeen, array_seen}
+use Rattle.b67_rows.proofs.AskedElements.{IsAsked, ArraySeen, asked_seen}
 use Rattle.b67_rows.proofs.Numbers.{get_below}
 use Rattle.b67_frames.specs.Arrays.{Layout, LeadsToEvent, Denotes, IsEventOf, named_from}
 use Rattle.b67_frames.specs.Events.{HasEvent}
@@ -374,17 +374,17 @@ module _ (tree : PProgram) (code : Code) (texts : Texts) (nested : AreNested (sc
 
   -- ---- the one or the other
 
-  module _ (n : Named) (couple : Couple) (asks : array_asked (ask part.rest) ≡ Some n) where
+  module _ (n : Named) (couple : Couple) (asks : IsAsked (ask part.rest) n) where
     is_seen : ArraySeen (IsSeen sc block) n (IsInner sc block) (IsSeenAround sc block) (λ (around_it : IsSeenAround sc block n). around_it.0) part.rest
-    is_seen = array_seen (IsSeen sc block) n (IsInner sc block) (IsSeenAround sc block) (λ (around_it : IsSeenAround sc block n). around_it.0) part.rest asks s.stands.frame.text
+    is_seen = asked_seen (IsSeen sc block) n (IsInner sc block) (IsSeenAround sc block) (λ (around_it : IsSeenAround sc block n). around_it.0) part.rest asks s.stands.frame.text
 
     keeps_around : InRest (IsSeenAround sc block) IsNoBlock (IsSeenAround sc block) part.rest → IsSeenAround sc block n
-    keeps_around text = (array_seen (IsSeenAround sc block) n IsNoBlock (IsSeenAround sc block) (λ (seen : IsSeenAround sc block n). seen) part.rest asks text).seen
+    keeps_around text = (asked_seen (IsSeenAround sc block) n IsNoBlock (IsSeenAround sc block) (λ (seen : IsSeenAround sc block n). seen) part.rest asks text).seen
 
     made_there_or_around : IsComplete sc w lay part.instance ⊎ IsSeenAround sc block n
     made_there_or_around =
         made_or_around tree code texts w lay img p q part outer bound core s is_seen.made
-        (λ text. (array_seen (IsSeenAround sc block) n (λ (b : PBody). ⊥) (IsSeenAround sc block) (λ (seen : IsSeenAround sc block n). seen) part.rest asks text).seen)
+        (λ text. (asked_seen (IsSeenAround sc block) n (λ (b : PBody). ⊥) (IsSeenAround sc block) (λ (seen : IsSeenAround sc block n). seen) part.rest asks text).seen)
 
     pub event_home : IsEvent (scopes_of tree) (names_in tree w part) n couple → EventHome (followed w (named_from (scopes_of tree) w lay part.instance n)) couple
     event_home (declared_event v) =

@@ -7,10 +7,11 @@ use Rattle.algol_tree.specs.Scopes.{Scopes, scopes_of}
 use Rattle.algol_meaning.specs.Critical.{own_instances}
 use Rattle.algol_meaning.specs.Instances.{leave}
 use Rattle.b67_deeds.specs.Events.{EventState}
+use Rattle.b67_deeds.specs.Listed.{IsListed}
 use Rattle.algol_meaning.specs.World.{Instance, Process, Part, World, with_process}
 use Rattle.b67_word.specs.declared.Place.{Place}
 use Rattle.b67_word.specs.Word.{Word}
-use Rattle.b67_events.specs.Events.{Event, event_at, is_from, closed_from}
+use Rattle.b67_events.specs.Events.{Event, event_at, is_from, closed_from, waiters_at}
 use Rattle.b67_events.proofs.EventLaws.{one_event}
 use Rattle.b67_segment.specs.declared.code.Code.{Code}
 use Rattle.b67_store.specs.Store.{Stacks}
@@ -26,6 +27,7 @@ use Rattle.b67_frames.proofs.EventsLow.{IsElsewhere, event_outside}
 use Rattle.b67_frames.proofs.JumpClosing.{events_left}
 use Rattle.b67_scenes.proofs.JumpCut.{NoFrame, Way}
 use Rattle.b67_scenes.proofs.JumpWorld.{IsAmong, stood_before}
+use Rattle.b67_scenes.proofs.Waiting.{fewer_closed}
 
 -- an event that lies above none of these frames stays
 kept : (p : ℕ) (at : Place) (fs : List Passed) (events : List Event) → NoFrame (λ (n : ℕ). is_from p n at) fs → event_at at (events_left p fs events) ≡ event_at at events
@@ -34,6 +36,11 @@ kept p at (f ∷ fs) events out =
     kept p at fs (closed_from p f.frame events) out.1
     ∙ one_event.closed_there p f.frame at events
     ∙ ap (λ (t : Bool). if t then None else event_at at events) out.0
+
+-- nobody waits for more
+pub fewer_left : (p : ℕ) (fs : List Passed) (events : List Event) (r : ℕ) (at : Place) → IsListed (waiters_at at (events_left p fs events)) r → IsListed (waiters_at at events) r
+fewer_left p [] events r at listed = listed
+fewer_left p (f ∷ fs) events r at listed = fewer_closed p f.frame events r at (fewer_left p fs (closed_from p f.frame events) r at listed)
 
 module _ (tree : PProgram) (code : Code) (texts : Texts) (closing : FramesClose) (w : World) (lay : Layout) (p i : ℕ) (stacks : Stacks) (stack : List Word) (part : Part) (outer : List Part) (words : List Word)
     (f : Frame tree code texts w lay p part outer words) (down : Way tree code texts closing w lay p i stacks stack part outer words f) (q : Process)

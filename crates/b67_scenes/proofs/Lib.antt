@@ -3,6 +3,7 @@ pub mod Stuffed
 pub mod VariableHomes
 pub mod Homes
 pub mod Tasks
+pub mod Waiting
 pub mod Kept
 pub mod JumpWorld
 pub mod Landing
@@ -22,6 +23,7 @@ pub mod JumpCut
 pub mod JumpEvents
 pub mod Plainly
 pub mod Showing
+pub mod Idle
 pub mod TouchingCells
 pub mod TouchingOthers
 pub mod TouchingScene
@@ -38,6 +40,7 @@ pub mod ArrayHomes
 pub mod Indices
 pub mod ElementHomes
 pub mod EventHomes
+pub mod SeveralHomes
 pub mod Freeing
 pub mod TouchingEvents
 pub mod StartSeen

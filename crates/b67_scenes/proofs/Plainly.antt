@@ -162,6 +162,7 @@ module _ (performed : StepsArePerformed) (limits : StepsComeToLimit) (tree : PPr
         laid = by.laid;
         arrays = by.arrays;
         events = by.events;
+        waits = record { numbers = by.waits.numbers; woken = by.waits.woken; lists = by.waits.lists; awaiting = by.waits.awaiting };
         output = by.output;
         fault = by.fault;
         started = by.started;

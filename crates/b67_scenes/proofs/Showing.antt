@@ -4,7 +4,7 @@ use Rattle.std.specs.Prelude.{if◌then◌else◌, ◌&&◌, ◌||◌, not, slic
 use Rattle.b67_list.specs.Numbered.{numbered}
 use Rattle.algol_tree.specs.Plain.{PProgram}
 use Rattle.algol_tree.specs.Scopes.{Scopes, scopes_of}
-use Rattle.algol_meaning.specs.World.{Process, State, able, waits_for, procures, ended, lives, World, WorldFault, process_at, or_no_process}
+use Rattle.algol_meaning.specs.World.{Process, State, able, waits_for, waits_any, procures, ended, lives, World, WorldFault, process_at, or_no_process}
 use Rattle.algol_meaning.specs.World.{is_able as meaning_able}
 use Rattle.algol_meaning.specs.Run.{end_of}
 use Rattle.algol_meaning.specs.Run as meaning
@@ -12,7 +12,7 @@ use Rattle.b67_control.specs.declared.Registers.{Registers}
 use Rattle.b67_segment.specs.declared.code.Code.{Code}
 use Rattle.b67_templates.specs.Programs.{Texts}
 use Rattle.b67_table.specs.declared.ProcessState.{ProcessState}
-use Rattle.b67_table.specs.declared.ProcessState.TheVariants.{Able, WaitsFor, Procures, Ended}
+use Rattle.b67_table.specs.declared.ProcessState.TheVariants.{Able, WaitsFor, WaitsAny, Procures, Ended}
 use Rattle.b67_table.specs.declared.InterruptKind.TheVariants.{BadCode as bad_code}
 use Rattle.b67_table.specs.Effect.{Effect, interrupts}
 use Rattle.b67_table.specs.Outcome.{limited, limit}
@@ -44,10 +44,12 @@ some_lives_alike sc w lay (q ∷ qs) (s ∷ ss) e each =
     by_first : (x : State) (s : ProcessState) → meaning.some_lives qs ≡ machine.some_lives ss → StateIs sc w lay x (Some s) → (lives x || meaning.some_lives qs) ≡ machine.some_lives (s ∷ ss)
     by_first able Able later is = refl
     by_first (waits_for r) (WaitsFor at) later is = refl
+    by_first (waits_any rs) WaitsAny later is = refl
     by_first (procures r) (Procures at) later is = refl
     by_first ended Ended later is = later
     by_first able _ later is = absurd is
     by_first (waits_for r) _ later is = absurd is
+    by_first (waits_any rs) _ later is = absurd is
     by_first (procures r) _ later is = absurd is
     by_first ended _ later is = absurd is
 
@@ -63,21 +65,25 @@ some_able_alike sc w lay (q ∷ qs) (s ∷ ss) e each =
     by_first : (x : State) (s : ProcessState) → meaning.some_able qs ≡ machine.some_able ss → StateIs sc w lay x (Some s) → (meaning_able x || meaning.some_able qs) ≡ machine.some_able (s ∷ ss)
     by_first able Able later is = refl
     by_first (waits_for r) (WaitsFor at) later is = later
+    by_first (waits_any rs) WaitsAny later is = later
     by_first (procures r) (Procures at) later is = later
     by_first ended Ended later is = later
     by_first able _ later is = absurd is
     by_first (waits_for r) _ later is = absurd is
+    by_first (waits_any rs) _ later is = absurd is
     by_first (procures r) _ later is = absurd is
     by_first ended _ later is = absurd is
 
 -- it is able in both, or in neither
-able_in_both : (sc : Scopes) (w : World) (lay : Layout) (x : State) (o : Option ProcessState) → StateIs sc w lay x o → meaning_able x ≡ image_able o
+pub able_in_both : (sc : Scopes) (w : World) (lay : Layout) (x : State) (o : Option ProcessState) → StateIs sc w lay x o → meaning_able x ≡ image_able o
 able_in_both sc w lay able (Some Able) is = refl
 able_in_both sc w lay (waits_for r) (Some (WaitsFor at)) is = refl
+able_in_both sc w lay (waits_any rs) (Some WaitsAny) is = refl
 able_in_both sc w lay (procures r) (Some (Procures at)) is = refl
 able_in_both sc w lay ended (Some Ended) is = refl
 able_in_both sc w lay able _ is = absurd is
 able_in_both sc w lay (waits_for r) _ is = absurd is
+able_in_both sc w lay (waits_any rs) _ is = absurd is
 able_in_both sc w lay (procures r) _ is = absurd is
 able_in_both sc w lay ended _ is = absurd is
 
@@ -85,10 +91,12 @@ able_in_both sc w lay ended _ is = absurd is
 ended_in_both : (sc : Scopes) (w : World) (lay : Layout) (x : State) (o : Option ProcessState) → StateIs sc w lay x o → machine.has_ended o ≡ not (lives x)
 ended_in_both sc w lay able (Some Able) is = refl
 ended_in_both sc w lay (waits_for r) (Some (WaitsFor at)) is = refl
+ended_in_both sc w lay (waits_any rs) (Some WaitsAny) is = refl
 ended_in_both sc w lay (procures r) (Some (Procures at)) is = refl
 ended_in_both sc w lay ended (Some Ended) is = refl
 ended_in_both sc w lay able _ is = absurd is
 ended_in_both sc w lay (waits_for r) _ is = absurd is
+ended_in_both sc w lay (waits_any rs) _ is = absurd is
 ended_in_both sc w lay (procures r) _ is = absurd is
 ended_in_both sc w lay ended _ is = absurd is
 

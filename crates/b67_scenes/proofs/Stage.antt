@@ -1,5 +1,5 @@
 -- What all actions share: the choice of the world, the limit, and the picture after an action.
-use Rattle.std.proofs.Common.{◌≡◌, ◌≢◌, ◌⊎◌, inl, inr, refl, sym, ap, ◌∙◌, subst, ℕ, ◌<◌, ◌≤◌, List, ◌∷◌, length, Option, Some, None, Bool, false, arith, true}
+use Rattle.std.proofs.Common.{◌≡◌, ◌≢◌, ◌⊎◌, inl, inr, refl, sym, ap, ◌∙◌, subst, ℕ, suc, ◌<◌, ◌≤◌, List, ◌∷◌, length, Option, Some, None, Bool, false, arith, true}
 use Rattle.std.specs.Prelude.{if◌then◌else◌, nat_le}
 use Rattle.std.proofs.lemmas.Bool.Decides.{nat_tests}
 use Rattle.b67_list.specs.Numbered.{numbered, set_numbered}
@@ -10,6 +10,10 @@ use Rattle.algol_meaning.specs.World.{Part, Process, lives, WorldFault, World, p
 use Rattle.algol_standing.specs.Worlds.{IsWhole}
 use Rattle.algol_standing.specs.Fitting.{IsOk}
 use Rattle.algol_meaning.specs.Asks.{ask}
+use Rattle.algol_meaning.specs.Events.{list_in}
+use Rattle.b67_deeds.specs.Listed.{IsListed}
+use Rattle.b67_word.specs.declared.Place.{Place}
+use Rattle.b67_events.specs.Events.{waiters_at}
 use Rattle.algol_meaning.specs.Choice.{choice, choice_in, choice_of}
 use Rattle.b67_control.specs.declared.Registers.{Registers}
 use Rattle.b67_segment.specs.declared.code.Code.{Code}
@@ -32,11 +36,14 @@ use Rattle.b67_frames.proofs.Knowing.{keeps_same}
 use Rattle.b67_frames.proofs.ArraysKept.{arrays_unchanged}
 use Rattle.b67_frames.proofs.EventsKept.{events_unchanged}
 use Rattle.b67_scenes.specs.Pictures.{failure_of, Living, Pictured, living, PicturesBy}
+use Rattle.b67_scenes.specs.Waiting.{WaitsAre}
 use Rattle.b67_faithful.proofs.Choices.{length_set_numbered}
 use Rattle.b67_rows.proofs.Numbers.{same_or_not, numbered_set, numbered_other}
 use Rattle.b67_rows.proofs.StoreRow.{most_is}
 use Rattle.b67_scenes.proofs.Ancestors.{all_laid}
 use Rattle.b67_scenes.proofs.Kept.{LeavesAlone, AreAlike, alike_by, pictured_alike}
+use Rattle.b67_scenes.proofs.Waiting.{still_awaiting, waits_kept, waits_still}
+use Rattle.b67_scenes.proofs.Tasks.{events_same}
 
 -- ---- the table, from the row
 
@@ -87,16 +94,17 @@ module _ (tree : PProgram) (code : Code) (texts : Texts) (w : World) (lay : Layo
     (at : numbered w.processes p ≡ Some q) where
   -- process p has come to this state in an image in which each other process is pictured, and is pictured there
   pub comes_by : (w' : World) (lay' : Layout) (img' : Image) (q' : Process) → w'.processes ≡ set_numbered w.processes p q' → length lay'.places ≡ length w'.instances → ArraysAre (scopes_of tree) w' lay' img'.rows →
-      EventsAre (scopes_of tree) w' lay' img'.events →
+      EventsAre (scopes_of tree) w' lay' img'.events → WaitsAre (scopes_of tree) w' lay' img' →
       img'.output ≡ w'.output → w'.fault ≡ w.fault → img'.fault ≡ img.fault → img'.started ≡ img.started → length img'.states ≡ length img.states → stack_at img'.stacks 0 ≡ stack_at img.stacks 0 →
       ((r : ℕ) (o : Process) → r ≢ p → numbered w.processes r ≡ Some o → numbered w'.processes r ≡ Some o → Pictured tree code texts w lay img r o → Pictured tree code texts w' lay' img' r o) →
       Pictured tree code texts w' lay' img' p q' → PicturesBy tree code texts w' lay' img'
-  comes_by w' lay' img' q' processes laid arrays events output world_fault fault started many system others own =
+  comes_by w' lay' img' q' processes laid arrays events waits output world_fault fault started many system others own =
       let same_number : length w'.processes ≡ length w.processes = ap length processes ∙ length_set_numbered w.processes p q' in
       record {
         laid = laid;
         arrays = arrays;
         events = events;
+        waits = waits;
         output = output;
         fault = fault ∙ by.fault ∙ ap failure_of (sym world_fault);
         started = started ∙ by.started ∙ sym same_number;
@@ -118,24 +126,40 @@ module _ (tree : PProgram) (code : Code) (texts : Texts) (w : World) (lay : Layo
 
   -- .. in which each other process has its core
   pub comes_to : (w' : World) (lay' : Layout) (img' : Image) (q' : Process) → w'.processes ≡ set_numbered w.processes p q' → length lay'.places ≡ length w'.instances → ArraysAre (scopes_of tree) w' lay' img'.rows →
-      EventsAre (scopes_of tree) w' lay' img'.events →
+      EventsAre (scopes_of tree) w' lay' img'.events → WaitsAre (scopes_of tree) w' lay' img' →
       ((r : ℕ) → r ≢ p → AreAlike (scopes_of tree) w w' lay lay' r) → img'.output ≡ w'.output → w'.fault ≡ w.fault → img'.fault ≡ img.fault → img'.started ≡ img.started → length img'.states ≡ length img.states →
       ((r : ℕ) → r ≢ p → numbered img'.states r ≡ numbered img.states r) → stack_at img'.stacks 0 ≡ stack_at img.stacks 0 →
       ((r : ℕ) (core : Core) → r ≢ p → HasCore img r core → HasCore img' r core) → Pictured tree code texts w' lay' img' p q' → PicturesBy tree code texts w' lay' img'
-  comes_to w' lay' img' q' processes laid arrays events alike output world_fault fault started many states system keeps own =
-      comes_by w' lay' img' q' processes laid arrays events output world_fault fault started many system
+  comes_to w' lay' img' q' processes laid arrays events waits alike output world_fault fault started many states system keeps own =
+      comes_by w' lay' img' q' processes laid arrays events waits output world_fault fault started many system
       (λ r o other before after pictured.
       pictured_alike tree code texts w w' lay lay' r (alike r other) img img' o before (process_is w' r o after) (states r other) (λ core has. keeps r core other has) pictured) own
 
   -- it goes on, and stands for what it has still to do
-  pub goes_on : (w' : World) (lay' : Layout) (img' : Image) (q' : Process) → w'.processes ≡ set_numbered w.processes p q' → lives q'.state ≡ true → length lay'.places ≡ length w'.instances → ArraysAre (scopes_of tree) w' lay' img'.rows →
-      EventsAre (scopes_of tree) w' lay' img'.events →
+  pub goes_on_so : (w' : World) (lay' : Layout) (img' : Image) (q' : Process) → w'.processes ≡ set_numbered w.processes p q' → lives q'.state ≡ true → length lay'.places ≡ length w'.instances → ArraysAre (scopes_of tree) w' lay' img'.rows →
+      EventsAre (scopes_of tree) w' lay' img'.events → WaitsAre (scopes_of tree) w' lay' img' →
       ((r : ℕ) → r ≢ p → AreAlike (scopes_of tree) w w' lay lay' r) → img'.output ≡ w'.output → w'.fault ≡ w.fault → img'.fault ≡ img.fault → img'.started ≡ img.started → img'.states ≡ img.states →
       stack_at img'.stacks 0 ≡ stack_at img.stacks 0 → StateIs (scopes_of tree) w' lay' q'.state (numbered img.states p) → ((r : ℕ) (core : Core) → r ≢ p → HasCore img r core → HasCore img' r core) →
       Living tree code texts w' lay' img' p q' → PicturesBy tree code texts w' lay' img'
-  goes_on w' lay' img' q' processes able_is laid arrays events alike output world_fault fault started states system able_p keeps l =
-      comes_to w' lay' img' q' processes laid arrays events alike output world_fault fault started (ap length states) (λ r other. ap (λ (ss : List ProcessState). numbered ss r) states) system keeps
+  goes_on_so w' lay' img' q' processes able_is laid arrays events waits alike output world_fault fault started states system able_p keeps l =
+      comes_to w' lay' img' q' processes laid arrays events waits alike output world_fault fault started (ap length states) (λ r other. ap (λ (ss : List ProcessState). numbered ss r) states) system keeps
       (living able_is (subst (λ (ss : List ProcessState). StateIs (scopes_of tree) w' lay' q'.state (numbered ss p)) (sym states) able_p) l)
+
+  -- .. where it waits for the same as before
+  pub goes_on : (w' : World) (lay' : Layout) (img' : Image) (q' : Process) → w'.processes ≡ set_numbered w.processes p q' → lives q'.state ≡ true → length lay'.places ≡ length w'.instances → ArraysAre (scopes_of tree) w' lay' img'.rows →
+      EventsAre (scopes_of tree) w' lay' img'.events → list_in q'.state ≡ list_in q.state → q'.woken ≡ q.woken → img'.lists ≡ img.lists → img'.numbers ≡ img.numbers →
+      ((r : ℕ) (there : Place) → IsListed (waiters_at there img'.events) r → IsListed (waiters_at there img.events) r) →
+      ((r : ℕ) → r ≢ p → AreAlike (scopes_of tree) w w' lay lay' r) → img'.output ≡ w'.output → w'.fault ≡ w.fault → img'.fault ≡ img.fault → img'.started ≡ img.started → img'.states ≡ img.states →
+      stack_at img'.stacks 0 ≡ stack_at img.stacks 0 → StateIs (scopes_of tree) w' lay' q'.state (numbered img.states p) → ((r : ℕ) (core : Core) → r ≢ p → HasCore img r core → HasCore img' r core) →
+      Living tree code texts w' lay' img' p q' → PicturesBy tree code texts w' lay' img'
+  goes_on w' lay' img' q' processes able_is laid arrays events list number lists numbers fewer alike output world_fault fault started states system able_p keeps l =
+      goes_on_so w' lay' img' q' processes able_is laid arrays events
+      (waits_still (scopes_of tree) w w' lay lay' beside.events beside.alone.on.places img img' by.waits p q q' at processes list number lists numbers (still_awaiting img img' by.waits.awaiting fewer states lists)) alike
+      output world_fault fault started states system able_p keeps l
+    where
+      -- what is so of another process is so of all
+      beside : AreAlike (scopes_of tree) w w' lay lay' (suc p)
+      beside = alike (suc p) (λ (e : suc p ≡ p). absurd (omega (arith, e)))
 
   -- a fault leaves all that stands, and what others may look at
   untouched : IsOk (scopes_of tree) IsWhole w → (fault : Option WorldFault) (r : ℕ) → LeavesAlone (scopes_of tree) w (record w { fault = fault }) lay lay r
@@ -162,6 +186,8 @@ module _ (tree : PProgram) (code : Code) (texts : Texts) (w : World) (lay : Layo
         laid = by.laid;
         arrays = arrays_unchanged (scopes_of tree) w (record w { fault = Some (record { kind = kind; process = p }) }) lay img.rows refl by.arrays;
         events = events_unchanged (scopes_of tree) w (record w { fault = Some (record { kind = kind; process = p }) }) lay img.events refl by.events;
+        waits = waits_kept (scopes_of tree) w (record w { fault = Some (record { kind = kind; process = p }) }) lay lay (λ j. events_same w (record w { fault = Some (record { kind = kind; process = p }) }) j refl) (λ j f there. there) img (failed img p kind)
+            by.waits by.waits.numbers (λ r. (refl, refl)) refl (λ r. refl) by.waits.awaiting;
         output = by.output;
         fault = refl;
         started = by.started;

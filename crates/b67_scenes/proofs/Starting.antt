@@ -10,7 +10,7 @@ use Rattle.algol_tree.specs.Cells.{level_of}
 use Rattle.algol_tree.specs.Plain.{PProgram}
 use Rattle.algol_tree.specs.Scopes.{Scopes, scopes_of}
 use Rattle.algol_meaning.specs.Statements.{items_of, settle_items}
-use Rattle.algol_meaning.specs.World.{Instance, Part, Process, World, able}
+use Rattle.algol_meaning.specs.World.{Instance, Part, Process, World, able, process_at}
 use Rattle.algol_meaning.specs.World as worlds
 use Rattle.algol_meaning.specs.Instances.{fresh_cells}
 use Rattle.algol_meaning.specs.Run.{start}
@@ -37,6 +37,7 @@ use Rattle.b67_segment.specs.declared.code.Segment.{Segment}
 use Rattle.b67_table.specs.Beginning.{base_mark, base_frame, first_registers, first_image}
 use Rattle.b67_table.specs.Chains.{place}
 use Rattle.b67_table.specs.Linkage.{base_control}
+use Rattle.b67_table.specs.Image.{woken_number}
 use Rattle.b67_templates.specs.Contexts.{yields_of}
 use Rattle.b67_templates.specs.Cells.{Simple, parameters_around, parameter_cells, simple_cells, zero_cells, actuals_of, made_of}
 use Rattle.b67_templates.specs.Depths.{decls_depth, stmts_depth}
@@ -62,6 +63,9 @@ use Rattle.b67_frames.proofs.FreshCells.{fresh_are, fresh_lead, none_are, none_l
 use Rattle.b67_frames.proofs.Zeros.{zero_word, cells_length}
 use Rattle.b67_frames.specs.Events.{HasEvent, EventsAre}
 use Rattle.b67_scenes.specs.Pictures.{Pictured, living, Pictures}
+use Rattle.b67_scenes.specs.Waiting.{ListIs}
+use Rattle.algol_meaning.specs.Events.{list_in}
+use Rattle.b67_events.specs.Events.{list_of}
 use Rattle.b67_scenes.specs.Reaches.{none_yet}
 use Rattle.b67_scenes.proofs.Ancestors.{all_laid}
 use Rattle.b67_scenes.proofs.Landing.{Landed, living_of}
@@ -181,7 +185,7 @@ module _ (tree : PProgram) (code : Code) (names : HasNames tree) (nested : AreNe
   first_part = record { instance = 1; purpose = worlds.block; rest = settle_items sc (items_of block) }
 
   abbrev first_process : Process
-  first_process = record { todo = first_part ∷ []; critical = None; task = None; state = able }
+  first_process = record { todo = first_part ∷ []; critical = None; task = None; state = able; woken = 0 }
 
   abbrev first_instance : Instance
   first_instance = record { block = 0; parent = 0; process = 1; cells = fresh_cells block []; left = false }
@@ -351,6 +355,19 @@ module _ (tree : PProgram) (code : Code) (names : HasNames tree) (nested : AreNe
           (cells_length (simple_cells sc block) (fresh_cells block []) (replicate many zero_word) zeros) in
           omega (arith, low, many)
 
+  -- nobody waits
+  first_number : (p : ℕ) → woken_number first_image.numbers p ≡ (process_at w p).woken
+  unfolding start first_image
+  first_number zero = refl
+  first_number (suc zero) = refl
+  first_number (suc (suc k)) = refl
+
+  first_list : (p : ℕ) → ListIs sc w first_lay (list_in ((process_at w p).state)) (list_of p first_image.lists)
+  unfolding start first_image
+  first_list zero = tt
+  first_list (suc zero) = tt
+  first_list (suc (suc k)) = tt
+
   pub first_pictured : Pictures tree code texts (start (scopes_of tree)) first_image
   unfolding start first_image
   first_pictured = (
@@ -359,6 +376,7 @@ module _ (tree : PProgram) (code : Code) (names : HasNames tree) (nested : AreNe
       laid = refl;
       arrays = first_arrays;
       events = first_events;
+      waits = record { numbers = refl; woken = first_number; lists = first_list; awaiting = λ p there listed. absurd listed };
       output = refl;
       fault = refl;
       started = refl;

@@ -1,10 +1,13 @@
 -- The picture with a process more, which begins with an instance of its own: the process that has started it goes on, and all others are pictured as
 -- they were.
-use Rattle.std.proofs.Common.{◌≡◌, ◌≢◌, ◌⊎◌, inl, inr, sym, ap, ◌∙◌, subst, ℕ, ◌+◌, ◌<◌, ◌≤◌, List, [], ◌∷◌, ◌++◌, length, Option, Some, true, arith, length-append}
+use Rattle.std.proofs.Common.{◌≡◌, ◌≢◌, ◌⊎◌, inl, inr, refl, sym, ap, ◌∙◌, subst, ℕ, ◌+◌, ◌<◌, ◌≤◌, List, [], ◌∷◌, ◌++◌, length, Option, Some, None, true, arith, length-append}
 use Rattle.b67_list.specs.Numbered.{numbered, set_numbered}
 use Rattle.algol_tree.specs.Plain.{PProgram}
 use Rattle.algol_tree.specs.Scopes.{Scopes, scopes_of}
-use Rattle.algol_meaning.specs.World.{Instance, Process, able, lives, World}
+use Rattle.algol_meaning.specs.World.{Instance, Process, able, lives, World, no_process, or_no_process, process_at}
+use Rattle.algol_meaning.specs.Events.{list_in}
+use Rattle.b67_deeds.specs.Listed.{IsListed}
+use Rattle.b67_word.specs.declared.Place.{Place as MachinePlace}
 use Rattle.b67_word.specs.Word.{Word}
 use Rattle.b67_control.specs.declared.Registers.{Registers}
 use Rattle.b67_segment.specs.declared.code.Code.{Code}
@@ -13,7 +16,9 @@ use Rattle.b67_store.specs.Store.{stack_at}
 use Rattle.b67_table.specs.declared.ProcessState.{ProcessState}
 use Rattle.b67_table.specs.declared.ProcessState.TheVariants.{Able}
 use Rattle.b67_table.specs.Chains.{place}
-use Rattle.b67_table.specs.Image.{Image}
+use Rattle.b67_events.specs.Events.{Event, waiters_at, list_of}
+use Rattle.b67_table.specs.Image.{Image, woken_number}
+use Rattle.b67_table.specs.Valid.{AwaitsAt}
 use Rattle.b67_table.specs.Limits.{most_processes}
 use Rattle.b67_cores.specs.Cores.{Core, HasCore}
 use Rattle.b67_faithful.proofs.Contradictions.{some_same}
@@ -21,13 +26,15 @@ use Rattle.b67_faithful.proofs.Choices.{length_set_numbered}
 use Rattle.b67_frames.specs.Arrays.{Layout, ArraysAre}
 use Rattle.b67_frames.specs.Events.{EventsAre}
 use Rattle.b67_frames.proofs.ArraysKept.{rows_but, rows_other}
-use Rattle.b67_rows.proofs.Begun.{with_process, begun_state, others_stay, other_state, system_kept}
+use Rattle.b67_rows.proofs.Begun.{with_process, numbered_else, begun_state, others_stay, other_state, system_kept}
 use Rattle.b67_rows.proofs.Growing.{numbered_last, numbered_before, numbered_earlier, numbered_low}
 use Rattle.b67_rows.proofs.Numbers.{same_or_not, numbered_set, numbered_other}
 use Rattle.b67_scenes.specs.Pictures.{Living, Pictured, living, PicturesBy}
 use Rattle.b67_scenes.specs.States.{StateIs}
+use Rattle.b67_scenes.specs.Waiting.{AreAwaiting, WaitsAre}
 use Rattle.b67_scenes.proofs.Kept.{LeavesAlone, AreAlike, pictured_alike}
 use Rattle.b67_scenes.proofs.Tasks.{state_stays, events_before}
+use Rattle.b67_scenes.proofs.Waiting.{number_by, no_number, number_is, waits_kept, awaiting_beside}
 use Rattle.b67_scenes.proofs.Stage.{process_is}
 
 -- the world with an instance and a process more, where the one that starts it goes on
@@ -54,12 +61,23 @@ others_alike sc w lay p q made new k alone =
       events = events_before w (started_world w p q made new) (λ i x e. numbered_before w.instances (made ∷ []) i x e);
     }
 
+-- there is nothing past the end
+past_end : {A : Type 0} (xs : List A) (n : ℕ) → n ≡ length xs + 1 → numbered xs n ≡ None
+past_end {A} xs n newest = found (numbered xs n) refl
+  where
+    found : (o : Option A) → numbered xs n ≡ o → numbered xs n ≡ None
+    found None e = e
+    found (Some x) e = let low : n ≤ length xs = numbered_low xs n x e in absurd (omega (arith, newest, low))
+
 -- In the image in which the one has gone on, all else is as it was, and each process has its registers.
 pub record HasGoneOn (w : World) (img onward : Image) (p : ℕ) : Type 0 where
   pub output : onward.output ≡ w.output
   pub fault : onward.fault ≡ img.fault
   pub started : onward.started ≡ img.started
   pub states : onward.states ≡ img.states
+  pub events : onward.events ≡ img.events
+  pub lists : onward.lists ≡ img.lists
+  pub numbers : onward.numbers ≡ img.numbers
   pub system : stack_at onward.stacks 0 ≡ stack_at img.stacks 0
   pub many : length onward.regs ≡ length onward.states
   pub others : (k : ℕ) (core : Core) → k ≢ p → HasCore img k core → HasCore onward k core
@@ -93,16 +111,17 @@ module _ (tree : PProgram) (code : Code) (texts : Texts) (w : World) (lay : Layo
         other_state onward r words next gone.many k (λ same. old (same ∙ number)) ∙ ap (λ (ss : List ProcessState). numbered ss k) gone.states
 
     -- the new one is able, and both live in the image in which it was begun
-    pub starts_by : new.state ≡ able → lives q'.state ≡ true → StateIs (scopes_of tree) w lay q'.state (numbered img.states p) → ((k : ℕ) → k ≢ p → LeavesAlone (scopes_of tree) w (started_world w p q' made new) lay (started_layout w lay) k) →
+    pub starts_by : new.state ≡ able → new.woken ≡ 0 → list_in q'.state ≡ list_in q.state → q'.woken ≡ q.woken → lives q'.state ≡ true → StateIs (scopes_of tree) w lay q'.state (numbered img.states p) → ((k : ℕ) → k ≢ p → LeavesAlone (scopes_of tree) w (started_world w p q' made new) lay (started_layout w lay) k) →
         ArraysAre (scopes_of tree) (started_world w p q' made new) (started_layout w lay) onward.rows → EventsAre (scopes_of tree) (started_world w p q' made new) (started_layout w lay) onward.events →
         Living tree code texts (started_world w p q' made new) (started_layout w lay) (with_process onward r words) p q' →
         Living tree code texts (started_world w p q' made new) (started_layout w lay) (with_process onward r words) (length w.processes + 1) new →
         PicturesBy tree code texts (started_world w p q' made new) (started_layout w lay) (with_process onward r words)
-    starts_by able_is alive state_is alone arrays events starter begun =
+    starts_by able_is fresh list number_same alive state_is alone arrays events starter begun =
         record {
           laid = omega (arith, length-append lay.places (place (length w.processes + 1) 0 ∷ []), length-append w.instances (made ∷ []), by.laid);
           arrays = arrays;
           events = events;
+          waits = waits_started;
           output = gone.output;
           fault = gone.fault ∙ by.fault;
           started = omega (arith, gone.started, by.started, as_many, length-append (set_numbered w.processes p q') (new ∷ []));
@@ -112,6 +131,53 @@ module _ (tree : PProgram) (code : Code) (texts : Texts) (w : World) (lay : Layo
           each = λ k o e. by_number k o e (same_or_not k (length w.processes + 1)) (same_or_not k p);
         }
       where
+        last : ℕ
+        last = length w.processes + 1
+
+        -- who is not the new one
+        as_then : (k : ℕ) → k ≢ last → numbered w'.processes k ≡ numbered (set_numbered w.processes p q') k
+        as_then k old = numbered_else (set_numbered w.processes p q') new k (λ (e : k ≡ length (set_numbered w.processes p q') + 1). old (omega (arith, e, as_many)))
+
+        same_by : (k : ℕ) (now before : Process) → process_at w' k ≡ now → process_at w k ≡ before → list_in now.state ≡ list_in before.state → now.woken ≡ before.woken → (list_in ((process_at w' k).state) ≡ list_in ((process_at w k).state)) × ((process_at w' k).woken ≡ (process_at w k).woken)
+        same_by k now before is was lists_so number_so = (
+          ap (λ (x : Process). list_in x.state) is ∙ lists_so ∙ ap (λ (x : Process). list_in x.state) (sym was),
+          ap (λ (x : Process). x.woken) is ∙ number_so ∙ ap (λ (x : Process). x.woken) (sym was),
+        )
+
+        same_waits : (k : ℕ) → (k ≡ last) ⊎ (k ≢ last) → (list_in ((process_at w' k).state) ≡ list_in ((process_at w k).state)) × ((process_at w' k).woken ≡ (process_at w k).woken)
+        same_waits k (inl newest) =
+            same_by k new no_process (ap or_no_process (numbered_last (set_numbered w.processes p q') new k (omega (arith, newest, as_many)))) (ap or_no_process (past_end w.processes k newest)) (ap list_in able_is) fresh
+        same_waits k (inr old) = by_starter (same_or_not k p)
+          where
+            by_starter : (k ≡ p) ⊎ (k ≢ p) → (list_in ((process_at w' k).state) ≡ list_in ((process_at w k).state)) × ((process_at w' k).woken ≡ (process_at w k).woken)
+            by_starter (inl mine) =
+                same_by k q' q (ap or_no_process (as_then k old ∙ ap (λ (n : ℕ). numbered (set_numbered w.processes p q') n) mine ∙ numbered_set w.processes p q q' at))
+                (ap or_no_process (ap (λ (n : ℕ). numbered w.processes n) mine ∙ at)) list number_same
+            by_starter (inr other) =
+                same_by k (process_at w k) (process_at w k) (ap or_no_process (as_then k old ∙ numbered_other w.processes p k q' (λ (e : p ≡ k). other (sym e)))) refl refl refl
+
+        same_number : (k : ℕ) → (k ≡ last) ⊎ (k ≢ last) → woken_number (onward.numbers ++ 0 ∷ []) k ≡ woken_number img.numbers k
+        same_number k (inl newest) =
+            number_is (onward.numbers ++ 0 ∷ []) k 0 (numbered_last onward.numbers 0 k (omega (arith, newest, ap length gone.numbers, by.waits.numbers)))
+            ∙ sym (no_number img.numbers k (past_end img.numbers k (omega (arith, newest, by.waits.numbers))))
+        same_number k (inr old) =
+            number_by (onward.numbers ++ 0 ∷ []) onward.numbers k (numbered_else onward.numbers 0 k (λ (e : k ≡ length onward.numbers + 1). old (omega (arith, e, ap length gone.numbers, by.waits.numbers))))
+            ∙ ap (λ (ns : List ℕ). woken_number ns k) gone.numbers
+
+        awaiting_started : AreAwaiting img'
+        awaiting_started =
+            awaiting_beside img img' by.waits.awaiting last
+            (λ there listed.
+            absurd (subst (λ (o : Option ProcessState). AwaitsAt o (list_of last img.lists) there) (past_end img.states last (omega (arith, by.states)))
+            (by.waits.awaiting last there (subst (λ (es : List Event). IsListed (waiters_at there es) last) gone.events listed))))
+            (λ k there old listed. subst (λ (es : List Event). IsListed (waiters_at there es) k) gone.events listed) same_state (λ k old. ap (λ (ls : List (List MachinePlace)). list_of k ls) gone.lists)
+
+        waits_started : WaitsAre (scopes_of tree) w' lay' img'
+        waits_started =
+            waits_kept (scopes_of tree) w w' lay lay' (events_before w w' (λ i x e. numbered_before w.instances (made ∷ []) i x e)) (λ i f e. numbered_before lay.places (place (length w.processes + 1) 0 ∷ []) i f e) img img' by.waits
+            (omega (arith, length-append onward.numbers (0 ∷ []), ap length gone.numbers, by.waits.numbers, as_many, length-append (set_numbered w.processes p q') (new ∷ []))) (λ k. same_waits k (same_or_not k last)) gone.lists
+            (λ k. same_number k (same_or_not k last)) awaiting_started
+
         old_p : p ≢ length w.processes + 1
         old_p same = let low : p ≤ length w.processes = numbered_low w.processes p q at in omega (arith, same, low)
 

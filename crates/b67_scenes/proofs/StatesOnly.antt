@@ -1,4 +1,4 @@
--- A world in which only the state of a process is another one, in which it lives as well: it leaves all processes alone.
+-- A world in which only the state and the woken number of a process are others, and it lives as well: it leaves all processes alone.
 use Rattle.std.proofs.Common.{◌≡◌, ◌≢◌, ◌⊎◌, inl, inr, refl, sym, ap, ◌∙◌, subst, ℕ, zero, suc, List, [], ◌∷◌, Some, None, Bool, true, false}
 use Rattle.std.specs.Prelude.{◌&&◌, ◌||◌, slice_get, slice_set, map}
 use Rattle.b67_list.specs.Numbered.{numbered, set_numbered}
@@ -22,9 +22,9 @@ map_set f [] k x y is same = refl
 map_set f (z ∷ zs) zero x y is same = ap (λ b. b ∷ map f zs) (same ∙ ap f (sym (some_same is)))
 map_set f (z ∷ zs) (suc k) x y is same = ap (λ bs. f z ∷ bs) (map_set f zs k x y is same)
 
-module _ (w : World) (m : ℕ) (o : Process) (at : numbered w.processes m ≡ Some o) (state : State) (alive : lives o.state ≡ true) (stays : lives state ≡ true) where
+module _ (w : World) (m : ℕ) (o : Process) (at : numbered w.processes m ≡ Some o) (state : State) (woken : ℕ) (alive : lives o.state ≡ true) (stays : lives state ≡ true) where
   abbrev o' : Process
-  o' = record o { state = state }
+  o' = record o { state = state; woken = woken }
 
   abbrev w' : World
   w' = with_process w m o'
@@ -108,7 +108,7 @@ module _ (w : World) (m : ℕ) (o : Process) (at : numbered w.processes m ≡ So
           tasks = λ k q r is task. let o : WasThere k q = was_there k q is in l.tasks k o.before r o.is (o.task ∙ task);
         }
 
-    pub alone_still : (r : ℕ) → LeavesAlone sc w (with_process w m (record o { state = state })) lay lay r
+    pub alone_still : (r : ℕ) → LeavesAlone sc w (with_process w m (record o { state = state; woken = woken })) lay lay r
     alone_still r =
         record {
           laid = laid;

@@ -32,6 +32,7 @@ use Rattle.b67_frames.proofs.Facts.{HasFacts}
 use Rattle.b67_frames.proofs.Knowing.{KeepsArrays}
 use Rattle.b67_frames.proofs.Lying.{StayBelow}
 use Rattle.b67_scenes.specs.Pictures.{innermost_most, Living, Pictured, living, dead, PicturesBy}
+use Rattle.b67_scenes.specs.Waiting.{WaitsAre}
 use Rattle.b67_scenes.specs.Reaches.{ReachesFor}
 use Rattle.b67_scenes.proofs.Kept.{LeavesAlone, reach_alone, alike_but, pictured_alike}
 use Rattle.b67_scenes.proofs.Stage.{process_is, comes_by}
@@ -216,9 +217,9 @@ module _ (tree : PProgram) (code : Code) (texts : Texts) (w : World) (lay : Layo
 
       -- so the image pictures the world after it, where it pictures the process that stores
       pub stored_pictured : (by : PicturesBy tree code texts w lay img) (q : Process) → numbered w.processes a ≡ Some q → ArraysAre (scopes_of tree) (with_process (stored_world w i x at with_cells) a q') lay img'.rows →
-          EventsAre (scopes_of tree) (with_process (stored_world w i x at with_cells) a q') lay img'.events → img'.output ≡ w.output →
+          EventsAre (scopes_of tree) (with_process (stored_world w i x at with_cells) a q') lay img'.events → WaitsAre (scopes_of tree) (with_process (stored_world w i x at with_cells) a q') lay img' → img'.output ≡ w.output →
           img'.fault ≡ img.fault → img'.started ≡ img.started → length img'.states ≡ length img.states → stack_at img'.stacks 0 ≡ stack_at img.stacks 0 → Pictured tree code texts (with_process (stored_world w i x at with_cells) a q') lay img' a q' →
           PicturesBy tree code texts (with_process (stored_world w i x at with_cells) a q') lay img'
-      stored_pictured by q at_a arrays events output fault started many_states system own =
-          comes_by tree code texts w lay img by a q at_a after lay img' q' refl (by.laid ∙ sym (length_set_numbered w.instances i (changed w i x at with_cells))) arrays events output refl fault started many_states system
+      stored_pictured by q at_a arrays events waits output fault started many_states system own =
+          comes_by tree code texts w lay img by a q at_a after lay img' q' refl (by.laid ∙ sym (length_set_numbered w.instances i (changed w i x at with_cells))) arrays events waits output refl fault started many_states system
           others_stored own

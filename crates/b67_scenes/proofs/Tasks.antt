@@ -7,10 +7,10 @@ use Rattle.algol_tree.specs.Scopes.{Scopes}
 use Rattle.algol_tree.specs.Sorts.{same_name}
 use Rattle.algol_meaning.specs.Value.{Reference, event}
 use Rattle.b67_deeds.specs.Events.{EventState}
-use Rattle.algol_meaning.specs.World.{State, able, waits_for, procures, ended, NamedCell, Instance, World, instance_at, or_no_instance, cell_in}
+use Rattle.algol_meaning.specs.World.{State, able, waits_for, waits_any, procures, ended, NamedCell, Instance, World, instance_at, or_no_instance, cell_in}
 use Rattle.b67_word.specs.declared.Place.{Place}
 use Rattle.b67_table.specs.declared.ProcessState.{ProcessState}
-use Rattle.b67_table.specs.declared.ProcessState.TheVariants.{Able, WaitsFor, Procures, Ended}
+use Rattle.b67_table.specs.declared.ProcessState.TheVariants.{Able, WaitsFor, WaitsAny, Procures, Ended}
 use Rattle.b67_table.specs.Chains.{place}
 use Rattle.b67_templates.specs.Cells.{made_of, made_from, made_base}
 use Rattle.b67_rows.proofs.Numbers.{same_or_not}
@@ -40,7 +40,7 @@ critical_stays lay lay' places None at none = none
 critical_stays lay lay' places (Some c) at told = (told.0, told.1, places c told.0 told.2)
 
 module _ (sc : Scopes) (w w' : World) (lay lay' : Layout) (events : EventsStay w w') (places : PlacesStay lay lay') where
-  event_stays : (r : Reference) (at : Place) → IsEventAt sc w lay r at → IsEventAt sc w' lay' r at
+  pub event_stays : (r : Reference) (at : Place) → IsEventAt sc w lay r at → IsEventAt sc w' lay' r at
   event_stays r at h =
       let later = events r.instance r.name h.made.cell h.made.is in
       record {
@@ -62,10 +62,12 @@ module _ (sc : Scopes) (w w' : World) (lay lay' : Layout) (events : EventsStay w
   pub state_stays : (x : State) (o : Option ProcessState) → StateIs sc w lay x o → StateIs sc w' lay' x o
   state_stays able (Some Able) is = is
   state_stays (waits_for r) (Some (WaitsFor at)) is = event_stays r at is
+  state_stays (waits_any rs) (Some WaitsAny) is = is
   state_stays (procures r) (Some (Procures at)) is = event_stays r at is
   state_stays ended (Some Ended) is = is
   state_stays able _ is = absurd is
   state_stays (waits_for r) _ is = absurd is
+  state_stays (waits_any rs) _ is = absurd is
   state_stays (procures r) _ is = absurd is
   state_stays ended _ is = absurd is
 

@@ -1,18 +1,16 @@
--- What the operators reach that tell an event, act on one or make one.
-use Rattle.std.proofs.Common.{◌≡◌, ◌⊎◌, inl, inr, refl, sym, ap, ◌∙◌, subst, ℕ, ◌+◌, ◌<◌, List, [], ◌∷◌, ◌++◌, length, Option, Some, arith, lit<}
-use Rattle.std.specs.Prelude.{slice_get, reverse}
+-- What the operators reach that do something with events, or make one.
+use Rattle.std.proofs.Common.{◌≡◌, ◌⊎◌, inl, inr, refl, sym, ap, ◌∙◌, subst, ℕ, ◌+◌, List, [], ◌∷◌, ◌++◌, length, Option, Some, arith, lit<}
+use Rattle.std.specs.Prelude.{slice_get, reverse, map}
 use Rattle.algol_tree.specs.declared.tree.Named.{Named}
 use Rattle.algol_tree.specs.Plain.{PProgram}
 use Rattle.algol_tree.specs.Scopes.{Scopes, scopes_of}
 use Rattle.algol_meaning.specs.Asks.{Ask, event_deed, makes_event, ask}
-use Rattle.algol_meaning.specs.World.{Part, Process, World, followed}
+use Rattle.algol_meaning.specs.World.{Part, Process, World}
 use Rattle.b67_deeds.specs.Deeds.{EventDeed}
-use Rattle.b67_word.specs.declared.Place.{Place}
 use Rattle.b67_word.specs.Word.{Word}
 use Rattle.b67_control.specs.declared.Registers.{Registers}
 use Rattle.b67_control.specs.declared.Sirw.{Sirw}
 use Rattle.b67_control.specs.Control.{as_irw, as_sirw, event_word}
-use Rattle.b67_control.specs.Display.{place_at}
 use Rattle.b67_ops.specs.declared.Operator.TheVariants as ops
 use Rattle.b67_ops.specs.declared.PlainKind.TheVariants as kinds
 use Rattle.b67_ops.specs.declared.intrinsic.Intrinsic.{Intrinsic}
@@ -24,72 +22,104 @@ use Rattle.b67_table.specs.declared.Cell.{Cell}
 use Rattle.b67_table.specs.Beginning.{intrinsic_pcw}
 use Rattle.b67_table.specs.Chains.{place}
 use Rattle.b67_table.specs.Image.{Image}
+use Rattle.b67_table.specs.PrivateRows as rows
 use Rattle.b67_table.specs.Private.{frame}
 use Rattle.b67_table.specs.References.{cell_place, sirw_cell, cell_of}
 use Rattle.b67_templates.specs.Programs.{Texts}
 use Rattle.b67_ops.specs.Intrinsics.{intrinsic_of}
-use Rattle.b67_standing.specs.Stepping.{Slot, reference, intrinsic, mark}
-use Rattle.b67_standing.specs.Standing.{ActionAt, ActsAt}
+use Rattle.b67_ops.specs.declared.Couple.{Couple}
+use Rattle.b67_standing.specs.Stepping.{Slot, intrinsic, mark}
+use Rattle.b67_standing.specs.Standing.{ActionAt}
 use Rattle.b67_cores.specs.Cores.{Core}
-use Rattle.b67_cores.specs.Slots.{newest}
+use Rattle.b67_cores.specs.Slots.{newest, SlotsAre}
 use Rattle.b67_cores.proofs.Moving.{slots_length}
 use Rattle.b67_faithful.proofs.Contradictions.{some_same, none_some}
 use Rattle.b67_templates.specs.Nested.{AreNested}
-use Rattle.b67_rows.proofs.AskedElements.{array_asked}
+use Rattle.b67_rows.proofs.AskedElements.{IsAsked}
 use Rattle.b67_rows.proofs.Rows.{words_are}
 use Rattle.b67_rows.proofs.Slotted.{Top, top_slot}
-use Rattle.b67_rows.proofs.Touching.{NearCell, system_cell, NamesNear}
+use Rattle.b67_rows.proofs.Touching.{NearCell, system_cell}
 use Rattle.b67_rows.proofs.TouchingNames.{one_word, one_cell, entry_names_above}
 use Rattle.b67_rows.proofs.TouchingOperators.{StandsNear}
 use Rattle.b67_rows.proofs.Words.{event_refers_nothing, reference_read}
-use Rattle.b67_frames.specs.Arrays.{Layout, named_from}
+use Rattle.b67_frames.specs.Arrays.{Layout}
 use Rattle.b67_frames.proofs.EventRows.{FindsEvent, directly, by_reference}
 use Rattle.b67_frames.proofs.TouchingCalls.{above_others, call_names, lies_there, no_further, under_top}
 use Rattle.b67_frames.proofs.TouchingWords.{numbers_small}
-use Rattle.b67_scenes.proofs.EventHomes.{IsNearWay, cell_there, EventHome, event_home}
+use Rattle.b67_frames.proofs.SeveralRows.{AreFound}
+use Rattle.b67_scenes.proofs.EventHomes.{IsNearWay}
 use Rattle.b67_scenes.proofs.Scene.{Scene}
 use Rattle.b67_scenes.proofs.Staying.{text_in, level_in, context_in, most_in}
 use Rattle.b67_scenes.proofs.TouchingScene.{by_names}
+use Rattle.b67_scenes.proofs.SeveralHomes.{AreNearWays, Referred, referred, OnSeveral, on_several}
+use Rattle.b67_footprints.proofs.Lists.{Each, each_map, each_turned}
 
--- ---- the cells to which the reference of an event leads
+-- ---- the cells to which the references of events lead
 
--- a property of these cells, if the words above the mark and the intrinsic are all this reference
-module _ (p : ℕ) (img : Image) (r : Registers) (word : Word) (only : (n : ℕ) (u : Word) → r.f + 1 < n → word_at img.stacks (place r.stack n) ≡ Some u → u ≡ word)
-    (w : Word) (lies : word_at img.stacks (place r.stack (r.f + 1)) ≡ Some w) (name : Intrinsic) (reads : as_irw w ≡ Some (record { level = 0; index = number_of name }))
-    (near : NearCell p img (record { frame = place 0 0; index = number_of name })) (there : word_at img.stacks (place 0 (0 + number_of name)) ≡ Some (intrinsic_pcw (number_of name)))
-    (shown : place_at r.display 0 ≡ Some (place 0 0)) where
-  module _ (c : Cell) where
-    named : (A : Cell → Type 0) → ((d : Cell) → cell_of r word ≡ Some d → A d) → ((b : Cell) (v : Word) (s : Sirw) → A b → word_at img.stacks (cell_place b) ≡ Some v → as_sirw v ≡ Some s → A (sirw_cell s)) →
-        ((d : Cell) → A d → NearCell p img d) → NamesNear p img (ops.Plain kinds.Entr) r
-    named A first further near_above =
-        entry_names_above p img r w lies (record { level = 0; index = number_of name }) reads (place 0 0) shown near (intrinsic_pcw (number_of name)) there (no_further name) A
-        (λ n u d after above e. first d (ap (cell_of r) (sym (only n u after above)) ∙ e)) further near_above
+-- it is one of these words
+abbrev IsOneWord : List Word → Word → Type 0
+IsOneWord [] u = ⊥
+IsOneWord (w ∷ ws) u = (w ≡ u) ⊎ IsOneWord ws u
 
-    -- the cell of a parameter, or that of the event
-    abbrev IsOnWay : Place → ℕ → Cell → Type 0
-    IsOnWay at index d = (d ≡ record { frame = at; index = index }) ⊎ (d ≡ c)
+each_one : (ws : List Word) → Each (IsOneWord ws) ws
+each_one [] = tt
+each_one (w ∷ ws) = (inl refl, each_map (IsOneWord ws) (IsOneWord (w ∷ ws)) (λ u one. inr one) ws (each_one ws))
 
-    -- the word of the event leads no further
-    ends : (v : Word) (s : Sirw) → word_at img.stacks (cell_place c) ≡ Some (event_word (record {})) → word_at img.stacks (cell_place c) ≡ Some v → as_sirw v ≡ Some s → ⊥
-    ends v s e f is = none_some (sym event_refers_nothing ∙ ap as_sirw (one_word p img r (cell_place c) (event_word (record {})) v e f) ∙ is)
+module _ (p : ℕ) (img : Image) (r : Registers) where
+  -- the cell of a parameter, or that of the event
+  abbrev IsOnWay : {word : Word} {c : Cell} → FindsEvent img p r word c → Cell → Type 0
+  IsOnWay {word} {c} (directly level names shows event_lies) d = d ≡ c
+  IsOnWay {word} {c} (by_reference level index at first names shows lies_first refers event_lies) d = (d ≡ record { frame = at; index = index }) ⊎ (d ≡ c)
 
-    pub event_names : (way : FindsEvent img p r word c) → IsNearWay p img r way → NamesNear p img (ops.Plain kinds.Entr) r
-    event_names (directly level names shows event_lies) near =
-        named (λ (d : Cell). d ≡ c) (λ d e. one_cell p img r word (record { level = level; index = c.index }) c.frame names shows d e)
-        (λ b v s same at is. absurd (ends v s event_lies (subst (λ (d : Cell). word_at img.stacks (cell_place d) ≡ Some v) same at) is))
-        (λ d same. subst (NearCell p img) (sym same) near)
-    event_names (by_reference level index at first names shows lies_first refers event_lies) near =
-        named (IsOnWay at index) (λ d e. inl (one_cell p img r word (record { level = level; index = index }) at names shows d e)) on_way way_near
-      where
-        on_way : (b : Cell) (v : Word) (s : Sirw) → IsOnWay at index b → word_at img.stacks (cell_place b) ≡ Some v → as_sirw v ≡ Some s → IsOnWay at index (sirw_cell s)
-        on_way b v s (inl same) lies_there is =
-            let first_is : first ≡ v = one_word p img r (place at.stack (at.at + index)) first v lies_first (subst (λ (d : Cell). word_at img.stacks (cell_place d) ≡ Some v) same lies_there) in
-            inr (ap sirw_cell (some_same (sym is ∙ ap as_sirw (sym first_is) ∙ refers)))
-        on_way b v s (inr same) lies_there is = absurd (ends v s event_lies (subst (λ (d : Cell). word_at img.stacks (cell_place d) ≡ Some v) same lies_there) is)
+  -- the word of the event leads no further
+  ends : (c : Cell) (v : Word) (s : Sirw) → word_at img.stacks (cell_place c) ≡ Some (event_word (record {})) → word_at img.stacks (cell_place c) ≡ Some v → as_sirw v ≡ Some s → ⊥
+  ends c v s e f is = none_some (sym event_refers_nothing ∙ ap as_sirw (one_word p img r (cell_place c) (event_word (record {})) v e f) ∙ is)
 
-        way_near : (d : Cell) → IsOnWay at index d → NearCell p img d
-        way_near d (inl same) = subst (NearCell p img) (sym same) near.0
-        way_near d (inr same) = subst (NearCell p img) (sym same) near.1
+  first_way : (word : Word) (c : Cell) (way : FindsEvent img p r word c) (d : Cell) → cell_of r word ≡ Some d → IsOnWay way d
+  first_way word c (directly level names shows event_lies) d e = one_cell p img r word (record { level = level; index = c.index }) c.frame names shows d e
+  first_way word c (by_reference level index at first names shows lies_first refers event_lies) d e = inl (one_cell p img r word (record { level = level; index = index }) at names shows d e)
+
+  further_way : (word : Word) (c : Cell) (way : FindsEvent img p r word c) (b : Cell) (v : Word) (s : Sirw) → IsOnWay way b → word_at img.stacks (cell_place b) ≡ Some v → as_sirw v ≡ Some s → IsOnWay way (sirw_cell s)
+  further_way word c (directly level names shows event_lies) b v s same at is =
+      absurd (ends c v s event_lies (subst (λ (d : Cell). word_at img.stacks (cell_place d) ≡ Some v) same at) is)
+  further_way word c (by_reference level index at first names shows lies_first refers event_lies) b v s (inl same) lies_there is =
+      let first_is : first ≡ v = one_word p img r (place at.stack (at.at + index)) first v lies_first (subst (λ (d : Cell). word_at img.stacks (cell_place d) ≡ Some v) same lies_there) in
+      inr (ap sirw_cell (some_same (sym is ∙ ap as_sirw (sym first_is) ∙ refers)))
+  further_way word c (by_reference level index at first names shows lies_first refers event_lies) b v s (inr same) lies_there is =
+      absurd (ends c v s event_lies (subst (λ (d : Cell). word_at img.stacks (cell_place d) ≡ Some v) same lies_there) is)
+
+  near_way : (word : Word) (c : Cell) (way : FindsEvent img p r word c) → IsNearWay p img r way → (d : Cell) → IsOnWay way d → NearCell p img d
+  near_way word c (directly level names shows event_lies) near d same = subst (NearCell p img) (sym same) near
+  near_way word c (by_reference level index at first names shows lies_first refers event_lies) near d (inl same) = subst (NearCell p img) (sym same) near.0
+  near_way word c (by_reference level index at first names shows lies_first refers event_lies) near d (inr same) = subst (NearCell p img) (sym same) near.1
+
+  -- .. of one of these events
+  abbrev IsOnWays : (ws : List Word) (cs : List Cell) → AreFound img p r ws cs → Cell → Type 0
+  IsOnWays [] [] found d = ⊥
+  IsOnWays [] (c ∷ cs) found d = ⊥
+  IsOnWays (w ∷ ws) [] found d = ⊥
+  IsOnWays (w ∷ ws) (c ∷ cs) found d = IsOnWay found.0 d ⊎ IsOnWays ws cs found.2 d
+
+  first_ways : (ws : List Word) (cs : List Cell) (found : AreFound img p r ws cs) (u : Word) (d : Cell) → IsOneWord ws u → cell_of r u ≡ Some d → IsOnWays ws cs found d
+  first_ways [] [] found u d one e = one
+  first_ways [] (c ∷ cs) found u d one e = one
+  first_ways (w ∷ ws) [] found u d one e = found
+  first_ways (w ∷ ws) (c ∷ cs) found u d (inl same) e = inl (first_way w c found.0 d (ap (cell_of r) same ∙ e))
+  first_ways (w ∷ ws) (c ∷ cs) found u d (inr one) e = inr (first_ways ws cs found.2 u d one e)
+
+  further_ways : (ws : List Word) (cs : List Cell) (found : AreFound img p r ws cs) (b : Cell) (v : Word) (s : Sirw) → IsOnWays ws cs found b → word_at img.stacks (cell_place b) ≡ Some v → as_sirw v ≡ Some s → IsOnWays ws cs found (sirw_cell s)
+  further_ways [] [] found b v s on at is = on
+  further_ways [] (c ∷ cs) found b v s on at is = on
+  further_ways (w ∷ ws) [] found b v s on at is = on
+  further_ways (w ∷ ws) (c ∷ cs) found b v s (inl on) at is = inl (further_way w c found.0 b v s on at is)
+  further_ways (w ∷ ws) (c ∷ cs) found b v s (inr on) at is = inr (further_ways ws cs found.2 b v s on at is)
+
+  near_ways : (ws : List Word) (cs : List Cell) (found : AreFound img p r ws cs) → AreNearWays p img r ws cs found → (d : Cell) → IsOnWays ws cs found d → NearCell p img d
+  near_ways [] [] found near d on = absurd on
+  near_ways [] (c ∷ cs) found near d on = absurd on
+  near_ways (w ∷ ws) [] found near d on = absurd on
+  near_ways (w ∷ ws) (c ∷ cs) found near d (inl on) = near_way w c found.0 near.0 d on
+  near_ways (w ∷ ws) (c ∷ cs) found near d (inr on) = near_ways ws cs found.2 near.1 d on
 
 -- ---- where a process stands at it
 
@@ -110,35 +140,32 @@ module _ (tree : PProgram) (code : Code) (texts : Texts) (nested : AreNested (sc
   abbrev At : Ask → Type 0
   At k = ActionAt sc (context_in tree code texts w part s.stands.frame.gives) (text_in tree texts w part) level (most_in tree w part) k s.stands.pc s.stands.slots
 
-  -- an intrinsic with the reference of an event
-  module _ (name : Intrinsic) (n : Named) (asks : array_asked (ask part.rest) ≡ Some n) (next : ℕ) (below : List Slot)
-      (found : ActsAt sc (context_in tree code texts w part s.stands.frame.gives) (text_in tree texts w part) level (most_in tree w part) name n s.stands.pc next s.stands.slots below) where
-    pub acting_near : StandsNear code p img core.registers
-    acting_near =
-        let h : EventHome tree code texts nested w lay img p q part outer bound core s (followed w (named_from sc w lay part.instance n)) found.couple =
-        event_home tree code texts nested w lay img p q part outer bound core s n found.couple asks found.is_event in
-        let t : Top sc s.stands.held level home base (reference found.couple) (intrinsic name ∷ mark ∷ below) core.words =
-        top_slot sc s.stands.held level home base s.stands.slots (reference found.couple) (intrinsic name ∷ mark ∷ below) core.words s.stands.there.words_are found.lies in
-        let i : Top sc s.stands.held level home base (intrinsic name) (mark ∷ below) t.words_below =
-        top_slot sc s.stands.held level home base (intrinsic name ∷ mark ∷ below) (intrinsic name) (mark ∷ below) t.words_below t.are refl in
-        let f : core.registers.f ≡ base + length below = s.stands.there.mark_is ∙ ap (newest home base) found.lies in
-        let many : length i.words_below ≡ length (mark ∷ below) = slots_length sc s.stands.held level home base (mark ∷ below) i.words_below i.are in
-        let whole : core.words ≡ (t.word ∷ []) ++ i.word ∷ i.words_below = t.is ∙ ap (λ (ws : List Word). t.word ∷ ws) i.is in
-        by_names tree code texts nested w lay img p q part outer bound core s (ops.Plain kinds.Entr) next found.stands
-        (event_names p img core.registers t.word
-        (λ k u after lies.
-        above_others (λ (x : Word). x ≡ t.word) core.below (t.word ∷ []) (i.word ∷ i.words_below) (refl, tt) k u (omega (arith, f, many, after))
-        (ap (λ (ws : List Word). slice_get ws k) (sym (words_are img p core s.has ∙ ap (λ (ws : List Word). core.below ++ reverse ws) whole)) ∙ lies))
-        i.word (under_top img p core s.has (t.word ∷ []) i.word i.words_below whole (core.registers.f + 1) (omega (arith, f, many))) name
-        (ap as_irw i.slot_is ∙ reference_read (couple_of_intrinsic name) (lit< tt) (numbers_small name)) (system_cell p img (record { frame = place 0 0; index = number_of name }) refl)
-        (ap (λ (o : Option (List Word)). slice_get (words_or o) (0 + number_of name)) s.by.system ∙ lies_there name) s.sees
-        (cell_there tree code texts nested w lay img p q part outer bound core s h.lies h.number)
-        (h.reaches t.word (ap as_irw t.slot_is ∙ reference_read found.couple h.fits.0 h.fits.1)) (h.near t.word (ap as_irw t.slot_is ∙ reference_read found.couple h.fits.0 h.fits.1)))
-
+  -- an intrinsic with the references of events
   pub deed_near : (x : EventDeed) (ns : List Named) → ask part.rest ≡ event_deed x ns → At (event_deed x ns) → StandsNear code p img core.registers
-  deed_near x [] asks a = absurd a.2
-  deed_near x (n ∷ []) asks a = acting_near (intrinsic_of x) n (ap array_asked asks) a.0 a.1 a.2
-  deed_near x (n ∷ m ∷ ns) asks a = absurd a.2
+  deed_near x ns asks a =
+      let name : Intrinsic = intrinsic_of x in
+      let cs : List Couple = a.2.couples in
+      let words : List Word = map rows.reference cs in
+      let on : OnSeveral tree code texts nested w lay img p q part outer bound core s ns cs =
+      on_several tree code texts nested w lay img p q part outer bound core s ns cs (λ n is. subst (λ (k : Ask). IsAsked k n) (sym asks) is) a.2.are_events in
+      let g : Referred sc s.stands.held level home base cs (intrinsic name ∷ mark ∷ a.1) core.words =
+      referred sc s.stands.held level home base cs (intrinsic name ∷ mark ∷ a.1) core.words (subst (λ (l : List Slot). SlotsAre sc s.stands.held level home base l core.words) a.2.lies s.stands.there.words_are) in
+      let i : Top sc s.stands.held level home base (intrinsic name) (mark ∷ a.1) g.lying.others =
+      top_slot sc s.stands.held level home base (intrinsic name ∷ mark ∷ a.1) (intrinsic name) (mark ∷ a.1) g.lying.others g.lying.are refl in
+      let f : core.registers.f ≡ base + length a.1 = s.stands.there.mark_is ∙ ap (newest home base) a.2.lies ∙ g.lying.mark_is in
+      let many : length i.words_below ≡ length (mark ∷ a.1) = slots_length sc s.stands.held level home base (mark ∷ a.1) i.words_below i.are in
+      let whole : core.words ≡ g.lying.arguments ++ i.word ∷ i.words_below = g.lying.is ∙ ap (λ (ws : List Word). g.lying.arguments ++ ws) i.is in
+      by_names tree code texts nested w lay img p q part outer bound core s (ops.Plain kinds.Entr) a.0 a.2.stands
+      (entry_names_above p img core.registers i.word (under_top img p core s.has g.lying.arguments i.word i.words_below whole (core.registers.f + 1) (omega (arith, f, many)))
+      (record { level = 0; index = number_of name }) (ap as_irw i.slot_is ∙ reference_read (couple_of_intrinsic name) (lit< tt) (numbers_small name)) (place 0 0) s.sees
+      (system_cell p img (record { frame = place 0 0; index = number_of name }) refl) (intrinsic_pcw (number_of name))
+      (ap (λ (o : Option (List Word)). slice_get (words_or o) (0 + number_of name)) s.by.system ∙ lies_there name) (no_further name) (IsOnWays p img core.registers words on.cells on.reach)
+      (λ k u d after lies e.
+      first_ways p img core.registers words on.cells on.reach u d
+      (above_others (IsOneWord words) core.below g.lying.arguments (i.word ∷ i.words_below)
+      (subst (λ (ws : List Word). Each (IsOneWord words) ws) (sym g.words_are) (each_turned (IsOneWord words) words (each_one words))) k u (omega (arith, f, many, after))
+      (ap (λ (ws : List Word). slice_get ws k) (sym (words_are img p core s.has ∙ ap (λ (ws : List Word). core.below ++ reverse ws) whole)) ∙ lies)) e)
+      (further_ways p img core.registers words on.cells on.reach) (near_ways p img core.registers words on.cells on.reach on.near))
 
   pub event_made_near : (n : Named) → At (makes_event n) → StandsNear code p img core.registers
   event_made_near n a =

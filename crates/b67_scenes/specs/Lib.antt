@@ -1,4 +1,5 @@
 pub mod Pictures
 pub mod States
 pub mod Depending
+pub mod Waiting
 pub mod Reaches

@@ -21,6 +21,7 @@ use Rattle.b67_frames.specs.Frames.{most_around, Frames}
 use Rattle.b67_scenes.specs.Reaches.{ReachesFor}
 use Rattle.b67_scenes.specs.Depending.{CriticalIs, TaskIs}
 use Rattle.b67_scenes.specs.States.{StateIs}
+use Rattle.b67_scenes.specs.Waiting.{WaitsAre}
 
 -- the fault that ended a world, as one of an image
 abbrev pub failure_of : Option WorldFault → Option Failure
@@ -62,6 +63,7 @@ module _ (tree : PProgram) (code : Code) (texts : Texts) (w : World) (lay : Layo
     pub laid : length lay.places ≡ length w.instances
     pub arrays : ArraysAre (scopes_of tree) w lay img.rows
     pub events : EventsAre (scopes_of tree) w lay img.events
+    pub waits : WaitsAre (scopes_of tree) w lay img
     pub output : img.output ≡ w.output
     pub fault : img.fault ≡ failure_of w.fault
     pub started : img.started ≡ length w.processes
