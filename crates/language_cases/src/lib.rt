@@ -7,7 +7,7 @@
 //! the level of the declaration that it means and the couple of its cell, or an actual or a result that has a cell, with that
 //! couple. The last line has the levels of the blocks.
 //!
-//! In `runs.sheet` the input is a source, and the words of a case are its entries: `p*n` are n of process p, one after the other.
+//! In `runs.sheet` and `waits.sheet` the input is a source, and the words of a case are its entries: `p*n` are n of process p, one after the other.
 //! The answer has these lines: the letters of the entries, with `-` for one that is not able and `.` for one after the end;
 //! `OUTPUT n` and the n lines that are written; `END` and how the run ends, or `GOES ON`; and `LEGAL n`, how many entries are
 //! followed by the whole schedule.
