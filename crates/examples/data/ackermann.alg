@@ -1,5 +1,7 @@
 BEGIN
   % Ackermann's function. Its calls stand in one another's actuals.
+  % Look at CALLS, which all calls share, while M and N are each call's
+  % own.
   FILE LINE;
   INTEGER M, N, CALLS;
 

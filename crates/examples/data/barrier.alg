@@ -8,6 +8,8 @@ BEGIN
   % for itself until then, so that nobody comes for the next round. It
   % does not wait meanwhile: under lifo it is the next one always, and
   % the run has no end.
+  % Look at the rounds: no process begins one before all have ended the
+  % one before.
   FILE LINE;
   INTEGER HERE, PASSED, ROUND;
   EVENT COUNTING, PASSING, ALL;

@@ -1,4 +1,8 @@
 BEGIN
+  % A WHILE in a FOR. Each number is halved where it is even, else three
+  % times it and one more is taken, until it is 1.
+  % Look at the IF with two parts in the body, and at how the steps jump
+  % from one start to the next.
   FILE LINE(KIND=PRINTER);
   INTEGER START, NUMBER, STEPS, PEAK;
   WRITE(LINE, <"START", X2, "STEPS", X3, "PEAK">);

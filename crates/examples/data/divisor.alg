@@ -1,4 +1,8 @@
 BEGIN
+  % Euclid's algorithm: the greatest common divisor by remainders, a
+  % line for each of them.
+  % Look at ODD, a variable for a truth value, and at the IF in the last
+  % WRITE, which is an expression.
   FILE LINE(KIND=PRINTER);
   INTEGER A, B, REST;
   BOOLEAN ODD;

@@ -1,4 +1,7 @@
-% Two processes and an event: process 1 waits until process 2 has stored a number.
+% Two processes and an event: process 1 waits until process 2 has
+% stored a number.
+% Look at WAIT and CAUSE: process 1 is not able until process 2 has
+% caused the event.
 SEGMENT
   MKST
   NAMC 0,5              % EVENT

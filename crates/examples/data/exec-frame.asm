@@ -1,4 +1,7 @@
-% Two frames made by hand: a block's, which EXIT leaves, and a function's, which RETN leaves.
+% Two frames made by hand: a block's, which EXIT leaves, and a
+% function's, which RETN leaves.
+% Look at the two ways back: EXIT leaves nothing, RETN leaves a value
+% where the mark was.
 SEGMENT                 % segment 0: the outer block, at level 2
   ZERO                  % cell 2,2: a variable
   MPCW 002000018000     % cell 2,3: the function, in segment 2 from place 0 on, of level 3

@@ -1,4 +1,6 @@
 % A reference where a number has to stand: NAMC in place of VALC.
+% Look at the end: an interrupt is not counted, and says that the code
+% makes no sense.
 SEGMENT
   LT8 41                % cell 2,2
   PUSH

@@ -1,4 +1,7 @@
-% A call across levels. P and R are procedures of the outer block, Q is one of P. P calls Q, and Q calls R.
+% A call across levels. P and R are procedures of the outer block, Q
+% is one of P. P calls Q, and Q calls R.
+% Look at the couple 3,2: in Q it is P's parameter, and in R it is R's
+% own.
 SEGMENT                 % segment 0: the outer block, at level 2
   LT8 100               % cell 2,2: N
   MPCW 001000018000     % cell 2,3: P, in segment 1, of level 3

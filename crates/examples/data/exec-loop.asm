@@ -1,4 +1,6 @@
 % The greatest number that divides 1071 and 462, by remainders.
+% Look at the two labels: BRUN always goes back to the one, and BRTR
+% goes on to the other where B is 0.
 SEGMENT
   LT16 1071             % cell 2,2: A
   LT16 462              % cell 2,3: B

@@ -1,4 +1,6 @@
 % An array of five elements: a store and two loads.
+% Look at the numbers before INDX and NXLV: an index counts from 0,
+% whatever the bounds are.
 SEGMENT
   MKST
   NAMC 0,4              % ARRAYS

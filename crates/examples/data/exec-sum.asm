@@ -1,4 +1,6 @@
 % The sum of three numbers, on a line.
+% Look at the stack: numbers are pushed, and ADD takes two off and
+% leaves one.
 SEGMENT                 % segment 0: process 1 begins here, at level 2
   MKST                  % a mark for the call of WRITE
   NAMC 0,7              % WRITE is cell 7 of stack 0

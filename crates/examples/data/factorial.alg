@@ -1,6 +1,7 @@
 BEGIN
   % Factorials, as far as a word holds them, by a procedure that
   % calls itself.
+  % Look at the last line, 14 factorial: the next one would be a fault.
   FILE LINE;
   INTEGER K;
 

@@ -1,7 +1,12 @@
 BEGIN
+  % A reader of formulas, a procedure for each rule: a sum is made of
+  % products, a product of factors, and a factor may be a sum in
+  % brackets.
+  % Look at FORWARD: FACTOR calls SUM before SUM is declared. The
+  % COMMENT is the other form of a comment, and ends at its semicolon.
 COMMENT A NUMBER IS READ AS A FORMULA, FROM ITS FIRST DIGIT ON:
 5 IS PLUS, 6 IS TIMES, 7 AND 8 ARE BRACKETS, AND EACH OTHER
-DIGIT IS ITSELF. BEHIND THE LAST DIGIT STANDS A 9;
+DIGIT IS ITSELF. AFTER THE LAST DIGIT STANDS A 9;
 FILE LINE;
 INTEGER N,POWER,DIGIT;
 PROCEDURE NEXT;

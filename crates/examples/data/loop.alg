@@ -1,4 +1,8 @@
 BEGIN
+  % A FOR over a compound: the sum of the numbers from 1 to 100, and
+  % their product modulo 1009.
+  % Look at the line under ACTS: each turn makes ten actions, one of the
+  % test, six of the body, two of the step, and the Turn.
   FILE LINE(KIND=PRINTER);
   INTEGER TURN, SUM, PRODUCT;
   PRODUCT := 1;

@@ -2,6 +2,8 @@ BEGIN
   % Man or boy? A test by D. Knuth, 1964. Each call of A declares a B,
   % which is given by name to a further call, and takes one off the K
   % of that call of A in which it was declared.
+  % Look at the line for 10, which is -67: who takes K from another call
+  % has another number.
   FILE LINE;
   INTEGER N;
 

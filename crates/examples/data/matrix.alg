@@ -1,6 +1,7 @@
 BEGIN
   % The product of two matrices, whose rows and columns count from 1,
   % and its trace. A third array counts its subscripts from below 0.
+  % Look at the last WRITE: a subscript may be below 0.
   FILE LINE;
   ARRAY A, B, C[1:3, 1:3];
   ARRAY DIAGONAL[-1:1];

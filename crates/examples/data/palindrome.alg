@@ -1,4 +1,8 @@
 BEGIN
+  % A DO in a DO. A number is added to the number read backwards, until
+  % it is a palindrome.
+  % Look at where UNTIL stands: both bodies are done once before any
+  % test.
   FILE LINE(KIND=PRINTER);
   INTEGER NUMBER, REST, BACK;
   BACK := 79;

@@ -1,4 +1,8 @@
 BEGIN
+  % A THRU, which counts by itself. The powers of 8 are powers of 2, up
+  % to the greatest one that is a number.
+  % Look at the last line: the greatest number is made in such an order
+  % that no step of it is too large.
   FILE LINE(KIND=PRINTER);
   INTEGER POWER, EXPONENT;
   POWER := 1;

@@ -2,6 +2,8 @@ BEGIN
   % Six queens, none of which attacks another one. When the last one
   % stands, GO TO leaves all calls of PLACE at once, and the array of
   % each with it.
+  % Look at CALLS: the first place that is tried is seldom the right
+  % one.
   FILE LINE;
   INTEGER I, CALLS;
   INTEGER ARRAY COLUMN[1:6];

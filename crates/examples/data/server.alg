@@ -4,6 +4,7 @@ BEGIN
   % called, and while the server waits it stands in the queues of both
   % events. A client takes the line for itself by PROCURE, calls by
   % CAUSE, and waits for the answer.
+  % Look at the sums that are told: they depend on who called first.
   FILE LINE;
   INTEGER SUM, GIVEN, CALLS;
   EVENT ADDING, ASKING, ANSWERED, FREE;

@@ -1,6 +1,7 @@
 BEGIN
   % An array is filled by a linear congruence and sorted by insertion,
   % in a block of its own whose array has the bounds that N gives.
+  % Look at the inner block: N has a value before its array is made.
   FILE LINE;
   INTEGER N;
   N := 12;

@@ -2,6 +2,7 @@ BEGIN
   % A machine of five states that reads numbers from a row of marks:
   % a digit is itself, 10 a blank, 11 a minus sign, 12 the end. Each
   % state is a label; what is read says to which one it goes on.
+  % Look at ENDED: it leaves its procedure by GO TO.
   FILE LINE;
   INTEGER I, MARK, N, SIGN, BAD;
   INTEGER ARRAY TEXT[1:16];

@@ -3,7 +3,8 @@ BEGIN
   % clock is another, which counts its turns and then causes LATE. The
   % first waits for whichever comes first; what comes second finds
   % nobody waiting. Who is too slow depends on the dispatch rule, and on
-  % one processor the rule alone decides.
+  % one processor only the rule decides.
+  % Look at the lines, and at those under --rule=lifo.
   FILE LINE;
   TASK WORKING, CLOCK;
   EVENT DONE, LATE;

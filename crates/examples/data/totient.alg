@@ -1,4 +1,8 @@
 BEGIN
+  % Blocks in blocks. A variable that a block declares is made anew, as
+  % 0, each time the block is entered.
+  % Look at COUNT, which nobody sets to 0, and at REST, which lives for
+  % one turn of the innermost loop.
   FILE LINE(KIND=PRINTER);
   INTEGER NUMBER;
   WRITE(LINE, <"NUMBER", X2, "PRIME TO IT">);

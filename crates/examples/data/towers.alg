@@ -1,6 +1,7 @@
 BEGIN
   % The towers of Hanoi: each move of a disc is a line. TOWER and
   % SHIFT call one another, so FORWARD announces the second.
+  % Look at the order of the moves: a disc never lies on a smaller one.
   FILE LINE;
   INTEGER MOVES;
 

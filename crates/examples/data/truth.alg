@@ -1,4 +1,8 @@
 BEGIN
+  % The five operators of truth values, in a table of all cases, and a
+  % law that holds in each of them.
+  % Look at the FOR that counts down: P and Q are the two binary digits
+  % of ROW.
   FILE LINE(KIND=PRINTER);
   INTEGER ROW;
   BOOLEAN P, Q, LAW;

@@ -4,6 +4,7 @@ BEGIN
   % so that the process can do something else and try again. PROCURE
   % would wait. AVAILABLE tells whether the lock is free, and takes
   % nothing: by the time that it is acted on, the answer may be old.
+  % Look at SHARED: both have been at it, one after the other.
   FILE LINE;
   INTEGER SHARED, MEANWHILE;
   EVENT LOCK;

@@ -1,4 +1,8 @@
 BEGIN
+  % CASE chooses one of seven statements, which are numbered from 0: the
+  % weekday on which each year begins.
+  % Look at the rule of leap years, one expression of AND and OR. A
+  % comment may stand at the end of a line, too.
   FILE LINE(KIND=PRINTER);
   INTEGER YEAR, DAY; % 1961 BEGINS ON A SUNDAY, AND DAY IS 0
   BOOLEAN LEAP;
