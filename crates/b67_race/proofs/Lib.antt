@@ -1,0 +1,12 @@
+pub mod Entries
+pub mod Stable
+pub mod Tracking
+pub mod Keeping
+pub mod Rivals
+pub mod Watching
+pub mod Times
+pub mod Keys
+pub mod Walking
+pub mod Timed
+pub mod Noting
+pub mod Found

@@ -1,0 +1,73 @@
+-- Clocks of processes.
+use Rattle.std.proofs.Common.{arith, ◌≡◌, refl, ap, sym, ◌∙◌, ℕ, zero, suc, ◌+◌, ◌-◌, ◌<◌, ◌≤◌, ◌==◌, max, ◌||◌, Bool, true, false, List, [], ◌∷◌, ◌++◌, length, Option, Some, None, if◌then◌else◌, slice_get, slice_set}
+use Rattle.b67_list.specs.Numbered.{numbered}
+use Rattle.b67_race.specs.Entries.{is_one_of}
+use Rattle.b67_race.specs.Clocks.{process_clock}
+use Rattle.b67_race.specs.Times.{or_zero, time_of}
+use Rattle.b67_race.specs.Timed.{or_empty, time_in, joined_if}
+
+-- one clock more, which tells nothing
+pub time_push : (cs : List (List ℕ)) (p q : ℕ) → time_in (cs ++ [] ∷ []) p q ≡ time_in cs p q
+time_push [] zero q = refl
+time_push [] (suc k) q = refl
+time_push (c ∷ cs) zero q = refl
+time_push (c ∷ cs) (suc k) q = time_push cs k q
+
+-- another clock in its place
+pub time_set : (cs : List (List ℕ)) (n : ℕ) (c : List ℕ) → n < length cs → (p q : ℕ) → time_in (slice_set cs n c) p q ≡ (if n == p then time_of c q else time_in cs p q)
+time_set [] n c l p q = absurd (omega (arith, l))
+time_set (d ∷ cs) zero c l zero q = refl
+time_set (d ∷ cs) zero c l (suc k) q =
+    let e : (zero == suc k) ≡ false = grind arith in ap (λ (b : Bool). if b then time_of c q else time_in cs k q) (sym e)
+time_set (d ∷ cs) (suc n) c l zero q =
+    let e : (suc n == zero) ≡ false = grind arith in ap (λ (b : Bool). if b then time_of c q else time_of d q) (sym e)
+time_set (d ∷ cs) (suc n) c l (suc k) q =
+    let e : (n == k) ≡ (suc n == suc k) = grind arith in
+    time_set cs n c (omega (arith, l)) k q ∙ ap (λ (b : Bool). if b then time_of c q else time_in cs k q) e
+
+-- a clock that is joined
+pub time_joined : (before after : List (List ℕ)) (process : ℕ) (copy clock own : List ℕ) → ((q : ℕ) → time_of copy q ≡ time_in before process q)
+    → ((q : ℕ) → time_of clock q ≡ max (time_of copy q) (time_of own q))
+    → ((p q : ℕ) → time_in after p q ≡ (if process == p then time_of clock q else time_in before p q)) → (p q : ℕ)
+    → time_in after p q ≡ (if process == p then max (time_in before p q) (time_of own q) else time_in before p q)
+time_joined before after process copy clock own a b d p q = d p q ∙ by (process == p) refl
+  where
+    same : (process == p) ≡ true → process ≡ p
+    same e = grind (arith, e)
+
+    by : (t : Bool) → (process == p) ≡ t → (if t then time_of clock q else time_in before p q) ≡ (if t then max (time_in before p q) (time_of own q) else time_in before p q)
+    by true e = b q ∙ ap (λ (n : ℕ). max n (time_of own q)) (a q ∙ ap (λ (r : ℕ). time_in before r q) (same e))
+    by false e = refl
+
+-- one process more that is released
+pub one_of_more : (qs : List ℕ) (q p : ℕ) → is_one_of (qs ++ q ∷ []) p ≡ (is_one_of qs p || (q == p))
+one_of_more [] q p = by (q == p)
+  where
+    by : (b : Bool) → (b || false) ≡ (false || b)
+    by true = refl
+    by false = refl
+one_of_more (x ∷ qs) q p = ap (λ (b : Bool). (x == p) || b) (one_of_more qs q p) ∙ assoc (x == p) (is_one_of qs p) (q == p)
+  where
+    assoc : (a b c : Bool) → (a || (b || c)) ≡ ((a || b) || c)
+    assoc true b c = refl
+    assoc false b c = refl
+
+pub joined_again : (qs : List ℕ) (process p old own now next : ℕ) → now ≡ joined_if (is_one_of qs p) old own
+    → next ≡ (if process == p then max now own else now) → next ≡ joined_if (is_one_of (qs ++ process ∷ []) p) old own
+joined_again qs process p old own now next a b =
+    b ∙ by (is_one_of qs p) (process == p) a ∙ ap (λ (t : Bool). joined_if t old own) (sym (one_of_more qs process p))
+  where
+    by : (s t : Bool) → now ≡ joined_if s old own → (if t then max now own else now) ≡ joined_if (s || t) old own
+    by true true e = omega (arith, e)
+    by true false e = e
+    by false true e = ap (λ (n : ℕ). max n own) e
+    by false false e = e
+
+-- the clock of a process after the joins
+pub clock_noted : (own_process released started : Bool) (old own a b c : ℕ) → a ≡ joined_if released old own → b ≡ joined_if started a own
+    → c ≡ (if own_process then own else b) → c ≡ process_clock own_process (own_process || (started || released)) (λ (q : ℕ). own) (λ (q : ℕ). old) 0
+clock_noted true r s old own a b c e f g = g
+clock_noted false true true old own a b c e f g = omega (arith, e, f, g)
+clock_noted false false true old own a b c e f g = g ∙ f ∙ ap (λ (n : ℕ). max n own) e
+clock_noted false true false old own a b c e f g = g ∙ f ∙ e
+clock_noted false false false old own a b c e f g = g ∙ f ∙ e

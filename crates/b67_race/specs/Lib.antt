@@ -1,0 +1,11 @@
+pub mod Entries
+pub mod Orders
+pub mod Racing
+pub mod Clocks
+pub mod Watching
+pub mod Times
+pub mod Cells
+pub mod Races
+pub mod Timed
+pub mod Noted
+pub mod Found

@@ -1,0 +1,196 @@
+//! What is kept of the accesses of each cell.
+
+ghost use Rattle.std.specs.Prelude.{◌≡◌, if◌then◌else◌, Some, false, IfOk, OnOk};
+ghost use Rattle.b67_race.specs.Entries.{CellName};
+ghost use Rattle.b67_race.specs.Times.{time_of};
+ghost use Rattle.b67_race.specs.Watching as watching;
+ghost use Rattle.b67_race.specs.Watching.{none_yet, rivals, latest, apart, watched};
+ghost use Rattle.b67_race.specs.Cells.{cell_of, is_cell, rival_in, standing, standing_after, standing_in, watch_of};
+
+use crate::clock::Clock;
+use std::alloc::{AllocError, Global};
+use std::collections::BTreeMap;
+
+/// A cell: its instance, the number of its element from 1, or 0 where it is no array's, and its name.
+#[derive(Clone, Copy, PartialEq, Eq, PartialOrd, Ord)]
+pub struct Key<'p> {
+    pub instance: usize,
+    pub element: usize,
+    pub name: &'p [u8],
+}
+
+/// An access that is kept: its entry and its process.
+#[derive(Clone, Copy)]
+pub struct Past {
+    pub entry: u32,
+    pub process: usize,
+}
+
+/// Of a cell the last store, and the reads since then of which none is ordered before another.
+#[derive(Drop)]
+pub struct Watched {
+    pub store: Option<Past>,
+    pub reads: Vec<Past>,
+}
+
+/// What is kept of a cell: accesses, of which no two conflict, or that its race has been found.
+#[derive(Drop)]
+pub enum Kept {
+    Quiet(Watched),
+    Raced,
+}
+
+/// Tests that a clock does not tell an access.
+fn is_apart(clock: &Clock, x: Past) -> bool
+    ensures { result ≡ watching.is_apart (time_of clock.now) x }
+{
+    clock.of(x.process) < x.entry
+}
+
+/// The greatest entry of those that a clock does not tell, 0 where it tells all.
+fn latest(clock: &Clock, past: &[Past]) -> u32
+    ensures { result ≡ latest (time_of clock.now) past.now }
+{
+    let mut most = 0;
+    'asking: for x in past {
+        if is_apart(clock, *x) && most < x.entry {
+            most = x.entry;
+        }
+    }
+    most
+}
+
+/// Those that a clock does not tell.
+fn apart(alloc: Global, clock: &Clock, past: &[Past]) -> Result<Vec<Past>, AllocError>
+    ensures { IfOk result (λ left. left.items ≡ apart (time_of clock.now) past.now) }
+{
+    let mut left = Vec::new(alloc);
+    'asking: for x in past {
+        if is_apart(clock, *x) {
+            left.push(*x)?;
+        }
+    }
+    Ok(left)
+}
+
+impl Watched {
+    /// Nothing yet.
+    fn new(alloc: Global) -> Watched
+        ensures { watch_of result ≡ none_yet }
+    {
+        Watched {
+            store: None,
+            reads: Vec::new(alloc),
+        }
+    }
+
+    /// The greatest entry of the last store that a clock does not tell.
+    fn latest_store(&self, clock: &Clock) -> u32
+        ensures { result ≡ latest (time_of clock.now) ((watch_of self.now).stores) }
+    {
+        match self.store {
+            None => 0,
+            Some(x) => { if is_apart(clock, x) { x.entry } else { 0 } }
+        }
+    }
+
+    /// The greatest of the rivals of an access that a clock does not tell, 0 where it tells all.
+    fn rival(&self, clock: &Clock, storing: bool) -> u32
+        ensures { result ≡ latest (time_of clock.now) (rivals storing (watch_of self.now)) }
+    {
+        let stored = self.latest_store(clock);
+        if storing {
+            stored.max(latest(clock, self.reads.as_slice()))
+        } else {
+            stored
+        }
+    }
+
+    /// An access comes that is ordered after its rivals.
+    fn note(
+        &mut self,
+        alloc: Global,
+        clock: &Clock,
+        storing: bool,
+        now: Past,
+    ) -> Result<(), AllocError>
+        ensures { OnOk result (watch_of self.new ≡ watched storing (time_of clock.now) now (watch_of self.old)) }
+    {
+        if storing {
+            self.store = Some(now);
+            self.reads.clear();
+        } else {
+            let mut reads = apart(alloc, clock, self.reads.as_slice())?;
+            reads.push(now)?;
+            self.reads = reads;
+        }
+        Ok(())
+    }
+}
+
+/// The table of what is kept of cells.
+pub type Cells<'p> = BTreeMap<Key<'p>, Kept>;
+
+/// What is kept of a cell after an access, and the greatest rival of that which the clock does not tell: 0 where it tells all, or the race
+/// of the cell has been found.
+fn settle(
+    alloc: Global,
+    kept: Option<Kept>,
+    clock: &Clock,
+    storing: bool,
+    now: Past,
+) -> Result<(Kept, u32), AllocError>
+    ensures rival { IfOk result (λ r. r.1 ≡ rival_in storing (time_of clock.now) (standing kept)) }
+    ensures after { IfOk result (λ r. standing (Some r.0) ≡ standing_after storing (time_of clock.now) now (standing kept)) }
+{
+    let mut w = match kept {
+        None => Watched::new(alloc),
+        Some(Kept::Quiet(w)) => w,
+        Some(Kept::Raced) => return Ok((Kept::Raced, 0)),
+    };
+    let rival = w.rival(clock, storing);
+    if rival == 0 {
+        w.note(alloc, clock, storing, now)?;
+        Ok((Kept::Quiet(w), 0))
+    } else {
+        Ok((Kept::Raced, rival))
+    }
+}
+
+/// What is kept of a cell is this.
+#[tactic(auto, using(crate::proofs::Keys::putting))]
+fn put<'p>(cells: &mut Cells<'p>, key: Key<'p>, kept: Kept) -> Result<(), AllocError>
+    ensures { OnOk result ((c : CellName) → standing_in cells.new c ≡ (if is_cell key.entry c then standing (Some kept) else standing_in cells.old c)) }
+{
+    cells.insert(key, kept)?;
+    Ok(())
+}
+
+/// What is kept of a cell, out of the table.
+#[tactic(auto, using(crate::proofs::Keys::taking))]
+fn take<'p>(cells: &mut Cells<'p>, key: Key<'p>) -> Option<Kept>
+    ensures own { standing result ≡ standing_in cells.old (cell_of key.entry) }
+    ensures others { (c : CellName) → is_cell key.entry c ≡ false → standing_in cells.new c ≡ standing_in cells.old c }
+{
+    cells.remove(&key)
+}
+
+/// Notes an access of a cell, which is this entry: the greatest of its rivals that the clock does not tell, 0 where it tells all, or the race
+/// of the cell has been found.
+pub fn note_access<'p>(
+    cells: &mut Cells<'p>,
+    alloc: Global,
+    key: Key<'p>,
+    clock: &Clock,
+    storing: bool,
+    now: Past,
+) -> Result<u32, AllocError>
+    ensures rival { IfOk result (λ r. r ≡ rival_in storing (time_of clock.now) (standing_in cells.old (cell_of key.entry))) }
+    ensures own { OnOk result (standing_in cells.new (cell_of key.entry) ≡ standing_after storing (time_of clock.now) now (standing_in cells.old (cell_of key.entry))) }
+    ensures others { OnOk result ((c : CellName) → is_cell key.entry c ≡ false → standing_in cells.new c ≡ standing_in cells.old c) }
+{
+    let kept = take(cells, key);
+    let (kept, rival) = settle(alloc, kept, clock, storing, now)?;
+    put(cells, key, kept)?;
+    Ok(rival)
+}
