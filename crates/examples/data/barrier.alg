@@ -2,12 +2,12 @@ BEGIN
   % A barrier for three processes, which do their rounds together. Who
   % comes first and second waits for ALL; the third lets them go by
   % CAUSEANDRESET, so that the barrier is closed again in the same
-  % action, before anyone comes to it a second time. Such a pulse is not
-  % remembered: who has counted itself and does not wait yet would miss
-  % it. So the third gives it until both have passed, and keeps COUNTING
-  % for itself until then, so that nobody comes for the next round. It
-  % does not wait meanwhile: under lifo it is the next one always, and
-  % the run has no end.
+  % action, before anyone comes to it a second time. Such a pulse frees
+  % only those who wait at that moment: one that has counted itself and
+  % does not wait yet would miss it. So the third repeats it until both
+  % have gone on, and holds the lock COUNTING meanwhile, so that nobody
+  % comes for the next round. It does not wait: under lifo it is the
+  % next one always, and the run has no end.
   % Look at the rounds: no process begins one before all have ended the
   % one before.
   FILE LINE;

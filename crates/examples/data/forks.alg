@@ -1,6 +1,6 @@
 BEGIN
   % Two eaters and two forks. Each needs both, and takes them in another
-  % order: where each has one, both wait for ever.
+  % order: where each has one, both wait for ever. This is a deadlock.
   % Look at the end, ALL WAITING, and at the last entries of the
   % schedule. Under the rule lifo the same program ends well.
   FILE LINE; EVENT LEFT, RIGHT; TASK T, U;

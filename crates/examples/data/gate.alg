@@ -1,7 +1,8 @@
 BEGIN
-  % The race with a gate. GATE is available at first. Who procures it
-  % has it, and who procures it then waits until it is liberated; so
-  % between the read and the store of one process no other one adds.
+  % The race with a gate. GATE is available at first. The process that
+  % procures it has it; another one that procures it waits until it is
+  % liberated. So between the read and the store of one process no
+  % other one adds.
   % Look at the sum, which is the same under every rule, and at the
   % schedule, where a process that waits for the gate has no entry.
   FILE LINE; INTEGER N; EVENT GATE; TASK T, U;
