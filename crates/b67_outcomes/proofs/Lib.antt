@@ -1,0 +1,4 @@
+mod Determined
+mod Histories
+mod Keeping
+mod Closing

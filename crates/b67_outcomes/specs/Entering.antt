@@ -1,0 +1,30 @@
+-- What an entry of a process leads to, and what a history of entries.
+use Rattle.std.specs.Prelude.{◌≡◌, ℕ, Bool, true, false, List}
+use Rattle.b67_segment.specs.declared.code.Code.{Code}
+use Rattle.b67_table.specs.Image.{Image}
+use Rattle.b67_table.specs.Outcome.{limit}
+use Rattle.b67_table.specs.Table.{table}
+use Rattle.b67_table.specs.Runs.{Runs, Entry, Plains}
+
+-- the process comes to the stack limit before its action, in this image
+pub record Stops (code : Code) (p : ℕ) (a quiet : Image) : Type 0 where
+  pub count : ℕ
+  pub plains : Plains code p a count quiet
+  pub at_limit : table code quiet p ≡ limit
+
+-- an entry of the process was performed, or it came to the stack limit
+abbrev pub Enters : Code → ℕ → Image → Bool → Image → Type 0
+Enters code p a true b = (n : ℕ) × Entry code p a n b
+Enters code p a false b = Stops code p a b
+
+-- the run of a history leads to the image
+abbrev pub LeadsTo : Code → List ℕ → Image → Type 0
+LeadsTo code history img = (counts : List ℕ) × Runs code history counts img
+
+-- the history has a run
+abbrev pub Leads : Code → List ℕ → Type 0
+Leads code history = (img : Image) × LeadsTo code history img
+
+-- some run leads to the image
+abbrev pub IsReached : Code → Image → Type 0
+IsReached code img = (history : List ℕ) × LeadsTo code history img

@@ -1,0 +1,45 @@
+// What the search wants of a machine.
+use std::alloc::AllocError;
+
+/// A machine that performs entries of a schedule and can be begun again.
+pub trait Walker: Drop {
+    ghost use Rattle.std.specs.Prelude.{◌≡◌, ℕ, ◌^◌, ◌<◌, ◌≤◌, true, IfOk};
+    ghost use Rattle.b67_segment.specs.declared.code.Code.{Code};
+    ghost use Rattle.b67_table.specs.Image.{Image};
+    ghost use Rattle.b67_table.specs.Beginning.{first_image};
+    ghost use Rattle.b67_table.specs.Ending.{may_act};
+    ghost use Rattle.b67_outcomes.specs.Entering.{Enters, IsReached};
+
+    ghost code: { Self → Code };
+
+    ghost image: { Self → Image };
+
+    /// The machine before its first operator.
+    fn restart(&mut self) -> Result<(), AllocError>
+        ensures code { code self.new ≡ code self.old }
+        ensures first { IfOk result (λ u. image self.new ≡ first_image) };
+
+    /// The greatest number of a process that may act.
+    fn processes(&self) -> u32
+        ensures few { result < 2 ^ 16 }
+        ensures all { (p : ℕ) → may_act (image self.now) p ≡ true → (1 ≤ p) × (p ≤ result) };
+
+    /// Tests that the process may act.
+    fn may_act(&self, process: u32) -> bool
+        ensures { result ≡ may_act (image self.now) process };
+
+    /// Performs an entry of the process, in an image to which a run leads. It answers whether the entry was performed; it is not where the
+    /// process comes to the stack limit before its action.
+    fn enter(&mut self, process: u32) -> Result<bool, AllocError>
+        requires may { may_act (image self.old) process ≡ true }
+        requires reached { IsReached (code self.old) (image self.old) }
+        ensures code { code self.new ≡ code self.old }
+        ensures entered { IfOk result (λ entered. Enters (code self.old) process (image self.old) entered (image self.new)) };
+
+    /// Tests that the images are the same. `false` says nothing.
+    fn same(&self, other: &Self) -> bool
+        ensures { result ≡ true → image self.now ≡ image other.now };
+
+    /// A number by which the image is looked for. It says nothing.
+    fn hash(&self) -> u64;
+}

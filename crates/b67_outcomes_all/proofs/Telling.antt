@@ -1,0 +1,187 @@
+-- From runs of the code to the source.
+use Rattle.std.proofs.Common.{◌≡◌, refl, sym, ap, subst, ◌∙◌, ℕ, zero, suc, ◌+◌, ◌-◌, ◌<◌, ◌≤◌, Bool, true, false, true≢false, arith, List, [], ◌∷◌, ◌++◌, reverse, Option, Some, None, inl, inr}
+use Rattle.std.specs.Prelude.{◌⊎◌, if◌then◌else◌}
+use Rattle.std.proofs.lemmas.Option.{same_Some, none-some}
+use Rattle.b67_list.specs.Numbered.{numbered}
+use Rattle.algol_tree.specs.Plain.{PProgram}
+use Rattle.algol_tree.specs.Scopes.{Scopes, scopes_of}
+use Rattle.algol_meaning.specs.World.{World, is_able, process_at}
+use Rattle.algol_meaning.specs.Choice.{choice}
+use Rattle.algol_meaning.specs.Run.{start, run, run_from, after_entry, may_go}
+use Rattle.algol_meaning.specs.Run as meaning
+use Rattle.b67_segment.specs.declared.code.Code.{Code}
+use Rattle.b67_store.specs.Store.{stack_limit}
+use Rattle.b67_table.specs.declared.ProcessState.{ProcessState}
+use Rattle.b67_table.specs.Image.{Image}
+use Rattle.b67_table.specs.Image.{is_able as image_able}
+use Rattle.b67_table.specs.Ending.{ImageEnd, image_end, goes_on, may_act}
+use Rattle.b67_table.specs.Ending as machine
+use Rattle.b67_table.specs.Runs.{Runs, Plains, stay, TableRun, Tails, none, next}
+use Rattle.b67_table.proofs.Lists.{numbered_from}
+use Rattle.b67_faithful.specs.Weight.{weight}
+use Rattle.b67_faithful.specs.Agreement.{Shows, end_as}
+use Rattle.b67_faithful.specs.Faithful.{Faithful, ComesToLimit}
+use Rattle.b67_outcomes.specs.declared.found.Found.{Found}
+use Rattle.b67_outcomes.specs.Entering.{LeadsTo}
+use Rattle.b67_outcomes.specs.Finding.{AreAll}
+use Rattle.b67_outcomes_all.specs.Sources.{KeptAreLegal, KeptTellAll, StopsAreLimits, IsLimitNoted, IsToldIn, Tells}
+
+-- ---- worlds within a legal schedule
+
+-- the world after a part of a schedule, in which the next process may go on
+record Midway (sc : Scopes) (before : List ℕ) (p : ℕ) (o : Option World) : Type 0 where
+  pub world : World
+  pub is : run_from sc before o ≡ Some world
+  pub goes : may_go world p ≡ true
+
+none_goes : (sc : Scopes) (h : List ℕ) (w : World) (A : Type 0) → run_from sc h None ≡ Some w → A
+none_goes sc [] w A e = absurd (none-some w e)
+none_goes sc (p ∷ h) w A e = absurd (none-some w e)
+
+entry_goes : (sc : Scopes) (h : List ℕ) (w x : World) (b : Bool) → run_from sc h (if b then Some x else None) ≡ Some w → b ≡ true
+entry_goes sc h w x true e = refl
+entry_goes sc h w x false e = none_goes sc h w _ e
+
+entry_may : (sc : Scopes) (h : List ℕ) (p : ℕ) (v w : World) → run_from sc h (after_entry sc v p) ≡ Some w → may_go v p ≡ true
+unfolding after_entry
+entry_may sc h p v w e = entry_goes sc h w ((choice sc v p).world) (may_go v p) e
+
+midway : (sc : Scopes) (before : List ℕ) (p : ℕ) (later : List ℕ) (o : Option World) (w : World) → run_from sc (before ++ p ∷ later) o ≡ Some w
+    → Midway sc before p o
+midway sc before p later None w e = none_goes sc (before ++ p ∷ later) w _ e
+midway sc [] p later (Some v) w e = record { world = v; is = refl; goes = entry_may sc later p v w e }
+midway sc (q ∷ before) p later (Some v) w e =
+    let m = midway sc before p later (after_entry sc v q) w e in record { world = m.world; is = m.is; goes = m.goes }
+
+-- the process of an entry of a legal schedule may go on in the world before it
+next_goes : (tree : PProgram) (before : List ℕ) (p : ℕ) (later : List ℕ) (w u : World) → run tree (before ++ p ∷ later) ≡ Some w → run tree before ≡ Some u
+    → may_go u p ≡ true
+unfolding run
+next_goes tree before p later w u e f =
+    let m = midway (scopes_of tree) before p later (Some (start (scopes_of tree))) w e in
+    subst (λ (x : World). may_go x p ≡ true) (same_Some m.world u (sym m.is ∙ f)) m.goes
+
+-- ---- worlds and images
+
+going : (e : Option ImageEnd) (able_now : Bool) → meaning.goes_on (end_as e) able_now ≡ goes_on e able_now
+going None able_now = refl
+going (Some machine.finished) able_now = refl
+going (Some (machine.faulted kind p)) able_now = refl
+going (Some machine.all_waiting) able_now = refl
+
+-- a process may go on in the world where it may act in the image
+may_both : (code : Code) (w : World) (img : Image) (p : ℕ) → Shows code w img → may_go w p ≡ may_act img p
+unfolding may_go may_act
+may_both code w img p shows =
+    ap (λ e. meaning.goes_on e (is_able ((process_at w p).state))) shows.ends ∙ going (image_end img) (is_able ((process_at w p).state))
+    ∙ ap (goes_on (image_end img)) (shows.able p)
+
+pub no_tails : (code : Code) (p : ℕ) (a b : Image) → Tails code p a [] b → a ≡ b
+no_tails code p a b none = refl
+
+-- a history with its run is a run under its schedule
+run_of : (code : Code) (history : List ℕ) (img : Image) → LeadsTo code history img → TableRun code (reverse history) [] img
+run_of code history img leads =
+    record { history = history; counts = leads.0; before_tails = img; order = refl; runs = leads.1; after = none }
+
+-- ---- the tail of a process that comes to the stack limit
+
+able_there : (img : Image) (p : ℕ) → may_act img p ≡ true → image_able (numbered img.states p) ≡ true
+unfolding may_act
+able_there img p e = by (image_end img) e
+  where
+    by : (o : Option ImageEnd) → goes_on o (image_able (numbered img.states p)) ≡ true → image_able (numbered img.states p) ≡ true
+    by None f = f
+    by (Some x) f = absurd (true≢false (sym f))
+
+some_state : (o : Option ProcessState) → image_able o ≡ true → (q : ProcessState) × (o ≡ Some q)
+some_state (Some q) e = (q, refl)
+some_state None e = absurd (true≢false (sym e))
+
+number_there : (img : Image) (p : ℕ) → may_act img p ≡ true → 1 ≤ p
+number_there img p e = let q = some_state (numbered img.states p) (able_there img p e) in numbered_from img.states p q.0 q.1
+
+-- so many processes without a tail, and one with this one
+abbrev tails_with : ℕ → ℕ → List ℕ
+tails_with zero n = n ∷ []
+tails_with (suc k) n = 0 ∷ tails_with k n
+
+one_tail : (code : Code) (k from p : ℕ) (a b : Image) (n : ℕ) → from + k ≡ p → Plains code p a n b → Tails code from a (tails_with k n) b
+one_tail code zero from p a b n e plains =
+    let same : p ≡ from = omega (arith, e) in next (subst (λ (q : ℕ). Plains code q a n b) same plains) none
+one_tail code (suc k) from p a b n e plains = next stay (one_tail code k (from + 1) p a b n (omega (arith, e)) plains)
+
+-- ---- all of them
+
+pub told : (tree : PProgram) (code : Code) (found : Found) → Faithful tree code → AreAll code found → (schedule : List ℕ) (w : World) → run tree schedule ≡ Some w
+    → (img : Image) → TableRun code schedule [] img → IsToldIn code found w
+told tree code found f all schedule w e img t =
+    let agrees = f.follows.legal schedule [] img t in
+    let same : agrees.world ≡ w = same_Some agrees.world w (sym agrees.is ∙ e) in
+    record {
+      image = t.before_tails;
+      is_kept = all.images t.history t.counts t.before_tails t.runs;
+      tells = subst (λ (x : Image). Tells w x) (sym (no_tails code 1 t.before_tails img t.after))
+          (subst (λ (x : World). Tells x img) same (record { output = agrees.shows.output; ends = agrees.shows.ends }));
+    }
+
+noted : (tree : PProgram) (code : Code) (found : Found) → Faithful tree code → AreAll code found → (schedule : List ℕ) (w : World) → run tree schedule ≡ Some w
+    → ComesToLimit code schedule → IsLimitNoted code found schedule
+noted tree code found f all schedule w e c =
+    let agrees = f.follows.legal c.before [] c.image c.run in
+    let goes = next_goes tree c.before c.next c.later w agrees.world (subst (λ (h : List ℕ). run tree h ≡ Some w) c.split e) agrees.is in
+    let same = no_tails code 1 c.run.before_tails c.image c.run.after in
+    record {
+      before = c.before;
+      next = c.next;
+      later = c.later;
+      split = c.split;
+      image = c.image;
+      run = c.run;
+      noted =
+          all.stops c.run.history c.run.counts c.image c.quiet c.next (subst (λ (x : Image). Runs code c.run.history c.run.counts x) same c.run.runs)
+          (sym (may_both code agrees.world c.image c.next agrees.shows) ∙ goes) (record { count = c.plain; plains = c.plains; at_limit = c.stops });
+    }
+
+by_case : (tree : PProgram) (code : Code) (found : Found) → Faithful tree code → AreAll code found → (schedule : List ℕ) (w : World) → run tree schedule ≡ Some w
+    → ((img : Image) × TableRun code schedule [] img) ⊎ ComesToLimit code schedule → IsToldIn code found w ⊎ IsLimitNoted code found schedule
+by_case tree code found f all schedule w e (inl x) = inl (told tree code found f all schedule w e x.0 x.1)
+by_case tree code found f all schedule w e (inr x) = inr (noted tree code found f all schedule w e x)
+
+pub tells_all : KeptTellAll
+tells_all tree code found f all schedule w e = by_case tree code found f all schedule w e (f.follows.whole schedule (w, e))
+
+-- ---- and no other
+
+pub are_legal : KeptAreLegal
+are_legal tree code found f led number within =
+    let one = led number within in
+    let agrees = f.follows.legal (reverse one.history) [] one.image (run_of code one.history one.image one.leads) in
+    record {
+      history = one.history;
+      image = one.image;
+      is = one.is;
+      leads = one.leads;
+      legal = record { world = agrees.world; legal = agrees.is; tells = record { output = agrees.shows.output; ends = agrees.shows.ends } };
+    }
+
+pub are_limits : StopsAreLimits
+are_limits tree code found f stops k l there =
+    let s = stops k l there in
+    let agrees = f.follows.legal (reverse s.history) [] s.image (run_of code s.history s.image s.leads) in
+    let positive = number_there s.image l.process s.may in
+    let tails = tails_with (l.process - 1) s.stops.count in
+    let after : Tails code 1 s.image tails s.quiet =
+    one_tail code (l.process - 1) 1 l.process s.image s.quiet s.stops.count (omega (arith, positive)) s.stops.plains in
+    let tailed : TableRun code (reverse s.history) tails s.quiet =
+    record { history = s.history; counts = s.leads.0; before_tails = s.image; order = refl; runs = s.leads.1; after = after } in
+    let quiet = f.follows.legal (reverse s.history) tails s.quiet tailed in
+    let same : quiet.world ≡ agrees.world = same_Some quiet.world agrees.world (sym quiet.is ∙ agrees.is) in
+    record {
+      history = s.history;
+      is = s.is;
+      world = agrees.world;
+      legal = agrees.is;
+      goes = may_both code agrees.world s.image l.process agrees.shows ∙ s.may;
+      heavy = subst (λ (x : World). stack_limit < weight tree x l.process) same (quiet.fits.heavy l.process s.stops.at_limit);
+    }
