@@ -1,3 +1,12 @@
+pub mod Items
+pub mod Letters
+pub mod OldLines
+pub mod LetterLines
+pub mod Wholes
+pub mod OldTexts
+pub mod NewTexts
+pub mod LinesRead
+pub mod Writing
+pub mod Versions
 pub mod Pushes
-pub mod RunLines
-pub mod WholeText
+pub mod Counted

@@ -1,4 +1,5 @@
 -- More actions of a process after those of a schedule.
+use Rattle.std.specs.Prelude.{min}
 use Rattle.std.proofs.Common.{◌≡◌, ℕ, ◌+◌, ◌-◌, ◌<◌, ◌≤◌, List, [], ◌∷◌, ◌++◌, length, get_or, take, drop, set, replicate, zero, suc, sym, ap, subst, arith, ◌∙◌, ⊎_elim, append_assoc}
 use Rattle.std.specs.List.{All}
 use Rattle.std.proofs.lemmas.List.{append-nil, length-append, length-set, length-replicate, replicate-append-replicate, get_or_append_left, get_or_push, get_or-set_same, get_or-set_other, get_or_default, length_push, take_more, take_all, set_split, drop_all}
@@ -6,7 +7,8 @@ use Rattle.std.proofs.lemmas.List.Concat.{flat_map-append}
 use Rattle.std.proofs.lemmas.List.Elements.{All-head, All-tail, All-push, All-set}
 use Rattle.std.proofs.lemmas.Bool.{cases_eq, cases_lt}
 use Rattle.b67_schedule.specs.declared.Run.{Run}
-use Rattle.b67_schedule.specs.Schedules.{most, entries, IsRun, IsSchedule, IsLast}
+use Rattle.b67_deeds.specs.declared.Letter.{Letter}
+use Rattle.b67_schedule.specs.Schedules.{most, entries, IsRun, AreRuns, IsSchedule, IsLast}
 
 -- the entries of a last run
 pub entries-push : (runs : List Run) (run : Run) → entries (runs ++ run ∷ []) ≡ entries runs ++ replicate run.times run.process
@@ -32,7 +34,7 @@ times-le (run ∷ runs) zero d p = rw (length-append, length-replicate) (omega a
 times-le (run ∷ runs) (suc n) d p = let below = times-le runs n d (omega arith) in rw (length-append, length-replicate) (omega arith)
 
 -- no run is without entries
-length-le-entries : (runs : List Run) → All IsRun runs → length runs ≤ length (entries runs)
+pub length-le-entries : (runs : List Run) → All IsRun runs → length runs ≤ length (entries runs)
 length-le-entries [] all = omega arith
 length-le-entries (run ∷ runs) all =
     let rest = length-le-entries runs (All-tail IsRun run runs all) in
@@ -62,9 +64,9 @@ entries-raised runs last n some is =
     ∙ ap (λ e. e ++ replicate n last.process) (sym (entries-push front last))
     ∙ ap (λ rs. entries rs ++ replicate n last.process) (sym whole)
 
-pub IsSchedule-raised : (runs : List Run) (last : Run) (n : ℕ) → 0 < length runs → last ≡ get_or runs (length runs - 1) last → IsSchedule runs → length (entries runs) + n ≤ most →
-    IsSchedule (set runs (length runs - 1) record { process = last.process; times = last.times + n })
-IsSchedule-raised runs last n some is valid small =
+pub AreRuns-raised : (runs : List Run) (last : Run) (n : ℕ) → 0 < length runs → last ≡ get_or runs (length runs - 1) last → AreRuns runs → length (entries runs) + n ≤ most →
+    AreRuns (set runs (length runs - 1) record { process = last.process; times = last.times + n })
+AreRuns-raised runs last n some is valid small =
     let inside : length runs - 1 < length runs = omega arith in
     let run : IsRun last = subst IsRun (sym is) (valid.numbers (length runs - 1) last inside) in
     let times = times-le runs (length runs - 1) last inside in
@@ -81,9 +83,9 @@ IsSchedule-raised runs last n some is valid small =
     }
 
 -- a new last run
-pub IsSchedule-pushed : (runs : List Run) (process n : ℕ) → IsSchedule runs → length (entries runs) + n ≤ most → 1 ≤ n → 1 ≤ process → process ≤ most → (IsLast runs process → ⊥) →
-    IsSchedule (runs ++ record { process = process; times = n } ∷ [])
-IsSchedule-pushed runs process n valid small some least greatest new =
+pub AreRuns-pushed : (runs : List Run) (process n : ℕ) → AreRuns runs → length (entries runs) + n ≤ most → 1 ≤ n → 1 ≤ process → process ≤ most → (IsLast runs process → ⊥) →
+    AreRuns (runs ++ record { process = process; times = n } ∷ [])
+AreRuns-pushed runs process n valid small some least greatest new =
     let count = length-le-entries runs valid.numbers in
     let run : Run = record { process = process; times = n } in
     record {
@@ -107,11 +109,11 @@ IsSchedule-pushed runs process n valid small some least greatest new =
 
 -- what becomes of a schedule: so many more actions of that process
 pub record Added (old new : List Run) (process n : ℕ) : Type 0 where
-  pub valid : IsSchedule new
+  pub valid : AreRuns new
   pub added : entries new ≡ entries old ++ replicate n process
   pub count : length (entries new) ≡ length (entries old) + n
 
-counted : (old new : List Run) (process n : ℕ) → IsSchedule new → entries new ≡ entries old ++ replicate n process → Added old new process n
+counted : (old new : List Run) (process n : ℕ) → AreRuns new → entries new ≡ entries old ++ replicate n process → Added old new process n
 counted old new process n valid added = record {
   valid = valid;
   added = added;
@@ -119,15 +121,23 @@ counted old new process n valid added = record {
 }
 
 pub raised : (runs : List Run) (count process n : ℕ) (last : Run) → count ≡ length runs → IsLast runs process → last ≡ get_or runs (count - 1) last →
-    IsSchedule runs → length (entries runs) + n ≤ most → Added runs (set runs (count - 1) record { process = last.process; times = last.times + n }) process n
+    AreRuns runs → length (entries runs) + n ≤ most → Added runs (set runs (count - 1) record { process = last.process; times = last.times + n }) process n
 raised runs count process n last is ends read valid small =
     let at_end : last ≡ get_or runs (length runs - 1) last = rw is at read in
     let same : last.process ≡ process = ap (λ (r : Run). r.process) at_end ∙ ends.1 last in
     rw (is, ← same) (counted runs (set runs (length runs - 1) record { process = last.process; times = last.times + n }) last.process n
-    (IsSchedule-raised runs last n ends.0 at_end valid small) (entries-raised runs last n ends.0 at_end))
+    (AreRuns-raised runs last n ends.0 at_end valid small) (entries-raised runs last n ends.0 at_end))
 
-pub pushed : (runs new : List Run) (process n : ℕ) → new ≡ runs ++ record { process = process; times = n } ∷ [] → IsSchedule runs → length (entries runs) + n ≤ most → 1 ≤ n →
+pub pushed : (runs new : List Run) (process n : ℕ) → new ≡ runs ++ record { process = process; times = n } ∷ [] → AreRuns runs → length (entries runs) + n ≤ most → 1 ≤ n →
     1 ≤ process → process ≤ most → (IsLast runs process → ⊥) → Added runs new process n
 pushed runs new process n is valid small some least greatest other =
     rw is (counted runs (runs ++ record { process = process; times = n } ∷ []) process n
-    (IsSchedule-pushed runs process n valid small some least greatest other) (entries-push runs record { process = process; times = n }))
+    (AreRuns-pushed runs process n valid small some least greatest other) (entries-push runs record { process = process; times = n }))
+
+-- a schedule with room for more actions has room for more runs
+pub runs_room : (runs : List Run) (letters : List Letter) (capacity other n : ℕ) → IsSchedule runs letters → length letters + n ≤ min capacity other → 1 ≤ n → length runs < capacity
+runs_room runs letters capacity other n is room some =
+    let count = length-le-entries runs is.runs_are.numbers in omega (arith, count, is.each, room, some)
+
+pub letters_room : (runs : List Run) (letters : List Letter) (capacity other n : ℕ) → IsSchedule runs letters → length letters + n ≤ min capacity other → length letters + n ≤ other
+letters_room runs letters capacity other n is room = omega (arith, room)

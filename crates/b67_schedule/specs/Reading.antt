@@ -1,55 +1,113 @@
--- The text of a schedule, part by part.
-use Rattle.std.specs.Prelude.{◌≡◌, ◌≢◌, ℕ, Option, Some, List, [], ◌∷◌, length}
-use Rattle.std.specs.List.{flat_map}
-use Rattle.b67_text.specs.Texts.{IsRefused, StopsAt}
+-- The texts of schedules, part by part.
+use Rattle.std.specs.Prelude.{◌≡◌, ◌⊎◌, ℕ, ◌<◌, ◌≤◌, Option, List, ◌++◌, length, codes}
+use Rattle.b67_text.specs.Texts.{IsRefused, StopsAt, Stands, HasByte}
 use Rattle.b67_text.specs.declared.number.Numbers.{Numbers}
 use Rattle.b67_schedule.specs.declared.Run.{Run}
-use Rattle.b67_schedule.specs.declared.reading.ReadSchedule.{ReadSchedule}
-use Rattle.b67_schedule.specs.declared.reading.ReadSchedule.TheVariants.{Bad, NoMemory}
-use Rattle.b67_schedule.specs.Schedules.{most, IsRun, IsSchedule, run_line, ScheduleText}
+use Rattle.b67_deeds.specs.declared.Letter.{Letter}
+use Rattle.b67_schedule.specs.declared.refusal.ReadSchedule.{ReadSchedule}
+use Rattle.b67_schedule.specs.declared.refusal.ReadSchedule.TheVariants.{Bad, NoMemory}
+use Rattle.b67_deeds.specs.Letters.{byte_of}
+use Rattle.b67_schedule.specs.Letters.{bytes_of}
+use Rattle.b67_schedule.specs.Lines as lines
+use Rattle.b67_schedule.specs.Schedules.{most, IsRun, AreRuns, IsSchedule, run_line, OldText, letter_line, ScheduleText}
 
--- the text of a schedule
+-- the text of runs, in version 1
+pub record IsOldText (text : List ℕ) : Type 0 where
+  pub runs : List Run
+  pub are : AreRuns runs
+  pub text_is : text ≡ OldText runs
+
+-- the text of a schedule, in version 2
 pub record IsScheduleText (text : List ℕ) : Type 0 where
   pub runs : List Run
-  pub schedule : IsSchedule runs
-  pub text_is : text ≡ ScheduleText runs
+  pub letters : List Letter
+  pub schedule : IsSchedule runs letters
+  pub text_is : text ≡ ScheduleText runs letters
+
+-- a text of either version
+abbrev pub IsGivenText : List ℕ → Type 0
+IsGivenText text = IsOldText text ⊎ IsScheduleText text
 
 -- the numbers of a schedule's text from this one on, without the other
 abbrev pub numbers : ℕ → Option ℕ → Numbers
 numbers least except = record { least = least; most = most; except = except }
 
--- a run that can stand after one of this process
-pub record CanFollow (before : Option ℕ) (run : Run) : Type 0 where
-  pub numbers : IsRun run
-  pub other : before ≢ Some run.process
+-- ---- version 1
 
--- the line of such a run
-pub record IsRunLine (before : Option ℕ) (text : List ℕ) : Type 0 where
-  pub run : Run
-  pub follows : CanFollow before run
-  pub text_is : text ≡ run_line run
+abbrev pub process_of : Run → ℕ
+process_of run = run.process
 
--- runs each of which can stand after the one before it
+abbrev pub CanFollow : Option ℕ → Run → Type 0
+CanFollow before run = lines.CanFollow Run process_of IsRun before run
+
+abbrev pub IsRunLine : Option ℕ → List ℕ → Type 0
+IsRunLine before text = lines.IsLine Run process_of IsRun run_line before text
+
 abbrev pub Follow : Option ℕ → List Run → Type 0
-Follow before [] = Unit {0}
-Follow before (run ∷ runs) = CanFollow before run × Follow (Some run.process) runs
+Follow before runs = lines.Follow Run process_of IsRun before runs
 
--- the process of the last of some runs, or the one before them
-abbrev pub last_process : Option ℕ → List Run → Option ℕ
-last_process before [] = before
-last_process before (run ∷ runs) = last_process (Some run.process) runs
+abbrev pub AreRunLines : Option ℕ → ℕ → List ℕ → Type 0
+AreRunLines before count text = lines.AreLines Run process_of IsRun run_line before count text
 
--- the lines of so many such runs
-pub record AreRunLines (before : Option ℕ) (count : ℕ) (text : List ℕ) : Type 0 where
-  pub runs : List Run
-  pub follow : Follow before runs
-  pub count_is : length runs ≡ count
-  pub text_is : text ≡ flat_map run_line runs
+-- ---- version 2
 
--- a refusal of bytes as a schedule: at the end of the longest front that begins the text of one, or for want of memory
-abbrev pub Refuses : ReadSchedule → List ℕ → Type 0
-Refuses (Bad bad) bytes = IsRefused IsScheduleText bytes bad.byte
-Refuses NoMemory bytes = Unit {0}
+-- actions of a process, one after another
+pub record Lettered : Type 0 where
+  pub process : ℕ
+  pub letters : List Letter
+
+pub record IsLettered (item : Lettered) : Type 0 where
+  pub process_least : 1 ≤ item.process
+  pub process_greatest : item.process ≤ most
+  pub some : 1 ≤ length item.letters
+  pub few : length item.letters ≤ most
+
+abbrev pub process_in : Lettered → ℕ
+process_in item = item.process
+
+abbrev pub letters_in : Lettered → List Letter
+letters_in item = item.letters
+
+abbrev pub run_in : Lettered → Run
+run_in item = record { process = item.process; times = length item.letters }
+
+abbrev pub line_in : Lettered → List ℕ
+line_in item = letter_line item.process item.letters
+
+abbrev pub CanStand : Option ℕ → Lettered → Type 0
+CanStand before item = lines.CanFollow Lettered process_in IsLettered before item
+
+abbrev pub IsLetterLine : Option ℕ → List ℕ → Type 0
+IsLetterLine before text = lines.IsLine Lettered process_in IsLettered line_in before text
+
+abbrev pub Stand : Option ℕ → List Lettered → Type 0
+Stand before items = lines.Follow Lettered process_in IsLettered before items
+
+abbrev pub AreLetterLines : Option ℕ → ℕ → List ℕ → Type 0
+AreLetterLines before count text = lines.AreLines Lettered process_in IsLettered line_in before count text
+
+-- the letters of actions, and the end of the line
+pub record AreLetters (text : List ℕ) : Type 0 where
+  pub letters : List Letter
+  pub some : 1 ≤ length letters
+  pub few : length letters ≤ most
+  pub text_is : text ≡ bytes_of letters ++ codes "\n"
+
+-- so many letters stand from a place on to the next and are added to those before, and no more can stand there
+pub record AreMost (bytes : List ℕ) (at : ℕ) (before after : List Letter) (times next : ℕ) : Type 0 where
+  pub letters : List Letter
+  pub added : after ≡ before ++ letters
+  pub times_are : times ≡ length letters
+  pub few : length letters ≤ most
+  pub stand : Stands (bytes_of letters) bytes at next
+  pub longest : (letter : Letter) → HasByte (byte_of letter) bytes next → length letters < most → ⊥
+
+-- ---- refusals
+
+-- a refusal of bytes as one of these texts: at the end of the longest front that begins one, or for want of memory
+abbrev pub Refuses : (List ℕ → Type 0) → ReadSchedule → List ℕ → Type 0
+Refuses Is (Bad bad) bytes = IsRefused Is bytes bad.byte
+Refuses Is NoMemory bytes = Unit {0}
 
 -- the same of a part of a text at a place
 abbrev pub RefusesAt : ReadSchedule → (List ℕ → Type 0) → List ℕ → ℕ → Type 0

@@ -1,62 +1,80 @@
 //! A schedule from its text.
 
-ghost use Rattle.std.specs.Prelude.{◌≡◌, ◌≢◌, ℕ, ◌≤◌, List, Some, None, [], length, IfOk, IfErr, MatchResult};
-ghost use Rattle.std.specs.List.{flat_map};
+ghost use Rattle.std.specs.Prelude.{◌≡◌, ℕ, ◌≤◌, List, IfOk, IfErr, MatchResult, length};
 ghost use Rattle.b67_text.specs.Texts.{Stands, StopsAt};
-ghost use Rattle.b67_schedule.specs.Schedules.{entries, IsSchedule, run_line, ScheduleText};
-ghost use Rattle.b67_schedule.specs.Reading.{IsScheduleText, CanFollow, IsRunLine, Follow, AreRunLines, Refuses, RefusesAt, numbers};
+ghost use Rattle.b67_schedule.specs.declared.Run.{Run as TheRun};
+ghost use Rattle.b67_deeds.specs.declared.Letter.{Letter as TheLetter};
+ghost use Rattle.b67_schedule.specs.declared.reading.Given.{Given as TheGiven};
+ghost use Rattle.b67_schedule.specs.Schedules.{AreRuns, IsSchedule, OldText, ScheduleText};
+ghost use Rattle.b67_schedule.specs.Reading.{IsOldText, IsScheduleText, IsGivenText, Refuses, RefusesAt, numbers};
+ghost use Rattle.b67_schedule.specs.Giving.{HasRuns, IsTextOf, given_entries, SaySame};
 
-use crate::{MOST_NUMBER, Run, Schedule};
+use crate::lines::read_lines;
+use crate::old::{actions_of, read_runs};
+use crate::{MOST_NUMBER, OldSchedule, ReadSchedule, Schedule};
+use b67_list::List;
 use b67_text::{BadText, Numbers, read_number, read_word};
-use std::alloc::{AllocError, AllocFailed, Global};
+use std::alloc::Global;
 
-/// Why bytes are not read as a schedule: they are not the text of one, or memory ran out.
-#[derive(Clone, Copy)]
-pub enum ReadSchedule {
-    Bad(BadText),
-    NoMemory,
+/// What a text tells: which process did each action, in version 2 with what the action was.
+#[derive(Drop)]
+pub enum Given {
+    One(OldSchedule),
+    Two(Schedule),
 }
 
-impl From<BadText> for ReadSchedule {
-    ghost use Rattle.std.specs.Prelude.{◌≡◌};
-    ghost use Rattle.b67_schedule.specs.declared.reading.ReadSchedule.TheVariants.{Bad};
-
-    ghost from_gives = { λ bad e. e ≡ Bad bad };
-
-    fn from(bad: BadText) -> ReadSchedule {
-        ReadSchedule::Bad(bad)
+impl Given {
+    /// How many actions there are.
+    pub fn len(&self) -> u64
+        requires { HasRuns self.now }
+        ensures { result ≡ length (given_entries self.now) }
+    {
+        match self {
+            Given::One(old) => actions_of(old.runs.items().as_slice()),
+            Given::Two(schedule) => schedule.len(),
+        }
     }
 }
 
-impl From<AllocError> for ReadSchedule {
-    ghost use Rattle.std.specs.Prelude.{◌≡◌};
-    ghost use Rattle.b67_schedule.specs.declared.reading.ReadSchedule.TheVariants.{NoMemory};
-
-    ghost from_gives = { λ _ e. e ≡ NoMemory };
-
-    fn from(_error: AllocError) -> ReadSchedule {
-        ReadSchedule::NoMemory
+/// What the text that the bytes are tells. Where they are no text of either version, the refusal has the length of their longest front
+/// that some more bytes make such a text.
+pub fn read(alloc: Global, bytes: &[u8]) -> Result<Given, ReadSchedule>
+    ensures read { IfOk result (λ given. IsTextOf given bytes.now) }
+    ensures again { (given : TheGiven) → IsTextOf given bytes.now → MatchResult result (λ found. SaySame found given) (λ e. e ≡ ReadSchedule.NoMemory) }
+    ensures refused { IfErr result (λ e. Refuses IsGivenText e bytes.now) }
+{
+    match read_word(bytes, 0, b"SCHEDULE 1 ") {
+        Ok(_) => Ok(Given::One(read_old(alloc, bytes)?)),
+        Err(old) => match read_new(alloc, bytes) {
+            Ok(schedule) => Ok(Given::Two(schedule)),
+            Err(ReadSchedule::Bad(new)) => Err(ReadSchedule::Bad(BadText {
+                byte: old.byte.max(new.byte),
+            })),
+            Err(ReadSchedule::NoMemory) => Err(ReadSchedule::NoMemory),
+        },
     }
 }
 
-impl<T: Drop> From<AllocFailed<T>> for ReadSchedule {
-    ghost use Rattle.std.specs.Prelude.{◌≡◌};
-    ghost use Rattle.b67_schedule.specs.declared.reading.ReadSchedule.TheVariants.{NoMemory};
-
-    ghost from_gives = { λ _ e. e ≡ NoMemory };
-
-    fn from(_error: AllocFailed<T>) -> ReadSchedule {
-        ReadSchedule::NoMemory
+/// The runs whose text of version 1 the bytes are.
+fn read_old(alloc: Global, bytes: &[u8]) -> Result<OldSchedule, ReadSchedule>
+    ensures read { IfOk result (λ old. AreRuns old.runs × (bytes.now ≡ OldText old.runs)) }
+    ensures refused { IfErr result (λ e. Refuses IsOldText e bytes.now) }
+{
+    let next = read_word(bytes, 0, b"SCHEDULE 1 ")?;
+    let (count, next) = read_number(bytes, next, &numbers(0, None), b'\n')?;
+    let (runs, next) = read_runs(alloc, bytes, next, count)?;
+    if next < bytes.len() {
+        return Err(ReadSchedule::Bad(BadText { byte: next }));
     }
+    Ok(OldSchedule {
+        runs: List::of(runs),
+    })
 }
 
-/// The schedule whose text the bytes are. Where they are the text of none, the refusal has the length of their longest
-/// front that some more bytes make such a text.
-pub fn read(alloc: Global, bytes: &[u8]) -> Result<Schedule, ReadSchedule>
-    ensures read { IfOk result (λ schedule. IsSchedule schedule.runs × (bytes.now ≡ ScheduleText schedule.runs)) }
-    ensures again { (runs : List Run) → IsSchedule runs → bytes.now ≡ ScheduleText runs →
-        MatchResult result (λ schedule. schedule.runs ≡ runs) (λ e. e ≡ ReadSchedule.NoMemory) }
-    ensures refused { IfErr result (λ e. Refuses e bytes.now) }
+/// The schedule whose text the bytes are.
+fn read_new(alloc: Global, bytes: &[u8]) -> Result<Schedule, ReadSchedule>
+    ensures read { IfOk result (λ schedule. IsSchedule schedule.runs schedule.letters × (bytes.now ≡ ScheduleText schedule.runs schedule.letters)) }
+    ensures refused { IfErr result (λ e. Refuses IsScheduleText e bytes.now) }
 {
     let (schedule, next) = read_from(alloc, bytes, 0)?;
     if next < bytes.len() {
@@ -69,57 +87,17 @@ pub fn read(alloc: Global, bytes: &[u8]) -> Result<Schedule, ReadSchedule>
 /// place where the longest beginning of such a text ends.
 pub fn read_from(alloc: Global, bytes: &[u8], at: usize) -> Result<(Schedule, usize), ReadSchedule>
     requires { at ≤ length bytes.now }
-    ensures read { IfOk result (λ found. IsSchedule found.0.runs × Stands (ScheduleText found.0.runs) bytes.now at found.1) }
+    ensures read { IfOk result (λ found. IsSchedule found.0.runs found.0.letters × Stands (ScheduleText found.0.runs found.0.letters) bytes.now at found.1) }
     ensures refused { IfErr result (λ e. RefusesAt e IsScheduleText bytes.now at) }
 {
-    let next = read_word(bytes, at, b"SCHEDULE 1 ")?;
+    let next = read_word(bytes, at, b"SCHEDULE 2 ")?;
     let (count, next) = read_number(bytes, next, &numbers(0, None), b'\n')?;
-    let (runs, next) = read_runs(alloc, bytes, next, count)?;
-    let actions = actions_of(runs.as_slice());
-    Ok((Schedule { runs, actions }, next))
-}
-
-/// So many runs whose lines stand at a place, and the place after them.
-fn read_runs(
-    alloc: Global,
-    bytes: &[u8],
-    at: usize,
-    count: u64,
-) -> Result<(Vec<Run>, usize), ReadSchedule>
-    requires { at ≤ length bytes.now }
-    ensures read { IfOk result (λ found. Follow None found.0.items × (length found.0.items ≡ count)
-        × Stands (flat_map run_line found.0.items) bytes.now at found.1) }
-    ensures refused { IfErr result (λ e. RefusesAt e (AreRunLines None count) bytes.now at) }
-{
-    let mut runs = Vec::new(alloc);
-    let mut before = None;
-    let mut next = at;
-    'runs: while (runs.len() as u64) < count {
-        let (run, behind) = read_run(bytes, next, before)?;
-        runs.push(run)?;
-        before = Some(u64::from(run.process));
-        next = behind;
-    }
-    Ok((runs, next))
-}
-
-/// The run whose line stands at a place, of another process than the one before, and the place after it.
-fn read_run(bytes: &[u8], at: usize, before: Option<u64>) -> Result<(Run, usize), BadText>
-    requires { at ≤ length bytes.now }
-    ensures read { IfOk result (λ found. CanFollow before found.0 × Stands (run_line found.0) bytes.now at found.1) }
-    ensures refused { IfErr result (λ bad. StopsAt (IsRunLine before) bytes.now at bad.byte) }
-{
-    let (process, next) = read_number(bytes, at, &numbers(1, before), b'*')?;
-    let (times, next) = read_number(bytes, next, &numbers(1, None), b'\n')?;
-    let run = Run {
-        process: process as u32,
-        times: times as u32,
-    };
-    Ok((run, next))
+    let (runs, letters, next) = read_lines(alloc, bytes, next, count)?;
+    Ok((Schedule { runs, letters }, next))
 }
 
 /// The numbers of a schedule's text from this one on, without the other.
-fn numbers(least: u64, except: Option<u64>) -> Numbers
+pub fn numbers(least: u64, except: Option<u64>) -> Numbers
     ensures { result ≡ numbers least except }
 {
     Numbers {
@@ -129,19 +107,14 @@ fn numbers(least: u64, except: Option<u64>) -> Numbers
     }
 }
 
-/// How many actions the runs are.
-fn actions_of(runs: &[Run]) -> u64
-    requires { IsSchedule runs.now }
-    ensures { result ≡ length (entries runs.now) }
-{
-    let mut actions = 0;
-    'runs: for run in runs {
-        actions += u64::from(run.times);
-    }
-    actions
-}
-
-/// Different schedules have different texts.
+/// Different schedules have different texts, and so have different runs in version 1.
 pub fn schedules_have_own_texts()
-    ensures { (runs others : List Run) → IsSchedule runs → IsSchedule others → ScheduleText runs ≡ ScheduleText others → runs ≡ others }
+    ensures new { (runs others : List TheRun) (letters more : List TheLetter) → IsSchedule runs letters → IsSchedule others more
+        → ScheduleText runs letters ≡ ScheduleText others more → (runs ≡ others) × (letters ≡ more) }
+    ensures old { (runs others : List TheRun) → AreRuns runs → AreRuns others → OldText runs ≡ OldText others → runs ≡ others }
+{}
+
+/// No text is of both versions.
+pub fn versions_have_own_texts()
+    ensures { (runs others : List TheRun) (letters : List TheLetter) → OldText runs ≡ ScheduleText others letters → ⊥ }
 {}

@@ -1,6 +1,6 @@
 use Rattle.std.proofs.Common.{arith}
-use Rattle.b67_schedule.proofs.WholeText.{actions_fit}
-use Rattle.b67_schedule.proofs.reading.actions_of.Goals as goal
+use Rattle.b67_schedule.proofs.Counted.{actions_fit}
+use Rattle.b67_schedule.proofs.old.actions_of.Goals as goal
 
 pub overflow_add-actions : goal.overflow_add-actions
 overflow_add-actions c =
