@@ -50,6 +50,24 @@ use Rattle.b67_action.specs.Rows.{Is}
 pub comes_by : {A : Type 0} (p : ℕ) (program : Program) (old new : Image) (res : Result A Stop) → Acts p program old new res → Comes p (does p program old) old new res
 comes_by p program old new res x = record { outcome = x.outcome; stays = x.stays }
 
+-- what was performed, whatever it answers
+pub acts_ok : {A : Type 0} (p : ℕ) (program : Program) (old new : Image) (res : Result A Stop) (a : A) → res ≡ Ok a → Acts p program old new res
+    → Acts {A = Unit {0}} p program old new (Ok (tt {0}))
+acts_ok p program old new (Ok b) a e x = record { outcome = x.outcome; stays = tt }
+acts_ok p program old new (Err stop) a e x = cc
+
+pub comes_ok : {A B : Type 0} (p : ℕ) (effect : Effect Image) (old new : Image) (res : Result A Stop) (a : A) (b : B) → res ≡ Ok a → Comes p effect old new res
+    → Comes p effect old new (Ok b)
+comes_ok p effect old new (Ok c) a b e x = record { outcome = x.outcome; stays = tt }
+comes_ok p effect old new (Err stop) a b e x = cc
+
+pub comes_err : {A B : Type 0} (p : ℕ) (effect : Effect Image) (old new : Image) (res : Result A Stop) (stop : Stop) → res ≡ Err stop → Comes p effect old new res
+    → Comes {A = B} p effect old new (Err stop)
+comes_err p effect old new (Ok c) stop e x = cc
+comes_err {B = B} p effect old new (Err other) stop e x =
+    let same : other ≡ stop = cc in
+    subst (λ (s : Stop). Comes {A = B} p effect old new (Err s)) same (record { outcome = x.outcome; stays = x.stays })
+
 -- ---- the row of an operator
 
 module _ (code : Code) (img : Image) (p : ℕ) (r : Registers) (op : Operator) (next : ℕ) where
@@ -148,6 +166,12 @@ not_performed (Stopped (Interrupt kind)) e = cc
 not_performed (Stopped (Fault kind)) e = cc
 not_performed (Stopped StackLimit) e = cc
 not_performed NoMemory e = cc
+
+pub not_done : (hindrance : Hindrance) → is_performed (hindered_by hindrance) ≡ false
+not_done (Stopped (Interrupt kind)) = refl
+not_done (Stopped (Fault kind)) = refl
+not_done (Stopped StackLimit) = refl
+not_done NoMemory = refl
 
 pub went_performed : (s : ProcessState) → is_performed (went s) ≡ false → ⊥
 went_performed states.Able e = cc

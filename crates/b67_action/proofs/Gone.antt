@@ -8,15 +8,17 @@ use Rattle.b67_segment.specs.Decoded.{found}
 use Rattle.b67_store.specs.Store.{row_limit}
 use Rattle.b67_table.specs.declared.ProcessState.{ProcessState}
 use Rattle.b67_table.specs.Image.{Image, is_able}
-use Rattle.b67_table.specs.Outcome.{limited}
+use Rattle.b67_table.specs.Outcome.{Outcome, gives, limited}
 use Rattle.b67_table.specs.Rows.{row}
-use Rattle.b67_table.specs.Table.{table, stack_length}
+use Rattle.b67_table.specs.Table.{table, operator_at, stack_length}
 use Rattle.b67_table.specs.Valid.{IsValid}
+use Rattle.b67_letters.specs.Letters.{operator_letter, fetched_letter, registers_letter, letter_by, letter}
 use Rattle.b67_linkage.proofs.Linked.{live_are_linked}
 use Rattle.b67_operators.specs.Leaves.{IsLinkedIn}
 use Rattle.b67_private.specs.declared.operators.Row.{Row as Ready}
 use Rattle.b67_private.specs.declared.operators.Row.TheVariants as ready
 use Rattle.b67_private.specs.Actions.{IsRow, IsHeldRow}
+use Rattle.b67_private.specs.Lettered.{row_letter, HasLetter}
 use Rattle.b67_private.specs.Prepared.{IsRowOf}
 use Rattle.b67_action.specs.declared.done.Done.TheVariants.{Went}
 use Rattle.b67_action.specs.declared.rows.Row.{Row}
@@ -38,10 +40,23 @@ pub record Stands (place : ℕ) (o : Option (Operator × ℕ)) (w : Ready) (next
   pub here : o ≡ Some (op, next)
   pub is : IsRow op place w
   pub held : IsHeldRow w
+  pub letter : HasLetter op place w
 
 pub row_stands : (place : ℕ) (o : Option (Operator × ℕ)) (w : Ready) (next : ℕ) → IsRowOf place o (w, next) → Stands place o w next
 row_stands place None w next k = absurd k
-row_stands place (Some f) w next k = record { op = f.0; here = ap (λ (n : ℕ). Some (f.0, n)) (sym k.1); is = k.2; held = k.3 }
+row_stands place (Some f) w next k = record { op = f.0; here = ap (λ (n : ℕ). Some (f.0, n)) (sym k.1); is = k.2; held = k.3; letter = k.4 }
+
+-- the letter of an operator that is performed, and so that of its row
+pub letter_of_operator : (code : Code) (img new : Image) (p : ℕ) (r : Registers) (op : Operator) (next : ℕ) → numbered img.regs p ≡ Some r → operator_at code r ≡ Ok (op, next)
+    → table code img p ≡ gives new → letter code img p ≡ operator_letter op img r
+letter_of_operator code img new p r op next has stands t =
+    ap (λ (o : Outcome Image). letter_by o (registers_letter code img (numbered img.regs p))) t
+    ∙ ap (registers_letter code img) has
+    ∙ ap (fetched_letter img r) stands
+
+pub letter_by_row : (code : Code) (img new : Image) (p : ℕ) (r : Registers) (op : Operator) (next : ℕ) (w : Ready) → numbered img.regs p ≡ Some r → operator_at code r ≡ Ok (op, next)
+    → HasLetter op r.place w → table code img p ≡ gives new → letter code img p ≡ row_letter w img r
+letter_by_row code img new p r op next w has stands is t = letter_of_operator code img new p r op next has stands t ∙ sym (is img r refl)
 
 -- a live process of a valid image is linked among the others
 pub linked_in : (code : Code) (img : Image) (p : ℕ) (r : Registers) → IsValid code img → is_able (numbered img.states p) ≡ true → numbered img.regs p ≡ Some r

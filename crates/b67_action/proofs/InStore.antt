@@ -1,6 +1,6 @@
 -- A process in its store: its room is lent and given back, and one run of it after another.
 use Rattle.std.specs.Prelude.{is_ok}
-use Rattle.std.proofs.Common.{◌≡◌, refl, sym, ap, subst, ◌∙◌, ℕ, ◌≤◌, true, false, List, length, take, Some, Result, Ok, Err}
+use Rattle.std.proofs.Common.{◌≡◌, refl, sym, ap, subst, ◌∙◌, ℕ, ◌≤◌, true, false, List, [], length, take, Some, Result, Ok, Err}
 use Rattle.b67_list.specs.Numbered.{numbered}
 use Rattle.b67_word.specs.Word.{Word}
 use Rattle.b67_control.specs.declared.Registers.{Registers}
@@ -16,19 +16,22 @@ use Rattle.b67_table.proofs.FirstValid.{counted}
 use Rattle.b67_table.proofs.Lists.{numbered_set, numbered_same, numbered_within}
 use Rattle.b67_linkage.specs.Held.{IsLinked}
 use Rattle.b67_linkage.proofs.Linked.{live_are_linked}
+use Rattle.b67_deeds.specs.declared.Letter.{Letter}
 use Rattle.b67_operators.specs.Leaves.{program_in}
 use Rattle.b67_operators.proofs.Leaves.{in_process}
 use Rattle.b67_private.specs.declared.operators.Row.TheVariants as ready
 use Rattle.b67_private.specs.declared.operators.WordsRow.{WordsRow}
 use Rattle.b67_private.specs.Actions.{words_program}
+use Rattle.b67_private.specs.Lettered.{words_letter, HasLetter}
 use Rattle.b67_reach.specs.declared.Stop.{Stop}
 use Rattle.b67_reach.specs.Answers.{Performs, Acts}
 use Rattle.b67_reach.specs.Images.{Own, own, with_own}
 use Rattle.b67_reach.proofs.Looking.{acts_by}
+use Rattle.b67_action.specs.Onward.{HasGone}
 use Rattle.b67_action.specs.Reaching.{IsIn}
 use Rattle.b67_action.specs.Running.{IsLent, given_back, GoesOn}
 use Rattle.b67_action.proofs.Coming.{comes_by, operator_is}
-use Rattle.b67_action.proofs.Gone.{gone}
+use Rattle.b67_action.proofs.Gone.{letter_by_row, gone}
 use Rattle.b67_action.proofs.Lent.{not_plain, numbered_twice}
 use Rattle.b67_action.proofs.Ready.{live_of}
 
@@ -38,11 +41,11 @@ own_twice img p a b =
 
 -- an answer that is one
 module _ (program : Program) (old new : Own) where
-  pub performed : (res : Result (Unit {0}) Stop) → is_ok res ≡ true → Performs program old new res → Performs {A = Unit {0}} program old new (Ok (tt {0}))
-  performed (Ok u) e x = x
+  pub performed : {A : Type 0} (res : Result A Stop) → is_ok res ≡ true → Performs program old new res → Performs {A = Unit {0}} program old new (Ok (tt {0}))
+  performed (Ok u) e x = record { outcome = x.outcome; stays = tt }
   performed (Err stop) e x = cc
 
-  pub unmoved : (res : Result (Unit {0}) Stop) → is_ok res ≡ false → Performs program old new res → new ≡ old
+  pub unmoved : {A : Type 0} (res : Result A Stop) → is_ok res ≡ false → Performs program old new res → new ≡ old
   unmoved (Ok u) e x = cc
   unmoved (Err stop) e x = x.stays
 
@@ -93,10 +96,18 @@ module _ (code : Code) (img : Image) (p : ℕ) (stacks : Stacks) (rows : Rows) (
         in_process p (words_program kind) (numbered img.regs p) r next img (with_own new p img) (Ok (tt {0})) h.has
         (acts_by p (words_program kind r next) (own stacks rows r) new img (Ok (tt {0})) h.stacks_are h.rows_are h.has x same)
 
-    pub goes_on : GoesOn code p img (with_own new p img)
-    goes_on = record {
-      action = not_plain code img p r op next (words_program kind) h.has (operator_is code img p r h.able h.has (op, next) here) is;
-      gone = gone code img (with_own new p img) p r op next h.valid h.able h.has here refl few (ready.Words kind) is
-          ((λ o. comes_by p (program_in (words_program kind) (numbered img.regs p) next) img (with_own new p img) (Ok (tt {0})) acted), refl);
-      calm = record { states = refl; started = refl; fault = refl };
-    }
+    went : HasGone code img p (with_own new p img) []
+    went =
+        gone code img (with_own new p img) p r op next h.valid h.able h.has here refl few (ready.Words kind) is
+        ((λ o. comes_by p (program_in (words_program kind) (numbered img.regs p) next) img (with_own new p img) (Ok (tt {0})) acted), refl)
+
+    pub goes_on : (named : Letter) → HasLetter op r.place (ready.Words kind) → words_letter kind stacks r ≡ Some named → GoesOn code p named img (with_own new p img)
+    goes_on named lettered is_named =
+        let stands = operator_is code img p r h.able h.has (op, next) here in
+        record {
+          action = not_plain code img p r op next (words_program kind) h.has stands is;
+          letter_is = letter_by_row code img (with_own new p img) p r op next (ready.Words kind) h.has stands lettered went.came.0
+              ∙ ap (λ (z : Stacks). words_letter kind z r) h.stacks_are ∙ is_named;
+          gone = went;
+          calm = record { states = refl; started = refl; fault = refl };
+        }

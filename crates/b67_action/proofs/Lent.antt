@@ -1,6 +1,6 @@
 -- What is done on the lent room of a process's own stack, in the image that it is given back to.
 use Rattle.std.specs.Prelude.{reverse, ◌&&◌}
-use Rattle.std.proofs.Common.{◌≡◌, refl, sym, ap, subst, ◌∙◌, ℕ, zero, suc, ◌<◌, Bool, true, false, List, ◌++◌, length, take, Option, Some, None, is_some, Result, Ok, arith}
+use Rattle.std.proofs.Common.{◌≡◌, refl, sym, ap, subst, ◌∙◌, ℕ, zero, suc, ◌<◌, Bool, true, false, List, [], ◌++◌, length, take, Option, Some, None, is_some, Result, Ok, arith}
 use Rattle.std.proofs.lemmas.List.{reverse-append, reverse-reverse}
 use Rattle.b67_list.specs.Numbered.{numbered, set_numbered}
 use Rattle.b67_word.specs.Word.{Word}
@@ -28,11 +28,13 @@ use Rattle.b67_table.proofs.Lists.{numbered_set, numbered_same, numbered_within,
 use Rattle.b67_table.proofs.OwnValid.{opened}
 use Rattle.b67_table.proofs.Privacy.{private_is_private}
 use Rattle.b67_table.proofs.Stacks.{set_here, set_set_here}
+use Rattle.b67_deeds.specs.declared.Letter.{Letter}
 use Rattle.b67_operators.specs.Leaves.{program_in}
 use Rattle.b67_operators.proofs.Leaves.{in_process}
 use Rattle.b67_private.specs.declared.operators.Row.TheVariants as ready
 use Rattle.b67_private.specs.declared.operators.WordsRow.{WordsRow}
 use Rattle.b67_private.specs.Actions.{words_program}
+use Rattle.b67_private.specs.Lettered.{HasLetter}
 use Rattle.b67_private.specs.Parts.{IsPart, PlainParts, is_plain, own_next, part_with, part_in}
 use Rattle.b67_private.specs.Parts as parts
 use Rattle.b67_private.specs.Performing.{Steps}
@@ -42,19 +44,21 @@ use Rattle.b67_private.proofs.ValidParts.{valid_whole}
 use Rattle.b67_reach.specs.Answers.{Acts}
 use Rattle.b67_reach.specs.Images.{own, with_own}
 use Rattle.b67_reach.proofs.Looking.{acts_by}
+use Rattle.b67_action.specs.Lettered.{LettersOn}
 use Rattle.b67_action.specs.OnRoom.{IsRoom, PerformsOn}
+use Rattle.b67_action.specs.Onward.{HasGone}
 use Rattle.b67_action.specs.Running.{IsLent, given_back, IsStretchOf, GoesOn, StepsTo, plain_step, act_step}
 use Rattle.b67_action.proofs.Coming.{comes_by, operator_is}
-use Rattle.b67_action.proofs.Gone.{gone}
+use Rattle.b67_action.proofs.Gone.{letter_by_row, gone}
 use Rattle.b67_action.proofs.Ready.{live_of, registers_there}
 
 -- ---- plain operators keep an image valid
 
 -- an action was performed, or none
-pub act_steps : (code : Code) (p : ℕ) (old new : Image) (b : Bool) → (b ≡ true → GoesOn code p old new) → (b ≡ false → IsStretchOf code p 0 1 old new)
-    → StepsTo (act_step b) code p old new
-act_steps code p old new true goes stays = goes refl
-act_steps code p old new false goes stays = stays refl
+pub act_steps : (code : Code) (p : ℕ) (old new : Image) (o : Option Letter) → ((named : Letter) → o ≡ Some named → GoesOn code p named old new)
+    → (o ≡ None → IsStretchOf code p 0 1 old new) → StepsTo (act_step o) code p old new
+act_steps code p old new (Some named) goes stays = goes named refl
+act_steps code p old new None goes stays = stays refl
 
 both : (a b : Bool) → (a && b) ≡ true → a ≡ true
 both true b e = refl
@@ -259,13 +263,20 @@ module _ (code : Code) (img : Image) (p : ℕ) (r : Registers) (room : List Word
         (acts_by p (words_program kind r next) (own img.stacks img.rows r) (own (with_stack img.stacks q.stack (take q.s more)) img.rows q) img (Ok (tt {0})) refl refl l.has
         (x img.stacks img.rows open_is) same)
 
-    pub action_goes : GoesOn code p img (given_back q more p img)
-    action_goes = record {
-      action = not_plain code img p r op next (words_program kind) l.has (operator_is code img p r l.able l.has (op, next) here) is;
-      gone = gone code img (given_back q more p img) p r op next l.valid l.able l.has here refl l.valid.rows.few (ready.Words kind) is
-          ((λ o. comes_by p (program_in (words_program kind) (numbered img.regs p) next) img (given_back q more p img) (Ok (tt {0})) acted), refl);
-      calm = record { states = refl; started = refl; fault = refl };
-    }
+    went : HasGone code img p (given_back q more p img) []
+    went =
+        gone code img (given_back q more p img) p r op next l.valid l.able l.has here refl l.valid.rows.few (ready.Words kind) is
+        ((λ o. comes_by p (program_in (words_program kind) (numbered img.regs p) next) img (given_back q more p img) (Ok (tt {0})) acted), refl)
+
+    pub action_goes : (named : Letter) → HasLetter op r.place (ready.Words kind) → LettersOn kind r room named → GoesOn code p named img (given_back q more p img)
+    action_goes named lettered on =
+        let stands = operator_is code img p r l.able l.has (op, next) here in
+        record {
+          action = not_plain code img p r op next (words_program kind) l.has stands is;
+          letter_is = letter_by_row code img (given_back q more p img) p r op next (ready.Words kind) l.has stands lettered went.came.0 ∙ on img.stacks open_is;
+          gone = went;
+          calm = record { states = refl; started = refl; fault = refl };
+        }
 
     pub action_lends : IsLent code (given_back q more p img) p q more
-    action_lends = again q more k action_goes.gone.valid
+    action_lends = again q more k went.valid

@@ -21,3 +21,5 @@ pub mod InRoom
 pub mod InStore
 pub mod Runs
 pub mod Told
+pub mod Went
+pub mod Lettering

@@ -34,6 +34,10 @@ use Rattle.b67_table.specs.Table.{length_in, stack_length}
 use Rattle.b67_table.proofs.Limit.{fits}
 use Rattle.b67_table.proofs.Lists.{set_there, numbered_set, numbered_within, numbered_from}
 use Rattle.b67_table.proofs.Stacks.{set_here, set_set_here}
+use Rattle.b67_deeds.specs.declared.Letter.TheVariants as letters
+use Rattle.b67_letters.specs.Letters.{told_by, entered_or, element_or_not, value_letter, stored_letter}
+use Rattle.b67_private.specs.declared.operators.WordsRow.TheVariants as words
+use Rattle.b67_private.specs.Lettered.{words_letter}
 use Rattle.b67_reach.specs.Answers.{looked, Performs}
 use Rattle.b67_reach.specs.Images.{own, with_own}
 use Rattle.b67_reach.proofs.Looking.{performs_then, tells_look}
@@ -150,6 +154,10 @@ module _ (r : Registers) (room : List Word) (is : IsRoom r room) (st : Stacks) (
         ∙ ap (λ (o : Option Word). seen st (reached_in cell o >-> (λ (w : Reached). one_sirw (as_sirw w.word) w))) word_is
         ∙ ap (λ (o : Option Sirw). seen st (one_sirw o found_there)) (no_sirw h.word.tag h.word.bits h.operand)
 
+    -- which is read
+    pub value_reads : told_by value_letter (seen st (reached (couple_cell r level index))) ≡ Some letters.Read
+    value_reads = ap (told_by value_letter) reached_is ∙ ap (λ (o : Option Pcw). Some (entered_or letters.Read o)) (no_pcw h.word.tag h.word.bits h.operand)
+
   -- ---- VALC
 
   module _ (couple : Couple) (next at : ℕ) (h : HoldsOperand r room couple.level couple.index at) (w : Word) (same : w ≡ h.word) (less : r.s < stack_limit) where
@@ -198,6 +206,11 @@ module _ (r : Registers) (room : List Word) (is : IsRoom r room) (st : Stacks) (
         (le-leb (floor r + 2) r.s enough)
         ∙ ap (λ (o : Option Word). seen st (valid o >-> (λ (u : Word). from_top r 1 >-> (λ (v : Word). found (record { x = u; y = v }))))) top_is
         ∙ ap (λ (o : Option Word). seen st (valid o >-> (λ (v : Word). found (record { x = x; y = v })))) below_is
+
+    -- no descriptor is under the operand
+    pub reference_stores : (i : Irw) → as_irw y ≡ Some i → words_letter (words.Store false) st r ≡ Some letters.Store
+    reference_stores i names =
+        ap (told_by stored_letter) popped_is ∙ ap (λ (o : Option Descriptor). Some (element_or_not letters.ElementStore letters.Store (indexed_in o))) (no_descriptor y i names)
 
     module _ (next at : ℕ) (i : Irw) (h : HoldsOperand r room i.level i.index at) (names : as_irw y ≡ Some i) (operand : (x.tag == 0) ≡ true) where
       abbrev cell_there : Reached

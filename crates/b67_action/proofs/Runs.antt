@@ -1,5 +1,8 @@
 -- A run of a process on its own stack, one operator after another.
-use Rattle.std.proofs.Common.{◌≡◌, subst, ◌∙◌, ℕ, ◌+◌, ◌-◌, ◌<◌, false, arith, refl}
+use Rattle.std.proofs.Common.{◌≡◌, sym, ap, subst, ◌∙◌, ℕ, ◌+◌, ◌-◌, ◌<◌, ◌≤◌, false, List, [], ◌∷◌, ◌++◌, length, take, drop, set, append_assoc, length-append, arith, refl}
+use Rattle.std.proofs.Math.Seq.{take-append-add}
+use Rattle.std.proofs.lemmas.List.{append-nil, length-drop, length-set, length-take-le, take-append-le, take_more_set}
+use Rattle.b67_deeds.specs.declared.Letter.{Letter}
 use Rattle.b67_segment.specs.declared.code.Code.{Code}
 use Rattle.b67_table.specs.Image.{Image}
 use Rattle.b67_table.specs.Runs.{Plains}
@@ -22,20 +25,20 @@ calm_then : (a b c : Image) → StaysCalm a b → StaysCalm b c → StaysCalm a 
 calm_then a b c h k = record { states = k.states ∙ h.states; started = k.started ∙ h.started; fault = k.fault ∙ h.fault }
 
 module _ (code : Code) (p : ℕ) (img : Image) where
-  -- so many entries with so many operators in all, and so many plain operators of the next one
-  pub record Going (entries operators plain : ℕ) (new : Image) : Type 0 where
+  -- entries with these letters and so many operators in all, and so many plain operators of the next one
+  pub record Going (noted : List Letter) (operators plain : ℕ) (new : Image) : Type 0 where
     pub between : Image
-    pub walks : Walks code p img entries operators between
+    pub walks : Walks code p img noted operators between
     pub plains : Plains code p between plain new
     pub valid : IsValid code new
     pub calm : StaysCalm img new
 
-  pub going_none : IsValid code img → Going 0 0 0 img
+  pub going_none : IsValid code img → Going [] 0 0 img
   going_none v = record { between = img; walks = stay; plains = runs.stay; valid = v; calm = record { states = refl; started = refl; fault = refl } }
 
-  module _ (entries operators plains : ℕ) (x y : Image) (h : Going entries operators plains x) where
+  module _ (noted : List Letter) (operators plains : ℕ) (x y : Image) (h : Going noted operators plains x) where
     -- plain operators more
-    pub going_plain : (n most : ℕ) → IsStretchOf code p n most x y → IsValid code y → Going entries operators (plains + n) y
+    pub going_plain : (n most : ℕ) → IsStretchOf code p n most x y → IsValid code y → Going noted operators (plains + n) y
     going_plain n most s v = record {
       between = h.between;
       walks = h.walks;
@@ -45,39 +48,63 @@ module _ (code : Code) (p : ℕ) (img : Image) where
     }
 
     -- an action that goes on
-    pub going_action : GoesOn code p x y → Going (entries + 1) (operators + (plains + 1)) 0 y
-    going_action g = record { between = y; walks = go h.walks h.plains g; plains = runs.stay; valid = g.gone.valid; calm = calm_then img x y h.calm g.calm }
+    pub going_action : (l : Letter) → GoesOn code p l x y → Going (noted ++ l ∷ []) (operators + (plains + 1)) 0 y
+    going_action l g = record { between = y; walks = go h.walks h.plains g; plains = runs.stay; valid = g.gone.valid; calm = calm_then img x y h.calm g.calm }
 
-  pub has_run : (most : ℕ) (ran : Ran) (new : Image) → Going ran.entries ran.operators ran.plain new → (ran.operators + ran.plain < most → plain code new p ≡ false)
-      → HasRun code p most img ran new
-  has_run most ran new h stops = record { between = h.between; walks = h.walks; plains = h.plains; stops = stops; valid = h.valid; calm = h.calm }
+  pub has_run : (most : ℕ) (ran : Ran) (noted : List Letter) (new : Image) → ran.entries ≤ length noted → Going (take ran.entries noted) ran.operators ran.plain new
+      → (ran.operators + ran.plain < most → plain code new p ≡ false) → HasRun code p most img ran noted new
+  has_run most ran noted new few h stops = record { between = h.between; few = few; walks = h.walks; plains = h.plains; stops = stops; valid = h.valid; calm = h.calm }
 
   -- and then nothing more, since the next operator is not plain
-  pub has_ended : (most : ℕ) (ran : Ran) (x y : Image) → Going ran.entries ran.operators ran.plain x → IsStretchOf code p 0 1 x y → IsValid code y → HasRun code p most img ran y
-  has_ended most ran x y h s v =
+  pub has_ended : (most : ℕ) (ran : Ran) (noted : List Letter) (x y : Image) → ran.entries ≤ length noted → Going (take ran.entries noted) ran.operators ran.plain x
+      → IsStretchOf code p 0 1 x y → IsValid code y → HasRun code p most img ran noted y
+  has_ended most ran noted x y few h s v =
       let none : ran.plain + 0 ≡ ran.plain = omega arith in
-      has_run most ran y (subst (λ (n : ℕ). Going ran.entries ran.operators n y) none (going_plain ran.entries ran.operators ran.plain x y h 0 1 s v))
+      has_run most ran noted y few
+      (subst (λ (n : ℕ). Going (take ran.entries noted) ran.operators n y) none (going_plain (take ran.entries noted) ran.operators ran.plain x y h 0 1 s v))
       (λ less. s.stops (omega arith))
 
 -- ---- one run, an action, and another run
 
-walks_then : (code : Code) (p : ℕ) (a b c : Image) (n m k l : ℕ) → Walks code p a n m b → Walks code p b k l c → Walks code p a (n + k) (m + l) c
-walks_then code p a b c n m k l h stay =
-    let e : n ≡ n + 0 = omega arith in
+walks_then : (code : Code) (p : ℕ) (a b c : Image) (ls ks : List Letter) (m l : ℕ) → Walks code p a ls m b → Walks code p b ks l c → Walks code p a (ls ++ ks) (m + l) c
+walks_then code p a b c ls ks m l h stay =
     let f : m ≡ m + 0 = omega arith in
-    subst (λ (x : ℕ). Walks code p a x (m + 0) c) e (subst (λ (x : ℕ). Walks code p a n x c) f h)
-walks_then code p a b c n m k l h (go {b = d} {c = e} {n = i} {m = j} {k = o} w plains g) =
-    let s : n + i + 1 ≡ n + (i + 1) = omega arith in
+    subst (λ (xs : List Letter). Walks code p a xs (m + 0) c) (sym (append-nil ls)) (subst (λ (x : ℕ). Walks code p a ls x c) f h)
+walks_then code p a b c ls ks m l h (go {b = d} {c = e} {ls = is} {l = named} {m = j} {k = o} w plains g) =
     let t : m + j + (o + 1) ≡ m + (j + (o + 1)) = omega arith in
-    subst (λ (x : ℕ). Walks code p a x (m + (j + (o + 1))) c) s
-    (subst (λ (x : ℕ). Walks code p a (n + i + 1) x c) t (go (walks_then code p a b d n m i j h w) plains g))
+    subst (λ (xs : List Letter). Walks code p a xs (m + (j + (o + 1))) c) (append_assoc ls is (named ∷ []))
+    (subst (λ (x : ℕ). Walks code p a ((ls ++ is) ++ named ∷ []) x c) t (go (walks_then code p a b d ls is m j h w) plains g))
+
+-- the rest of a list that was lent is as long as it was
+pub rest_size : (all part : List Letter) (n : ℕ) → n ≤ length all → length part ≡ length (take (length all - n) (drop n all)) → n + length part ≡ length all
+rest_size all part n within size = omega (arith, within, size, length-take-le (length all - n) (drop n all) (omega (arith, length-drop n all)), length-drop n all)
+
+-- and with what is noted in it the list is
+pub whole_again : (all part post : List Letter) (n : ℕ) → n ≤ length all → n + length part ≡ length all → length post ≡ 0 → length (take n all ++ (part ++ post)) ≡ length all
+whole_again all part post n within size empty =
+    omega (arith, within, size, empty, length-append (take n all) (part ++ post), length-append part post, length-take-le n all within)
+
+-- letters that are noted after others in the rest of a list
+pub noted_then : (letters second post : List Letter) (n m : ℕ) (l : Letter) → n < length letters → m ≤ length second
+    → take (n + 1 + m) (take (n + 1) (set letters n l) ++ (second ++ post)) ≡ (take n letters ++ l ∷ []) ++ take m second
+noted_then letters second post n m l lt fits =
+    let front : List Letter = take (n + 1) (set letters n l) in
+    let long : length front ≡ n + 1 = length-take-le (n + 1) (set letters n l) (omega (arith, lt, length-set letters n l)) in
+    subst (λ (k : ℕ). take (k + m) (front ++ (second ++ post)) ≡ front ++ take m second) long
+    (take-append-add front (second ++ post) m ∙ ap (λ (ys : List Letter). front ++ ys) (take-append-le m second post fits))
+    ∙ ap (λ (xs : List Letter). xs ++ take m second) (take_more_set letters n l lt)
 
 module _ (code : Code) (p : ℕ) (img : Image) where
-  pub run_then : (most : ℕ) (a b : Ran) (x y z : Image) → HasRun code p most img a x → GoesOn code p x y → HasRun code p (most - (a.operators + (a.plain + 1))) y b z
-      → HasRun code p most img (record { entries = a.entries + 1 + b.entries; operators = a.operators + (a.plain + 1) + b.operators; plain = b.plain }) z
-  run_then most a b x y z h g k = record {
+  -- whose letters are noted one after another
+  pub run_then : (most : ℕ) (a b : Ran) (first second all : List Letter) (l : Letter) (x y z : Image) → HasRun code p most img a first x → GoesOn code p l x y
+      → HasRun code p (most - (a.operators + (a.plain + 1))) y b second z → a.entries + 1 + b.entries ≤ length all
+      → take (a.entries + 1 + b.entries) all ≡ (take a.entries first ++ l ∷ []) ++ take b.entries second
+      → HasRun code p most img (record { entries = a.entries + 1 + b.entries; operators = a.operators + (a.plain + 1) + b.operators; plain = b.plain }) all z
+  run_then most a b first second all l x y z h g k few noted = record {
     between = k.between;
-    walks = walks_then code p img y k.between (a.entries + 1) (a.operators + (a.plain + 1)) b.entries b.operators (go h.walks h.plains g) k.walks;
+    few = few;
+    walks = subst (λ (ls : List Letter). Walks code p img ls (a.operators + (a.plain + 1) + b.operators) k.between) (sym noted)
+        (walks_then code p img y k.between (take a.entries first ++ l ∷ []) (take b.entries second) (a.operators + (a.plain + 1)) b.operators (go h.walks h.plains g) k.walks);
     plains = k.plains;
     stops = λ less. k.stops (omega (arith, less));
     valid = k.valid;

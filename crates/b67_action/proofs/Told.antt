@@ -19,6 +19,10 @@ use Rattle.b67_table.specs.Rows.{store, store_by, stored}
 use Rattle.b67_table.specs.Table.{stack_length, length_in}
 use Rattle.b67_table.proofs.Limit.{fits}
 use Rattle.b67_table.proofs.Lists.{numbered_set, numbered_within, numbered_from}
+use Rattle.b67_deeds.specs.declared.Letter.TheVariants.{ElementStore, Store}
+use Rattle.b67_letters.specs.Letters.{told_by, element_or_not, stored_letter}
+use Rattle.b67_private.specs.declared.operators.WordsRow.TheVariants as words
+use Rattle.b67_private.specs.Lettered.{words_letter}
 use Rattle.b67_reach.specs.Answers.{whole, looked, Tells, Performs}
 use Rattle.b67_reach.specs.Images.{Own, own, with_own}
 use Rattle.b67_reach.proofs.Looking.{performs_then, tells_then, tells_look}
@@ -98,6 +102,10 @@ module _ (st : Stacks) (rows : Rows) (r : Registers) (next : ℕ) (x : Word) (d 
 
   abbrev after : Own
   after = own (with_cut st r.stack (r.s - 2)) (with_row_word rows d.address d.length x) dropped
+
+  -- an element is stored
+  pub element_letter : words_letter (words.Store false) st r ≡ Some ElementStore
+  element_letter = ap (told_by stored_letter) s.found ∙ ap (λ (o : Option Descriptor). Some (element_or_not ElementStore Store o)) s.element
 
   read_is : (w : Word) → slice_get (row_words rows d.address) d.length ≡ Some w → Tells (element d.address d.length) st rows (Ok w)
   read_is w i = record {

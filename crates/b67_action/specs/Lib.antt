@@ -3,6 +3,7 @@ pub mod Acting
 pub mod Among
 pub mod Done
 pub mod OnRoom
+pub mod Lettered
 pub mod Onward
 pub mod Own
 pub mod Reaching

@@ -1,5 +1,5 @@
 -- A run of a process on the lent room of its own stack: plain operators, and actions of its own that go on.
-use Rattle.std.specs.Prelude.{◌≡◌, ℕ, ◌+◌, ◌<◌, Bool, true, false, List, [], take, Some}
+use Rattle.std.specs.Prelude.{◌≡◌, ℕ, ◌+◌, ◌<◌, Bool, true, false, List, [], ◌∷◌, ◌++◌, ◌≤◌, length, take, Option, Some, None}
 use Rattle.b67_list.specs.Numbered.{numbered}
 use Rattle.b67_word.specs.Word.{Word}
 use Rattle.b67_control.specs.declared.Registers.{Registers}
@@ -9,6 +9,8 @@ use Rattle.b67_table.specs.Image.{Image, is_able}
 use Rattle.b67_table.specs.Runs.{Plains}
 use Rattle.b67_table.specs.Table.{plain}
 use Rattle.b67_table.specs.Valid.{IsValid}
+use Rattle.b67_deeds.specs.declared.Letter.{Letter}
+use Rattle.b67_letters.specs.Letters.{letter}
 use Rattle.b67_reach.specs.Images.{own, with_own}
 use Rattle.b67_action.specs.declared.running.Ran.{Ran}
 use Rattle.b67_action.specs.Onward.{HasGone}
@@ -40,21 +42,22 @@ pub record IsStretchOf (code : Code) (p n most : ℕ) (old new : Image) : Type 0
   pub stops : n < most → plain code new p ≡ false
   pub calm : StaysCalm old new
 
--- the next operator is an action that went on, and released and started nobody
-pub record GoesOn (code : Code) (p : ℕ) (old new : Image) : Type 0 where
+-- the next operator is an action of this letter that went on, and released and started nobody
+pub record GoesOn (code : Code) (p : ℕ) (l : Letter) (old new : Image) : Type 0 where
   pub action : plain code old p ≡ false
+  pub letter_is : letter code old p ≡ Some l
   pub gone : HasGone code old p new []
   pub calm : StaysCalm old new
 
--- one operator of a run: a plain one, an action that went on, or none, where what comes next is not plain
+-- one operator of a run: a plain one, an action of a letter that went on, or none, where what comes next is not plain
 pub data Step : Type 0 where
   Plain : Step
-  Action : Step
+  Action : Letter → Step
   Neither : Step
 
 abbrev pub StepsTo : Step → Code → ℕ → Image → Image → Type 0
 StepsTo Plain code p old new = IsStretchOf code p 1 1 old new
-StepsTo Action code p old new = GoesOn code p old new
+StepsTo (Action l) code p old new = GoesOn code p l old new
 StepsTo Neither code p old new = IsStretchOf code p 0 1 old new
 
 -- whether a plain operator was performed, as a step
@@ -62,21 +65,23 @@ abbrev pub plain_step : Bool → Step
 plain_step true = Plain
 plain_step false = Neither
 
--- whether an action was
-abbrev pub act_step : Bool → Step
-act_step true = Action
-act_step false = Neither
+-- whether an action was, and its letter
+abbrev pub act_step : Option Letter → Step
+act_step (Some l) = Action l
+act_step None = Neither
 
--- so many entries, with so many operators in all: each some plain operators, and then an action that went on
-pub data Walks (code : Code) (p : ℕ) : Image → ℕ → ℕ → Image → Type 0 where
-  stay : {a : Image} → Walks code p a 0 0 a
-  go : {a b c d : Image} {n m k : ℕ} → Walks code p a n m b → Plains code p b k c → GoesOn code p c d → Walks code p a (n + 1) (m + (k + 1)) d
+-- entries with these letters, and so many operators in all: each some plain operators, and then an action of its letter that went on
+pub data Walks (code : Code) (p : ℕ) : Image → List Letter → ℕ → Image → Type 0 where
+  stay : {a : Image} → Walks code p a [] 0 a
+  go : {a b c d : Image} {ls : List Letter} {l : Letter} {m k : ℕ} → Walks code p a ls m b → Plains code p b k c → GoesOn code p l c d
+      → Walks code p a (ls ++ l ∷ []) (m + (k + 1)) d
 
--- So many entries, and then so many plain operators of the next one; they are fewer than the most in all only where the entries are as many as
--- were allowed, or what comes next is no such action.
-pub record HasRun (code : Code) (p most : ℕ) (old : Image) (ran : Ran) (new : Image) : Type 0 where
+-- So many entries, whose letters are noted first in a list, and then so many plain operators of the next one; they are fewer than the most in
+-- all only where the entries are as many as were allowed, or what comes next is no such action.
+pub record HasRun (code : Code) (p most : ℕ) (old : Image) (ran : Ran) (noted : List Letter) (new : Image) : Type 0 where
   pub between : Image
-  pub walks : Walks code p old ran.entries ran.operators between
+  pub few : ran.entries ≤ length noted
+  pub walks : Walks code p old (take ran.entries noted) ran.operators between
   pub plains : Plains code p between ran.plain new
   pub stops : ran.operators + ran.plain < most → plain code new p ≡ false
   pub valid : IsValid code new

@@ -1,7 +1,9 @@
 // What an operator of a row does in a process.
-ghost use Rattle.std.specs.Prelude.{◌≡◌, ◌≢◌, ◌≤◌, Err, IfSome, OnOk, vec_capacity};
+ghost use Rattle.std.specs.Prelude.{◌≡◌, ◌≢◌, ◌≤◌, ℕ, Err, IfSome, OnOk, vec_capacity};
 ghost use Rattle.b67_list.specs.Numbered.{numbered};
 ghost use Rattle.b67_ops.specs.Spelling.{Fits};
+ghost use Rattle.b67_table.specs.Effect.{Effect};
+ghost use Rattle.b67_table.specs.Image.{Image};
 ghost use Rattle.b67_private.specs.Parts.{IsPart};
 ghost use Rattle.b67_intrinsics.specs.declared.hindrance.Hindrance.TheVariants.{NoMemory};
 ghost use Rattle.b67_reach.specs.Images.{image_of};
@@ -9,19 +11,32 @@ ghost use Rattle.b67_reach.specs.Woken.{KeepsPlaces};
 ghost use Rattle.b67_action.specs.declared.rows.Row.TheVariants.{Enter};
 ghost use Rattle.b67_action.specs.Acting.{IsActing, row_effect, ComesOrNot, CallsMaker, RowReleases};
 ghost use Rattle.b67_action.specs.Among.{Comes};
+ghost use Rattle.b67_action.specs.Lettered.{row_letter};
 ghost use Rattle.b67_action.specs.Own.{part_of};
 ghost use Rattle.b67_action.specs.Rows.{IsHeldRow};
 
 use crate::entering::{enter, hindered};
+use crate::letters::row_letter;
 use crate::own::perform_own_in;
 use crate::rows::Row;
 use crate::words::perform_words;
+use b67_deeds::Letter;
 use b67_events::Kernel;
 use b67_intrinsics::Hindrance;
 use b67_operators::{exit, return_value};
 use b67_ops::Operator;
 use b67_reach::{Parts, Stop, invalid};
 use b67_store::Core;
+
+// The answer of an operator, without its letter.
+fn plainly(answer: Result<Letter, Stop>) -> Result<(), Stop>
+    ensures comes { (p : ℕ) (effect : Effect Image) (old new : Image) → Comes p effect old new answer → Comes p effect old new result }
+{
+    match answer {
+        Ok(_) => Ok(()),
+        Err(stop) => Err(stop),
+    }
+}
 
 // An operator that takes no memory; ENTR is none.
 fn perform_plainly<C: Core>(
@@ -46,14 +61,15 @@ fn perform_plainly<C: Core>(
 {
     match row {
         Row::Own => perform_own_in(core, &mut parts.regs, process, op, next),
-        Row::Words(kind) => perform_words(core, &mut parts.regs, process, kind, next),
+        Row::Words(kind) => { plainly(perform_words(core, &mut parts.regs, process, kind, next)) }
         Row::Exit => exit(core, kernel, parts, process, next),
         Row::ReturnValue => return_value(core, kernel, parts, process, next),
         Row::Enter => Err(invalid()),
     }
 }
 
-/// An operator of this row is performed in a process.
+/// An operator of this row is performed in a process, and its letter noted: ENTR notes its own, and that of any other is asked before it is
+/// performed.
 pub fn perform<C: Core>(
     core: &mut C,
     kernel: &mut Kernel,
@@ -62,12 +78,14 @@ pub fn perform<C: Core>(
     row: Row,
     op: &Operator,
     next: u16,
+    letter: &mut Option<Letter>,
 ) -> Result<(), Hindrance>
     requires acting { IsActing (C.Core.stacks core.old) (C.Core.rows core.old) kernel.old parts.old process }
     requires part { IfSome (numbered parts.old.regs.items process) (λ r. IsPart (part_of (C.Core.stacks core.old) r)) }
     requires fits { IfSome (numbered parts.old.regs.items process) (λ r. Fits r.ll op.now) }
     requires held { IsHeldRow row }
     ensures comes { ComesOrNot process (row_effect row parts.old.code op.now next process (numbered parts.old.regs.items process) (image_of (C.Core.stacks core.old) (C.Core.rows core.old) kernel.old parts.old)) (image_of (C.Core.stacks core.old) (C.Core.rows core.old) kernel.old parts.old) (image_of (C.Core.stacks core.new) (C.Core.rows core.new) kernel.new parts.new) result }
+    ensures letter { OnOk result (IfSome (numbered parts.old.regs.items process) (λ r. letter.new ≡ row_letter row (image_of (C.Core.stacks core.old) (C.Core.rows core.old) kernel.old parts.old) r)) }
     ensures making { result ≡ Err NoMemory → (row ≡ Enter) × CallsMaker (C.Core.stacks core.old) (numbered parts.old.regs.items process) }
     ensures woken { OnOk result (RowReleases row (image_of (C.Core.stacks core.old) (C.Core.rows core.old) kernel.old parts.old) (numbered parts.old.regs.items process) parts.old.woken.processes.items parts.new.woken.processes.items) }
     ensures capacity { KeepsPlaces parts.old.woken parts.new.woken }
@@ -75,7 +93,10 @@ pub fn perform<C: Core>(
     ensures code { parts.new.code ≡ parts.old.code }
 {
     match row {
-        Row::Enter => enter(core, kernel, parts, process, next),
-        _ => hindered(perform_plainly(core, kernel, parts, process, row, op, next)),
+        Row::Enter => enter(core, kernel, parts, process, next, letter),
+        _ => {
+            *letter = row_letter(core, parts, process, row);
+            hindered(perform_plainly(core, kernel, parts, process, row, op, next))
+        }
     }
 }

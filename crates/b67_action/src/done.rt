@@ -1,7 +1,9 @@
 // What an action comes to.
 ghost use Rattle.std.specs.Prelude.{◌≡◌};
 ghost use Rattle.b67_action.specs.Done.{went, hindered_by};
+ghost use Rattle.b67_action.specs.Lettered.{letter_by};
 
+use b67_deeds::Letter;
 use b67_intrinsics::Hindrance;
 use b67_num::FaultKind;
 use b67_reach::{InterruptKind, ProcessState, Stop};
@@ -47,5 +49,15 @@ pub fn hindered_by(hindrance: Hindrance) -> Done
         Hindrance::Stopped(Stop::Fault(kind)) => Done::Fault(kind),
         Hindrance::Stopped(Stop::StackLimit) => Done::StackLimit,
         Hindrance::NoMemory => Done::NoMemory,
+    }
+}
+
+/// The letter of what was not performed: a fault has its own.
+pub fn letter_by(done: Done) -> Option<Letter>
+    ensures { result ≡ letter_by done }
+{
+    match done {
+        Done::Fault(_) => Some(Letter::Fault),
+        _ => None,
     }
 }

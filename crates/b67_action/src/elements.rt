@@ -1,5 +1,5 @@
 // Elements of arrays, as operators on the words of a process's own stack name them, while the stack has all the words of its room.
-ghost use Rattle.std.specs.Prelude.{◌≡◌, ◌<◌, ◌≤◌, ◌==◌, IfSome, true, false, Ok};
+ghost use Rattle.std.specs.Prelude.{◌≡◌, ◌<◌, ◌≤◌, ◌==◌, IfSome, None, Some, true, false, Ok};
 ghost use Rattle.b67_control.specs.Control.{Fits_descriptor};
 ghost use Rattle.b67_control.specs.Display.{levels};
 ghost use Rattle.b67_store.specs.Store.{stack_limit, with_cut};
@@ -9,12 +9,17 @@ ghost use Rattle.b67_table.specs.Privacy.{Keeps};
 ghost use Rattle.b67_table.specs.Program.{answer};
 ghost use Rattle.b67_table.specs.Rows.{store};
 ghost use Rattle.b67_private.specs.Actions.{words_program};
+ghost use Rattle.b67_private.specs.Lettered.{words_letter};
+ghost use Rattle.b67_private.specs.declared.operators.WordsRow.TheVariants.{Store as StoreRow};
+ghost use Rattle.b67_deeds.specs.declared.Letter.TheVariants.{ElementStore};
 ghost use Rattle.b67_reach.specs.Answers.{Performs};
 ghost use Rattle.b67_action.specs.OnRoom.{Stores, Subscripts};
 ghost use Rattle.b67_action.specs.Reaching.{IsOpen, own_of};
 
 use crate::arrays::{Storing, replace_two, stored, subscripted};
+use crate::room::if_went;
 use b67_control::Descriptor;
+use b67_deeds::Letter;
 use b67_private::WordsRow;
 use b67_reach::{Registers, is_operand};
 use b67_store::Core;
@@ -109,6 +114,7 @@ fn to_store<C: Core>(core: &mut C, regs: &Registers) -> Option<Storing>
 fn store_element<C: Core>(core: &mut C, regs: &mut Registers, next: u16) -> bool
     requires open { IsOpen (C.Core.stacks core.old) regs.old }
     ensures done { result ≡ true → Performs {A = Unit {0}} (store false regs.old next) (own_of (C.Core.stacks core.old) (C.Core.rows core.old) regs.old) (own_of (C.Core.stacks core.new) (C.Core.rows core.new) regs.new) (Ok (tt {0})) }
+    ensures letter { result ≡ true → words_letter (StoreRow false) (with_cut (C.Core.stacks core.old) regs.old.stack regs.old.s) regs.old ≡ Some ElementStore }
     ensures none { result ≡ false → own_of (C.Core.stacks core.new) (C.Core.rows core.new) regs.new ≡ own_of (C.Core.stacks core.old) (C.Core.rows core.old) regs.old }
     ensures open { IsOpen (C.Core.stacks core.new) regs.new }
     ensures keeps { Keeps regs.old regs.new }
@@ -127,25 +133,31 @@ fn store_element<C: Core>(core: &mut C, regs: &mut Registers, next: u16) -> bool
 }
 
 /// Performs NXLV, NXLN, or STOD through an indexed descriptor, while the stack has all the words of its room, where the element is there and its
-/// array is or stands in the process's own stack; and answers whether it did. Else nothing is done.
+/// array is or stands in the process's own stack; and answers its letter. Else nothing is done.
 #[inline(always)]
-pub fn reach_at_once<C: Core>(core: &mut C, regs: &mut Registers, kind: WordsRow, next: u16) -> bool
+pub fn reach_at_once<C: Core>(
+    core: &mut C,
+    regs: &mut Registers,
+    kind: WordsRow,
+    next: u16,
+) -> Option<Letter>
     requires open { IsOpen (C.Core.stacks core.old) regs.old }
-    ensures done { result ≡ true → Performs {A = Unit {0}} (words_program kind regs.old next) (own_of (C.Core.stacks core.old) (C.Core.rows core.old) regs.old) (own_of (C.Core.stacks core.new) (C.Core.rows core.new) regs.new) (Ok (tt {0})) }
-    ensures none { result ≡ false → own_of (C.Core.stacks core.new) (C.Core.rows core.new) regs.new ≡ own_of (C.Core.stacks core.old) (C.Core.rows core.old) regs.old }
+    ensures done { IfSome result (λ l. Performs {A = Unit {0}} (words_program kind regs.old next) (own_of (C.Core.stacks core.old) (C.Core.rows core.old) regs.old) (own_of (C.Core.stacks core.new) (C.Core.rows core.new) regs.new) (Ok (tt {0}))) }
+    ensures letter { IfSome result (λ l. words_letter kind (with_cut (C.Core.stacks core.old) regs.old.stack regs.old.s) regs.old ≡ Some l) }
+    ensures none { result ≡ None → own_of (C.Core.stacks core.new) (C.Core.rows core.new) regs.new ≡ own_of (C.Core.stacks core.old) (C.Core.rows core.old) regs.old }
     ensures open { IsOpen (C.Core.stacks core.new) regs.new }
     ensures keeps { Keeps regs.old regs.new }
 {
     match kind {
-        WordsRow::IndexAndLoad => load_element(core, regs, next),
-        WordsRow::IndexMother => load_row(core, regs, next),
+        WordsRow::IndexAndLoad => if_went(load_element(core, regs, next), Letter::ElementRead),
+        WordsRow::IndexMother => if_went(load_row(core, regs, next), Letter::Index),
         WordsRow::Store(keeps) => {
             if keeps {
-                false
+                None
             } else {
-                store_element(core, regs, next)
+                if_went(store_element(core, regs, next), Letter::ElementStore)
             }
         }
-        _ => false,
+        _ => None,
     }
 }

@@ -1,5 +1,5 @@
 // ENTR: an intrinsic is called, or a procedure entered.
-ghost use Rattle.std.specs.Prelude.{◌≡◌, ◌≤◌, ℕ, true, false, Some, Err, OnOk, vec_capacity};
+ghost use Rattle.std.specs.Prelude.{◌≡◌, ◌≤◌, ℕ, true, false, Some, Err, IfSome, OnOk, vec_capacity};
 ghost use Rattle.b67_list.specs.Numbered.{numbered};
 ghost use Rattle.b67_segment.specs.declared.code.Code.{Code};
 ghost use Rattle.b67_table.specs.Intrinsics.{intrinsic_row, row_of_intrinsic};
@@ -17,9 +17,12 @@ ghost use Rattle.b67_reach.specs.Answers.{Acts};
 ghost use Rattle.b67_action.specs.Acting.{IsActing, IsEntering, selects, hindered, CallsMaker, CallReleases, EnterReleases};
 ghost use Rattle.b67_action.specs.Among.{ActsIn};
 ghost use Rattle.b67_action.specs.Done.{makes};
+ghost use Rattle.b67_action.specs.Lettered.{enter_letter};
 
+use crate::letters::called_letter;
 use crate::words::enter_procedure;
 use b67_control::Mscw;
+use b67_deeds::Letter;
 use b67_events::Kernel;
 use b67_going::{Unstarted, go_to, start};
 use b67_intrinsics::{
@@ -28,7 +31,7 @@ use b67_intrinsics::{
 };
 use b67_operators::find_called;
 use b67_ops::{FIRST_INTRINSIC, INTRINSICS, Intrinsic};
-use b67_reach::{Parts, Registers, Stop, invalid};
+use b67_reach::{Parts, Registers, Stop, invalid, woken_number};
 use b67_store::Core;
 
 // The intrinsics in the order of their numbers.
@@ -51,8 +54,8 @@ const IN_ORDER: [Intrinsic; INTRINSICS] = [
     Intrinsic::Fix,
 ];
 
-// The intrinsic of a number, where there is one.
-fn intrinsic_numbered(number: u16) -> Option<Intrinsic>
+/// The intrinsic of a number, where there is one.
+pub fn intrinsic_numbered(number: u16) -> Option<Intrinsic>
     ensures { result ≡ intrinsic_numbered number }
 {
     if number < FIRST_INTRINSIC {
@@ -216,26 +219,33 @@ fn call<C: Core>(
     }
 }
 
-/// ENTR, in a process: the intrinsic that the PCW names is called, or the procedure is entered.
+/// ENTR, in a process: the intrinsic that the PCW names is called, or the procedure is entered. Which letter that has is noted where what is
+/// called is found.
 pub fn enter<C: Core>(
     core: &mut C,
     kernel: &mut Kernel,
     parts: &mut Parts,
     process: u32,
     next: u16,
+    letter: &mut Option<Letter>,
 ) -> Result<(), Hindrance>
     requires { IsActing (C.Core.stacks core.old) (C.Core.rows core.old) kernel.old parts.old process }
     ensures tries { Tries process (program_in (enter parts.old.code) (numbered parts.old.regs.items process) next) (image_of (C.Core.stacks core.old) (C.Core.rows core.old) kernel.old parts.old) (image_of (C.Core.stacks core.new) (C.Core.rows core.new) kernel.new parts.new) result }
     ensures making { result ≡ Err NoMemory → CallsMaker (C.Core.stacks core.old) (numbered parts.old.regs.items process) }
+    ensures letter { OnOk result (IfSome (numbered parts.old.regs.items process) (λ r. letter.new ≡ enter_letter (image_of (C.Core.stacks core.old) (C.Core.rows core.old) kernel.old parts.old) r)) }
     ensures woken { OnOk result (EnterReleases (image_of (C.Core.stacks core.old) (C.Core.rows core.old) kernel.old parts.old) (numbered parts.old.regs.items process) parts.old.woken.processes.items parts.new.woken.processes.items) }
     ensures capacity { KeepsPlaces parts.old.woken parts.new.woken }
     ensures processes { kernel.new.room ≡ kernel.old.room }
     ensures code { parts.new.code ≡ parts.old.code }
 {
-    let called = match find_called(core, registers(&parts.regs, process)) {
+    let regs = registers(&parts.regs, process);
+    let called = match find_called(core, regs) {
         Ok(called) => called,
         Err(stop) => return Err(Hindrance::Stopped(stop)),
     };
+    // the number of a process is that of its stack
+    let woken = woken_number(&parts.numbers, u32::from(regs.stack));
+    *letter = called_letter(woken, &called.pcw);
     if called.pcw.intrinsic {
         call(
             core,

@@ -10,6 +10,7 @@ mod done;
 mod elements;
 mod entering;
 mod laws;
+mod letters;
 mod next;
 mod onward;
 mod own;

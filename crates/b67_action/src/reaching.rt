@@ -1,11 +1,12 @@
 // A run of a process on its own stack, in its store.
-ghost use Rattle.std.specs.Prelude.{◌≡◌, ◌+◌, ◌≤◌, ℕ, IfSome, true, false, Ok, Some};
+ghost use Rattle.std.specs.Prelude.{◌≡◌, ◌+◌, ◌≤◌, ℕ, IfSome, length, Ok, Some, None};
 ghost use Rattle.b67_segment.specs.Decoded.{AreDecoded};
 ghost use Rattle.b67_store.specs.Store.{with_cut};
 ghost use Rattle.b67_table.specs.Image.{Image};
 ghost use Rattle.b67_table.specs.Privacy.{Keeps};
 ghost use Rattle.b67_linkage.specs.Held.{IsLinked};
 ghost use Rattle.b67_private.specs.Actions.{words_program, IsHeldWords};
+ghost use Rattle.b67_private.specs.Lettered.{words_letter};
 ghost use Rattle.b67_reach.specs.Answers.{Performs};
 ghost use Rattle.b67_reach.specs.Images.{own, with_own};
 ghost use Rattle.b67_action.specs.Reaching.{IsIn, IsInOpen, IsOpen, own_of, enters};
@@ -14,6 +15,7 @@ ghost use Rattle.b67_action.specs.Running.{GoesOn, HasRun};
 use crate::elements::reach_at_once;
 use crate::running::{Ran, run_on_room};
 use crate::words::perform;
+use b67_deeds::Letter;
 use b67_linkage::cut_words;
 use b67_private::{Prepared, Row, WordsRow, row_at};
 use b67_reach::Registers;
@@ -37,58 +39,71 @@ fn run_lent<C: Core>(
     regs: &mut Registers,
     code: &Code,
     table: Option<&Prepared>,
-    entries: u32,
+    letters: &mut [Letter],
     most: u32,
 ) -> Ran
     requires stands { (img : Image) × (p : ℕ) × IsInOpen code.now img p (C.Core.stacks core.old) (C.Core.rows core.old) regs.old }
     requires open { IsOpen (C.Core.stacks core.old) regs.old }
     requires table { IfSome table (λ t. AreDecoded code.now regs.old.segment regs.old.ll t.now) }
-    ensures ran { (img : Image) (p : ℕ) → IsInOpen code.now img p (C.Core.stacks core.old) (C.Core.rows core.old) regs.old → HasRun code.now p most img result (with_own (own_of (C.Core.stacks core.new) (C.Core.rows core.new) regs.new) p img) }
+    ensures ran { (img : Image) (p : ℕ) → IsInOpen code.now img p (C.Core.stacks core.old) (C.Core.rows core.old) regs.old → HasRun code.now p most img result letters.new (with_own (own_of (C.Core.stacks core.new) (C.Core.rows core.new) regs.new) p img) }
     ensures open { IsOpen (C.Core.stacks core.new) regs.new }
-    ensures entries { result.entries ≤ entries }
+    ensures entries { result.entries ≤ length letters.new }
+    ensures counted { result.entries ≤ result.operators }
+    ensures size { length letters.new ≡ length letters.old }
     ensures most { result.operators + result.plain ≤ most }
     ensures keeps { Keeps regs.old regs.new }
 {
     let room = core.room(regs.stack);
-    run_on_room(regs, room, code, table, entries, most)
+    run_on_room(regs, room, code, table, letters, most)
 }
 
-// Performs an operator on words and rows, after the stack was cut; and answers whether nothing stopped it.
-fn reach_by_cut<C: Core>(core: &mut C, regs: &mut Registers, kind: WordsRow, next: u16) -> bool
+// Performs an operator on words and rows, after the stack was cut; and answers its letter, where nothing stopped it.
+fn reach_by_cut<C: Core>(
+    core: &mut C,
+    regs: &mut Registers,
+    kind: WordsRow,
+    next: u16,
+) -> Option<Letter>
     requires linked { IsLinked (with_cut (C.Core.stacks core.old) regs.old.stack regs.old.s) (C.Core.rows core.old) regs.old }
     requires open { IsOpen (C.Core.stacks core.old) regs.old }
     requires held { IsHeldWords kind }
-    ensures done { result ≡ true → Performs {A = Unit {0}} (words_program kind regs.old next) (own_of (C.Core.stacks core.old) (C.Core.rows core.old) regs.old) (own (C.Core.stacks core.new) (C.Core.rows core.new) regs.new) (Ok (tt {0})) }
-    ensures none { result ≡ false → own (C.Core.stacks core.new) (C.Core.rows core.new) regs.new ≡ own_of (C.Core.stacks core.old) (C.Core.rows core.old) regs.old }
+    ensures done { IfSome result (λ l. Performs {A = Unit {0}} (words_program kind regs.old next) (own_of (C.Core.stacks core.old) (C.Core.rows core.old) regs.old) (own (C.Core.stacks core.new) (C.Core.rows core.new) regs.new) (Ok (tt {0}))) }
+    ensures letter { IfSome result (λ l. words_letter kind (with_cut (C.Core.stacks core.old) regs.old.stack regs.old.s) regs.old ≡ Some l) }
+    ensures none { result ≡ None → own (C.Core.stacks core.new) (C.Core.rows core.new) regs.new ≡ own_of (C.Core.stacks core.old) (C.Core.rows core.old) regs.old }
 {
     cut_words(core, regs.stack, regs.s);
-    perform(core, regs, kind, next).is_ok()
+    perform(core, regs, kind, next).ok()
 }
 
 // Performs the next operator where it is one on words and rows that enters no procedure, its row was made ready, and nothing stops it; and
-// answers whether it did. Else nothing is done.
-fn reach<C: Core>(core: &mut C, regs: &mut Registers, code: &Code, table: Option<&Prepared>) -> bool
+// answers its letter. Else nothing is done.
+fn reach<C: Core>(
+    core: &mut C,
+    regs: &mut Registers,
+    code: &Code,
+    table: Option<&Prepared>,
+) -> Option<Letter>
     requires stands { (img : Image) × (p : ℕ) × IsInOpen code.now img p (C.Core.stacks core.old) (C.Core.rows core.old) regs.old }
     requires open { IsOpen (C.Core.stacks core.old) regs.old }
     requires table { IfSome table (λ t. AreDecoded code.now regs.old.segment regs.old.ll t.now) }
-    ensures went { result ≡ true → (img : Image) (p : ℕ) → IsInOpen code.now img p (C.Core.stacks core.old) (C.Core.rows core.old) regs.old → GoesOn code.now p img (with_own (own_of (C.Core.stacks core.new) (C.Core.rows core.new) regs.new) p img) }
-    ensures none { result ≡ false → own_of (C.Core.stacks core.new) (C.Core.rows core.new) regs.new ≡ own_of (C.Core.stacks core.old) (C.Core.rows core.old) regs.old }
+    ensures went { IfSome result (λ l. (img : Image) (p : ℕ) → IsInOpen code.now img p (C.Core.stacks core.old) (C.Core.rows core.old) regs.old → GoesOn code.now p l img (with_own (own_of (C.Core.stacks core.new) (C.Core.rows core.new) regs.new) p img)) }
+    ensures none { result ≡ None → own_of (C.Core.stacks core.new) (C.Core.rows core.new) regs.new ≡ own_of (C.Core.stacks core.old) (C.Core.rows core.old) regs.old }
     ensures open { IsOpen (C.Core.stacks core.new) regs.new }
     ensures keeps { Keeps regs.old regs.new }
 {
     let Some((row, next)) = row_at(table, regs.place) else {
-        return false;
+        return None;
     };
     let Row::Words(kind) = row else {
-        return false;
+        return None;
     };
     if enters(kind) {
-        return false;
+        return None;
     }
-    if reach_at_once(core, regs, kind, next) {
+    if let Some(letter) = reach_at_once(core, regs, kind, next) {
         // no store has more rows than it has numbers for
         let _ = core.counted();
-        return true;
+        return Some(letter);
     }
     let done = reach_by_cut(core, regs, kind, next);
     let _ = core.counted();
@@ -101,33 +116,30 @@ fn run_open<C: Core>(
     regs: &mut Registers,
     code: &Code,
     table: Option<&Prepared>,
-    entries: u32,
+    letters: &mut [Letter],
     most: u32,
 ) -> Ran
     requires stands { (img : Image) × (p : ℕ) × IsInOpen code.now img p (C.Core.stacks core.old) (C.Core.rows core.old) regs.old }
     requires open { IsOpen (C.Core.stacks core.old) regs.old }
     requires table { IfSome table (λ t. AreDecoded code.now regs.old.segment regs.old.ll t.now) }
-    ensures ran { (img : Image) (p : ℕ) → IsInOpen code.now img p (C.Core.stacks core.old) (C.Core.rows core.old) regs.old → HasRun code.now p most img result (with_own (own_of (C.Core.stacks core.new) (C.Core.rows core.new) regs.new) p img) }
+    ensures ran { (img : Image) (p : ℕ) → IsInOpen code.now img p (C.Core.stacks core.old) (C.Core.rows core.old) regs.old → HasRun code.now p most img result letters.new (with_own (own_of (C.Core.stacks core.new) (C.Core.rows core.new) regs.new) p img) }
     ensures open { IsOpen (C.Core.stacks core.new) regs.new }
-    ensures entries { result.entries ≤ entries }
+    ensures entries { result.entries ≤ length letters.new }
+    ensures counted { result.entries ≤ result.operators }
+    ensures size { length letters.new ≡ length letters.old }
     ensures most { result.operators + result.plain ≤ most }
     ensures keeps { Keeps regs.old regs.new }
 {
-    let mut ran = run_lent(core, regs, code, table, entries, most);
-    'running: while ran.entries < entries && ran.operators + ran.plain < most {
-        if !reach(core, regs, code, table) {
+    let mut ran = run_lent(core, regs, code, table, letters, most);
+    'running: while (ran.entries as usize) < letters.len() && ran.operators + ran.plain < most {
+        let Some(letter) = reach(core, regs, code, table) else {
             return ran;
-        }
+        };
+        letters[ran.entries as usize] = letter;
         ran.entries += 1;
         ran.operators += ran.plain + 1;
-        let more = run_lent(
-            core,
-            regs,
-            code,
-            table,
-            entries - ran.entries,
-            most - ran.operators,
-        );
+        let rest = &mut letters[ran.entries as usize..];
+        let more = run_lent(core, regs, code, table, rest, most - ran.operators);
         ran.entries += more.entries;
         ran.operators += more.operators;
         ran.plain = more.plain;
@@ -136,24 +148,26 @@ fn run_open<C: Core>(
 }
 
 /// Performs operators of a process that come next, one after another: plain ones, and actions on words and rows that enter no procedure, or
-/// VALC of an operand in its own stack. At most so many of these actions are performed, and at most so many operators in all. It stops before
-/// anything else.
+/// VALC of an operand in its own stack. At most as many of these actions are performed as letters can be noted, and at most so many operators in
+/// all. It stops before anything else.
 pub fn run_own<C: Core>(
     core: &mut C,
     regs: &mut Registers,
     code: &Code,
     table: Option<&Prepared>,
-    entries: u32,
+    letters: &mut [Letter],
     most: u32,
 ) -> Ran
     requires stands { (img : Image) × (p : ℕ) × IsIn code.now img p (C.Core.stacks core.old) (C.Core.rows core.old) regs.old }
     requires table { IfSome table (λ t. AreDecoded code.now regs.old.segment regs.old.ll t.now) }
-    ensures ran { (img : Image) (p : ℕ) → IsIn code.now img p (C.Core.stacks core.old) (C.Core.rows core.old) regs.old → HasRun code.now p most img result (with_own (own (C.Core.stacks core.new) (C.Core.rows core.new) regs.new) p img) }
-    ensures entries { result.entries ≤ entries }
+    ensures ran { (img : Image) (p : ℕ) → IsIn code.now img p (C.Core.stacks core.old) (C.Core.rows core.old) regs.old → HasRun code.now p most img result letters.new (with_own (own (C.Core.stacks core.new) (C.Core.rows core.new) regs.new) p img) }
+    ensures entries { result.entries ≤ length letters.new }
+    ensures counted { result.entries ≤ result.operators }
+    ensures size { length letters.new ≡ length letters.old }
     ensures most { result.operators + result.plain ≤ most }
     ensures keeps { Keeps regs.old regs.new }
 {
-    let ran = run_open(core, regs, code, table, entries, most);
+    let ran = run_open(core, regs, code, table, letters, most);
     cut_words(core, regs.stack, regs.s);
     ran
 }

@@ -1,14 +1,18 @@
 // VALC, STOD, BRUN back and INDX on the lent room of a process's own stack, where they read and write its cells only.
-ghost use Rattle.std.specs.Prelude.{◌≡◌, ◌<◌, IfSome, false, true};
+ghost use Rattle.std.specs.Prelude.{◌≡◌, ◌<◌, None, IfSome, false, true, if◌then◌else◌, Some};
 ghost use Rattle.b67_control.specs.Display.{levels};
 ghost use Rattle.b67_table.specs.Privacy.{Keeps};
 ghost use Rattle.b67_table.specs.Rows.{value_call, store, turn};
 ghost use Rattle.b67_private.specs.Actions.{words_program, IsHeldWords};
+ghost use Rattle.b67_private.specs.declared.operators.WordsRow.TheVariants.{Store, ValueCall};
+ghost use Rattle.b67_action.specs.Lettered.{LettersOn};
 ghost use Rattle.b67_action.specs.OnRoom.{HoldsOperand, IsRoom, PerformsOn};
+ghost use Rattle.b67_deeds.specs.declared.Letter.TheVariants as letters;
 
 use crate::arrays::index;
 use crate::cells::cell_at;
 use b67_control::Irw;
+use b67_deeds::Letter;
 use b67_ops::{BranchKind, Couple};
 use b67_private::WordsRow;
 use b67_reach::{Registers, floor, is_operand};
@@ -36,6 +40,7 @@ fn value(regs: &mut Registers, room: &mut [Word], couple: Couple, next: u16) -> 
     requires held { couple.level < levels }
     requires room { IsRoom regs.old room.old }
     ensures done { result ≡ true → PerformsOn (value_call couple regs.old next) regs.old room.old regs.new room.new }
+    ensures letter { result ≡ true → LettersOn (ValueCall couple) regs.old room.old letters.Read }
     ensures none { result ≡ false → (regs.new ≡ regs.old) × (room.new ≡ room.old) }
     ensures keeps { Keeps regs.old regs.new }
 {
@@ -57,6 +62,7 @@ fn value(regs: &mut Registers, room: &mut [Word], couple: Couple, next: u16) -> 
 fn store(regs: &mut Registers, room: &mut [Word], next: u16) -> bool
     requires room { IsRoom regs.old room.old }
     ensures done { result ≡ true → PerformsOn (store false regs.old next) regs.old room.old regs.new room.new }
+    ensures letter { result ≡ true → LettersOn (Store false) regs.old room.old letters.Store }
     ensures none { result ≡ false → (regs.new ≡ regs.old) × (room.new ≡ room.old) }
     ensures keeps { Keeps regs.old regs.new }
 {
@@ -97,26 +103,42 @@ fn turn(regs: &mut Registers, room: &[Word], kind: BranchKind, target: u16, next
     }
 }
 
-/// Performs an action by its row where it is one of these, and answers whether it did. Else nothing is done.
+// The letter, where the action went on.
 #[inline(always)]
-pub fn perform_on_room(regs: &mut Registers, room: &mut [Word], row: WordsRow, next: u16) -> bool
+pub fn if_went(went: bool, letter: Letter) -> Option<Letter>
+    ensures { result ≡ (if went then Some letter else None) }
+{
+    if went { Some(letter) } else { None }
+}
+
+/// Performs an action by its row where it is one of these, and answers its letter. Else nothing is done.
+#[inline(always)]
+pub fn perform_on_room(
+    regs: &mut Registers,
+    room: &mut [Word],
+    row: WordsRow,
+    next: u16,
+) -> Option<Letter>
     requires held { IsHeldWords row }
     requires room { IsRoom regs.old room.old }
-    ensures done { result ≡ true → PerformsOn (words_program row regs.old next) regs.old room.old regs.new room.new }
-    ensures none { result ≡ false → (regs.new ≡ regs.old) × (room.new ≡ room.old) }
+    ensures done { IfSome result (λ l. PerformsOn (words_program row regs.old next) regs.old room.old regs.new room.new) }
+    ensures letter { IfSome result (λ l. LettersOn row regs.old room.old l) }
+    ensures none { result ≡ None → (regs.new ≡ regs.old) × (room.new ≡ room.old) }
     ensures keeps { Keeps regs.old regs.new }
 {
     match row {
-        WordsRow::ValueCall(couple) => value(regs, room, couple, next),
+        WordsRow::ValueCall(couple) => if_went(value(regs, room, couple, next), Letter::Read),
         WordsRow::Store(keeps) => {
             if keeps {
-                false
+                None
             } else {
-                store(regs, room, next)
+                if_went(store(regs, room, next), Letter::Store)
             }
         }
-        WordsRow::Turn(kind, target) => turn(regs, room, kind, target, next),
-        WordsRow::Index => index(regs, room, next),
-        _ => false,
+        WordsRow::Turn(kind, target) => {
+            if_went(turn(regs, room, kind, target, next), Letter::Turn)
+        }
+        WordsRow::Index => if_went(index(regs, room, next), Letter::Index),
+        _ => None,
     }
 }

@@ -5,6 +5,7 @@ ghost use Rattle.b67_private.specs.Operating.{IsHeldCouple};
 ghost use Rattle.b67_ops.specs.declared.Operator.TheVariants.{Plain};
 ghost use Rattle.b67_ops.specs.declared.PlainKind.TheVariants.{Entr};
 ghost use Rattle.b67_action.specs.declared.rows.Row.TheVariants.{Enter};
+ghost use Rattle.b67_action.specs.Lettered.{HasLetter};
 ghost use Rattle.b67_action.specs.Rows.{HasRow, IsHeldRow};
 
 use b67_ops::Operator;
@@ -25,6 +26,7 @@ pub enum Row {
 pub fn row_of(op: &Operator, place: u16) -> Row
     requires { FitsAs IsHeldCouple op.now }
     ensures row { HasRow op.now place result }
+    ensures letter { HasLetter op.now place result }
     ensures held { IsHeldRow result }
     ensures enters { result ≡ Enter → op.now ≡ Plain Entr }
 {

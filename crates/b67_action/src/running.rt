@@ -1,5 +1,5 @@
 // A run of a process on the lent room of its own stack: its plain operators, and actions of its own that go on.
-ghost use Rattle.std.specs.Prelude.{◌≡◌, ◌+◌, ◌≤◌, ℕ, IfSome, true, length};
+ghost use Rattle.std.specs.Prelude.{◌≡◌, ◌+◌, ◌-◌, ◌≤◌, ℕ, IfSome, true, length};
 ghost use Rattle.b67_segment.specs.Decoded.{found, AreDecoded};
 ghost use Rattle.b67_store.specs.Store.{stack_limit};
 ghost use Rattle.b67_table.specs.Image.{Image};
@@ -9,6 +9,7 @@ ghost use Rattle.b67_private.specs.declared.operators.Row.TheVariants.{Words};
 ghost use Rattle.b67_action.specs.Running.{IsLent, given_back, HasRun, StepsTo, plain_step, act_step};
 
 use crate::room::perform_on_room;
+use b67_deeds::Letter;
 use b67_private::{Prepared, Row, WordsRow, perform, perform_fetched, row_at};
 use b67_reach::Registers;
 use b67_segment::Code;
@@ -56,7 +57,7 @@ fn plain_fetched(
     perform_fetched(regs, room, code, table)
 }
 
-// Performs the next operator, an action, where it is allowed and is one of the process's own that goes on; and answers whether it did. Else
+// Performs the next operator, an action, where it is allowed and is one of the process's own that goes on; and answers its letter. Else
 // nothing is done.
 #[inline(always)]
 fn act_by_row(
@@ -66,70 +67,84 @@ fn act_by_row(
     kind: WordsRow,
     next: u16,
     allowed: bool,
-) -> bool
+) -> Option<Letter>
     requires lent { (img : Image) × (p : ℕ) × IsLent code.now img p regs.old room.old }
     requires room { length room.old ≡ stack_limit }
     requires row { IsRowOf regs.old.place (found code.now regs.old.segment regs.old.ll regs.old.place) (Words kind, next) }
     ensures steps { (img : Image) (p : ℕ) → IsLent code.now img p regs.old room.old → StepsTo (act_step result) code.now p img (given_back regs.new room.new p img) }
     ensures lends { (img : Image) (p : ℕ) → IsLent code.now img p regs.old room.old → IsLent code.now (given_back regs.new room.new p img) p regs.new room.new }
     ensures keeps { Keeps regs.old regs.new }
-    ensures allowed { result ≡ true → allowed ≡ true }
+    ensures allowed { IfSome result (λ l. allowed ≡ true) }
 {
     if !allowed {
-        return false;
+        return None;
     }
     perform_on_room(regs, room, kind, next)
 }
 
+// What was performed, where this many operators were in all, up to the last entry so many.
+#[inline(always)]
+fn ran_to(entries: u32, operators: u32, done: u32) -> Ran
+    requires { operators ≤ done }
+    ensures { result ≡ record { entries = entries; operators = operators; plain = done - operators } }
+{
+    Ran {
+        entries,
+        operators,
+        plain: done - operators,
+    }
+}
+
 /// Performs operators of a process that come next, one after another, on its registers and on the room of its stack: plain ones, and VALC, STOD,
-/// BRUN back and INDX where they read and write its own stack only. At most so many of these actions are performed, and at most so many
-/// operators in all. It stops before anything else.
+/// BRUN back and INDX where they read and write its own stack only. At most as many of these actions are performed as letters can be noted,
+/// and at most so many operators in all. It stops before anything else.
 pub fn run_on_room(
     regs: &mut Registers,
     room: &mut [Word],
     code: &Code,
     table: Option<&Prepared>,
-    entries: u32,
+    letters: &mut [Letter],
     most: u32,
 ) -> Ran
     requires lent { (img : Image) × (p : ℕ) × IsLent code.now img p regs.old room.old }
     requires room { length room.old ≡ stack_limit }
     requires table { IfSome table (λ t. AreDecoded code.now regs.old.segment regs.old.ll t.now) }
-    ensures ran { (img : Image) (p : ℕ) → IsLent code.now img p regs.old room.old → HasRun code.now p most img result (given_back regs.new room.new p img) }
-    ensures entries { result.entries ≤ entries }
+    ensures ran { (img : Image) (p : ℕ) → IsLent code.now img p regs.old room.old → HasRun code.now p most img result letters.new (given_back regs.new room.new p img) }
+    ensures entries { result.entries ≤ length letters.new }
+    ensures counted { result.entries ≤ result.operators }
+    ensures size { length letters.new ≡ length letters.old }
     ensures most { result.operators + result.plain ≤ most }
     ensures keeps { Keeps regs.old regs.new }
 {
-    let mut ran = Ran {
-        entries: 0,
-        operators: 0,
-        plain: 0,
-    };
-    let mut left = most;
-    'running: while ran.plain < left {
+    // the plain operators after the last entry are those that are done beyond its own
+    let mut entries = 0;
+    let mut operators = 0;
+    let mut done = 0;
+    'running: while done < most {
         match row_at(table, regs.place) {
             Some((Row::Words(kind), next)) => {
-                if !act_by_row(regs, room, code, kind, next, ran.entries < entries) {
-                    return ran;
-                }
-                ran.entries += 1;
-                ran.operators += ran.plain + 1;
-                ran.plain = 0;
-                left = most - ran.operators;
+                let allowed = (entries as usize) < letters.len();
+                let Some(letter) = act_by_row(regs, room, code, kind, next, allowed) else {
+                    return ran_to(entries, operators, done);
+                };
+                letters[entries as usize] = letter;
+                entries += 1;
+                done += 1;
+                operators = done;
             }
             Some((row, next)) => {
                 if !plain_by_row(regs, room, code, row, next) {
-                    return ran;
+                    return ran_to(entries, operators, done);
                 }
-                ran.plain += 1;
+                done += 1;
             }
             None => {
                 if !plain_fetched(regs, room, code, table) {
-                    return ran;
+                    return ran_to(entries, operators, done);
                 }
-                ran.plain += 1;
+                done += 1;
             }
         }
     }
-    ran
+    ran_to(entries, operators, done)
 }

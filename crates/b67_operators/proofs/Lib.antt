@@ -4,6 +4,7 @@ pub mod Callings
 pub mod Changing
 pub mod Choices
 pub mod Leaves
+pub mod Lettering
 pub mod Loads
 pub mod Subscripts
 pub mod TaskEvents

@@ -15,6 +15,9 @@ ghost use Rattle.b67_linkage.specs.Leaving.{frame_left};
 ghost use Rattle.b67_linkage.specs.Showing.{entry_shown, leaving_shown};
 ghost use Rattle.b67_reach.specs.Images.{own, image_of};
 ghost use Rattle.b67_reach.specs.Answers.{Acts, Performs};
+ghost use Rattle.b67_table.specs.Private.{frame};
+ghost use Rattle.b67_deeds.specs.declared.Letter.TheVariants.{Leave};
+ghost use Rattle.b67_letters.specs.Letters.{left_letter};
 ghost use Rattle.b67_operators.specs.Entries.{opening, CallsProcedure};
 ghost use Rattle.b67_operators.specs.Leaves.{IsLinkedIn, program_in, valued, leaves, HasLeftFrame, released};
 
@@ -177,6 +180,7 @@ pub fn exit_at_once<C: Core>(
     requires shown { IfSome (numbered parts.old.regs.items process) (λ r. IsShown r.ll r.display) }
     ensures left { result ≡ true → (next : ℕ) → Acts process (program_in exit (numbered parts.old.regs.items process) next) (image_of (C.Core.stacks core.old) (C.Core.rows core.old) kernel.old parts.old) (image_of (C.Core.stacks core.new) (C.Core.rows core.new) kernel.new parts.new) (Ok (tt {0})) }
     ensures nobody { result ≡ true → (before : List ℕ) → released (numbered parts.old.regs.items process) kernel.old.events before ≡ before }
+    ensures letter { result ≡ true → IfSome (numbered parts.old.regs.items process) (λ r. left_letter (frame r) ≡ Leave) }
     ensures stays { result ≡ false → image_of (C.Core.stacks core.new) (C.Core.rows core.new) kernel.new parts.new ≡ image_of (C.Core.stacks core.old) (C.Core.rows core.old) kernel.old parts.old }
     ensures states { parts.new.states ≡ parts.old.states }
     ensures started { parts.new.started ≡ parts.old.started }

@@ -9,15 +9,18 @@ ghost use Rattle.b67_table.specs.Look.{seen, ◌>->◌};
 ghost use Rattle.b67_table.specs.Linkage.{entering, accidental, selected};
 ghost use Rattle.b67_table.specs.Limits.{end_of_code};
 ghost use Rattle.b67_table.specs.Program.{answer};
-ghost use Rattle.b67_table.specs.References.{popped, reached, cell_of, cell_word};
+ghost use Rattle.b67_table.specs.References.{couple_cell, popped, reached, cell_of, cell_word};
 ghost use Rattle.b67_table.specs.Rows.{value_call, value_or_entry, cell_or_entry, evaluate};
 ghost use Rattle.b67_linkage.specs.Held.{IsLinked};
 ghost use Rattle.b67_reach.specs.Images.{own};
 ghost use Rattle.b67_reach.specs.Answers.{looked, IsReady, Performs};
+ghost use Rattle.b67_letters.specs.Letters.{told_by, value_letter, place_letter};
 ghost use Rattle.b67_operators.specs.Entries.{stop_by, accident};
 
+use crate::letters::{entered_or, lettered};
 use crate::loading::operand_pushed;
 use b67_control::{Mscw, Pcw, Sirw};
+use b67_deeds::Letter;
 use b67_linkage::{LinkFault, control_word, entering, go_in};
 use b67_num::FaultKind;
 use b67_ops::Couple;
@@ -187,19 +190,23 @@ pub fn accidental<C: Core>(
     }
 }
 
-/// VALC: the operand in the cell that the couple's reference reaches is pushed; a procedure is entered, with selector 0.
+/// VALC: the operand in the cell that the couple's reference reaches is pushed; a procedure is entered, with selector 0. The letter says
+/// which of the two it did.
 pub fn value_call<C: Core>(
     core: &mut C,
     regs: &mut Registers,
     next: u16,
     couple: Couple,
-) -> Result<(), Stop>
+) -> Result<Letter, Stop>
     requires linked { IsLinked (C.Core.stacks core.old) (C.Core.rows core.old) regs.old }
     requires couple { couple.level < levels }
-    ensures { Performs (value_call couple regs.old next) (own (C.Core.stacks core.old) (C.Core.rows core.old) regs.old) (own (C.Core.stacks core.new) (C.Core.rows core.new) regs.new) result }
+    ensures letter { IfOk result (λ l. told_by value_letter (seen (C.Core.stacks core.old) (reached (couple_cell regs.old couple.level couple.index))) ≡ Some l) }
+    ensures performs { Performs (value_call couple regs.old next) (own (C.Core.stacks core.old) (C.Core.rows core.old) regs.old) (own (C.Core.stacks core.new) (C.Core.rows core.new) regs.new) result }
 {
     let found = reached(core, couple_cell(regs, couple.level, couple.index))?;
-    value_or_entry(core, regs, next, found)
+    let letter = entered_or(Letter::Read, found.word);
+    let answer = value_or_entry(core, regs, next, found);
+    lettered(answer, letter)
 }
 
 // What VALC does with the word that it reaches.
@@ -285,17 +292,20 @@ fn cell_replaces<C: Core>(
 }
 
 /// EVAL: the reference on top is replaced by one to the cell of the operand that it reaches; a procedure with names is
-/// entered instead, with selector 1, and another is the fault NOT A VARIABLE.
-pub fn evaluate<C: Core>(core: &mut C, regs: &mut Registers, next: u16) -> Result<(), Stop>
+/// entered instead, with selector 1, and another is the fault NOT A VARIABLE. The letter says which of the two it did.
+pub fn evaluate<C: Core>(core: &mut C, regs: &mut Registers, next: u16) -> Result<Letter, Stop>
     requires linked { IsLinked (C.Core.stacks core.old) (C.Core.rows core.old) regs.old }
-    ensures { Performs (evaluate regs.old next) (own (C.Core.stacks core.old) (C.Core.rows core.old) regs.old) (own (C.Core.stacks core.new) (C.Core.rows core.new) regs.new) result }
+    ensures letter { IfOk result (λ l. told_by place_letter (seen (C.Core.stacks core.old) (popped regs.old >-> (λ x. reached (cell_of regs.old x)))) ≡ Some l) }
+    ensures performs { Performs (evaluate regs.old next) (own (C.Core.stacks core.old) (C.Core.rows core.old) regs.old) (own (C.Core.stacks core.new) (C.Core.rows core.new) regs.new) result }
 {
     let found = evaluated(core, regs)?;
-    cell_or_entry(core, regs, next, found)
+    let letter = entered_or(Letter::Resolve, found.word);
+    let answer = cell_or_entry(core, regs, next, found);
+    lettered(answer, letter)
 }
 
-// What the reference on top reaches.
-fn evaluated<C: Core>(core: &C, regs: &Registers) -> Result<Reached, Stop>
+/// What the reference on top reaches.
+pub fn evaluated<C: Core>(core: &C, regs: &Registers) -> Result<Reached, Stop>
     requires linked { IsLinked (C.Core.stacks core.now) (C.Core.rows core.now) regs.now }
     ensures value { result ≡ looked (seen (C.Core.stacks core.now) (popped regs.now >-> (λ x. reached (cell_of regs.now x)))) }
     ensures some { OnOk result (1 ≤ regs.now.s) }

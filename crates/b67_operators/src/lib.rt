@@ -11,14 +11,16 @@ mod calling;
 mod entering;
 mod indexing;
 mod leaving;
+mod letters;
 mod loading;
 mod storing;
 
 pub use at_once::{enter_at_once, exit_at_once, return_at_once};
 pub use branching::turn;
 pub use calling::{Called, enter_does_what_it_calls, entry, find_called};
-pub use entering::{accidental, evaluate, stop_by, value_call};
+pub use entering::{accidental, evaluate, evaluated, stop_by, value_call};
 pub use indexing::{index, index_and_load, index_mother};
 pub use leaving::{exit, return_value};
+pub use letters::{element_or_not, entered_or, lettered};
 pub use loading::{load_through, load_value, operand_pushed};
 pub use storing::store;

@@ -1,13 +1,18 @@
 //! Operators that put a word on the stack that lies elsewhere: LODT, LOAD, and VALC on an operand.
 
-ghost use Rattle.std.specs.Prelude.{◌≡◌, ◌||◌, ◌==◌, ◌+◌, ◌≤◌, OnOk, ℕ};
+ghost use Rattle.std.specs.Prelude.{◌≡◌, ◌||◌, ◌==◌, ◌+◌, ◌≤◌, IfOk, OnOk, Some, ℕ};
 ghost use Rattle.b67_table.specs.Rows.{is_passed, load_through, load_value, loaded, operand_pushed, value_pushed};
 ghost use Rattle.b67_table.specs.Arrays.{as_indexed};
 ghost use Rattle.b67_operators.specs.Stages.{operand_replaces};
 ghost use Rattle.b67_reach.specs.Images.{own};
 ghost use Rattle.b67_reach.specs.Answers.{IsReady, Performs, Tells};
+ghost use Rattle.b67_table.specs.Look.{seen};
+ghost use Rattle.b67_table.specs.References.{popped};
+ghost use Rattle.b67_letters.specs.Letters.{told_by, loaded_letter};
 
+use crate::letters::{element_or_not, lettered};
 use b67_control::Sirw;
+use b67_deeds::Letter;
 use b67_reach::{
     Reached, Registers, Stop, as_indexed, cell_of, element, invalid, is_operand, named, popped,
     reached, replaced,
@@ -66,14 +71,17 @@ pub fn operand_replaces<C: Core>(
     }
 }
 
-/// LOAD: the reference or the indexed descriptor on top is replaced by the operand that it reaches.
-pub fn load_value<C: Core>(core: &mut C, regs: &mut Registers, next: u16) -> Result<(), Stop>
+/// LOAD: the reference or the indexed descriptor on top is replaced by the operand that it reaches. The letter says which of the two it was.
+pub fn load_value<C: Core>(core: &mut C, regs: &mut Registers, next: u16) -> Result<Letter, Stop>
     requires { IsReady (C.Core.stacks core.old) regs.old }
-    ensures { Performs (load_value regs.old next) (own (C.Core.stacks core.old) (C.Core.rows core.old) regs.old) (own (C.Core.stacks core.new) (C.Core.rows core.new) regs.new) result }
+    ensures letter { IfOk result (λ l. told_by loaded_letter (seen (C.Core.stacks core.old) (popped regs.old)) ≡ Some l) }
+    ensures performs { Performs (load_value regs.old next) (own (C.Core.stacks core.old) (C.Core.rows core.old) regs.old) (own (C.Core.stacks core.new) (C.Core.rows core.new) regs.new) result }
 {
     let x = popped(core, regs)?;
     let word = loaded(core, regs, x)?;
-    operand_replaces(core, regs, next, 1, word)
+    let answer = operand_replaces(core, regs, next, 1, word);
+    let letter = element_or_not(Letter::ElementRead, Letter::Read, x);
+    lettered(answer, letter)
 }
 
 // A word is pushed, where its stack has room.

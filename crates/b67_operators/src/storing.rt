@@ -3,15 +3,18 @@
 ghost use Rattle.std.specs.Prelude.{◌≡◌, ◌≤◌, ◌+◌, ◌<◌, true, is_some, slice_get, Ok, Some, None, IfOk};
 ghost use Rattle.b67_store.specs.Store.{word_at, row_words, stack_limit};
 ghost use Rattle.b67_table.specs.Arrays.{as_indexed};
-ghost use Rattle.b67_table.specs.References.{cell_place, named};
+ghost use Rattle.b67_table.specs.References.{cell_place, named, popped_two};
 ghost use Rattle.b67_table.specs.Look.{seen};
 ghost use Rattle.b67_table.specs.Rows.{store, store_by, stored};
 ghost use Rattle.b67_table.specs.Program.{answer, save, write_row};
 ghost use Rattle.b67_reach.specs.Images.{own};
 ghost use Rattle.b67_reach.specs.Answers.{IsReady, Performs};
 ghost use Rattle.b67_operators.specs.Stages.{finished, operand_cell};
+ghost use Rattle.b67_letters.specs.Letters.{told_by, stored_letter};
 
+use crate::letters::{element_or_not, lettered};
 use b67_control::Descriptor;
+use b67_deeds::Letter;
 use b67_reach::{
     Cell, Registers, Stop, as_indexed, cell_of, element, invalid, is_operand, named, popped_two,
 };
@@ -129,23 +132,43 @@ fn store_in_element<C: Core>(
     Ok(())
 }
 
+// The operand is stored where the word under it leads.
+fn store_by<C: Core>(
+    core: &mut C,
+    regs: &mut Registers,
+    keeps: bool,
+    next: u16,
+    x: Word,
+    y: Word,
+) -> Result<(), Stop>
+    requires ready { IsReady (C.Core.stacks core.old) regs.old }
+    requires some { 2 ≤ regs.old.s }
+    ensures { Performs (store_by keeps regs.old next x y (as_indexed y)) (own (C.Core.stacks core.old) (C.Core.rows core.old) regs.old) (own (C.Core.stacks core.new) (C.Core.rows core.new) regs.new) result }
+{
+    match as_indexed(y) {
+        Some(d) => store_in_element(core, regs, keeps, next, x, y, d),
+        None => store_in_cell(core, regs, keeps, next, x, y),
+    }
+}
+
 /// STOD and STON: the operand on top is stored where the reference or the indexed descriptor under it leads; both are
-/// dropped, or the operand stays. A reference has to name an operand; what an element holds is not looked at.
+/// dropped, or the operand stays. A reference has to name an operand; what an element holds is not looked at. The letter says which of the
+/// two it was.
 pub fn store<C: Core>(
     core: &mut C,
     regs: &mut Registers,
     next: u16,
     keeps: bool,
-) -> Result<(), Stop>
+) -> Result<Letter, Stop>
     requires { IsReady (C.Core.stacks core.old) regs.old }
-    ensures { Performs (store keeps regs.old next) (own (C.Core.stacks core.old) (C.Core.rows core.old) regs.old) (own (C.Core.stacks core.new) (C.Core.rows core.new) regs.new) result }
+    ensures letter { IfOk result (λ l. told_by stored_letter (seen (C.Core.stacks core.old) (popped_two regs.old)) ≡ Some l) }
+    ensures performs { Performs (store keeps regs.old next) (own (C.Core.stacks core.old) (C.Core.rows core.old) regs.old) (own (C.Core.stacks core.new) (C.Core.rows core.new) regs.new) result }
 {
-    let (x, y) = popped_two(core, regs)?;
-    if !is_operand(x) {
+    let two = popped_two(core, regs)?;
+    if !is_operand(two.0) {
         return Err(invalid());
     }
-    match as_indexed(y) {
-        Some(d) => store_in_element(core, regs, keeps, next, x, y, d),
-        None => store_in_cell(core, regs, keeps, next, x, y),
-    }
+    let answer = store_by(core, regs, keeps, next, two.0, two.1);
+    let letter = element_or_not(Letter::ElementStore, Letter::Store, two.1);
+    lettered(answer, letter)
 }

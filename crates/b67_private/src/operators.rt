@@ -11,6 +11,7 @@ ghost use Rattle.b67_private.specs.Performing.{Performs};
 ghost use Rattle.b67_private.specs.Actions.{IsRow, IsPlainRow, IsHeldRow};
 ghost use Rattle.b67_private.specs.declared.operators.Row.TheVariants.{Enter};
 ghost use Rattle.b67_private.specs.Operating.{effect_by, top_effect, HasRow, HasRowOf, IsHeldCouple};
+ghost use Rattle.b67_private.specs.Lettered.{HasLetter, HasLetterOf};
 
 use crate::Stop;
 use crate::rows::{
@@ -75,6 +76,7 @@ const FOREIGN: Stop = Stop::Interrupt(InterruptKind::BadCode);
 fn row_of_plain(kind: PlainKind) -> Row
     ensures part { HasRowOf kind result }
     ensures row { IsPlainRow kind result }
+    ensures letter { HasLetterOf kind result }
     ensures held { IsHeldRow result }
     ensures enters { result ≡ Enter → kind ≡ Entr }
 {
@@ -136,6 +138,7 @@ pub fn row_of(op: &Operator, place: u16) -> Row
     requires { FitsAs IsHeldCouple op.now }
     ensures part { HasRow op.now place result }
     ensures row { IsRow op.now place result }
+    ensures letter { HasLetter op.now place result }
     ensures held { IsHeldRow result }
     ensures enters { result ≡ Enter → op.now ≡ Plain Entr }
 {

@@ -1,16 +1,24 @@
 use Rattle.std.proofs.Common.{◌≡◌, refl, sym, ap, subst, ◌∙◌, ℕ, List, Some, None, Err, arith}
 use Rattle.b67_list.specs.Numbered.{numbered}
+use Rattle.b67_control.specs.declared.Registers.{Registers}
 use Rattle.b67_segment.specs.Decoded.{found}
 use Rattle.b67_private.proofs.Stepping.{held_operand}
 use Rattle.b67_intrinsics.specs.declared.hindrance.Hindrance.{Hindrance}
+use Rattle.b67_table.specs.Outcome.{Outcome}
+use Rattle.b67_table.specs.Image.{Image}
+use Rattle.b67_letters.specs.Letters.{registers_letter, letter}
+use Rattle.b67_letters.specs.Letters as letters
 use Rattle.b67_reach.specs.Images.{image_of}
 use Rattle.b67_action.specs.declared.done.Done.{Done}
 use Rattle.b67_action.specs.Acting.{row_effect, RowReleases, NextReleases}
 use Rattle.b67_action.specs.Done.{Came, is_performed}
-use Rattle.b67_action.proofs.Coming.{table_row, table_bad, operator_is, not_performed, went_performed, makes_next, came_on, came_not, state_after}
+use Rattle.b67_action.specs.Lettered.{row_letter, letter_in}
+use Rattle.b67_action.proofs.Coming.{table_row, table_bad, operator_is, not_performed, went_performed, not_done, makes_next, came_on, came_not, state_after}
+use Rattle.b67_action.proofs.Gone.{letter_of_operator}
 use Rattle.b67_action.proofs.Kept.{stays_valid}
+use Rattle.b67_action.proofs.Lettering.{letter_went, letter_unperformed}
 use Rattle.b67_action.proofs.MakeAble.{performed_able}
-use Rattle.b67_action.proofs.Ready.{acting, level_known, part_known, state_at}
+use Rattle.b67_action.proofs.Ready.{acting, level_known, part_known, state_at, some_is}
 use Rattle.b67_action.proofs.Released.{performed_releases}
 use Rattle.b67_action.proofs.next.action.Goals as goal
 
@@ -93,7 +101,7 @@ returns-in-Err-clause-came g c =
     let old = image_of (g.C.Core.stacks c.args.core.now) (g.C.Core.rows c.args.core.now) c.args.kernel.now c.args.parts.now in
     let new = image_of (g.C.Core.stacks c.perform-answer.new.core) (g.C.Core.rows c.perform-answer.new.core) c.perform-answer.new.kernel c.perform-answer.new.parts in
     let here : found code r.segment r.ll r.place ≡ Some (c.in-Some.op, c.in-Some.next) = sym c.next_operator.ensures.value ∙ c.in-Some.is in
-    subst (λ (d : Done). Came code old p d new) (sym c.hindered_by.ensures)
+    subst (λ (d : Done). Came code old p d new) (sym c.hindered_by-done.ensures)
     (came_not code old new p (row_effect c.row_of-row.result code c.in-Some.op c.in-Some.next p (numbered old.regs p) old)
     (table_row code old p r c.registers-regs.ensures c.in-Some.op c.in-Some.next c.row_of-row.result c.row_of-row.ensures.row c.requires.able here)
     c.in-Err.hindrance c.in-Err.ensures.comes
@@ -135,7 +143,7 @@ returns-in-Ok-clause-woken g c = λ performed.
 
 pub returns-in-Err-clause-woken : goal.returns-in-Err-clause-woken
 returns-in-Err-clause-woken g c = λ performed.
-    absurd (not_performed c.in-Err.hindrance (ap is_performed (sym c.hindered_by.ensures) ∙ performed))
+    absurd (not_performed c.in-Err.hindrance (ap is_performed (sym c.hindered_by-done.ensures) ∙ performed))
 
 pub returns-in-Ok-clause-able : goal.returns-in-Ok-clause-able
 returns-in-Ok-clause-able g c = λ performed.
@@ -159,7 +167,38 @@ returns-in-Ok-clause-able g c = λ performed.
 
 pub returns-in-Err-clause-able : goal.returns-in-Err-clause-able
 returns-in-Err-clause-able g c = λ performed.
-    absurd (not_performed c.in-Err.hindrance (ap is_performed (sym c.hindered_by.ensures) ∙ performed))
+    absurd (not_performed c.in-Err.hindrance (ap is_performed (sym c.hindered_by-done.ensures) ∙ performed))
 
 pub returns-in-Ok-clause-nobody : goal.returns-in-Ok-clause-nobody
 returns-in-Ok-clause-nobody g c = λ none. absurd (went_performed c.index.result.now (ap is_performed (sym c.went.ensures) ∙ none))
+
+-- no operator stands there
+pub returns-in_default-clause-letter : goal.returns-in_default-clause-letter
+returns-in_default-clause-letter g c =
+    let img = image_of (g.C.Core.stacks c.args.core.now) (g.C.Core.rows c.args.core.now) c.args.kernel.now c.args.parts.now in
+    sym (ap (λ (o : Outcome Image). letters.letter_by o (registers_letter c.args.parts.now.code img (numbered img.regs c.args.process))) (returns-in_default-clause-came g c).0)
+
+-- it was performed, so its letter is that of its row
+pub returns-in-Ok-clause-letter : goal.returns-in-Ok-clause-letter
+returns-in-Ok-clause-letter g c =
+    let code = c.args.parts.now.code in
+    let p = c.args.process in
+    let r = c.registers-regs.result.now in
+    let old = image_of (g.C.Core.stacks c.args.core.now) (g.C.Core.rows c.args.core.now) c.args.kernel.now c.args.parts.now in
+    let new = image_of (g.C.Core.stacks c.perform-answer.new.core) (g.C.Core.rows c.perform-answer.new.core) c.perform-answer.new.kernel c.perform-answer.new.parts in
+    let here : found code r.segment r.ll r.place ≡ Some (c.in-Some.op, c.in-Some.next) = sym c.next_operator.ensures.value ∙ c.in-Some.is in
+    let stands = operator_is code old p r c.requires.able c.registers-regs.ensures (c.in-Some.op, c.in-Some.next) here in
+    let noted = some_is (λ (q : Registers). c.perform-answer.new.letter ≡ row_letter c.row_of-row.result old q) (numbered old.regs p) r c.registers-regs.ensures c.in-Ok.ensures.letter in
+    let given = table_row code old p r c.registers-regs.ensures c.in-Some.op c.in-Some.next c.row_of-row.result c.row_of-row.ensures.row c.requires.able here ∙ c.in-Ok.ensures.comes.outcome in
+    subst (λ (d : Done). c.perform-answer.new.letter ≡ letter_in d (letter code old p)) (sym c.went.ensures)
+    (noted ∙ c.row_of-row.ensures.letter old r refl ∙ sym (letter_of_operator code old new p r c.in-Some.op c.in-Some.next c.registers-regs.ensures stands given)
+    ∙ sym (letter_went c.index.result.now (letter code old p)))
+
+pub returns-in-Err-clause-letter : goal.returns-in-Err-clause-letter
+returns-in-Err-clause-letter g c =
+    let code = c.args.parts.now.code in
+    let p = c.args.process in
+    let old = image_of (g.C.Core.stacks c.args.core.now) (g.C.Core.rows c.args.core.now) c.args.kernel.now c.args.parts.now in
+    let new = image_of (g.C.Core.stacks c.perform-answer.new.core) (g.C.Core.rows c.perform-answer.new.core) c.perform-answer.new.kernel c.perform-answer.new.parts in
+    c.letter_by.ensures
+    ∙ letter_unperformed code old new p c.hindered_by-done.result (returns-in-Err-clause-came g c) (ap is_performed c.hindered_by-done.ensures ∙ not_done c.in-Err.hindrance)

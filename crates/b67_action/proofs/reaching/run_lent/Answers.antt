@@ -27,7 +27,7 @@ returns-clause-ran g c = λ img p h.
     let q = c.run_on_room.new.regs in
     let whole = c.run_on_room.auto.room ∙ c.room-room.ensures.words.size in
     let lent = g.C.Core.lent c.args.core.now r.stack room left in
-    subst (λ (x : Image). HasRun code p c.args.most img c.run_on_room.result x)
+    subst (λ (x : Image). HasRun code p c.args.most img c.run_on_room.result c.run_on_room.new.letters x)
     (given_open code img p st rows r c.requires.open h q left (g.C.Core.stacks lent) (g.C.Core.rows lent) c.run_on_room.ensures.keeps.0 (c.room-room.ensures.stacks left whole)
     (c.room-room.ensures.rows left whole))
     (c.run_on_room.ensures.ran img p (lent_open code img p st rows r c.requires.open h room c.room-room.ensures.words))
@@ -49,7 +49,7 @@ returns-clause-open g c =
     let new = own_of (g.C.Core.stacks lent) (g.C.Core.rows lent) q in
     let given = given_open code img p st rows r c.requires.open h q left (g.C.Core.stacks lent) (g.C.Core.rows lent) c.run_on_room.ensures.keeps.0 (c.room-room.ensures.stacks left whole)
     (c.room-room.ensures.rows left whole) in
-    let run = subst (λ (x : Image). HasRun code p c.args.most img c.run_on_room.result x) given
+    let run = subst (λ (x : Image). HasRun code p c.args.most img c.run_on_room.result c.run_on_room.new.letters x) given
     (c.run_on_room.ensures.ran img p (lent_open code img p st rows r c.requires.open h room c.room-room.ensures.words)) in
     let l = linked code (with_own new p img) p new.stacks new.rows q (in_again code img p (with_cut st r.stack r.s) rows r h new run.valid) in
     open_left st rows r c.requires.open q left (g.C.Core.stacks lent) c.run_on_room.ensures.keeps.0 (c.room-room.ensures.stacks left whole) whole l.room l.level

@@ -35,5 +35,5 @@ returns-clause-ran g c = λ img p h.
     let same =
     ap (λ (z : Stacks). own z others q) c.cut_words.ensures.stacks
     ∙ ap (λ (z : Rows). own (with_cut (g.C.Core.stacks c.run_open-ran.new.core) q.stack q.s) z q) c.cut_words.ensures.rows in
-    subst (λ (o : Own). HasRun code p c.args.most img c.run_open-ran.result (with_own o p img)) (sym same)
+    subst (λ (o : Own). HasRun code p c.args.most img c.run_open-ran.result c.run_open-ran.new.letters (with_own o p img)) (sym same)
     (c.run_open-ran.ensures.ran img p (subst (λ (z : Stacks). IsIn code img p z rows r) (sym (cut_whole st rows r (linked code img p st rows r h))) h))
