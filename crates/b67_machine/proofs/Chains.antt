@@ -1,7 +1,9 @@
 -- Entries that go on, one after another, on the machine.
 use Rattle.std.specs.Prelude.{IfSome}
-use Rattle.std.proofs.Common.{◌≡◌, refl, sym, ap, subst, ◌∙◌, ℕ, zero, suc, ◌+◌, ◌-◌, ◌<◌, ◌≤◌, Bool, true, false, List, [], ◌∷◌, length, set, Option, Some, None, arith}
+use Rattle.std.proofs.Common.{◌≡◌, refl, sym, ap, subst, ◌∙◌, ℕ, zero, suc, ◌+◌, ◌-◌, ◌<◌, ◌≤◌, Bool, true, false, List, [], ◌∷◌, ◌++◌, length, take, set, append_assoc, append-nil, Option, Some, None, arith}
+use Rattle.std.proofs.lemmas.List.{length-take-le}
 use Rattle.b67_list.specs.Numbered.{numbered, set_numbered}
+use Rattle.b67_deeds.specs.declared.Letter.{Letter}
 use Rattle.b67_segment.specs.declared.code.Code.{Code}
 use Rattle.b67_table.specs.declared.ProcessState.{ProcessState}
 use Rattle.b67_table.specs.Image.{Image, is_able}
@@ -18,6 +20,7 @@ use Rattle.b67_machine.specs.declared.entry.Performed.{Performed}
 use Rattle.b67_action.specs.Running.{GoesOn, Walks, stay, go}
 use Rattle.b67_action.proofs.Runs.{plains_then}
 use Rattle.b67_machine.specs.Kept.{Kept, Counts, counted, or_none}
+use Rattle.b67_machine.specs.Letters.{or_before, last_or}
 use Rattle.b67_machine.specs.Reads.{machine_end}
 use Rattle.b67_machine.specs.Stepping.{operators_in, Acts, Steps, StepsBy, Goes, Follows, Performs}
 use Rattle.b67_machine.specs.Entries.{Passes, Enters}
@@ -79,9 +82,10 @@ module _ (a b c : Kept) (p most k : ℕ) (going : machine_end b ≡ None) (goes 
   pub acts : Acts b p Went c
   acts = subst (λ (x : Bool). StepsBy x b p Went c) here steps
 
-  pub passes_by : Passes a p most k c
-  passes_by = record {
+  pub passes_by : (named : Letter) → c.letter ≡ Some named → Passes a p most k named c
+  passes_by named noted = record {
     performs = record { between = b; plains = goes; then = (less, action, steps) };
+    letter = noted;
     still = ap (λ (i : Image). able_in i p) acts.image ∙ acts.came.1;
     started = started ∙ goes.started;
     released = released;
@@ -93,35 +97,36 @@ module _ (a b c : Kept) (p most k : ℕ) (going : machine_end b ≡ None) (goes 
 
 -- ---- many of them
 
-none_after : (k : ℕ) (before : List ℕ) → released_after (k + 1) before ≡ []
-none_after k before = ap (λ (x : ℕ). released_after x before) next
-  where
-    next : k + 1 ≡ suc k
-    next = omega arith
+none_after : (ks : List Letter) (l : Letter) (before : List ℕ) → released_after (length (ks ++ l ∷ [])) before ≡ []
+none_after [] l before = refl
+none_after (k ∷ ks) l before = refl
 
-module _ (p most : ℕ) (old : Kept) (n m : ℕ) (a : Kept) (chain : Enters p most old n m a) (going : machine_end a ≡ None) (here : a.lacked ≡ false)
+pub last_of : (ks : List Letter) (l : Letter) (before : Option Letter) → last_or (ks ++ l ∷ []) before ≡ Some l
+last_of [] l before = refl
+last_of (k ∷ ks) l before = last_of ks l (Some k)
+
+module _ (p most : ℕ) (old : Kept) (ns : List Letter) (m : ℕ) (a : Kept) (chain : Enters p most old ns m a) (going : machine_end a ≡ None) (here : a.lacked ≡ false)
     (sound : IsValid a.code a.image) (able : is_able (numbered a.image.states p) ≡ true) (number : 1 ≤ p) (long : p ≤ length a.counts) where
-  -- after so many entries more, with so many operators
-  record Extended (k l : ℕ) (mid : Image) : Type 0 where
+  -- after entries more with these letters, and so many operators
+  record Extended (ks : List Letter) (l : ℕ) (mid : Image) : Type 0 where
     last : Kept
-    enters : Enters p most old (n + k) (m + l) last
+    enters : Enters p most old (ns ++ ks) (m + l) last
     image : last.image ≡ mid
     counts : Counts a.counts p l last.counts
     known : p ≤ length last.counts
-    others : last ≡ record a { image = last.image; counts = last.counts; released = released_after k a.released }
+    others : last ≡ record a { image = last.image; counts = last.counts; released = released_after (length ks) a.released; letter = last_or ks a.letter }
     ends : machine_end last ≡ None
     valid : IsValid a.code mid
     states : mid.states ≡ a.image.states
     fault : mid.fault ≡ a.image.fault
     started : mid.started ≡ a.image.started
 
-  first : Extended 0 0 a.image
+  first : Extended [] 0 a.image
   first =
-      let n_is : n ≡ n + 0 = omega arith in
       let m_is : m ≡ m + 0 = omega arith in
       record {
         last = a;
-        enters = subst (λ (x : ℕ). Enters p most old x (m + 0) a) n_is (subst (λ (x : ℕ). Enters p most old n x a) m_is chain);
+        enters = subst (λ (xs : List Letter). Enters p most old xs (m + 0) a) (sym (append-nil ns)) (subst (λ (x : ℕ). Enters p most old ns x a) m_is chain);
         image = refl;
         counts = counts_none a.counts p;
         known = long;
@@ -133,7 +138,7 @@ module _ (p most : ℕ) (old : Kept) (n m : ℕ) (a : Kept) (chain : Enters p mo
         started = refl;
       }
 
-  module _ (k l j : ℕ) (b c d : Image) (e : Extended k l b) (plains : Plains a.code p b j c) (on : GoesOn a.code p c d) (within : m + (l + (j + 1)) ≤ most) where
+  module _ (ks : List Letter) (l j : ℕ) (b c d : Image) (named : Letter) (e : Extended ks l b) (plains : Plains a.code p b j c) (on : GoesOn a.code p named c d) (within : m + (l + (j + 1)) ≤ most) where
     code_is : e.last.code ≡ a.code
     code_is = ap (λ (x : Kept). x.code) e.others
 
@@ -144,7 +149,7 @@ module _ (p most : ℕ) (old : Kept) (n m : ℕ) (a : Kept) (chain : Enters p mo
     quiet = record e.last { image = c; counts = more_counts e.last.counts p j }
 
     abbrev after : Kept
-    after = record e.last { image = d; counts = more_counts (more_counts e.last.counts p j) p 1; released = [] }
+    after = record e.last { image = d; counts = more_counts (more_counts e.last.counts p j) p 1; released = []; letter = Some named }
 
     able_then : is_able (numbered b.states p) ≡ true
     able_then = ap (λ (ss : List ProcessState). is_able (numbered ss p)) e.states ∙ able
@@ -170,30 +175,31 @@ module _ (p most : ℕ) (old : Kept) (n m : ℕ) (a : Kept) (chain : Enters p mo
         subst (λ (x : Bool). StepsBy x quiet p Went after) (sym lacked_is)
         (acts_by quiet after a.code c d p Went code_is refl no_fault on.gone.came (sym (without d no_fault))
         (counts_more (more_counts e.last.counts p j) p 1 number (long_more e.last.counts p j e.known)) on.gone.woken (λ q. on.gone.able)
-        (goes_on e.last e.ends).limit lacked_is code_is)
+        (goes_on e.last e.ends).limit lacked_is (sym (ap (λ (x : Option Letter). or_before x quiet.letter) on.letter_is)) code_is)
 
-    passes_then : Passes e.last p (most - (m + l)) j after
+    passes_then : Passes e.last p (most - (m + l)) j named after
     passes_then =
         passes_by e.last quiet after p (most - (m + l)) j (still_goes e.last quiet p j e.ends goes_then) goes_then (omega (arith, within))
         (subst (λ (x : Code). plain x c p ≡ false) (sym code_is) on.action) steps_then on.calm.started refl lacked_is
-        (subst (λ (x : Code). IsValid x d) (sym code_is) on.gone.valid)
+        (subst (λ (x : Code). IsValid x d) (sym code_is) on.gone.valid) named refl
 
-    one_extended : Extended (k + 1) (l + (j + 1)) d
+    one_extended : Extended (ks ++ named ∷ []) (l + (j + 1)) d
     one_extended =
-        let n_is : n + k + 1 ≡ n + (k + 1) = omega arith in
         let m_is : m + l + (j + 1) ≡ m + (l + (j + 1)) = omega arith in
         let keeps = plains_keep a.code p b c j e.valid (live_of (numbered b.states p) able_then) plains in
         record {
           last = after;
-          enters = subst (λ (x : ℕ). Enters p most old x (m + (l + (j + 1))) after) n_is
-              (subst (λ (x : ℕ). Enters p most old (n + k + 1) x after) m_is (entries.go e.enters passes_then));
+          enters = subst (λ (xs : List Letter). Enters p most old xs (m + (l + (j + 1))) after) (append_assoc ns ks (named ∷ []))
+              (subst (λ (x : ℕ). Enters p most old ((ns ++ ks) ++ named ∷ []) x after) m_is (entries.go e.enters passes_then));
           image = refl;
           counts = counts_then a.counts e.last.counts after.counts p l (j + 1) e.counts
               (counts_then e.last.counts quiet.counts after.counts p j 1 (counts_more e.last.counts p j number e.known)
               (counts_more (more_counts e.last.counts p j) p 1 number (long_more e.last.counts p j e.known)));
           known = long_more (more_counts e.last.counts p j) p 1 (long_more e.last.counts p j e.known);
-          others = ap (λ (x : Kept). record x { image = d; counts = after.counts; released = [] }) e.others
-              ∙ ap (λ (xs : List ℕ). record a { image = d; counts = after.counts; released = xs }) (sym (none_after k a.released));
+          others = ap (λ (x : Kept). record x { image = d; counts = after.counts; released = []; letter = Some named }) e.others
+              ∙ ap (λ (xs : List ℕ). record a { image = d; counts = after.counts; released = xs; letter = Some named }) (sym (none_after ks named a.released))
+              ∙ ap (λ (x : Option Letter). record a { image = d; counts = after.counts; released = released_after (length (ks ++ named ∷ [])) a.released; letter = x })
+              (sym (last_of ks named a.letter));
           ends = passes_then.ends;
           valid = on.gone.valid;
           states = on.calm.states ∙ keeps.states ∙ e.states;
@@ -201,25 +207,29 @@ module _ (p most : ℕ) (old : Kept) (n m : ℕ) (a : Kept) (chain : Enters p mo
           started = on.calm.started ∙ keeps.started ∙ e.started;
         }
 
-  extend : (k l : ℕ) (mid : Image) → Walks a.code p a.image k l mid → m + l ≤ most → Extended k l mid
-  extend k l mid stay within = first
-  extend k l mid (go {n = i} {m = h} {k = j} rest plains on) within =
-      one_extended i h j _ _ mid (extend i h _ rest (omega (arith, within))) plains on within
+  extend : (ks : List Letter) (l : ℕ) (mid : Image) → Walks a.code p a.image ks l mid → m + l ≤ most → Extended ks l mid
+  extend ks l mid stay within = first
+  extend ks l mid (go {ls = is} {l = named} {m = h} {k = j} rest plains on) within =
+      one_extended is h j _ _ mid named (extend is h _ rest (omega (arith, within))) plains on within
 
   -- what a process does on its own stack lengthens the chain
-  pub passing_more : (limit : ℕ) (ran : Ran) (new : Kept) → Runs a p limit ran new → m + ran.operators ≤ most → (es os : ℕ) → es ≡ n + ran.entries → os ≡ m + ran.operators
-      → Passing old p most (record { entries = es; operators = os; plain = ran.plain }) new
-  passing_more limit ran new h within es os f g =
-      let e = extend ran.entries ran.operators h.run.between h.run.walks within in
+  pub passing_more : (limit : ℕ) (ran : Ran) (noted all : List Letter) (new : Kept) → Runs a p limit ran noted new → m + ran.operators ≤ most → (es os : ℕ)
+      → take es all ≡ ns ++ take ran.entries noted → os ≡ m + ran.operators → Passing old p most (record { entries = es; operators = os; plain = ran.plain }) all new
+  passing_more limit ran noted all new h within es os f g =
+      let ks : List Letter = take ran.entries noted in
+      let e = extend ks ran.operators h.run.between h.run.walks within in
       let code_is : e.last.code ≡ a.code = ap (λ (x : Kept). x.code) e.others in
       record {
         between = e.last;
-        enters = subst (λ (x : ℕ). Enters p most old x os e.last) (sym f) (subst (λ (x : ℕ). Enters p most old (n + ran.entries) x e.last) (sym g) e.enters);
+        enters = subst (λ (xs : List Letter). Enters p most old xs os e.last) (sym f) (subst (λ (x : ℕ). Enters p most old (ns ++ ks) x e.last) (sym g) e.enters);
         goes = record {
           performed = subst (λ (x : Code). Plains x p e.last.image ran.plain new.image) (sym code_is)
               (subst (λ (x : Image). Plains a.code p x ran.plain new.image) (sym e.image) h.run.plains);
           counts = counts_rest a.counts e.last.counts new.counts p ran.operators ran.plain e.counts h.counts;
-          others = h.others ∙ sym (ap (λ (x : Kept). record x { image = new.image; counts = new.counts }) e.others);
+          others = h.others
+              ∙ ap (λ (n : ℕ). record a { image = new.image; counts = new.counts; released = released_after n a.released; letter = last_or ks a.letter })
+              (sym (length-take-le ran.entries noted h.run.few))
+              ∙ sym (ap (λ (x : Kept). record x { image = new.image; counts = new.counts }) e.others);
           states = h.run.calm.states ∙ sym (ap (λ (x : Image). x.states) e.image ∙ e.states);
           started = h.run.calm.started ∙ sym (ap (λ (x : Image). x.started) e.image ∙ e.started);
           fault = h.run.calm.fault ∙ sym (ap (λ (x : Image). x.fault) e.image ∙ e.fault);
@@ -228,11 +238,15 @@ module _ (p most : ℕ) (old : Kept) (n m : ℕ) (a : Kept) (chain : Enters p mo
 
 -- ---- after what a process does on its own stack
 
-no_walks : (code : Code) (p : ℕ) (old new : Image) (n m : ℕ) → Walks code p old n m new → n ≡ 0 → (new ≡ old) × (m ≡ 0)
-no_walks code p old new n m stay e = (refl, refl)
-no_walks code p old new n m (go {n = k} rest plains on) e = absurd (omega (arith, e))
+never_none : (ls : List Letter) (l : Letter) → ls ++ l ∷ [] ≡ [] → ⊥
+never_none [] l e = cc
+never_none (k ∷ ls) l e = cc
 
-module _ (a new : Kept) (p limit : ℕ) (ran : Ran) (h : Runs a p limit ran new) where
+no_walks : (code : Code) (p : ℕ) (old new : Image) (ls : List Letter) (m : ℕ) → Walks code p old ls m new → ls ≡ [] → (new ≡ old) × (m ≡ 0)
+no_walks code p old new ls m stay e = (refl, refl)
+no_walks code p old new ls m (go {ls = is} {l = named} rest plains on) e = absurd (never_none is named e)
+
+module _ (a new : Kept) (p limit : ℕ) (ran : Ran) (noted : List Letter) (h : Runs a p limit ran noted new) where
   pub runs_able : is_able (numbered a.image.states p) ≡ true → is_able (numbered new.image.states p) ≡ true
   runs_able able = ap (λ (ss : List ProcessState). is_able (numbered ss p)) h.run.calm.states ∙ able
 
@@ -247,12 +261,12 @@ module _ (a new : Kept) (p limit : ℕ) (ran : Ran) (h : Runs a p limit ran new)
   -- with no entries there are plain operators only
   pub runs_plainly : ran.entries ≡ 0 → Goes a p ran.plain new × (ran.operators ≡ 0)
   runs_plainly none =
-      let k = no_walks a.code p a.image h.run.between ran.entries ran.operators h.run.walks none in
+      let k = no_walks a.code p a.image h.run.between (take ran.entries noted) ran.operators h.run.walks (ap (λ (n : ℕ). take n noted) none) in
       let all : ran.operators + ran.plain ≡ ran.plain = omega (arith, k.1) in (
         record {
           performed = subst (λ (x : Image). Plains a.code p x ran.plain new.image) k.0 h.run.plains;
           counts = subst (λ (n : ℕ). Counts a.counts p n new.counts) all h.counts;
-          others = h.others ∙ ap (λ (n : ℕ). record a { image = new.image; counts = new.counts; released = released_after n a.released }) none;
+          others = h.others ∙ ap (λ (n : ℕ). record a { image = new.image; counts = new.counts; released = released_after n a.released; letter = last_or (take n noted) a.letter }) none;
           states = h.run.calm.states;
           started = h.run.calm.started;
           fault = h.run.calm.fault;

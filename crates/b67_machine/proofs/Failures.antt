@@ -13,6 +13,8 @@ use Rattle.b67_action.specs.Able.{AbleAfter}
 use Rattle.b67_letters.specs.Releases.{releases, started_between, started_by}
 use Rattle.b67_action.specs.Done.{Came, is_performed}
 use Rattle.b67_action.proofs.Able.{able_same}
+use Rattle.b67_letters.specs.Letters.{letter}
+use Rattle.b67_machine.specs.Letters.{lettered}
 use Rattle.b67_machine.specs.Kept.{Kept, Counts}
 use Rattle.b67_machine.specs.declared.Failure.{Failure}
 use Rattle.b67_machine.specs.Machines.{failure, with_failure}
@@ -83,8 +85,9 @@ able_with code old acted new p NoMemory released x i r k e = cc
 -- what is kept of an operator, and the image that its action left
 pub acts_by : (old new : Kept) (code : Code) (img acted : Image) (p : ℕ) (done : Done) → old.code ≡ code → old.image ≡ img → acted.fault ≡ None → Came code img p done acted
     → new.image ≡ with_failure acted (failure_of p done) → Counts old.counts p (operators_in done) new.counts → new.released ≡ released_where (is_performed done) code img p
-    → (is_performed done ≡ true → AbleAfter img acted p new.released) → new.limit ≡ limit_of p done → new.lacked ≡ lacks done → new.code ≡ code → Acts old p done new
-acts_by old new code img acted p done c i f came image counts released able limit lacked same = record {
+    → (is_performed done ≡ true → AbleAfter img acted p new.released) → new.limit ≡ limit_of p done → new.lacked ≡ lacks done
+    → new.letter ≡ lettered (operators_in done) (letter code img p) old.letter → new.code ≡ code → Acts old p done new
+acts_by old new code img acted p done c i f came image counts released able limit lacked named same = record {
   acted = acted;
   came = subst (λ (k : Code). Came k old.image p done acted) (sym c) (subst (λ (x : Image). Came code x p done acted) (sym i) came);
   image = image ∙ kept_after p done acted f;
@@ -98,5 +101,7 @@ acts_by old new code img acted p done c i f came image counts released able limi
       (able_with code img acted new.image p done new.released came (image ∙ kept_after p done acted f) released able e);
   limit = limit;
   lacked = lacked;
+  letter_is = subst (λ (k : Code). new.letter ≡ lettered (operators_in done) (letter k old.image p) old.letter) (sym c)
+      (subst (λ (x : Image). new.letter ≡ lettered (operators_in done) (letter code x p) old.letter) (sym i) named);
   code = same ∙ sym c;
 }

@@ -2,12 +2,13 @@
 use Rattle.std.specs.Prelude.{replicate}
 use Rattle.std.proofs.Common.{◌≡◌, ◌⊎◌, refl, sym, ap, subst, ◌∙◌, inl, inr, ℕ, zero, suc, ◌+◌, ◌-◌, ◌≤◌, ◌<◌, List, [], ◌∷◌, ◌++◌, length, take, drop, get_or, append-nil, append_assoc, length-append, arith}
 use Rattle.std.proofs.lemmas.List.{length-replicate, replicate-append-replicate}
+use Rattle.b67_deeds.specs.declared.Letter.{Letter}
 use Rattle.b67_segment.specs.declared.code.Code.{Code}
 use Rattle.b67_schedule.specs.declared.Run.{Run}
 use Rattle.b67_schedule.specs.Schedules.{entries}
 use Rattle.b67_machine.specs.declared.replay.Replayed.{Replayed}
 use Rattle.b67_machine.specs.Kept.{Kept}
-use Rattle.b67_machine.specs.Replaying.{Replays}
+use Rattle.b67_machine.specs.Replaying.{ReplaysEntries}
 
 abbrev of_run : Run → List ℕ
 of_run run = replicate run.times run.process
@@ -36,34 +37,33 @@ entries_end (r ∷ runs) zero all = absurd (omega (arith, all))
 entries_end (r ∷ runs) (suc i) all = ap (λ (zs : List ℕ). of_run r ++ zs) (entries_end runs i (omega (arith, all)))
 
 module _ (code : Code) (budget : ℕ) (runs : List Run) (i : ℕ) (d : Run) (less : i < length runs) where
-  entries_then : (before : List ℕ) → before ≡ entries (take i runs) → before ++ of_run (get_or runs i d) ≡ entries (take (suc i) runs)
+  pub entries_then : (before : List ℕ) → before ≡ entries (take i runs) → before ++ of_run (get_or runs i d) ≡ entries (take (suc i) runs)
   entries_then before e = ap (λ (xs : List ℕ). xs ++ of_run (get_or runs i d)) e ∙ sym (entries_next runs i d less)
+
+  -- a run more is within all
+  pub next_within : (before : List ℕ) → before ≡ entries (take i runs) → length before + (get_or runs i d).times ≤ length (entries runs)
+  next_within before e = omega (
+    arith,
+    ap length (entries_then before e),
+    ap length (entries_split runs (suc i)),
+    length-append before (of_run (get_or runs i d)),
+    length-replicate (get_or runs i d).times (get_or runs i d).process,
+    length-append (entries (take (suc i) runs)) (entries (drop (suc i) runs)),
+  )
 
   -- there is room for a run more
   pub room_next : (before : List ℕ) (room now : ℕ) → before ≡ entries (take i runs) → room ≤ now → (length (entries runs) ≤ room) ⊎ (budget ≤ room)
       → (length before + (get_or runs i d).times ≤ now) ⊎ (budget ≤ now)
   room_next before room now e more (inr h) = inr (omega (arith, h, more))
-  room_next before room now e more (inl h) =
-      let next = ap length (entries_then before e) in
-      let all = ap length (entries_split runs (suc i)) in
-      inl (omega (
-        arith,
-        next,
-        all,
-        h,
-        more,
-        length-append before (of_run (get_or runs i d)),
-        length-replicate (get_or runs i d).times (get_or runs i d).process,
-        length-append (entries (take (suc i) runs)) (entries (drop (suc i) runs)),
-      ))
+  room_next before room now e more (inl h) = inl (omega (arith, next_within before e, h, more))
 
   -- the replay has ended within a run
-  pub ends_in : (its : Code) → its ≡ code → (before done : List ℕ) (new : Kept) (answer : Replayed) → before ≡ entries (take i runs)
-      → ((more : List ℕ) → Replays its (before ++ of_run (get_or runs i d) ++ more) budget done new answer) → Replays code (entries runs) budget done new answer
-  ends_in its same before done new answer e h =
-      subst (λ (given : List ℕ). Replays code given budget done new answer)
+  pub ends_in : (its : Code) → its ≡ code → (before done : List ℕ) (noted : List Letter) (new : Kept) (answer : Replayed) → before ≡ entries (take i runs)
+      → ((more : List ℕ) → ReplaysEntries its (before ++ of_run (get_or runs i d) ++ more) budget done noted new answer) → ReplaysEntries code (entries runs) budget done noted new answer
+  ends_in its same before done noted new answer e h =
+      subst (λ (given : List ℕ). ReplaysEntries code given budget done noted new answer)
       (ap (λ (xs : List ℕ). xs ++ entries (drop (suc i) runs)) (entries_then before e) ∙ sym (entries_split runs (suc i)))
-      (subst (λ (k : Code). Replays k (before ++ of_run (get_or runs i d) ++ entries (drop (suc i) runs)) budget done new answer) same (h (entries (drop (suc i) runs))))
+      (subst (λ (k : Code). ReplaysEntries k (before ++ of_run (get_or runs i d) ++ entries (drop (suc i) runs)) budget done noted new answer) same (h (entries (drop (suc i) runs))))
 
 -- ---- the entries of one run
 
@@ -76,12 +76,18 @@ more_of_run start before p n k t here e =
 
 -- the replay has ended at one of the first of them
 pub ends_in_run : (code : Code) (budget : ℕ) (start : List ℕ) (p first total : ℕ) → first ≤ total → (before : List ℕ) → before ≡ start ++ replicate first p → (its : Code) → its ≡ code
-    → (done : List ℕ) (new : Kept) (answer : Replayed) → ((more : List ℕ) → Replays its (before ++ more) budget done new answer)
-    → (more : List ℕ) → Replays code (start ++ replicate total p ++ more) budget done new answer
-ends_in_run code budget start p first total few before here its same done new answer h more =
+    → (done : List ℕ) (noted : List Letter) (new : Kept) (answer : Replayed) → ((more : List ℕ) → ReplaysEntries its (before ++ more) budget done noted new answer)
+    → (more : List ℕ) → ReplaysEntries code (start ++ replicate total p ++ more) budget done noted new answer
+ends_in_run code budget start p first total few before here its same done noted new answer h more =
     let rest : List ℕ = replicate (total - first) p in
     let all : before ++ (rest ++ more) ≡ start ++ replicate total p ++ more =
     sym (append_assoc before rest more)
     ∙ ap (λ (xs : List ℕ). xs ++ more) (more_of_run start before p first (total - first) total here (omega (arith, few))) in
-    subst (λ (given : List ℕ). Replays code given budget done new answer) all
-    (subst (λ (k : Code). Replays k (before ++ (rest ++ more)) budget done new answer) same (h (rest ++ more)))
+    subst (λ (given : List ℕ). ReplaysEntries code given budget done noted new answer) all
+    (subst (λ (k : Code). ReplaysEntries k (before ++ (rest ++ more)) budget done noted new answer) same (h (rest ++ more)))
+
+-- there is room for those that are left
+pub room_left : (before now times n most room budget : ℕ) → (before + times ≤ most) ⊎ (budget ≤ most) → now ≡ before + n → n ≤ times → most ≤ room
+    → (now + (times - n) ≤ room) ⊎ (budget ≤ room)
+room_left before now times n most room budget (inl h) e few more = inl (omega (arith, h, e, few, more))
+room_left before now times n most room budget (inr h) e few more = inr (omega (arith, h, more))

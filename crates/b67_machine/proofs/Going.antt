@@ -3,6 +3,7 @@ use Rattle.std.specs.Prelude.{nat_eq}
 use Rattle.std.proofs.Common.{◌≡◌, sym, ap, subst, ◌∙◌, ℕ, ◌+◌, ◌<◌, ◌≤◌, Bool, true, false, List, Option, Some, None, arith}
 use Rattle.b67_list.specs.Numbered.{numbered}
 use Rattle.b67_control.specs.declared.Registers.{Registers}
+use Rattle.b67_deeds.specs.declared.Letter.{Letter}
 use Rattle.b67_segment.specs.declared.code.Code.{Code}
 use Rattle.b67_table.specs.declared.Private.{Private}
 use Rattle.b67_table.specs.Image.{Image, private_of, is_live}
@@ -20,13 +21,14 @@ use Rattle.b67_machine.proofs.Plainly.{plains_keep}
 
 -- ---- a stretch
 
-pub kept_is : (old new : Kept) → new.code ≡ old.code → new.released ≡ old.released → new.limit ≡ old.limit → new.lacked ≡ old.lacked
+pub kept_is : (old new : Kept) → new.code ≡ old.code → new.released ≡ old.released → new.limit ≡ old.limit → new.lacked ≡ old.lacked → new.letter ≡ old.letter
     → new ≡ record old { image = new.image; counts = new.counts }
-kept_is old new c r l k =
+kept_is old new c r l k n =
     ap (λ (x : Code). record new { code = x }) c
     ∙ ap (λ (x : List ℕ). record new { code = old.code; released = x }) r
     ∙ ap (λ (x : Option ℕ). record new { code = old.code; released = old.released; limit = x }) l
     ∙ ap (λ (x : Bool). record new { code = old.code; released = old.released; limit = old.limit; lacked = x }) k
+    ∙ ap (λ (x : Option Letter). record new { code = old.code; released = old.released; limit = old.limit; lacked = old.lacked; letter = x }) n
 
 pub goes_live : (old new : Kept) (code : Code) (img : Image) (p n most : ℕ) → old.code ≡ code → old.image ≡ img → IsValid code img → is_live (numbered img.states p) ≡ true
     → IsStretched code p n most img new.image → Counts old.counts p n new.counts → new ≡ record old { image = new.image; counts = new.counts } → Goes old p n new

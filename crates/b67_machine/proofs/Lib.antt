@@ -18,3 +18,5 @@ pub mod Lending
 pub mod Differing
 pub mod Putting
 pub mod Copying
+pub mod Noting
+pub mod Agreeing

@@ -10,6 +10,7 @@ pub record IsUntried (img : Image) (m : Kept) : Type 0 where
   pub counts : (p : ℕ) → counted m.counts p ≡ 0
   pub limit : m.limit ≡ None
   pub lacked : m.lacked ≡ false
+  pub letter : m.letter ≡ None
 
 -- no operator was performed on the machine, or tried, and its image is the first
 abbrev pub IsFresh : Kept → Type 0

@@ -1,10 +1,12 @@
 -- What a process does on the room of its own stack, on the machine, and entries that go on.
-use Rattle.std.specs.Prelude.{◌≡◌, ◌≤◌, ℕ, zero, suc, ◌+◌, List, [], length}
+use Rattle.std.specs.Prelude.{◌≡◌, ◌≤◌, ℕ, zero, suc, ◌+◌, List, [], length, take}
+use Rattle.b67_deeds.specs.declared.Letter.{Letter}
 use Rattle.b67_table.specs.Valid.{IsValid}
 use Rattle.b67_action.specs.declared.running.Ran.{Ran}
 use Rattle.b67_action.specs.Running.{HasRun}
 use Rattle.b67_machine.specs.Entries.{Enters}
 use Rattle.b67_machine.specs.Kept.{Kept, Counts}
+use Rattle.b67_machine.specs.Letters.{last_or}
 use Rattle.b67_machine.specs.Stepping.{Goes}
 
 -- whom the last of so many entries has released, each of which releases nobody
@@ -12,17 +14,22 @@ abbrev pub released_after : ℕ → List ℕ → List ℕ
 released_after zero before = before
 released_after (suc n) before = []
 
--- so many entries on its own stack and so many plain operators after them, and all else is as it was
-pub record Runs (old : Kept) (p most : ℕ) (ran : Ran) (new : Kept) : Type 0 where
+-- so many entries on its own stack, whose letters are noted first, and so many plain operators after them, and all else is as it was
+pub record Runs (old : Kept) (p most : ℕ) (ran : Ran) (noted : List Letter) (new : Kept) : Type 0 where
   pub begun : IsValid old.code old.image
   pub number : 1 ≤ p
   pub known : p ≤ length old.counts
-  pub run : HasRun old.code p most old.image ran new.image
+  pub run : HasRun old.code p most old.image ran noted new.image
   pub counts : Counts old.counts p (ran.operators + ran.plain) new.counts
-  pub others : new ≡ record old { image = new.image; counts = new.counts; released = released_after ran.entries old.released }
+  pub others : new ≡ record old {
+    image = new.image;
+    counts = new.counts;
+    released = released_after ran.entries old.released;
+    letter = last_or (take ran.entries noted) old.letter;
+  }
 
--- so many entries that go on, and so many plain operators after them
-pub record Passing (old : Kept) (p most : ℕ) (ran : Ran) (new : Kept) : Type 0 where
+-- so many entries that go on, whose letters are noted first, and so many plain operators after them
+pub record Passing (old : Kept) (p most : ℕ) (ran : Ran) (noted : List Letter) (new : Kept) : Type 0 where
   pub between : Kept
-  pub enters : Enters p most old ran.entries ran.operators between
+  pub enters : Enters p most old (take ran.entries noted) ran.operators between
   pub goes : Goes between p ran.plain new

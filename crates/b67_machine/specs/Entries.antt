@@ -1,5 +1,6 @@
 -- Entries of one process, one after another.
-use Rattle.std.specs.Prelude.{◌≡◌, ℕ, ◌+◌, ◌-◌, ◌<◌, ◌≤◌, true, false, [], Some, None, IfSome}
+use Rattle.std.specs.Prelude.{◌≡◌, ℕ, ◌+◌, ◌-◌, ◌<◌, ◌≤◌, true, false, List, [], ◌∷◌, ◌++◌, length, take, slice_get, Some, None, IfSome}
+use Rattle.b67_deeds.specs.declared.Letter.{Letter}
 use Rattle.b67_table.specs.Valid.{IsValid}
 use Rattle.b67_action.specs.declared.done.Done.TheVariants.{Went}
 use Rattle.b67_action.specs.Able.{able_in, AbleAfter}
@@ -15,9 +16,10 @@ pub record IsCalm (old new : Kept) : Type 0 where
   pub fault : new.image.fault ≡ old.image.fault
   pub released : new.released ≡ []
 
--- an entry that went on, and whose action released nobody and started nobody
-pub record Passes (old : Kept) (p most plain : ℕ) (new : Kept) : Type 0 where
+-- an entry that went on, and whose action, of this letter, released nobody and started nobody
+pub record Passes (old : Kept) (p most plain : ℕ) (l : Letter) (new : Kept) : Type 0 where
   pub performs : Performs old p most (record { plain = plain; done = Some Went }) new
+  pub letter : new.letter ≡ Some l
   -- the process is able still
   pub still : able_in new.image p ≡ true
   pub started : new.image.started ≡ old.image.started
@@ -27,17 +29,20 @@ pub record Passes (old : Kept) (p most plain : ℕ) (new : Kept) : Type 0 where
   pub lacked : new.lacked ≡ false
   pub valid : IsValid new.code new.image
 
--- so many such entries follow one another, of so many operators in all
-pub data Enters (p most : ℕ) : Kept → ℕ → ℕ → Kept → Type 0 where
-  stay : {a : Kept} → Enters p most a 0 0 a
-  go : {a b c : Kept} {n m k : ℕ} → Enters p most a n m b → Passes b p (most - m) k c → Enters p most a (n + 1) (m + (k + 1)) c
+-- such entries with these letters follow one another, of so many operators in all
+pub data Enters (p most : ℕ) : Kept → List Letter → ℕ → Kept → Type 0 where
+  stay : {a : Kept} → Enters p most a [] 0 a
+  go : {a b c : Kept} {ls : List Letter} {l : Letter} {m k : ℕ} → Enters p most a ls m b → Passes b p (most - m) k l c
+      → Enters p most a (ls ++ l ∷ []) (m + (k + 1)) c
 
--- Such entries, at most so many, and then one more, for which operators are left.
-pub record PerformsEntries (old : Kept) (p entries most : ℕ) (entered : Entered) (new : Kept) : Type 0 where
+-- Such entries, fewer than letters can be noted, and then one more, for which operators are left. Their letters are noted first, and then that of
+-- the last one, where its action was performed.
+pub record PerformsEntries (old : Kept) (p most : ℕ) (entered : Entered) (noted : List Letter) (new : Kept) : Type 0 where
   pub between : Kept
-  pub enters : Enters p most old entered.entries entered.operators between
-  pub few : entered.entries ≤ entries
+  pub few : entered.entries < length noted
+  pub enters : Enters p most old (take entered.entries noted) entered.operators between
   pub within : entered.operators ≤ most
   pub less : 1 ≤ most → entered.operators < most
   pub performs : Performs between p (most - entered.operators) entered.last new
   pub able : IfSome entered.last.done (λ done. operators_in done ≡ 1 → AbleAfter between.image new.image p new.released)
+  pub last : IfSome entered.last.done (λ done. operators_in done ≡ 1 → slice_get noted entered.entries ≡ new.letter)

@@ -1,6 +1,7 @@
 -- What contracts see of a machine.
 use Rattle.std.specs.Prelude.{◌≡◌, ◌≢◌, ℕ, ◌+◌, Bool, List, Option, Some, None}
 use Rattle.b67_list.specs.Numbered.{numbered}
+use Rattle.b67_deeds.specs.declared.Letter.{Letter}
 use Rattle.b67_segment.specs.declared.code.Code.{Code}
 use Rattle.b67_table.specs.Image.{Image}
 
@@ -15,6 +16,8 @@ pub record Kept : Type 0 where
   pub limit : Option ℕ
   -- whether an operator found no memory
   pub lacked : Bool
+  -- the letter of the last action, where there was one
+  pub letter : Option Letter
 
 abbrev pub or_none : Option ℕ → ℕ
 or_none None = 0

@@ -1,4 +1,5 @@
 pub mod Kept
+pub mod Letters
 pub mod Machines
 pub mod Tables
 pub mod Stepping

@@ -1,6 +1,11 @@
 -- What a replay does.
-use Rattle.std.specs.Prelude.{◌≡◌, ◌≢◌, ◌⊎◌, ℕ, ◌+◌, ◌-◌, ◌<◌, ◌≤◌, nat_eq, if◌then◌else◌, Bool, true, false, List, [], ◌∷◌, ◌++◌, length, reverse, replicate, sum, Option, Some, None, Result, Ok, Err}
+use Rattle.std.specs.Prelude.{◌≡◌, ◌≢◌, ◌⊎◌, ℕ, ◌+◌, ◌-◌, ◌<◌, ◌≤◌, nat_eq, if◌then◌else◌, Bool, true, false, List, [], ◌∷◌, ◌++◌, length, reverse, replicate, take, drop, slice_get, sum, Option, Some, None, Result, Ok, Err}
 use Rattle.b67_list.specs.Numbered.{numbered}
+use Rattle.b67_deeds.specs.declared.Letter.{Letter}
+use Rattle.b67_schedule.specs.declared.reading.Given.{Given}
+use Rattle.b67_schedule.specs.declared.reading.Given.TheVariants.{One, Two}
+use Rattle.b67_schedule.specs.Giving.{given_entries}
+use Rattle.b67_schedule.specs.Schedules.{entries, Kept as Schedule}
 use Rattle.b67_segment.specs.declared.code.Code.{Code}
 use Rattle.b67_table.specs.Image.{Image, is_able}
 use Rattle.b67_table.specs.Ending.{image_end, may_act}
@@ -12,8 +17,9 @@ use Rattle.b67_action.specs.declared.done.Done.{Done}
 use Rattle.b67_action.specs.declared.done.Done.TheVariants as dones
 use Rattle.b67_action.specs.Done.{MakesNext}
 use Rattle.b67_machine.specs.declared.replay.Replayed.{Replayed}
-use Rattle.b67_machine.specs.declared.replay.Replayed.TheVariants.{Ended, Ran, Illegal, BudgetSpent, NoMemory}
+use Rattle.b67_machine.specs.declared.replay.Replayed.TheVariants.{Ended, Ran, Illegal, BudgetSpent, NoMemory, Differs}
 use Rattle.b67_machine.specs.Kept.{Kept, counted}
+use Rattle.b67_machine.specs.Letters.{AreLetters}
 use Rattle.b67_machine.specs.Reads.{machine_end}
 
 -- ---- tails
@@ -61,6 +67,8 @@ Answers code budget spent done left tail img new (Illegal number) =
 -- an entry whose plain operators are begun may be performed
 Answers code budget spent done left tail img new BudgetSpent = (image_end img ≡ None) × (spent ≡ budget) × ((tail ≡ 0) ⊎ MayGo left img) × (new.limit ≡ None)
 Answers code budget spent done left tail img new NoMemory = (spent < budget) × MayGo left img × AtMaking code left img × (new.limit ≡ None)
+-- the entry stands, and neither the end nor the budget is looked at after it
+Answers code budget spent done left tail img new (Differs number) = (tail ≡ 0) × (number ≡ length done) × (new.limit ≡ None)
 
 -- the image of the machine is that of the run; without memory a closed row may have left an empty place
 abbrev pub Stands : Bool → Image → Image → Type 0
@@ -71,13 +79,42 @@ abbrev pub is_lacking : Replayed → Bool
 is_lacking NoMemory = true
 is_lacking answer = false
 
--- These entries of the given ones are performed, and then so many plain operators of the next one.
-pub record Replays (code : Code) (given : List ℕ) (budget : ℕ) (done : List ℕ) (new : Kept) (answer : Replayed) : Type 0 where
+-- ---- letters
+
+-- no letter differed
+abbrev pub NoneDiffers : Replayed → Type 0
+NoneDiffers (Differs number) = ⊥
+NoneDiffers answer = Unit {0}
+
+-- the letter of this entry is the first that is another than the given one
+pub record DiffersAt (given : List Letter) (number : ℕ) (done : List Letter) : Type 0 where
+  pub front : List Letter
+  pub here : Letter
+  pub there : Letter
+  pub more : List Letter
+  pub done_is : done ≡ front ++ here ∷ []
+  pub given_is : given ≡ front ++ there ∷ more
+  pub apart : here ≢ there
+  pub number_is : number ≡ length done
+
+-- the letters of what was performed are those that were given, but for the one that differs
+abbrev pub AgreeBy : Replayed → List Letter → List Letter → Type 0
+AgreeBy (Differs number) given done = DiffersAt given number done
+AgreeBy answer given done = (more : List Letter) × (given ≡ done ++ more)
+
+-- where letters are given
+abbrev pub AgreeAs : Replayed → Option (List Letter) → List Letter → Type 0
+AgreeAs answer None done = NoneDiffers answer
+AgreeAs answer (Some given) done = AgreeBy answer given done
+
+-- These entries of the given ones are performed, with these letters, and then so many plain operators of the next one.
+pub record ReplaysEntries (code : Code) (given : List ℕ) (budget : ℕ) (done : List ℕ) (noted : List Letter) (new : Kept) (answer : Replayed) : Type 0 where
   pub left : List ℕ
   pub tail : ℕ
   pub split : given ≡ done ++ left
   pub image : Image
   pub run : TableRun code done (tails_of left tail) image
+  pub letters_are : AreLetters run.runs noted
   pub stands : Stands (is_lacking answer) image new.image
   pub counts : (p : ℕ) → counted new.counts p ≡ count_of p run.history run.counts + tail_of left tail p
   pub within : sum run.counts + tail ≤ budget
@@ -85,29 +122,79 @@ pub record Replays (code : Code) (given : List ℕ) (budget : ℕ) (done : List 
   pub lacked : new.lacked ≡ is_lacking answer
   pub same : new.code ≡ code
 
+-- and their letters agree with those that are given, where some are
+abbrev pub ReplaysRuns : Code → List ℕ → Option (List Letter) → ℕ → Schedule → Kept → Replayed → Type 0
+ReplaysRuns code given letters budget performed new answer =
+    ReplaysEntries code given budget (entries performed.runs) performed.letters new answer × AgreeAs answer letters performed.letters
+
+-- the letters of what is given, where it is of version 2
+abbrev pub letters_of : Given → Option (List Letter)
+letters_of (One old) = None
+letters_of (Two schedule) = Some schedule.letters
+
+abbrev pub Replays : Code → Given → ℕ → Schedule → Kept → Replayed → Type 0
+Replays code given budget performed new answer = ReplaysRuns code (given_entries given) (letters_of given) budget performed new answer
+
 -- ---- between entries
 
--- These entries are performed, with so many operators, and nothing more.
-pub record Between (code : Code) (done : List ℕ) (spent : ℕ) (m : Kept) : Type 0 where
+-- These entries with these letters are performed, with so many operators, and nothing more.
+pub record Between (code : Code) (done : List ℕ) (noted : List Letter) (spent : ℕ) (m : Kept) : Type 0 where
   pub history : List ℕ
   pub numbers : List ℕ
   pub order : done ≡ reverse history
   pub runs : Runs code history numbers m.image
+  pub letters_are : AreLetters runs noted
   pub spends : sum numbers ≡ spent
   pub counts : (p : ℕ) → counted m.counts p ≡ count_of p history numbers
   pub limit : m.limit ≡ None
   pub lacked : m.lacked ≡ false
   pub same : m.code ≡ code
 
+-- the letters after these are those that are given, where some are
+abbrev pub GoOnAs : Option (List Letter) → List Letter → List Letter → Type 0
+GoOnAs None before done = Unit {0}
+GoOnAs (Some given) before done = done ≡ before ++ given
+
+-- the next letters, and some more after them, where letters are given
+abbrev pub and_more : List Letter → Option (List Letter) → List Letter → Option (List Letter)
+and_more before None more = None
+and_more before (Some given) more = Some (before ++ given ++ more)
+
 -- all of the next entries are performed, or the replay has ended within them, whatever comes after them
-abbrev pub Advances : Code → ℕ → List ℕ → List ℕ → ℕ → List ℕ → Kept → Option Replayed → Type 0
-Advances code budget before next spent done new None = (done ≡ before ++ next) × Between code done spent new × (spent ≤ budget)
-Advances code budget before next spent done new (Some answer) = (more : List ℕ) → Replays code (before ++ next ++ more) budget done new answer
+abbrev pub Advances : Code → ℕ → List ℕ → List ℕ → ℕ → List ℕ → List Letter → Kept → Option Replayed → Type 0
+Advances code budget before next spent done noted new None = (done ≡ before ++ next) × Between code done noted spent new × (spent ≤ budget)
+Advances code budget before next spent done noted new (Some answer) = (more : List ℕ) → ReplaysEntries code (before ++ next ++ more) budget done noted new answer
+
+-- and the letters after these are those that are given, where some are, up to the end
+abbrev pub Agrees : Option (List Letter) → List Letter → List Letter → Option Replayed → Type 0
+Agrees letters before noted None = GoOnAs letters before noted
+Agrees letters before noted (Some answer) = (more : List Letter) → AgreeAs answer (and_more before letters more) noted
+
+-- so many letters, where letters are given
+abbrev pub first_of : ℕ → Option (List Letter) → Option (List Letter)
+first_of n None = None
+first_of n (Some given) = Some (take n given)
+
+-- and those after them
+abbrev pub rest_of : ℕ → Option (List Letter) → Option (List Letter)
+rest_of n None = None
+rest_of n (Some given) = Some (drop n given)
+
+-- whether another letter is given first than this one
+abbrev pub Compares : Option (List Letter) → Letter → Bool → Type 0
+Compares None l another = another ≡ false
+Compares (Some given) l true = slice_get given 0 ≢ Some l
+Compares (Some given) l false = slice_get given 0 ≡ Some l
 
 -- some of so many entries of a process are performed, and one at least, or the replay has ended within them
-abbrev pub AdvancesBy : Code → ℕ → List ℕ → ℕ → ℕ → ℕ → List ℕ → Kept → Result ℕ Replayed → Type 0
-AdvancesBy code budget before p times spent done new (Ok n) = (1 ≤ n) × (n ≤ times) × Advances code budget before (replicate n p) spent done new None
-AdvancesBy code budget before p times spent done new (Err answer) = Advances code budget before (replicate times p) spent done new (Some answer)
+abbrev pub AdvancesBy : Code → ℕ → List ℕ → ℕ → ℕ → ℕ → List ℕ → List Letter → Kept → Result ℕ Replayed → Type 0
+AdvancesBy code budget before p times spent done noted new (Ok n) = (1 ≤ n) × (n ≤ times) × Advances code budget before (replicate n p) spent done noted new None
+AdvancesBy code budget before p times spent done noted new (Err answer) = Advances code budget before (replicate times p) spent done noted new (Some answer)
+
+-- and so are their letters
+abbrev pub AgreesBy : Option (List Letter) → List Letter → List Letter → Result ℕ Replayed → Type 0
+AgreesBy letters before noted (Ok n) = GoOnAs (first_of n letters) before noted
+AgreesBy letters before noted (Err answer) = Agrees letters before noted (Some answer)
 
 -- what ends a replay before an entry: the end of the run is looked at first, then the budget, then the entry
 abbrev pub StopsBefore : Kept → ℕ → ℕ → ℕ → ℕ → Option Replayed → Type 0

@@ -9,11 +9,13 @@ use Rattle.b67_table.specs.Valid.{IsValid}
 use Rattle.b67_action.specs.declared.done.Done.{Done}
 use Rattle.b67_action.specs.declared.done.Done.TheVariants.{Went, Waits, Ended, Fault, Interrupt, StackLimit, NoMemory}
 use Rattle.b67_action.specs.Able.{AbleAfter}
+use Rattle.b67_letters.specs.Letters.{letter}
 use Rattle.b67_letters.specs.Releases.{releases, started_between, starts}
 use Rattle.b67_action.specs.Done.{Came, is_performed}
 use Rattle.b67_machine.specs.declared.Failure.{Failure}
 use Rattle.b67_machine.specs.declared.entry.Performed.{Performed}
 use Rattle.b67_machine.specs.Kept.{Kept, Counts}
+use Rattle.b67_machine.specs.Letters.{lettered}
 
 -- ---- one operator
 
@@ -67,6 +69,7 @@ pub record Acts (old : Kept) (p : ℕ) (done : Done) (new : Kept) : Type 0 where
   pub able : operators_in done ≡ 1 → AbleAfter old.image new.image p new.released
   pub limit : new.limit ≡ limit_of p done
   pub lacked : new.lacked ≡ lacks done
+  pub letter_is : new.letter ≡ lettered (operators_in done) (letter old.code old.image p) old.letter
   pub code : new.code ≡ old.code
 
 -- a machine that found no memory once does nothing more

@@ -1,11 +1,13 @@
 // What is kept of an operator beside the image.
-ghost use Rattle.std.specs.Prelude.{◌≡◌, ◌+◌, ◌<◌, ◌≤◌, ◌^◌, [], true, false, length, vec_capacity};
+ghost use Rattle.std.specs.Prelude.{◌≡◌, ◌+◌, ◌<◌, ◌≤◌, ◌^◌, [], true, false, length, vec_capacity, IfSome};
 ghost use Rattle.b67_action.specs.Done.{is_performed};
 ghost use Rattle.b67_machine.specs.Kept.{counted, Counts};
+ghost use Rattle.b67_machine.specs.Letters.{or_before, last_or};
 ghost use Rattle.b67_machine.specs.Stepping.{failure_of, limit_of, lacks, operators_in};
 
 use crate::Failure;
 use b67_action::Done;
+use b67_deeds::Letter;
 
 /// So many operators of a process are counted.
 pub fn count(counts: &mut Vec<u64>, process: u32, operators: u32)
@@ -64,5 +66,32 @@ pub fn settle(released: &mut Vec<u32>, done: Done)
     match done {
         Done::Went | Done::Waits | Done::Ended => {}
         Done::Fault(_) | Done::Interrupt(_) | Done::StackLimit | Done::NoMemory => released.clear(),
+    }
+}
+
+/// The letter, where there is one, is that of the last action.
+pub fn note(last: &mut Option<Letter>, letter: Option<Letter>)
+    ensures { last.new ≡ or_before letter last.old }
+{
+    if letter.is_some() {
+        *last = letter;
+    }
+}
+
+/// The last of these letters is that of the last action.
+pub fn note_last(last: &mut Option<Letter>, letters: &[Letter])
+    ensures { last.new ≡ last_or letters.now last.old }
+{
+    if let Some(letter) = letters.last() {
+        *last = Some(*letter);
+    }
+}
+
+/// The letter, where there is one, is noted in its place.
+pub fn write_letter(place: &mut Letter, letter: Option<Letter>)
+    ensures { IfSome letter (λ l. place.new ≡ l) }
+{
+    if let Some(letter) = letter {
+        *place = letter;
     }
 }

@@ -1,5 +1,5 @@
 // Entries of one process, one after another.
-ghost use Rattle.std.specs.Prelude.{◌≡◌, ◌+◌, ◌<◌, ◌≤◌, ◌^◌, [], None, false, true};
+ghost use Rattle.std.specs.Prelude.{◌≡◌, ◌+◌, ◌<◌, ◌≤◌, ◌^◌, [], None, false, true, length};
 ghost use Rattle.b67_list.specs.Numbered.{numbered};
 ghost use Rattle.b67_table.specs.Image.{is_able};
 ghost use Rattle.b67_table.specs.Valid.{IsValid};
@@ -8,8 +8,10 @@ ghost use Rattle.b67_machine.specs.Entries.{PerformsEntries};
 ghost use Rattle.b67_machine.specs.Kept.{counted};
 ghost use Rattle.b67_machine.specs.Reads.{machine_end};
 
+use crate::counting::write_letter;
 use crate::{Machine, Performed};
 use b67_action::{Done, Ran};
+use b67_deeds::Letter;
 use b67_store::Core;
 
 /// What was performed of entries of one process.
@@ -31,21 +33,26 @@ impl<C: Core> Machine<C> {
         matches!(done, Done::Went) && self.started() == before && self.released().is_empty()
     }
 
-    // Entries one after another on a machine that found memory, where an operator is allowed.
-    fn pass(&mut self, process: u32, entries: u32, most: u32) -> Entered
+    // Entries one after another on a machine that found memory, where an operator is allowed. The letter of each is noted.
+    fn pass(&mut self, process: u32, letters: &mut [Letter], most: u32) -> Entered
         requires able { is_able (numbered self.old.image.states process) ≡ true }
         requires going { machine_end self.old ≡ None }
         requires count { counted self.old.counts process + most < 2 ^ 64 }
         requires here { self.old.lacked ≡ false }
         requires some { 1 ≤ most }
-        ensures performs { PerformsEntries self.old process entries most result self.new }
+        requires room { 1 ≤ length letters.old }
+        ensures performs { PerformsEntries self.old process most result letters.new self.new }
+        ensures size { length letters.new ≡ length letters.old }
         ensures valid { IsValid self.new.code self.new.image }
     {
         let before = self.started();
-        let mut ran = self.run_process(process, entries, most - 1);
+        let room = letters.len() - 1;
+        let mut ran = self.run_process(process, &mut letters[..room], most - 1);
         'passing: while ran.operators + ran.plain + 1 < most {
             let done = self.act(process);
-            if ran.entries == entries || !self.is_passed(done, before) {
+            let at = ran.entries as usize;
+            write_letter(&mut letters[at], self.letter());
+            if at == room || !self.is_passed(done, before) {
                 return Entered {
                     entries: ran.entries,
                     operators: ran.operators,
@@ -56,7 +63,8 @@ impl<C: Core> Machine<C> {
                 };
             }
             let operators = ran.operators + ran.plain + 1;
-            let more = self.run_process(process, entries - ran.entries - 1, most - 1 - operators);
+            let rest = &mut letters[at + 1..room];
+            let more = self.run_process(process, rest, most - 1 - operators);
             ran = Ran {
                 entries: ran.entries + 1 + more.entries,
                 operators: operators + more.operators,
@@ -64,6 +72,7 @@ impl<C: Core> Machine<C> {
             };
         }
         let mut last = self.perform_entry(process, most - ran.operators - ran.plain);
+        write_letter(&mut letters[ran.entries as usize], self.letter());
         last.plain += ran.plain;
         Entered {
             entries: ran.entries,
@@ -72,13 +81,15 @@ impl<C: Core> Machine<C> {
         }
     }
 
-    /// Performs entries of a process one after another, as long as each goes on and neither releases nor starts anybody, at most so many
-    /// before the last one, and at most so many operators in all.
-    pub fn perform_entries(&mut self, process: u32, entries: u32, most: u32) -> Entered
+    /// Performs entries of a process one after another, as long as each goes on and neither releases nor starts anybody, and at most so many
+    /// operators in all. The letter of each is noted, and there is room for that of the last one too, which need not go on.
+    pub fn perform_entries(&mut self, process: u32, letters: &mut [Letter], most: u32) -> Entered
         requires able { is_able (numbered self.old.image.states process) ≡ true }
         requires going { machine_end self.old ≡ None }
         requires count { counted self.old.counts process + most < 2 ^ 64 }
-        ensures performs { PerformsEntries self.old process entries most result self.new }
+        requires room { 1 ≤ length letters.old }
+        ensures performs { PerformsEntries self.old process most result letters.new self.new }
+        ensures size { length letters.new ≡ length letters.old }
         ensures valid { IsValid self.new.code self.new.image }
     {
         if self.lacked || most == 0 {
@@ -89,6 +100,6 @@ impl<C: Core> Machine<C> {
                 last,
             };
         }
-        self.pass(process, entries, most)
+        self.pass(process, letters, most)
     }
 }

@@ -20,6 +20,7 @@ mod step;
 mod stretch;
 mod tables;
 
+use b67_deeds::Letter;
 use b67_events::Kernel;
 use b67_num::FaultKind;
 use b67_reach::Parts;
@@ -40,7 +41,7 @@ pub struct Failure {
 }
 
 /// A machine with its code. Contracts see its code and its image, how many operators each process has performed, whom
-/// the last operator released, and what the last operator that was tried came to.
+/// the last operator released, what the last operator that was tried came to, and the letter of the last action.
 pub struct Machine<C: Core> {
     core: C,
     kernel: Kernel,
@@ -54,6 +55,8 @@ pub struct Machine<C: Core> {
     limit: Option<u32>,
     // Whether an operator found no memory.
     lacked: bool,
+    // The letter of the last action, where there was one.
+    letter: Option<Letter>,
 }
 
 /// A machine is let go by a call, so that the proofs of the crates above do not go through its parts.
@@ -68,6 +71,7 @@ impl<C: Core> Drop for Machine<C> {
             failure: _,
             limit: _,
             lacked: _,
+            letter: _,
         } = self;
     }
 }
@@ -92,6 +96,7 @@ impl<C: Core> Model for Machine<C> {
       released = m.parts.woken.processes.items;
       limit = m.limit;
       lacked = m.lacked;
+      letter = m.letter;
     } };
 
     ghost invariant = { λ m.

@@ -38,6 +38,7 @@ impl<C: Core> Machine<C> {
             failure: None,
             limit: None,
             lacked: false,
+            letter: None,
         })
     }
 }

@@ -33,17 +33,18 @@ impl<C: Core> Machine<C> {
         }
         let regs = registers(&self.parts.regs, process);
         let table = decoded(&self.tables, regs.segment, regs.ll);
-        let went = go_on(
+        let letter = go_on(
             &mut self.core,
             &mut self.kernel,
             &mut self.parts,
             process,
             table,
         );
-        if !went {
+        if letter.is_none() {
             return false;
         }
         count(&mut self.counts, process, 1);
+        self.letter = letter;
         true
     }
 }

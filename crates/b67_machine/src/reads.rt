@@ -9,6 +9,7 @@ ghost use Rattle.b67_machine.specs.Kept.{counted};
 ghost use Rattle.b67_machine.specs.Reads.{ended_by, is_able_state, limit_end, lives, machine_end};
 
 use crate::{Failure, Machine};
+use b67_deeds::Letter;
 use b67_list::Line;
 use b67_num::FaultKind;
 use b67_reach::{ProcessState, Registers};
@@ -90,6 +91,13 @@ impl<C: Core> Machine<C> {
         ensures { result.now ≡ self.now.released }
     {
         self.parts.woken.processes.as_slice()
+    }
+
+    /// The letter of the last action; none where there was none.
+    pub fn letter(&self) -> Option<Letter>
+        ensures { result ≡ self.now.letter }
+    {
+        self.letter
     }
 
     /// How many processes there have been.

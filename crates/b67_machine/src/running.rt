@@ -1,5 +1,5 @@
 // What a process does on the room of its own stack, on the machine.
-ghost use Rattle.std.specs.Prelude.{◌≡◌, ◌+◌, ◌<◌, ◌≤◌, ◌^◌, List, None, false, true, vec_capacity};
+ghost use Rattle.std.specs.Prelude.{◌≡◌, ◌+◌, ◌<◌, ◌≤◌, ◌^◌, List, None, false, true, length, vec_capacity};
 ghost use Rattle.b67_list.specs.Numbered.{numbered};
 ghost use Rattle.b67_events.specs.Events.{Events};
 ghost use Rattle.b67_table.specs.Image.{is_able};
@@ -13,27 +13,31 @@ ghost use Rattle.b67_machine.specs.Reads.{machine_end};
 ghost use Rattle.b67_machine.specs.Tables.{AreTables};
 
 use crate::Machine;
-use crate::counting::count;
+use crate::counting::{count, note_last};
 use crate::tables::{Levels, decoded, prepare};
 use b67_action::{Ran, run_own};
+use b67_deeds::Letter;
 use b67_intrinsics::registers;
 use b67_reach::Parts;
 use b67_store::Core;
 
-// What comes next in a process on its own stack: at most so many entries that go on, and at most so many operators in all.
+// What comes next in a process on its own stack: at most as many entries that go on as letters can be noted, and at most so many operators in
+// all.
 fn run_in<C: Core>(
     core: &mut C,
     parts: &mut Parts,
     process: u32,
     tables: &Vec<Levels>,
-    entries: u32,
+    letters: &mut [Letter],
     most: u32,
 ) -> Ran
     requires valid { (kernel : Events) × IsValid parts.old.code (image_of (C.Core.stacks core.old) (C.Core.rows core.old) kernel parts.old) }
     requires able { is_able (numbered parts.old.states.items process) ≡ true }
     requires tables { AreTables parts.old.code tables.now.items }
-    ensures ran { (kernel : Events) → IsValid parts.old.code (image_of (C.Core.stacks core.old) (C.Core.rows core.old) kernel parts.old) → HasRun parts.old.code process most (image_of (C.Core.stacks core.old) (C.Core.rows core.old) kernel parts.old) result (image_of (C.Core.stacks core.new) (C.Core.rows core.new) kernel parts.new) }
-    ensures entries { result.entries ≤ entries }
+    ensures ran { (kernel : Events) → IsValid parts.old.code (image_of (C.Core.stacks core.old) (C.Core.rows core.old) kernel parts.old) → HasRun parts.old.code process most (image_of (C.Core.stacks core.old) (C.Core.rows core.old) kernel parts.old) result letters.new (image_of (C.Core.stacks core.new) (C.Core.rows core.new) kernel parts.new) }
+    ensures entries { result.entries ≤ length letters.new }
+    ensures counted { result.entries ≤ result.operators }
+    ensures size { length letters.new ≡ length letters.old }
     ensures most { result.operators + result.plain ≤ most }
     ensures released { parts.new.woken.processes.items ≡ released_after result.entries parts.old.woken.processes.items }
     ensures room { KeepsPlaces parts.old.woken parts.new.woken }
@@ -42,7 +46,7 @@ fn run_in<C: Core>(
     let regs = registers(&parts.regs, process);
     let table = decoded(tables, regs.segment, regs.ll);
     let own = &mut parts.regs[process as usize - 1];
-    let ran = run_own(core, own, &parts.code, table, entries, most);
+    let ran = run_own(core, own, &parts.code, table, letters, most);
     if ran.entries > 0 {
         parts.woken.processes.clear();
     }
@@ -50,14 +54,16 @@ fn run_in<C: Core>(
 }
 
 impl<C: Core> Machine<C> {
-    /// Performs what comes next in a process on its own stack: at most so many entries that go on, at most so many operators in all, and
-    /// after the entries the plain operators that come next.
-    pub fn run_process(&mut self, process: u32, entries: u32, most: u32) -> Ran
+    /// Performs what comes next in a process on its own stack: at most as many entries that go on as letters can be noted, at most so many
+    /// operators in all, and after the entries the plain operators that come next.
+    pub fn run_process(&mut self, process: u32, letters: &mut [Letter], most: u32) -> Ran
         requires able { is_able (numbered self.old.image.states process) ≡ true }
         requires going { machine_end self.old ≡ None }
         requires count { counted self.old.counts process + most < 2 ^ 64 }
-        ensures runs { Runs self.old process most result self.new }
-        ensures entries { result.entries ≤ entries }
+        ensures runs { Runs self.old process most result letters.new self.new }
+        ensures entries { result.entries ≤ length letters.new }
+        ensures counted { result.entries ≤ result.operators }
+        ensures size { length letters.new ≡ length letters.old }
         ensures most { result.operators + result.plain ≤ most }
         ensures valid { IsValid self.new.code self.new.image }
     {
@@ -69,9 +75,10 @@ impl<C: Core> Machine<C> {
             &mut self.parts,
             process,
             &self.tables,
-            entries,
+            letters,
             most,
         );
+        note_last(&mut self.letter, &letters[..ran.entries as usize]);
         count(&mut self.counts, process, ran.operators + ran.plain);
         ran
     }

@@ -9,7 +9,7 @@ ghost use Rattle.b67_machine.specs.Reads.{machine_end};
 ghost use Rattle.b67_machine.specs.Stepping.{Steps};
 
 use crate::Machine;
-use crate::counting::{count, failure_of, lacks, limit_of, operators_in, settle};
+use crate::counting::{count, failure_of, lacks, limit_of, note, operators_in, settle};
 use crate::tables::{decoded, prepare};
 use b67_action::{Done, action};
 use b67_intrinsics::registers;
@@ -32,7 +32,7 @@ impl<C: Core> Machine<C> {
         let regs = registers(&self.parts.regs, process);
         let (segment, level) = (regs.segment, regs.ll);
         prepare(&mut self.tables, &self.parts.code, segment, level);
-        let done = action(
+        let (done, letter) = action(
             &mut self.core,
             &mut self.kernel,
             &mut self.parts,
@@ -44,6 +44,7 @@ impl<C: Core> Machine<C> {
         self.failure = failure_of(process, done);
         self.limit = limit_of(process, done);
         self.lacked = lacks(done);
+        note(&mut self.letter, letter);
         done
     }
 }

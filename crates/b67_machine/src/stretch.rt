@@ -11,6 +11,7 @@ ghost use Rattle.b67_machine.specs.Reads.{machine_end};
 ghost use Rattle.b67_machine.specs.Stepping.{Goes};
 
 use crate::Machine;
+use b67_deeds::Letter;
 use b67_intrinsics::registers;
 use b67_private::burst_in_place;
 use b67_reach::Registers;
@@ -29,7 +30,8 @@ impl<C: Core> Machine<C> {
         ensures stops { result < most → plain self.old.code self.new.image process ≡ false }
         ensures valid { IsValid self.new.code self.new.image }
     {
-        self.run_process(process, 0, most).plain
+        let mut none = [Letter::Read; 0];
+        self.run_process(process, &mut none, most).plain
     }
 
     /// Tests that the next operator of a process is plain: it is private, and the operator table gives a new image. It is tried on a copy

@@ -16,6 +16,7 @@ returns-in-Some g c =
       released = c.self.inside.parts.woken.processes.items;
       limit = c.self.inside.limit;
       lacked = c.self.inside.lacked;
+      letter = c.self.inside.letter;
     } in
     subst (λ (k : Kept). Some c.in-Some.end ≡ machine_end k) c.self.view_is
     (end_some m (image_end m.image) c.in-Some.end
@@ -31,6 +32,7 @@ returns-in-None g c =
       released = c.self.inside.parts.woken.processes.items;
       limit = c.self.inside.limit;
       lacked = c.self.inside.lacked;
+      letter = c.self.inside.letter;
     } in
     subst (λ (k : Kept). c.limit_end.result ≡ machine_end k) c.self.view_is
     (c.limit_end.ensures

@@ -42,6 +42,7 @@ returns-clause-untried g c =
       counts = λ p. subst (λ (xs : List ℕ). counted xs p ≡ 0) (sym items) (none_counted 256 p);
       limit = refl;
       lacked = refl;
+      letter = refl;
     }
 
 pub returns-clause-fresh : goal.returns-clause-fresh

@@ -1,4 +1,4 @@
-use Rattle.std.proofs.Common.{◌-◌, ◌+◌, ◌<◌, ◌≤◌, ◌≡◌, true, false, None}
+use Rattle.std.proofs.Common.{◌-◌, ◌+◌, ◌<◌, ◌≤◌, ◌≡◌, true, false, length, None}
 use Rattle.b67_list.specs.Numbered.{numbered}
 use Rattle.b67_table.specs.Image.{is_able}
 use Rattle.b67_table.specs.Table.{plain}
@@ -9,8 +9,11 @@ use Rattle.b67_machine.proofs.Machine.pass.Given as goal
 
 abbrev pub invariant-passing : goal.invariant-passing
 invariant-passing g l = record {
-  passes : Passing l.fn.self l.fn.process l.fn.most l.ran l.self;
-  entries : l.ran.entries ≤ l.fn.entries;
+  passes : Passing l.fn.self l.fn.process l.fn.most l.ran l.letters l.self;
+  size : length l.letters ≡ length l.fn.letters;
+  room : l.room + 1 ≡ length l.letters;
+  entries : l.ran.entries ≤ l.room;
+  few : l.ran.entries ≤ l.ran.operators;
   less : l.ran.operators + l.ran.plain + 1 ≤ l.fn.most;
   stops : l.ran.operators + l.ran.plain + 1 < l.fn.most → plain l.self.code l.self.image l.fn.process ≡ false;
   counts : counted l.self.counts l.fn.process ≡ counted l.fn.self.counts l.fn.process + (l.ran.operators + l.ran.plain);
@@ -21,4 +24,4 @@ invariant-passing g l = record {
 }
 
 abbrev pub decreases-passing : goal.decreases-passing
-decreases-passing g l = l.entries - l.ran.entries
+decreases-passing g l = l.room - l.ran.entries

@@ -81,6 +81,7 @@ returns-clause-goes g c =
       released = c.put_part.new.parts.woken.processes.items;
       limit = c.self.inside.limit;
       lacked = c.self.inside.lacked;
+      letter = c.self.inside.letter;
     } in
     goes_there old c.self.inside.parts.code base c.args.process c.args.performed c.args.end.now (ap (λ (k : Kept). k.code) (sym c.self.view_is)) image
     c.self.invariant.0 c.requires.lives c.requires.stretch
@@ -91,7 +92,7 @@ returns-clause-goes g c =
     (kept_is old new
     (ap (λ (q : Parts). q.code) c.put_part.ensures.others ∙ ap (λ (k : Kept). k.code) c.self.view_is)
     (ap (λ (q : Parts). q.woken.processes.items) c.put_part.ensures.others ∙ ap (λ (k : Kept). k.released) c.self.view_is)
-    (ap (λ (k : Kept). k.limit) c.self.view_is) (ap (λ (k : Kept). k.lacked) c.self.view_is))
+    (ap (λ (k : Kept). k.limit) c.self.view_is) (ap (λ (k : Kept). k.lacked) c.self.view_is) (ap (λ (k : Kept). k.letter) c.self.view_is))
 
 pub returns-clause-valid : goal.returns-clause-valid
 returns-clause-valid g c =

@@ -1,4 +1,4 @@
-use Rattle.std.proofs.Common.{◌≡◌, ◌≤◌, refl, sym, ap, subst, ◌∙◌, ◌+◌, true, length, Option, None, arith}
+use Rattle.std.proofs.Common.{◌≡◌, ◌≤◌, refl, sym, ap, subst, ◌∙◌, ◌+◌, true, length, take, Option, None, arith}
 use Rattle.b67_list.specs.Numbered.{numbered}
 use Rattle.b67_segment.specs.declared.code.Code.{Code}
 use Rattle.b67_table.specs.Image.{Image, is_able}
@@ -11,6 +11,7 @@ use Rattle.b67_action.proofs.Ready.{registers_there, kept_places}
 use Rattle.b67_machine.specs.declared.Failure.{Failure}
 use Rattle.b67_machine.specs.Chaining.{released_after}
 use Rattle.b67_machine.specs.Kept.{Kept, Counts}
+use Rattle.b67_machine.specs.Letters.{last_or}
 use Rattle.b67_machine.specs.Machines.{with_failure}
 use Rattle.b67_machine.specs.Tables.{AreTables}
 use Rattle.b67_machine.proofs.Ends.{goes_on}
@@ -47,6 +48,7 @@ returns-clause-runs g c =
     let old = c.args.self.now in
     let p = c.args.process in
     let ran = c.run_in-ran.result in
+    let noted = c.run_in-ran.new.letters in
     let parts = c.self.inside.parts in
     let v = c.self.invariant.0 in
     let base = image_of (g.C.Core.stacks c.self.inside.core) (g.C.Core.rows c.self.inside.core) c.self.inside.kernel parts in
@@ -60,21 +62,23 @@ returns-clause-runs g c =
       released = c.run_in-ran.new.parts.woken.processes.items;
       limit = c.self.inside.limit;
       lacked = c.self.inside.lacked;
+      letter = c.note_last.new.last;
     } in
-    let run = subst (λ (f : Option Failure). HasRun parts.code p c.args.most base ran (with_failure acted f)) (sym none)
+    let run = subst (λ (f : Option Failure). HasRun parts.code p c.args.most base ran noted (with_failure acted f)) (sym none)
     (c.run_in-ran.ensures.ran c.self.inside.kernel v) in
     record {
       begun = subst (λ (k : Kept). IsValid k.code k.image) c.self.view_is (valid_with parts.code base c.self.inside.failure refl v);
       number = numbered_from parts.regs.items p c.registers-regs.result.now c.registers-regs.ensures;
       known = subst (λ (k : Kept). p ≤ length k.counts) c.self.view_is
           (omega (arith, numbered_within parts.regs.items p c.registers-regs.result.now c.registers-regs.ensures, v.registers, v.most, c.self.invariant.2));
-      run = subst (λ (k : Code). HasRun k p c.args.most old.image ran new.image) (ap (λ (k : Kept). k.code) c.self.view_is)
-          (subst (λ (x : Image). HasRun parts.code p c.args.most x ran new.image) (sym image) run);
+      run = subst (λ (k : Code). HasRun k p c.args.most old.image ran noted new.image) (ap (λ (k : Kept). k.code) c.self.view_is)
+          (subst (λ (x : Image). HasRun parts.code p c.args.most x ran noted new.image) (sym image) run);
       counts = subst (λ (k : Kept). Counts k.counts p (ran.operators + ran.plain) c.count.new.counts.items) c.self.view_is c.count.ensures.counts;
-      others = kept_with old new (released_after ran.entries old.released)
+      others = kept_with old new (released_after ran.entries old.released) (last_or (take ran.entries noted) old.letter)
           (c.run_in-ran.ensures.code ∙ ap (λ (k : Kept). k.code) c.self.view_is)
           (c.run_in-ran.ensures.released ∙ ap (λ (k : Kept). released_after ran.entries k.released) c.self.view_is)
-          (ap (λ (k : Kept). k.limit) c.self.view_is) (ap (λ (k : Kept). k.lacked) c.self.view_is);
+          (ap (λ (k : Kept). k.limit) c.self.view_is) (ap (λ (k : Kept). k.lacked) c.self.view_is)
+          (c.note_last.ensures ∙ ap (λ (k : Kept). last_or (take ran.entries noted) k.letter) c.self.view_is);
     }
 
 pub returns-clause-valid : goal.returns-clause-valid

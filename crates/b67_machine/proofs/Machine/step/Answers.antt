@@ -1,7 +1,8 @@
 use Rattle.std.specs.Prelude.{IfSome}
 use Rattle.std.proofs.Common.{◌≡◌, ◌≤◌, refl, sym, ap, subst, ◌∙◌, ℕ, Bool, true, Option, None, arith}
 use Rattle.b67_list.specs.Numbered.{numbered}
-use Rattle.b67_table.specs.Image.{is_able}
+use Rattle.b67_table.specs.Image.{Image, is_able}
+use Rattle.b67_table.specs.Outcome.{Outcome}
 use Rattle.b67_table.specs.Valid.{IsValid}
 use Rattle.b67_table.proofs.Lists.{numbered_from, numbered_within}
 use Rattle.b67_linkage.proofs.Linked.{live_are_linked}
@@ -13,7 +14,11 @@ use Rattle.b67_segment.specs.Decoded.{AreDecoded}
 use Rattle.b67_action.specs.Able.{AbleAfter}
 use Rattle.b67_action.specs.declared.done.Done.{Done}
 use Rattle.b67_action.specs.declared.done.Done.TheVariants as dones
-use Rattle.b67_action.specs.Done.{is_performed}
+use Rattle.b67_action.specs.Done.{Came, is_performed}
+use Rattle.b67_action.specs.Lettered.{letter_in}
+use Rattle.b67_deeds.specs.declared.Letter.{Letter}
+use Rattle.b67_letters.specs.Letters.{letter, letter_by, registers_letter}
+use Rattle.b67_machine.specs.Letters.{or_before, lettered}
 use Rattle.b67_machine.specs.declared.Failure.{Failure}
 use Rattle.b67_machine.specs.Kept.{Kept, counted, Counts}
 use Rattle.b67_machine.specs.Machines.{with_failure}
@@ -31,6 +36,25 @@ at_most_one (dones.Fault kind) = omega arith
 at_most_one (dones.Interrupt kind) = omega arith
 at_most_one dones.StackLimit = omega arith
 at_most_one dones.NoMemory = omega arith
+
+-- what is not counted has no letter
+none_by : (code : Code) (img acted : Image) (p : ℕ) (done : Done) → Came code img p done acted → operators_in done ≡ 0 → letter_in done (letter code img p) ≡ None
+none_by code img acted p dones.Went x e = cc
+none_by code img acted p dones.Waits x e = cc
+none_by code img acted p dones.Ended x e = cc
+none_by code img acted p (dones.Fault kind) x e = cc
+none_by code img acted p (dones.Interrupt kind) x e = ap (λ (o : Outcome Image). letter_by o (registers_letter code img (numbered img.regs p))) x.0
+none_by code img acted p dones.StackLimit x e = ap (λ (o : Outcome Image). letter_by o (registers_letter code img (numbered img.regs p))) x.0
+none_by code img acted p dones.NoMemory x e = refl
+
+noted_as : (done : Done) (found before : Option Letter) → (operators_in done ≡ 0 → letter_in done found ≡ None) → or_before (letter_in done found) before ≡ lettered (operators_in done) found before
+noted_as dones.Went found before none = refl
+noted_as dones.Waits found before none = refl
+noted_as dones.Ended found before none = refl
+noted_as (dones.Fault kind) found before none = refl
+noted_as (dones.Interrupt kind) found before none = ap (λ (l : Option Letter). or_before l before) (none refl)
+noted_as dones.StackLimit found before none = ap (λ (l : Option Letter). or_before l before) (none refl)
+noted_as dones.NoMemory found before none = refl
 
 pub returns-then-self-clause-steps : goal.returns-then-self-clause-steps
 returns-then-self-clause-steps g c =
@@ -72,7 +96,7 @@ count-requires-clause-room g c =
       c.requires.count,
       ap (λ (k : Kept). counted k.counts c.args.process) c.self.view_is,
       c.operators_in.ensures,
-      at_most_one c.action-done.result,
+      at_most_one c.action-done.result.0,
     )
 
 pub count-requires-clause-most : goal.count-requires-clause-most
@@ -91,10 +115,11 @@ returns-clause-steps g c =
       released = c.settle.new.released.items;
       limit = c.limit_of-self-inside.result;
       lacked = c.lacks-self-inside.result;
+      letter = c.note.new.last;
     } in
     let base = image_of (g.C.Core.stacks c.self.inside.core) (g.C.Core.rows c.self.inside.core) c.self.inside.kernel c.self.inside.parts in
     let acted = image_of (g.C.Core.stacks c.action-done.new.core) (g.C.Core.rows c.action-done.new.core) c.action-done.new.kernel c.action-done.new.parts in
-    let done = c.action-done.result in
+    let done = c.action-done.result.0 in
     let none : c.self.inside.failure ≡ None = none_kept c.self.inside.failure (ap (λ (k : Kept). k.image.fault) c.self.view_is ∙ (goes_on old c.requires.going).fault) in
     let image : old.image ≡ base = ap (λ (k : Kept). k.image) (sym c.self.view_is) ∙ ap (λ (f : Option Failure). with_failure base f) none in
     subst (λ (b : Bool). StepsBy b old c.args.process done new) (sym c.if-self.false ∙ ap (λ (k : Kept). k.lacked) c.self.view_is)
@@ -105,7 +130,13 @@ returns-clause-steps g c =
     (released_so (is_performed done) c.self.inside.parts.code base c.args.process c.action-done.new.parts.woken.processes.items c.settle.new.released.items
     c.action-done.ensures.woken c.settle.ensures.kept c.settle.ensures.none)
     (λ e. subst (AbleAfter base acted c.args.process) (sym (c.settle.ensures.kept e)) (c.action-done.ensures.able e))
-    c.limit_of-self-inside.ensures c.lacks-self-inside.ensures c.action-done.ensures.code)
+    c.limit_of-self-inside.ensures c.lacks-self-inside.ensures
+    (c.note.ensures
+    ∙ ap (λ (l : Option Letter). or_before l c.self.inside.letter) c.action-done.ensures.letter
+    ∙ noted_as done (letter c.self.inside.parts.code base c.args.process) c.self.inside.letter
+    (none_by c.self.inside.parts.code base acted c.args.process done c.action-done.ensures.came)
+    ∙ ap (λ (k : Kept). lettered (operators_in done) (letter c.self.inside.parts.code base c.args.process) k.letter) c.self.view_is)
+    c.action-done.ensures.code)
 
 pub returns-clause-valid : goal.returns-clause-valid
 returns-clause-valid g c =

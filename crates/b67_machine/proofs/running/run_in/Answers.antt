@@ -33,7 +33,7 @@ returns-then-ran-gt0-clause-ran g c = λ kernel v.
     let p = c.args.process in
     let r = c.registers-regs.result.now in
     let q = c.index_mut-own.result.now in
-    run_in_all c.args.parts.now.code img p c.args.most r c.run_own-ran.new.regs (g.C.Core.stacks c.run_own-ran.new.core) (g.C.Core.rows c.run_own-ran.new.core) c.run_own-ran.result
+    run_in_all c.args.parts.now.code img p c.args.most r c.run_own-ran.new.regs (g.C.Core.stacks c.run_own-ran.new.core) (g.C.Core.rows c.run_own-ran.new.core) c.run_own-ran.result c.run_own-ran.new.letters
     c.registers-regs.ensures
     (c.run_own-ran.ensures.ran img p (stands_in c.args.parts.now.code img p r q v c.requires.able c.registers-regs.ensures c.index_mut-own.ensures.value))
 
@@ -43,6 +43,6 @@ returns-else-ran-gt0-clause-ran g c = λ kernel v.
     let p = c.args.process in
     let r = c.registers-regs.result.now in
     let q = c.index_mut-own.result.now in
-    run_in_all c.args.parts.now.code img p c.args.most r c.run_own-ran.new.regs (g.C.Core.stacks c.run_own-ran.new.core) (g.C.Core.rows c.run_own-ran.new.core) c.run_own-ran.result
+    run_in_all c.args.parts.now.code img p c.args.most r c.run_own-ran.new.regs (g.C.Core.stacks c.run_own-ran.new.core) (g.C.Core.rows c.run_own-ran.new.core) c.run_own-ran.result c.run_own-ran.new.letters
     c.registers-regs.ensures
     (c.run_own-ran.ensures.ran img p (stands_in c.args.parts.now.code img p r q v c.requires.able c.registers-regs.ensures c.index_mut-own.ensures.value))
