@@ -1,7 +1,11 @@
 -- What is given of an act, and its numbers.
 use Rattle.std.specs.Prelude.{slice_set}
-use Rattle.std.proofs.Common.{◌≡◌, refl, sym, ap, subst, ◌∙◌, ℕ, ◌+◌, ◌-◌, ◌≤◌, Bool, true, List, [], ◌∷◌, ◌++◌, length, length-append, None, arith}
-use Rattle.std.proofs.lemmas.List.{length-reverse}
+use Rattle.std.proofs.Common.{◌≡◌, refl, sym, ap, subst, ◌∙◌, ℕ, ◌+◌, ◌-◌, ◌≤◌, Bool, true, List, [], ◌∷◌, ◌++◌, suc, length, length-append, reverse, Option, Some, None, arith}
+use Rattle.std.proofs.lemmas.List.{length-map, length-reverse}
+use Rattle.b67_deeds.specs.declared.Letter.{Letter}
+use Rattle.b67_letters.specs.Entries.{letters}
+use Rattle.b67_table.specs.Image.{Image}
+use Rattle.b67_table.specs.Runs.{Runs, begin, entry}
 use Rattle.b67_list.specs.Numbered.{set_numbered}
 use Rattle.b67_schedule.specs.Schedules.{entries, Kept as Schedule}
 use Rattle.b67_segment.specs.declared.code.Code.{Code}
@@ -18,7 +22,7 @@ use Rattle.b67_joining.specs.Joining.{joining}
 use Rattle.b67_joining.proofs.Joining.{released_few}
 use Rattle.b67_stands.specs.Placing.{holder_of}
 use Rattle.b67_stands.specs.Stands.{Stands}
-use Rattle.b67_stands.specs.Calls.{is_action, Records, ActsOnce}
+use Rattle.b67_stands.specs.Calls.{is_action, Noted, Records, ActsOnce}
 use Rattle.b67_stands.proofs.Tails.{tail_most}
 use Rattle.b67_stands.proofs.Counts.{count_most, entries_few}
 use Rattle.b67_stands.proofs.Places.{held_able}
@@ -35,6 +39,18 @@ pub entries_spent : (code : Code) (budget : ℕ) (old : Running) → Stands code
 entries_spent code budget old s =
     let r = s.leads.run in
     omega (arith, ap length r.order, length-reverse r.history, entries_few code r.history r.counts r.before_tails r.runs, s.spends)
+
+letters_long : {code : Code} {history counts : List ℕ} {img : Image} (r : Runs code history counts img) → length (letters r) ≡ length history
+letters_long begin = refl
+letters_long (entry before e) = ap suc (letters_long before)
+
+-- a letter for each entry
+pub letters_entries : (code : Code) (budget : ℕ) (old : Running) → Stands code budget old → length old.schedule.letters ≡ length (entries old.schedule.runs)
+letters_entries code budget old s =
+    let r = s.leads.run in
+    let each : length (letters r.runs) ≡ length (reverse old.schedule.letters) =
+    ap length s.letters ∙ length-map {A = Letter} {B = Option Letter} (reverse old.schedule.letters) Some in
+    omega (arith, letters_long r.runs, each, length-reverse old.schedule.letters, ap length r.order, length-reverse r.history)
 
 pub counted_spent : (code : Code) (budget : ℕ) (old : Running) (p : ℕ) → Stands code budget old → counted old.machine.counts p ≤ old.spent + old.spent
 counted_spent code budget old p s =
@@ -83,10 +99,10 @@ entered old p performed m schedule acts = record old {
 }
 
 pub entered_once : (budget : ℕ) (old : Running) (p : ℕ) (performed : Performed) (m : Kept) (schedule : Schedule) (acts b : ℕ) → b ≡ budget
-    → Performs old.machine p (b - old.spent) performed m → is_action performed.done ≡ true → entries schedule.runs ≡ entries old.schedule.runs ++ p ∷ [] → acts ≡ old.acts + 1
-    → ActsOnce budget old p performed (entered old p performed m schedule acts)
-entered_once budget old p performed m schedule acts b e k f added counted' =
-    once budget old p performed (entered old p performed m schedule acts) b e k true f refl (record { schedule = added; out = refl; waiting = refl; acts = counted' }) refl refl
+    → Performs old.machine p (b - old.spent) performed m → is_action performed.done ≡ true → entries schedule.runs ≡ entries old.schedule.runs ++ p ∷ []
+    → Noted old.schedule.letters m.letter schedule.letters → acts ≡ old.acts + 1 → ActsOnce budget old p performed (entered old p performed m schedule acts)
+entered_once budget old p performed m schedule acts b e k f added noted counted' =
+    once budget old p performed (entered old p performed m schedule acts) b e k true f refl (record { schedule = added; letter = noted; out = refl; waiting = refl; acts = counted' }) refl refl
 
 -- and as its fields were written
 pub entered_is : (old : Running) (p : ℕ) (performed : Performed) (m : Kept) (schedule : Schedule) (acts before takes leaves : ℕ) (waiting out : List ℕ) → 1 ≤ p

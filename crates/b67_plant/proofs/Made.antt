@@ -15,7 +15,7 @@ use Rattle.b67_action.specs.declared.done.Done.TheVariants as dones
 use Rattle.b67_action.specs.Able.{one_if}
 use Rattle.b67_machine.specs.Kept.{or_none, counted}
 use Rattle.b67_machine.specs.declared.replay.Replayed.{Replayed}
-use Rattle.b67_machine.specs.declared.replay.Replayed.TheVariants.{Ended, Ran, Illegal, BudgetSpent, NoMemory}
+use Rattle.b67_machine.specs.declared.replay.Replayed.TheVariants.{Ended, Ran, Illegal, BudgetSpent, NoMemory, Differs}
 use Rattle.b67_processors.specs.declared.Acted.{Acted}
 use Rattle.b67_processors.specs.declared.Acted.TheVariants as acted
 use Rattle.b67_stands.specs.Running.{Running}
@@ -66,6 +66,7 @@ refused_none (Some Ended) answer e = let is : answer ≡ acted.Over = cc in ap a
 refused_none (Some Ran) answer e = let is : answer ≡ acted.Over = cc in ap acts_in is
 refused_none (Some BudgetSpent) answer e = let is : answer ≡ acted.Over = cc in ap acts_in is
 refused_none (Some (Illegal entry)) answer e = let is : answer ≡ acted.Over = cc in ap acts_in is
+refused_none (Some (Differs entry)) answer e = let is : answer ≡ acted.Over = cc in ap acts_in is
 
 -- else one exactly where an action was performed
 pub action_counts : (done : Option Done) → acts_in (answer_to done) ≡ one_if (is_action done)

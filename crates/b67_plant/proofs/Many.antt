@@ -1,6 +1,8 @@
 -- Entries of a process one after another, on a plant: what stands before the last one.
-use Rattle.std.proofs.Common.{◌≡◌, refl, sym, ap, subst, ◌∙◌, ℕ, zero, suc, ◌+◌, ◌-◌, ◌≤◌, ◌<◌, true, false, [], length, length-append, replicate, Option, Some, None, arith}
-use Rattle.std.proofs.lemmas.List.{length-replicate}
+use Rattle.std.specs.Prelude.{IfSome, slice_get}
+use Rattle.std.proofs.Common.{◌≡◌, refl, sym, ap, subst, ◌∙◌, ℕ, zero, suc, ◌+◌, ◌-◌, ◌≤◌, ◌<◌, Bool, true, false, List, [], ◌∷◌, ◌++◌, length, length-append, take, get_or, replicate, Option, Some, None, arith}
+use Rattle.std.proofs.lemmas.List.{length-take-le}
+use Rattle.b67_deeds.specs.declared.Letter.{Letter}
 use Rattle.b67_segment.specs.declared.code.Code.{Code}
 use Rattle.b67_schedule.specs.Schedules.{entries, Kept as Schedule}
 use Rattle.b67_words.specs.declared.TheConstants.{MOST_BUDGET}
@@ -12,11 +14,11 @@ use Rattle.b67_machine.specs.declared.entry.Performed.{Performed}
 use Rattle.b67_machine.specs.declared.entries.Entered.{Entered}
 use Rattle.b67_machine.specs.Entries.{Enters, stay, go, PerformsEntries}
 use Rattle.b67_machine.specs.Kept.{Kept}
-use Rattle.b67_machine.specs.Stepping.{Follows, Performs}
+use Rattle.b67_machine.specs.Stepping.{operators_in, Follows, Performs}
 use Rattle.b67_ready.specs.Ready.{Ready}
 use Rattle.b67_processors.specs.Acts.{IsActed}
 use Rattle.b67_plant.specs.Calls.{answer_to}
-use Rattle.b67_stands.specs.Calls.{is_action, ActsOnce}
+use Rattle.b67_stands.specs.Calls.{is_action, Noted, ActsOnce}
 use Rattle.b67_stands.specs.Running.{Running, answer_of}
 use Rattle.b67_stands.specs.Placing.{holder_of}
 use Rattle.b67_stands.specs.Picked.{Pick}
@@ -28,14 +30,16 @@ use Rattle.b67_stands.proofs.Turns.{turned, Grown, turns_are, stands_on}
 use Rattle.b67_plant.proofs.Entered.{entries_spent, held_number}
 
 -- each entry has an operator at least
-enters_few : (p most n m : ℕ) (a b : Kept) → Enters p most a n m b → n ≤ m
-enters_few p most n m a b stay = omega arith
-enters_few p most n m a b (go {b = c} {n = i} {m = j} enters more) = let before = enters_few p most i j a c enters in omega (arith, before)
+enters_few : (p most : ℕ) (ls : List Letter) (m : ℕ) (a b : Kept) → Enters p most a ls m b → length ls ≤ m
+enters_few p most ls m a b stay = omega arith
+enters_few p most ls m a b (go {b = c} {ls = is} {l = l} {m = j} enters more) =
+    let before = enters_few p most is j a c enters in
+    omega (arith, before, length-append is (l ∷ []))
 
 -- and nobody is started
-enters_same : (p most n m : ℕ) (a b : Kept) → Enters p most a n m b → b.image.started ≡ a.image.started
-enters_same p most n m a b stay = refl
-enters_same p most n m a b (go {b = c} {n = i} {m = j} enters more) = more.started ∙ enters_same p most i j a c enters
+enters_same : (p most : ℕ) (ls : List Letter) (m : ℕ) (a b : Kept) → Enters p most a ls m b → b.image.started ≡ a.image.started
+enters_same p most ls m a b stay = refl
+enters_same p most ls m a b (go {b = c} {ls = is} {m = j} enters more) = more.started ∙ enters_same p most is j a c enters
 
 -- no more plain operators than were allowed
 plain_most : (old : Kept) (p most : ℕ) (performed : Performed) (new : Kept) → Performs old p most performed new → performed.plain ≤ most
@@ -75,6 +79,69 @@ same_queue {P} old new n e = record {
   room = ap (λ (r : Ready P). r.room) e;
 }
 
+-- the first of the first ones
+first_first : (ls : List Letter) (n m : ℕ) → n < length (take m ls) → take n ls ≡ take n (take m ls)
+first_first ls zero m h = refl
+first_first ls (suc n) zero h = absurd (omega (arith, h))
+first_first [] (suc n) (suc m) h = absurd (omega (arith, h))
+first_first (l ∷ ls) (suc n) (suc m) h = ap (λ (xs : List Letter). l ∷ xs) (first_first ls n m (omega (arith, h)))
+
+-- what was put on the schedule are the letters of the part that was lent
+pub grown_by : (old new : Schedule) (p : ℕ) (now notes : List Letter) (most n : ℕ) → now ≡ notes → n < length (take most notes)
+    → entries new.runs ≡ entries old.runs ++ replicate (length (take n now)) p → new.letters ≡ old.letters ++ take n now → (take n now ≡ [] → new ≡ old)
+    → Grown old p (take n (take most notes)) new
+grown_by old new p now notes most n is few added noted none =
+    let same : take n now ≡ take n (take most notes) = ap (λ (ls : List Letter). take n ls) is ∙ first_first notes n most few in
+    record {
+      added = added ∙ ap (λ (ls : List Letter). entries old.runs ++ replicate (length ls) p) same;
+      letters = noted ∙ ap (λ (ls : List Letter). old.letters ++ ls) same;
+      none = λ e. none (same ∙ e);
+    }
+
+-- the first letters are at most as many as are asked for, and as there are
+pub first_few : (ls : List Letter) (n : ℕ) → length (take n ls) ≤ n
+first_few ls zero = omega arith
+first_few [] (suc n) = omega arith
+first_few (l ∷ ls) (suc n) = omega (arith, first_few ls n)
+
+pub first_within : (ls : List Letter) (n : ℕ) → length (take n ls) ≤ length ls
+first_within ls zero = omega arith
+first_within [] (suc n) = omega arith
+first_within (l ∷ ls) (suc n) = omega (arith, first_within ls n)
+
+-- a part that was lent stands first
+pub first_is : (part rest : List Letter) (n : ℕ) → length part ≡ n → take n (part ++ rest) ≡ part
+first_is [] rest zero e = refl
+first_is [] rest (suc n) e = absurd (omega (arith, e))
+first_is (l ∷ part) rest zero e = absurd (omega (arith, e))
+first_is (l ∷ part) rest (suc n) e = ap (λ (xs : List Letter). l ∷ xs) (first_is part rest n (omega (arith, e)))
+
+-- only where many are wanted, more than one letter can be noted
+pub is_many : (b : Bool) (most : ℕ) (notes : List Letter) → (b ≡ false → most ≤ 1) → 1 < length (take most notes) → b ≡ true
+is_many true most notes h more = refl
+is_many false most notes h more = absurd (omega (arith, more, first_few notes most, h refl))
+
+-- the letter of an action that was performed is that which was found
+letter_there : (before notes : List Letter) (most n : ℕ) (found : Letter) (kept : Option Letter) (after : List Letter) → n < length (take most notes)
+    → found ≡ get_or notes n found → slice_get (take most notes) n ≡ kept → after ≡ before ++ found ∷ [] → Noted before kept after
+letter_there before notes zero n found kept after less e f g = absurd (omega (arith, less))
+letter_there before [] (suc most) n found kept after less e f g = absurd (omega (arith, less))
+letter_there before (l ∷ notes) (suc most) zero found kept after less e f g =
+    subst (λ (o : Option Letter). Noted before o after) f (g ∙ ap (λ (x : Letter). before ++ x ∷ []) e)
+letter_there before (l ∷ notes) (suc most) (suc n) found kept after less e f g = letter_there before notes most n found kept after (omega (arith, less)) e f g
+
+pub letter_noted : (o : Option Done) → is_action o ≡ true → (before notes : List Letter) (most n : ℕ) (found : Letter) (kept : Option Letter) (after : List Letter)
+    → n < length (take most notes) → found ≡ get_or notes n found → IfSome o (λ done. operators_in done ≡ 1 → slice_get (take most notes) n ≡ kept)
+    → after ≡ before ++ found ∷ [] → Noted before kept after
+letter_noted None a before notes most n found kept after less e f g = cc
+letter_noted (Some dones.Went) a before notes most n found kept after less e f g = letter_there before notes most n found kept after less e (f refl) g
+letter_noted (Some dones.Waits) a before notes most n found kept after less e f g = letter_there before notes most n found kept after less e (f refl) g
+letter_noted (Some dones.Ended) a before notes most n found kept after less e f g = letter_there before notes most n found kept after less e (f refl) g
+letter_noted (Some (dones.Fault kind)) a before notes most n found kept after less e f g = letter_there before notes most n found kept after less e (f refl) g
+letter_noted (Some (dones.Interrupt kind)) a before notes most n found kept after less e f g = cc
+letter_noted (Some dones.StackLimit) a before notes most n found kept after less e f g = cc
+letter_noted (Some dones.NoMemory) a before notes most n found kept after less e f g = cc
+
 -- an act is counted where an action was performed
 pub counts_none : (o : Option Done) (n : ℕ) → is_action o ≡ false → IsActed (answer_to o) n n
 counts_none None n e = refl
@@ -96,9 +163,9 @@ counts_one (Some (dones.Interrupt kind)) n e = cc
 counts_one (Some dones.StackLimit) n e = cc
 counts_one (Some dones.NoMemory) n e = cc
 
-module _ (code : Code) (budget : ℕ) (pick : Pick) (old : Running) (p many b : ℕ) (entered : Entered) (new : Kept) (sound : Sound code) (stands : Stands code budget old)
-    (going : answer_of budget old ≡ None) (held : 1 ≤ holder_of old.out p) (alone : 0 < many → old.waiting ≡ []) (is : b ≡ budget) (small : b ≤ MOST_BUDGET)
-    (first : (takes : ℕ) → pick 1 takes ≡ 0) (performs : PerformsEntries old.machine p many (b - old.spent) entered new) where
+module _ (code : Code) (budget : ℕ) (pick : Pick) (old : Running) (p : ℕ) (noted : List Letter) (b : ℕ) (entered : Entered) (new : Kept) (sound : Sound code) (stands : Stands code budget old)
+    (going : answer_of budget old ≡ None) (held : 1 ≤ holder_of old.out p) (alone : 1 < length noted → old.waiting ≡ []) (is : b ≡ budget) (small : b ≤ MOST_BUDGET)
+    (first : (takes : ℕ) → pick 1 takes ≡ 0) (performs : PerformsEntries old.machine p (b - old.spent) entered noted new) where
   pub number : (1 ≤ p) × (p ≤ most_processes)
   number = held_number code budget old p stands going held
 
@@ -108,11 +175,18 @@ module _ (code : Code) (budget : ℕ) (pick : Pick) (old : Running) (p many b : 
   pub operators_few : entered.operators < b - old.spent
   operators_few = performs.less (omega (arith, less))
 
+  -- the letters of those that went on
+  abbrev pub first_letters : List Letter
+  first_letters = take entered.entries noted
+
+  size : length first_letters ≡ entered.entries
+  size = length-take-le entered.entries noted (omega (arith, performs.few))
+
   pub entries_few : entered.entries ≤ entered.operators
-  entries_few = enters_few p (b - old.spent) entered.entries entered.operators old.machine performs.between performs.enters
+  entries_few = omega (arith, size, enters_few p (b - old.spent) first_letters entered.operators old.machine performs.between performs.enters)
 
   pub started_same : performs.between.image.started ≡ old.machine.image.started
-  started_same = enters_same p (b - old.spent) entered.entries entered.operators old.machine performs.between performs.enters
+  started_same = enters_same p (b - old.spent) first_letters entered.operators old.machine performs.between performs.enters
 
   pub spent_few : length (entries old.schedule.runs) ≤ old.spent
   spent_few = entries_spent code budget old stands
@@ -126,12 +200,13 @@ module _ (code : Code) (budget : ℕ) (pick : Pick) (old : Running) (p many b : 
   abbrev pub between : Schedule → Running
   between s = turned old entered.entries entered.operators performs.between s
 
-  module _ (s : Schedule) (grown : Grown old.schedule p entered.entries s) where
+  module _ (s : Schedule) (grown : Grown old.schedule p first_letters s) where
     pub acts_on : ActsOn pick budget (holder_of old.out p) p old entered.entries (between s)
     acts_on =
-        turns_are budget pick (holder_of old.out p) p old first number.0 (omega (arith, number.1, stands.holders)) refl entered.entries entered.operators performs.between s
-        (subst (λ (n : ℕ). Enters p (n - old.spent) old.machine entered.entries entered.operators performs.between) is performs.enters) grown
-        (λ h. alone (omega (arith, h, performs.few))) (λ h. omega (arith, is, operators_few))
+        subst (λ (n : ℕ). ActsOn pick budget (holder_of old.out p) p old n (turned old n entered.operators performs.between s)) size
+        (turns_are budget pick (holder_of old.out p) p old first number.0 (omega (arith, number.1, stands.holders)) refl first_letters entered.operators performs.between s
+        (subst (λ (n : ℕ). Enters p (n - old.spent) old.machine first_letters entered.operators performs.between) is performs.enters) grown
+        (λ h. alone (omega (arith, h, size, performs.few))) (λ h. omega (arith, is, operators_few)))
 
     pub stands_then : StandsOut code budget p (between s)
     stands_then =
@@ -141,18 +216,6 @@ module _ (code : Code) (budget : ℕ) (pick : Pick) (old : Running) (p many b : 
     last_performs =
         let left : b - old.spent - entered.operators ≡ b - (old.spent + entered.operators) = omega arith in
         subst (λ (n : ℕ). Performs performs.between p n entered.last new) left performs.performs
-
-    -- the runs of the schedule are no more than its entries
-    pub runs_few : length old.schedule.runs ≤ length (entries old.schedule.runs) → length s.runs ≤ length old.schedule.runs + 1 → length s.runs ≤ length (entries s.runs)
-    runs_few few longer = by entered.entries refl
-      where
-        count : length (entries s.runs) ≡ length (entries old.schedule.runs) + entered.entries
-        count = ap length grown.added ∙ length-append (entries old.schedule.runs) (replicate entered.entries p)
-            ∙ ap (λ (n : ℕ). length (entries old.schedule.runs) + n) (length-replicate entered.entries p)
-
-        by : (n : ℕ) → entered.entries ≡ n → length s.runs ≤ length (entries s.runs)
-        by zero e = subst (λ (z : Schedule). length z.runs ≤ length (entries z.runs)) (sym (grown.none e)) few
-        by (suc n) e = omega (arith, few, longer, count, e)
 
     pub entries_then : length (entries s.runs) ≤ old.spent + entered.operators
     entries_then = entries_spent code budget (between s) stands_then.stands

@@ -1,5 +1,11 @@
 // Entries of a process that is out.
-ghost use Rattle.std.specs.Prelude.{◌≡◌, ℕ, ◌+◌, ◌<◌, ◌≤◌, ◌^◌, [], true, None};
+ghost use Rattle.std.specs.Prelude.{◌≡◌, ℕ, ◌+◌, ◌<◌, ◌≤◌, ◌^◌, [], true, false, None, length, take};
+ghost use Rattle.b67_list.specs.Numbered.{numbered};
+ghost use Rattle.b67_table.specs.Image.{is_able};
+ghost use Rattle.b67_table.specs.Valid.{IsValid};
+ghost use Rattle.b67_machine.specs.Entries.{PerformsEntries};
+ghost use Rattle.b67_machine.specs.Kept.{counted};
+ghost use Rattle.b67_machine.specs.Reads.{machine_end};
 ghost use Rattle.b67_machine.specs.declared.entry.Performed.{Performed as ThePerformed};
 ghost use Rattle.b67_processors.specs.Acts.{IsActed};
 ghost use Rattle.b67_plant.specs.Calls.{answer_to};
@@ -9,12 +15,34 @@ ghost use Rattle.b67_stands.specs.Running.{answer_of};
 ghost use Rattle.b67_stands.specs.Turns.{ActsMany};
 
 use crate::placing::{answer_to, is_action, lacks};
-use crate::{Named, Plant, Seat};
+use crate::{NOTES, Named, Plant, Seat};
+use b67_deeds::Letter;
 use b67_joining::join_queue;
+use b67_machine::{Entered, Machine};
 use b67_processors::Acted;
 use b67_ready::Rule;
 use b67_store::Core;
 use std::sync::ledger::Ledger;
+
+// Entries of a process on the machine, of which at most so many letters are noted.
+fn perform_most<C: Core>(
+    machine: &mut Machine<C>,
+    process: u32,
+    notes: &mut [Letter],
+    most: usize,
+    left: u32,
+) -> Entered
+    requires able { is_able (numbered machine.old.image.states process) ≡ true }
+    requires going { machine_end machine.old ≡ None }
+    requires count { counted machine.old.counts process + left < 2 ^ 64 }
+    requires some { 1 ≤ most }
+    requires room { most ≤ length notes.old }
+    ensures performs { PerformsEntries machine.old process left result (take most notes.new) machine.new }
+    ensures size { length notes.new ≡ length notes.old }
+    ensures valid { IsValid machine.new.code machine.new.image }
+{
+    machine.perform_entries(process, &mut notes[..most], left)
+}
 
 impl<N: Named, L: Ledger, C: Core, P: Rule> Plant<N, L, C, P> {
     // Tests that nobody waits.
@@ -33,30 +61,31 @@ impl<N: Named, L: Ledger, C: Core, P: Rule> Plant<N, L, C, P> {
         ensures fits { seat.new.count < 2 ^ 64 }
         ensures leaves { seat.new.left ≡ seat.old.left }
     {
-        self.enter_many(process, 0, seat)
+        self.enter_many(process, false, seat)
     }
 
-    // Entries of a process that is out, one after another: at most so many where nobody waits, after each of which it is taken again, and
-    // then one more. What is answered is of that one.
-    pub fn enter_many(&mut self, process: u32, entries: u32, seat: &mut Seat<N, L>) -> Acted
+    // Entries of a process that is out, one after another: where nobody waits, as many as letters can be noted, after each of which but the
+    // last it is taken again; else one. What is answered is of the last one.
+    pub fn enter_many(&mut self, process: u32, many: bool, seat: &mut Seat<N, L>) -> Acted
         requires going { answer_of N.budget self.old ≡ None }
         requires out { 1 ≤ holder_of self.old.out process }
-        requires alone { 0 < entries → self.old.waiting ≡ [] }
-        ensures acts { (turns : ℕ) × (turns ≤ entries) × (performed : ThePerformed) × ActsMany N.pick N.budget self.old process turns performed self.new × (result ≡ answer_to performed.done)
+        requires alone { many ≡ true → self.old.waiting ≡ [] }
+        ensures acts { (turns : ℕ) × (many ≡ false → turns ≡ 0) × (performed : ThePerformed) × ActsMany N.pick N.budget self.old process turns performed self.new × (result ≡ answer_to performed.done)
             × IsActed result (seat.old.count + turns) seat.new.count }
         ensures fits { seat.new.count < 2 ^ 64 }
         ensures leaves { seat.new.left ≡ seat.old.left }
     {
         let _count = seat.count;
         let before = self.machine.started();
-        let entered = self
-            .machine
-            .perform_entries(process, entries, self.budget - self.spent);
+        let most = if many { NOTES } else { 1 };
+        let left = self.budget - self.spent;
+        let entered = perform_most(&mut self.machine, process, &mut self.notes, most, left);
         let last = entered.last;
+        let entries = entered.entries as usize;
         self.spent += entered.operators;
         self.spent += last.plain;
         self.lacked = lacks(last.done);
-        self.schedule.push_many(process, entered.entries);
+        self.schedule.push_many(process, &self.notes[..entries]);
         self.ready.take_again(entered.entries);
         self.acts.audit(&mut seat.acts);
         self.acts.add(&mut seat.acts, u64::from(entered.entries));
@@ -66,7 +95,7 @@ impl<N: Named, L: Ledger, C: Core, P: Rule> Plant<N, L, C, P> {
             return answer;
         }
         self.spent += 1;
-        self.schedule.push(process);
+        self.schedule.push(process, self.notes[entries]);
         self.out[process as usize - 1] = 0;
         join_queue(&self.machine, &mut self.ready, before, process);
         self.acts.add(&mut seat.acts, 1);

@@ -19,6 +19,7 @@ mod working;
 ghost use Rattle.std.specs.Prelude.{◌≡◌, ℕ, [], length};
 ghost use Rattle.b67_segment.specs.declared.code.Code.{Code as MachineCode};
 
+use b67_deeds::Letter;
 use b67_machine::Machine;
 use b67_ready::{Dispatcher, Rule};
 use b67_schedule::Schedule;
@@ -32,6 +33,9 @@ use std::marker::{Brand, Model};
 use std::sync::ledger::{Book, Ledger, Share};
 pub use taking::{PlantLanding, Taken, lacking_is_kept};
 pub use working::Parcel;
+
+// As many letters are noted at once.
+const NOTES: usize = 1_024;
 
 /// Which run a plant is of: nothing of a plant is known across its lock but what its type says.
 pub trait Named: Ledger {
@@ -92,6 +96,8 @@ pub struct Plant<N: Named, L: Ledger, C: Core, P: Rule> {
     // By the processes' numbers from 1: the processor with which each is out, or 0.
     out: Vec<u32>,
     schedule: Schedule,
+    // The letters of the entries of an act, before they are put on the schedule.
+    notes: Vec<Letter>,
     budget: u32,
     spent: u32,
     lacked: bool,
@@ -103,7 +109,7 @@ pub struct Plant<N: Named, L: Ledger, C: Core, P: Rule> {
 impl<N: Named, L: Ledger, C: Core, P: Rule> Model for Plant<N, L, C, P> {
     ghost use Rattle.b67_stands.specs.Running.{Running};
     ghost use Rattle.std.specs.Prelude.{◌≡◌, ◌≤◌, ◌<◌, ◌+◌, ℕ, length};
-    ghost use Rattle.b67_schedule.specs.Schedules.{entries, most};
+    ghost use Rattle.b67_plant.specs.declared.TheConstants.{NOTES};
     ghost use Rattle.b67_table.specs.Limits.{most_processes};
     ghost use Rattle.b67_table.specs.Sound.{Sound};
     ghost use Rattle.b67_words.specs.declared.TheConstants.{MOST_BUDGET};
@@ -139,7 +145,7 @@ impl<N: Named, L: Ledger, C: Core, P: Rule> Model for Plant<N, L, C, P> {
         × ((n takes : ℕ) → P.pick p.ready.rule n takes ≡ N.pick n takes)
         × (most_processes + 2 ≤ p.ready.room)
         × (p.budget ≤ p.schedule.room)
-        × (length p.schedule.runs ≤ length (entries p.schedule.runs))
+        × (length p.notes.items ≡ NOTES)
         × (p.lacked ≡ p.machine.lacked)
         × (p.left ≡ p.leaves.total) };
 }

@@ -5,9 +5,11 @@ ghost use Rattle.b67_table.specs.Limits.{most_processes};
 ghost use Rattle.b67_table.specs.Sound.{Sound};
 ghost use Rattle.b67_words.specs.declared.TheConstants.{MOST_BUDGET};
 ghost use Rattle.b67_machine.specs.Beginning.{IsFresh};
+ghost use Rattle.b67_plant.specs.declared.TheConstants.{NOTES};
 ghost use Rattle.b67_stands.specs.Calls.{IsFirst};
 
-use crate::{Ahead, Named, Parcel, Plant, Post, Seat};
+use crate::{Ahead, NOTES, Named, Parcel, Plant, Post, Seat};
+use b67_deeds::Letter;
 use b67_joining::ROOM;
 use b67_limits::MOST_PROCESSES;
 use b67_machine::Machine;
@@ -98,15 +100,18 @@ struct Rooms<P: Rule> {
     ready: Dispatcher<P>,
     out: Vec<u32>,
     schedule: Schedule,
+    notes: Vec<Letter>,
 }
 
-// The queue, in which process 1 waits; nobody is out; and there is room for as many entries as the budget has operators.
+// The queue, in which process 1 waits; nobody is out; and there is room for as many entries as the budget has operators, and for the
+// letters of an act.
 fn rooms_of<P: Rule>(alloc: Global, rule: P, budget: u32) -> Result<Rooms<P>, AllocError>
     ensures rule { IfOk result (λ rooms. rooms.ready.rule ≡ rule) }
     ensures queue { IfOk result (λ rooms. (rooms.ready.waiting ≡ 1 ∷ []) × (rooms.ready.takes ≡ 0)) }
     ensures room { IfOk result (λ rooms. most_processes + 2 ≤ rooms.ready.room) }
     ensures out { IfOk result (λ rooms. rooms.out.items ≡ replicate most_processes 0) }
-    ensures schedule { IfOk result (λ rooms. (rooms.schedule.runs ≡ []) × (budget ≤ rooms.schedule.room)) }
+    ensures schedule { IfOk result (λ rooms. (rooms.schedule.runs ≡ []) × (rooms.schedule.letters ≡ []) × (budget ≤ rooms.schedule.room)) }
+    ensures notes { IfOk result (λ rooms. length rooms.notes.items ≡ NOTES) }
 {
     let mut ready = Dispatcher::new(alloc, rule, ROOM)?;
     ready.put(1);
@@ -114,6 +119,7 @@ fn rooms_of<P: Rule>(alloc: Global, rule: P, budget: u32) -> Result<Rooms<P>, Al
         ready,
         out: vec![in alloc; 0; MOST_PROCESSES as usize]?,
         schedule: Schedule::with_room(alloc, budget as usize)?,
+        notes: vec![in alloc; Letter::Read; NOTES]?,
     })
 }
 
@@ -156,12 +162,14 @@ impl<N: Named, L: Ledger, C: Core, P: Rule> Plant<N, L, C, P> {
             ready,
             out,
             schedule,
+            notes,
         } = rooms;
         let plant = Plant {
             machine,
             ready,
             out,
             schedule,
+            notes,
             budget,
             spent: 0,
             lacked: false,
@@ -181,6 +189,7 @@ impl<N: Named, L: Ledger, C: Core, P: Rule> Plant<N, L, C, P> {
             ready: _,
             out: _,
             schedule,
+            notes: _,
             budget: _,
             spent: _,
             lacked: _,

@@ -56,6 +56,6 @@ pub fn refusal(answer: Option<Replayed>) -> Option<Acted>
         None => None,
         Some(Replayed::NoMemory) => Some(Acted::NoMemory),
         Some(Replayed::Ended | Replayed::Ran | Replayed::BudgetSpent) => Some(Acted::Over),
-        Some(Replayed::Illegal { entry: _ }) => Some(Acted::Over),
+        Some(Replayed::Illegal { .. } | Replayed::Differs { .. }) => Some(Acted::Over),
     }
 }

@@ -72,8 +72,8 @@ fn work_alone<N: Named, L: Ledger, C: Core, P: Rule>(
         let Some(process) = plant.pick(1) else {
             unreachable!()
         };
-        let entries = if plant.is_alone() { u32::MAX } else { 0 };
-        let _acted = plant.enter_many(process, entries, &mut post.seat);
+        let many = plant.is_alone();
+        let _acted = plant.enter_many(process, many, &mut post.seat);
     }
 }
 

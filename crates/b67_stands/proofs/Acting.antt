@@ -1,6 +1,7 @@
 -- A plant stands after an act.
-use Rattle.std.specs.Prelude.{sum}
+use Rattle.std.specs.Prelude.{sum, map, reverse}
 use Rattle.std.proofs.Common.{◌≡◌, ◌≢◌, refl, sym, ap, subst, ◌∙◌, true≢false, ℕ, zero, suc, ◌+◌, ◌-◌, ◌≤◌, ◌<◌, Bool, true, false, List, [], ◌∷◌, ◌++◌, length, length-append, Option, Some, None, arith}
+use Rattle.std.proofs.lemmas.List.{reverse-append}
 use Rattle.std.proofs.lemmas.List.Sums.{sum_by-cons}
 use Rattle.b67_list.specs.Numbered.{numbered}
 use Rattle.b67_num.specs.declared.FaultKind.{FaultKind}
@@ -16,12 +17,17 @@ use Rattle.b67_table.specs.Runs as runs
 use Rattle.b67_table.specs.Sound.{Sound}
 use Rattle.b67_table.specs.Table.{table, plain}
 use Rattle.b67_table.specs.Valid.{IsValid}
+use Rattle.b67_deeds.specs.declared.Letter.{Letter}
+use Rattle.b67_letters.specs.Entries.{letters}
+use Rattle.b67_letters.specs.Letters.{letter}
+use Rattle.b67_letters.proofs.Lettered.{actions_have_letters}
 use Rattle.b67_intrinsics.specs.Called.{IsLeft}
 use Rattle.b67_action.specs.Able.{times, one_if, able_in, newly, AbleAfter}
 use Rattle.b67_action.specs.declared.done.Done.{Done}
 use Rattle.b67_action.specs.declared.done.Done.TheVariants as dones
 use Rattle.b67_machine.specs.declared.entry.Performed.{Performed}
 use Rattle.b67_machine.specs.Kept.{Kept, Counts, counted}
+use Rattle.b67_machine.specs.Letters.{or_before, lettered}
 use Rattle.b67_machine.specs.Replaying.{Stands as Shows}
 use Rattle.b67_machine.specs.Stepping.{Acts, StepsBy, Follows, Goes, operators_in, limit_of, lacks}
 use Rattle.b67_machine.proofs.Ends.{same_end}
@@ -35,7 +41,7 @@ use Rattle.b67_stands.proofs.Advancing.{runs_take_operators, runs_take_entries, 
 use Rattle.b67_stands.specs.Running.{Running, answer_of}
 use Rattle.b67_stands.specs.Placing.{IsOut, Placed}
 use Rattle.b67_stands.specs.Stands.{Stands, AtLimit}
-use Rattle.b67_stands.specs.Calls.{is_action, Enters, Records, ActsOnce}
+use Rattle.b67_stands.specs.Calls.{Noted, is_action, Enters, Records, ActsOnce}
 use Rattle.b67_stands.proofs.Tails.{sum_more, length_more, sum_without, length_without}
 use Rattle.b67_stands.proofs.Counts.{counts_more, counts_entry, counts_then, no_counts, count_same}
 use Rattle.b67_stands.proofs.Places.{placed_acted, held_able, length_set, able_more, able_without}
@@ -49,6 +55,13 @@ may_by img p e able = ap (λ (o : Option ImageEnd). ending.goes_on o (is_able (n
 by_zero : (k : ℕ) → (k ≢ 0 → ⊥) → k ≡ 0
 by_zero zero h = refl
 by_zero (suc k) h = absurd (h (λ e. omega (arith, e)))
+
+-- one letter more, of the newest entry
+letter_more : (l : Letter) (here : Option Letter) (before after : List Letter) (newest : List (Option Letter)) → here ≡ Some l → Noted before (Some l) after
+    → newest ≡ map Some (reverse before) → here ∷ newest ≡ map Some (reverse after)
+letter_more l here before after newest is noted are =
+    ap (λ (o : Option Letter). o ∷ newest) is ∙ ap (λ (os : List (Option Letter)). Some l ∷ os) are
+    ∙ sym (ap (λ (ls : List Letter). map Some (reverse ls)) noted ∙ ap (λ (ls : List Letter). map Some ls) (reverse-append before (l ∷ [])))
 
 -- from an image with the same states
 able_from : (a b after : Image) (p : ℕ) (released : List ℕ) → b.states ≡ a.states → b.started ≡ a.started → AbleAfter b after p released → AbleAfter a after p released
@@ -179,6 +192,7 @@ module _ (code : Code) (budget : ℕ) (old : Running) (p : ℕ) (performed : Per
           };
           valid = grown.on.valid;
         };
+        letters = grown.same.letters ∙ x.stands.letters ∙ ap (λ (z : Schedule). map Some (reverse z.letters)) (sym s.schedule);
         shows = shows;
         few = length_more x.stands.tails p performed.plain between.image.started (omega (arith, x.stands.few, started_same)) (omega (arith, most_there, started_same));
         able = able_more x.stands.image between.image x.stands.tails p x.stands.able performed.plain kept.states able_there;
@@ -204,6 +218,18 @@ module _ (code : Code) (budget : ℕ) (old : Running) (p : ℕ) (performed : Per
       let then = placed_acted old.machine.image new.machine.image old.waiting old.out new.machine.released p (x.stands.placed x.going) least within_out x.held from in
       subst (λ (ws : List ℕ). Placed new.machine.image ws new.out) (sym e.waiting)
       (subst (λ (os : List ℕ). Placed new.machine.image (old.waiting ++ joining old.machine.image.started new.machine.image p new.machine.released) os) (sym e.out) then)
+
+  -- its letter is the action's, and stands after the others
+  with_letter : (done : Done) → Acts between p done new.machine → operators_in done ≡ 1 → runs.Acts code p between.image new.machine.image
+      → Noted old.schedule.letters new.machine.letter new.schedule.letters
+      → letter code between.image p ∷ letters x.stands.leads.run.runs ≡ map Some (reverse new.schedule.letters)
+  with_letter done a one act noted =
+      let has = actions_have_letters.acts code between.image new.machine.image p act in
+      let kept : new.machine.letter ≡ Some has.0 =
+      a.letter_is ∙ ap (λ (c : Code). lettered (operators_in done) (letter c between.image p) between.letter) code_between
+      ∙ ap (λ (n : ℕ). lettered n (letter code between.image p) between.letter) one ∙ ap (λ (o : Option Letter). or_before o between.letter) has.1 in
+      letter_more has.0 (letter code between.image p) old.schedule.letters new.schedule.letters (letters x.stands.leads.run.runs) has.1
+      (subst (λ (o : Option Letter). Noted old.schedule.letters o new.schedule.letters) kept noted) x.stands.letters
 
   -- the action was performed
   enters : (done : Done) → Records true old p new → Acts between p done new.machine → runs.Acts code p between.image new.machine.image
@@ -235,6 +261,7 @@ module _ (code : Code) (budget : ℕ) (old : Running) (p : ℕ) (performed : Per
           };
           valid = t.to.valid;
         };
+        letters = t.more.letters ∙ with_letter done a one act e.letter;
         shows = shows_by new.machine.lacked new.machine.image new.machine.image (a.lacked ∙ lack) refl;
         few = omega (arith, length_without x.stands.tails p, x.stands.few, started_same, after.grows);
         able = able_without x.stands.image new.machine.image x.stands.tails p x.stands.able new.machine.released

@@ -27,6 +27,11 @@ use Rattle.b67_table.proofs.Privacy.{next_private, raw_is, put_by}
 use Rattle.b67_stands.specs.Tails.{more_at, none_at, at_place, with_more}
 use Rattle.b67_stands.specs.Going.{Leads, OneMore, LeadsOn, LeadsTo, RunsTakeOperators, RunsTakeEntries}
 use Rattle.b67_stands.proofs.Steps.{one_same, private_of_plain, plain_of, lives, number_from, registers_of, others_next, commutes}
+use Rattle.b67_table.proofs.FirstValid.{valid_stands}
+use Rattle.b67_deeds.specs.declared.Letter.{Letter}
+use Rattle.b67_letters.specs.Entries.{letters}
+use Rattle.b67_letters.specs.Letters.{letter}
+use Rattle.b67_stands.proofs.StayApart.{letters_stay_apart}
 use Rattle.b67_stands.proofs.Past.{plains_same, and_then, none_stays}
 use Rattle.b67_stands.proofs.Tailing.{tails_same, HasNone, has_none_on, before_tails, tail_grows, tail_first}
 
@@ -45,7 +50,7 @@ grown code schedule tails a b (suc k) n leads live plains =
         run = record { history = r.history; counts = r.counts; before_tails = r.before_tails; order = r.order; runs = r.runs; after = after };
         valid = leads.valid;
       };
-      same = record { history = refl; counts = refl };
+      same = record { history = refl; counts = refl; letters = refl };
     }
 
 pub runs_take_operators : RunsTakeOperators
@@ -106,9 +111,10 @@ unfolding plain
 not_plain code a p e = ap (λ (x : Bool). x && is_new (table code a p)) e
 
 module _ (code : Code) (schedule : List ℕ) (sound : Sound code) (p q : ℕ) (h : p ≢ q) where
-  pub record OneAction (a c : Image) : Type 0 where
+  pub record OneAction (a b c : Image) : Type 0 where
     pub between : Image
     pub action : Acts code p a between
+    pub letter_is : letter code a p ≡ letter code b p
     pub plain_then : plain code between q ≡ true
     pub then_other : table code between q ≡ gives c
 
@@ -117,54 +123,65 @@ module _ (code : Code) (schedule : List ℕ) (sound : Sound code) (p q : ℕ) (h
       commutes code p q a b h r.valid e t
       (λ o has x touches mine. h (sound.apart schedule r.tails a r.leads.run p q x o touches (record { live = lives code a b q t; is = has }) mine))
 
-  one_action : (a b c : Image) → Reached code schedule a → plain code a q ≡ true → table code a q ≡ gives b → Acts code p b c → OneAction a c
+  -- and its letter is the same
+  one_letter : (a b : Image) → Reached code schedule a → plain code a q ≡ true → table code a q ≡ gives b → letter code a p ≡ letter code b p
+  one_letter a b r e t =
+      let live = lives code a b q t in
+      let o = registers_of code a q r.valid live in
+      sym (letters_stay_apart code p q o.0 a b h (valid_stands code a q o.0 r.valid live o.1) e t
+      (λ x touches mine. h (sound.apart schedule r.tails a r.leads.run p q x o.0 touches (record { live = live; is = o.1 }) mine)))
+
+  one_action : (a b c : Image) → Reached code schedule a → plain code a q ≡ true → table code a q ≡ gives b → Acts code p b c → OneAction a b c
   one_action a b c r e t (acts f u) =
       let k = one_commutes a b r e t in
       let m = k.earlier c u in
       let away : private_next code a p ≡ false = sym (others_next code q p a b h r.valid e t) ∙ not_private code b c p f u in
-      record { between = m.0; action = acts (not_plain code a p away) m.1; plain_then = k.plain_after m.0 m.1; then_other = m.2 }
+      record { between = m.0; action = acts (not_plain code a p away) m.1; letter_is = one_letter a b r e t; plain_then = k.plain_after m.0 m.1; then_other = m.2 }
   one_action a b c r e t (fails kind u) =
       let k = one_commutes a b r e t in
       let s = failed_plain code p q kind a b r.valid e t in
-      record { between = failed a p kind; action = fails kind ((k.fault kind).0 u); plain_then = s.0; then_other = s.1 }
+      record { between = failed a p kind; action = fails kind ((k.fault kind).0 u); letter_is = one_letter a b r e t; plain_then = s.0; then_other = s.1 }
 
-  pub record ActionFirst (a c : Image) (m : ℕ) : Type 0 where
+  pub record ActionFirst (a b c : Image) (m : ℕ) : Type 0 where
     pub between : Image
     pub action : Acts code p a between
+    pub letter_is : letter code a p ≡ letter code b p
     pub rest : Plains code q between m c
 
-  action_first : (a b c : Image) (m : ℕ) → Reached code schedule a → Plains code q a m b → Acts code p b c → ActionFirst a c m
-  action_first a b c m r stay act = record { between = c; action = act; rest = stay }
+  action_first : (a b c : Image) (m : ℕ) → Reached code schedule a → Plains code q a m b → Acts code p b c → ActionFirst a b c m
+  action_first a b c m r stay act = record { between = c; action = act; letter_is = refl; rest = stay }
   action_first a b c m r (go {b = d} {n = l} e t rest) act =
       let later = action_first d b c l (reached_on code schedule q a d r e t) rest act in
       let one = one_action a d later.between r e t later.action in
-      record { between = one.between; action = one.action; rest = go one.plain_then one.then_other later.rest }
+      record { between = one.between; action = one.action; letter_is = one.letter_is ∙ later.letter_is; rest = go one.plain_then one.then_other later.rest }
 
 module _ (code : Code) (schedule : List ℕ) (sound : Sound code) (p : ℕ) where
   -- the action of p comes before the tails of others
-  pub record BeforeAll (s : ℕ) (a : Image) (tails : List ℕ) (c : Image) : Type 0 where
+  pub record BeforeAll (s : ℕ) (a : Image) (tails : List ℕ) (b c : Image) : Type 0 where
     pub between : Image
     pub action : Acts code p a between
+    pub letter_is : letter code a p ≡ letter code b p
     pub rest : Tails code s between tails c
 
-  action_by : (s : ℕ) (a c d : Image) (m : ℕ) (ts : List ℕ) → Reached code schedule a → Plains code s a m d → HasNone p s (m ∷ ts) → BeforeAll (s + 1) d ts c → Dec (s ≡ p)
-      → BeforeAll s a (m ∷ ts) c
-  action_by s a c d m ts r one none_there later (yes e) =
+  action_by : (s : ℕ) (a b c d : Image) (m : ℕ) (ts : List ℕ) → Reached code schedule a → Plains code s a m d → HasNone p s (m ∷ ts) → BeforeAll (s + 1) d ts b c → Dec (s ≡ p)
+      → BeforeAll s a (m ∷ ts) b c
+  action_by s a b c d m ts r one none_there later (yes e) =
       let nothing : m ≡ 0 = none_there 0 (omega (arith, e)) in
       let here : d ≡ a = sym (none_stays code s a d m one nothing) in
       record {
         between = later.between;
         action = subst (λ (x : Image). Acts code p x later.between) here later.action;
+        letter_is = ap (λ (x : Image). letter code x p) (sym here) ∙ later.letter_is;
         rest = subst (λ (k : ℕ). Tails code s later.between (k ∷ ts) c) (sym nothing) (next stay later.rest);
       }
-  action_by s a c d m ts r one none_there later (no g) =
+  action_by s a b c d m ts r one none_there later (no g) =
       let k = action_first code schedule sound p s (λ e. g (sym e)) a d later.between m r one later.action in
-      record { between = k.between; action = k.action; rest = next k.rest later.rest }
+      record { between = k.between; action = k.action; letter_is = k.letter_is ∙ later.letter_is; rest = next k.rest later.rest }
 
-  before_all : (s : ℕ) (a b c : Image) (tails : List ℕ) → Reached code schedule a → Tails code s a tails b → HasNone p s tails → Acts code p b c → BeforeAll s a tails c
-  before_all s a b c tails r none none_there act = record { between = c; action = act; rest = none }
+  before_all : (s : ℕ) (a b c : Image) (tails : List ℕ) → Reached code schedule a → Tails code s a tails b → HasNone p s tails → Acts code p b c → BeforeAll s a tails b c
+  before_all s a b c tails r none none_there act = record { between = c; action = act; letter_is = refl; rest = none }
   before_all s a b c tails r (next {n = m} {b = d} {tails = ts} one rest) none_there act =
-      action_by s a c d m ts r one none_there
+      action_by s a b c d m ts r one none_there
       (before_all (s + 1) d b c ts (reached_many code schedule s a d m r one) rest (has_none_on p s m ts none_there) act) (ℕ_discrete s p)
 
 -- ---- rows
@@ -226,7 +243,7 @@ has_none tails k j e = let same : k ≡ j = omega (arith, e) in subst (λ (i : �
 
 entered : (code : Code) (schedule tails : List ℕ) (a quiet b : Image) (k n : ℕ) (leads : Leads code schedule tails a) → Sound code → may_act a (1 + k) ≡ true
     → Plains code (1 + k) a n quiet → Acts code (1 + k) quiet b → IsValid code b → (to : Leads code (schedule ++ (1 + k) ∷ []) (none_at tails k) b)
-    × OneMore (1 + k) (at_place tails k + n + 1) leads to
+    × OneMore (1 + k) (at_place tails k + n + 1) quiet leads to
 entered code schedule tails a quiet b k n leads sound may plains act valid =
     let r = leads.run in
     let first : Image = r.before_tails in
@@ -262,16 +279,16 @@ entered code schedule tails a quiet b k n leads sound may plains act valid =
         };
         valid = acts_valid code (1 + k) g.between m.between on.valid able m.action few;
       },
-      record { history = refl; counts = refl },
+      record { history = refl; counts = refl; letters = ap (λ (l : Option Letter). l ∷ letters r.runs) m.letter_is },
     )
 
 taken : (code : Code) (schedule tails : List ℕ) (a quiet b : Image) (p n : ℕ) (leads : Leads code schedule tails a) → Sound code → may_act a p ≡ true
-    → Plains code p a n quiet → Acts code p quiet b → IsValid code b → LeadsTo code schedule tails a leads p n b
+    → Plains code p a n quiet → Acts code p quiet b → IsValid code b → LeadsTo code schedule tails a leads p n quiet b
 taken code schedule tails a quiet b zero n leads sound may plains act valid =
     absurd (omega (arith, number_from a 0 (able_lives (numbered a.states 0) (may_able a 0 may))))
 taken code schedule tails a quiet b (suc k) n leads sound may plains act valid =
     let same : suc k ≡ 1 + k = omega arith in
-    let e = subst (λ (p : ℕ). (to : Leads code (schedule ++ p ∷ []) (none_at tails k) b) × OneMore p (at_place tails k + n + 1) leads to) (sym same)
+    let e = subst (λ (p : ℕ). (to : Leads code (schedule ++ p ∷ []) (none_at tails k) b) × OneMore p (at_place tails k + n + 1) quiet leads to) (sym same)
     (entered code schedule tails a quiet b k n leads sound (subst (λ (p : ℕ). may_act a p ≡ true) same may) (subst (λ (p : ℕ). Plains code p a n quiet) same plains)
     (subst (λ (p : ℕ). Acts code p quiet b) same act) valid) in
     record { to = e.0; more = e.1 }

@@ -1,7 +1,8 @@
 -- A plant before its first take stands.
-use Rattle.std.specs.Prelude.{replicate, slice_get}
+use Rattle.std.specs.Prelude.{map, replicate, reverse, slice_get}
 use Rattle.std.proofs.Common.{◌≡◌, inl, refl, sym, ap, subst, ◌∙◌, true≢false, ℕ, zero, suc, List, [], ◌∷◌, length, Some, None, arith}
 use Rattle.std.proofs.lemmas.List.{length-replicate}
+use Rattle.b67_deeds.specs.declared.Letter.{Letter}
 use Rattle.b67_schedule.specs.Schedules.{entries}
 use Rattle.b67_segment.specs.declared.code.Code.{Code}
 use Rattle.b67_table.specs.Beginning.{first_image}
@@ -49,6 +50,7 @@ first_stands code budget s valid first = record {
     run = record { history = []; counts = []; before_tails = first_image; order = ap entries first.schedule; runs = begin; after = none };
     valid = valid;
   };
+  letters = sym (ap (λ (ls : List Letter). map Some (reverse ls)) first.letters);
   shows = shows_by s.machine.lacked first_image s.machine.image first.fresh.lacked first.fresh.image;
   counts = λ q. omega (arith, first.fresh.counts q, no_tail q);
   few = omega arith;

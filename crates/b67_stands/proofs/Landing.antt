@@ -83,6 +83,7 @@ module _ (code : Code) (budget : ℕ) (old : Running) (p n : ℕ) (m : Kept) (st
     tails = with_more stands.tails p n;
     image = m.image;
     leads = on.on;
+    letters = on.same.letters ∙ stands.letters;
     shows = shows_by m.lacked m.image m.image lacked_same refl;
     few = length_more stands.tails p n m.image.started (omega (arith, stands.few, kept.started)) (omega (arith, number_within code stands.image p valid_there live, kept.started));
     able = able_more stands.image m.image stands.tails p stands.able n kept.states able;

@@ -17,3 +17,4 @@ pub mod Idle
 pub mod Kept
 pub mod Alone
 pub mod Turns
+pub mod StayApart

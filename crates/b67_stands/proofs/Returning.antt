@@ -56,6 +56,7 @@ stands_back code budget old p s going held =
       tails = s.tails;
       image = s.image;
       leads = s.leads;
+      letters = s.letters;
       shows = s.shows;
       counts = s.counts;
       few = s.few;

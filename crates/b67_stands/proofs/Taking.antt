@@ -54,6 +54,7 @@ module _ (code : Code) (budget : ℕ) (old : Running) (s : Stands code budget ol
         tails = s.tails;
         image = s.image;
         leads = s.leads;
+        letters = s.letters;
         shows = s.shows;
         counts = s.counts;
         few = s.few;
@@ -83,6 +84,7 @@ module _ (code : Code) (budget : ℕ) (old : Running) (s : Stands code budget ol
     tails = s.tails;
     image = s.image;
     leads = s.leads;
+    letters = s.letters;
     shows = s.shows;
     counts = s.counts;
     few = s.few;

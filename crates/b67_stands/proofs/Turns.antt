@@ -2,8 +2,9 @@
 use Rattle.std.specs.Prelude.{nat_le, nat_lt, slice_get, slice_set, remove, if◌then◌else◌}
 use Rattle.std.proofs.Common.{◌≡◌, refl, sym, ap, subst, ◌∙◌, ℕ, zero, suc, ◌+◌, ◌-◌, ◌≤◌, ◌<◌, Bool, true, false, List, [], ◌∷◌, ◌++◌, length, Option, Some, None, replicate, append_assoc, arith}
 use Rattle.std.proofs.lemmas.Bool.{leb-true}
-use Rattle.std.proofs.lemmas.List.{append-nil, replicate_more}
+use Rattle.std.proofs.lemmas.List.{append-nil, length-append, replicate_more}
 use Rattle.b67_list.specs.Numbered.{set_numbered}
+use Rattle.b67_deeds.specs.declared.Letter.{Letter}
 use Rattle.b67_schedule.specs.Schedules.{entries, Kept as Schedule}
 use Rattle.b67_schedule.proofs.Pushes.{entries-push}
 use Rattle.b67_segment.specs.declared.code.Code.{Code}
@@ -25,7 +26,7 @@ use Rattle.b67_stands.specs.Running.{Running, answer_by, answer_of}
 use Rattle.b67_stands.specs.Placing.{holder_of}
 use Rattle.b67_stands.specs.Picked.{Pick}
 use Rattle.b67_stands.specs.Stands.{Stands}
-use Rattle.b67_stands.specs.Calls.{TakesOne, is_action}
+use Rattle.b67_stands.specs.Calls.{TakesOne, Noted, is_action}
 use Rattle.b67_stands.specs.Turns.{ActsAgain, ActsOn, stay, go, StandsOut, TakenByOne, TurnsKeepOn}
 use Rattle.b67_stands.proofs.Places.{holder_own}
 use Rattle.b67_stands.proofs.Taking.{taken_number, takes_keep}
@@ -122,32 +123,33 @@ turned old n m machine schedule = record old {
   acts = old.acts + n;
 }
 
--- some schedule with so many more entries
-pub record Grown (old : Schedule) (p n : ℕ) (new : Schedule) : Type 0 where
-  pub added : entries new.runs ≡ entries old.runs ++ replicate n p
-  pub none : n ≡ 0 → new ≡ old
+-- some schedule with an entry more for each of these letters
+pub record Grown (old : Schedule) (p : ℕ) (ls : List Letter) (new : Schedule) : Type 0 where
+  pub added : entries new.runs ≡ entries old.runs ++ replicate (length ls) p
+  pub letters : new.letters ≡ old.letters ++ ls
+  pub none : ls ≡ [] → new ≡ old
 
-some_grown : (old : Schedule) (p n : ℕ) → (new : Schedule) × Grown old p n new
-some_grown old p zero = (old, record { added = sym (append-nil (entries old.runs)); none = λ e. refl })
-some_grown old p (suc n) = (
-  record { runs = old.runs ++ record { process = p; times = suc n } ∷ []; room = old.room },
-  record { added = entries-push old.runs (record { process = p; times = suc n }); none = λ e. absurd (omega (arith, e)) },
+some_grown : (old : Schedule) (p : ℕ) (ls : List Letter) → (new : Schedule) × Grown old p ls new
+some_grown old p [] = (old, record { added = sym (append-nil (entries old.runs)); letters = sym (append-nil old.letters); none = λ e. refl })
+some_grown old p (l ∷ ls) = (
+  record { runs = old.runs ++ record { process = p; times = suc (length ls) } ∷ []; letters = old.letters ++ l ∷ ls; room = old.room },
+  record { added = entries-push old.runs (record { process = p; times = suc (length ls) }); letters = refl; none = λ e. cc },
 )
 
 module _ (budget : ℕ) (pick : Pick) (me p : ℕ) (old : Running) (first : (takes : ℕ) → pick 1 takes ≡ 0) (one : 1 ≤ p) (within : p ≤ length old.out)
     (mine : holder_of old.out p ≡ me) where
   -- one more turn
-  once_more : (n m k : ℕ) (b c : Kept) (s z : Schedule) → Passes b p (budget - old.spent - m) k c → Grown old.schedule p n s
-      → Grown old.schedule p (suc n) z → old.waiting ≡ [] → m + (k + 1) < budget - old.spent
-      → ActsAgain pick budget me p (turned old n m b s) (turned old (suc n) (m + (k + 1)) c z)
-  once_more n m k b c s z more grown longer nobody less =
-      let before : Running = turned old n m b s in
-      let after : Running = turned old (suc n) (m + (k + 1)) c z in
+  once_more : (ls : List Letter) (l : Letter) (m k : ℕ) (b c : Kept) (s z : Schedule) → Passes b p (budget - old.spent - m) k l c → Grown old.schedule p ls s
+      → Grown old.schedule p (ls ++ l ∷ []) z → old.waiting ≡ [] → m + (k + 1) < budget - old.spent
+      → ActsAgain pick budget me p (turned old (length ls) m b s) (turned old (suc (length ls)) (m + (k + 1)) c z)
+  once_more ls l m k b c s z more grown longer nobody less =
+      let before : Running = turned old (length ls) m b s in
+      let after : Running = turned old (suc (length ls)) (m + (k + 1)) c z in
       let performed : Performed = record { plain = k; done = Some dones.Went } in
       let acted : Running = record after { waiting = p ∷ []; takes = before.takes; out = set_numbered old.out p 0 } in
       let left : budget - old.spent - m ≡ budget - (old.spent + m) = omega arith in
       let counted : one_if (is_action performed.done) ≡ 1 = refl in
-      let next : suc n ≡ n + 1 = omega arith in
+      let next : length (ls ++ l ∷ []) ≡ length ls + 1 = length-append ls (l ∷ []) in
       record {
         performed = performed;
         acted = acted;
@@ -155,8 +157,10 @@ module _ (budget : ℕ) (pick : Pick) (me p : ℕ) (old : Running) (first : (tak
           machine = subst (λ (most : ℕ). Performs b p most performed c) left more.performs;
           spent = omega (arith, counted);
           records = record {
-            schedule = longer.added ∙ ap (λ (j : ℕ). entries old.schedule.runs ++ replicate j p) next ∙ ap (λ (xs : List ℕ). entries old.schedule.runs ++ xs) (sym (replicate_more n p))
-                ∙ sym (append_assoc (entries old.schedule.runs) (replicate n p) (p ∷ [])) ∙ ap (λ (xs : List ℕ). xs ++ p ∷ []) (sym grown.added);
+            schedule = longer.added ∙ ap (λ (j : ℕ). entries old.schedule.runs ++ replicate j p) next ∙ ap (λ (xs : List ℕ). entries old.schedule.runs ++ xs) (sym (replicate_more (length ls) p))
+                ∙ sym (append_assoc (entries old.schedule.runs) (replicate (length ls) p) (p ∷ [])) ∙ ap (λ (xs : List ℕ). xs ++ p ∷ []) (sym grown.added);
+            letter = subst (λ (o : Option Letter). Noted s.letters o z.letters) (sym more.letter)
+                (longer.letters ∙ sym (append_assoc old.schedule.letters ls (l ∷ [])) ∙ ap (λ (xs : List Letter). xs ++ l ∷ []) (sym grown.letters));
             out = refl;
             waiting = sym (only_joins b.image.started c.image p c.released more.released more.started more.still)
                 ∙ ap (λ (xs : List ℕ). xs ++ joining b.image.started c.image p c.released) (sym nobody);
@@ -175,20 +179,20 @@ module _ (budget : ℕ) (pick : Pick) (me p : ℕ) (old : Running) (first : (tak
         };
       }
 
-  pub turns_are : (n m : ℕ) (b : Kept) (s : Schedule) → Enters p (budget - old.spent) old.machine n m b → Grown old.schedule p n s → (1 ≤ n → old.waiting ≡ [])
-      → (1 ≤ n → m < budget - old.spent) → ActsOn pick budget me p old n (turned old n m b s)
-  turns_are n m b s machine.stay grown nobody less =
+  pub turns_are : (all : List Letter) (m : ℕ) (b : Kept) (s : Schedule) → Enters p (budget - old.spent) old.machine all m b → Grown old.schedule p all s
+      → (1 ≤ length all → old.waiting ≡ []) → (1 ≤ length all → m < budget - old.spent) → ActsOn pick budget me p old (length all) (turned old (length all) m b s)
+  turns_are all m b s machine.stay grown nobody less =
       subst (ActsOn pick budget me p old 0) (
       ap (λ (z : Schedule). record old { schedule = z }) (sym (grown.none refl))
       ∙ ap (λ (k : ℕ). record old { schedule = s; spent = k }) (omega arith)
       ∙ ap (λ (k : ℕ). record old { schedule = s; spent = old.spent + 0; acts = k }) (omega arith)
       ) stay
-  turns_are n m c z (machine.go {b = b} {n = i} {m = j} {k = k} enters more) grown nobody less =
-      let none = nobody (omega arith) in
-      let before = some_grown old.schedule p i in
-      let small : j + (k + 1) < budget - old.spent = less (omega arith) in
-      let next : suc i ≡ i + 1 = omega arith in
+  turns_are all m c z (machine.go {b = b} {ls = ls} {l = l} {m = j} {k = k} enters more) grown nobody less =
+      let next : suc (length ls) ≡ length (ls ++ l ∷ []) = omega (arith, length-append ls (l ∷ [])) in
+      let none = nobody (omega (arith, next)) in
+      let before = some_grown old.schedule p ls in
+      let small : j + (k + 1) < budget - old.spent = less (omega (arith, next)) in
       subst (λ (x : ℕ). ActsOn pick budget me p old x (turned old x (j + (k + 1)) c z)) next (
-      go (turns_are i j b before.0 enters before.1 (λ h. none) (λ h. omega (arith, small)))
-      (once_more i j k b c before.0 z more before.1 (subst (λ (x : ℕ). Grown old.schedule p x z) (sym next) grown) none small)
+      go (turns_are ls j b before.0 enters before.1 (λ h. none) (λ h. omega (arith, small)))
+      (once_more ls l j k b c before.0 z more before.1 grown none small)
       )

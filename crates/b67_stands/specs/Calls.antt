@@ -1,6 +1,7 @@
 -- What the calls on a plant do to it.
-use Rattle.std.specs.Prelude.{◌≡◌, ℕ, ◌+◌, ◌-◌, nat_lt, Bool, true, false, [], ◌∷◌, ◌++◌, length, replicate, slice_get, remove, Option, Some, None}
+use Rattle.std.specs.Prelude.{◌≡◌, ℕ, ◌+◌, ◌-◌, nat_lt, Bool, true, false, List, [], ◌∷◌, ◌++◌, length, replicate, slice_get, remove, Option, Some, None}
 use Rattle.b67_list.specs.Numbered.{set_numbered}
+use Rattle.b67_deeds.specs.declared.Letter.{Letter}
 use Rattle.b67_schedule.specs.Schedules.{entries}
 use Rattle.b67_segment.specs.declared.code.Code.{Code}
 use Rattle.b67_table.specs.Limits.{most_processes}
@@ -23,6 +24,7 @@ pub record IsFirst (code : Code) (s : Running) : Type 0 where
   pub takes : s.takes ≡ 0
   pub out : s.out ≡ replicate most_processes 0
   pub schedule : s.schedule.runs ≡ []
+  pub letters : s.schedule.letters ≡ []
   pub spent : s.spent ≡ 0
   pub acts : s.acts ≡ 0
   pub leaves : s.leaves ≡ 0
@@ -51,14 +53,20 @@ GoesBack old p new = new ≡ record old { waiting = old.waiting ++ p ∷ []; out
 
 -- ---- an act
 
+-- a letter is noted after these
+abbrev pub Noted : List Letter → Option Letter → List Letter → Type 0
+Noted before None after = ⊥
+Noted before (Some l) after = after ≡ before ++ l ∷ []
+
 -- whether an action was performed: a fault is one
 abbrev pub is_action : Option Done → Bool
 is_action None = false
 is_action (Some done) = nat_lt 0 (operators_in done)
 
--- the entry is on the schedule, the process is out no more, and who can go on is in the queue
+-- the entry is on the schedule with the letter of the machine's last action, the process is out no more, and who can go on is in the queue
 pub record Enters (old : Running) (p : ℕ) (new : Running) : Type 0 where
   pub schedule : entries new.schedule.runs ≡ entries old.schedule.runs ++ p ∷ []
+  pub letter : Noted old.schedule.letters new.machine.letter new.schedule.letters
   pub out : new.out ≡ set_numbered old.out p 0
   pub waiting : new.waiting ≡ old.waiting ++ joining old.machine.image.started new.machine.image p new.machine.released
   pub acts : new.acts ≡ old.acts + 1

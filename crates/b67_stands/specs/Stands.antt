@@ -12,6 +12,7 @@ use Rattle.b67_table.specs.Table.{table}
 use Rattle.b67_table.specs.Valid.{IsValid}
 use Rattle.b67_action.specs.Able.{able_in}
 use Rattle.b67_machine.specs.Kept.{counted}
+use Rattle.b67_machine.specs.Letters.{AreLetters}
 use Rattle.b67_machine.specs.Replaying.{Stands as Shows}
 use Rattle.b67_stands.specs.Tails.{tail_of}
 use Rattle.b67_stands.specs.Going.{Leads}
@@ -27,10 +28,12 @@ pub record AtLimit (code : Code) (image : Image) (p : ℕ) : Type 0 where
 pub record Stands (code : Code) (budget : ℕ) (s : Running) : Type 0 where
   pub same : s.machine.code ≡ code
   pub valid : IsValid code s.machine.image
-  -- the machine's image and counts are those of a run of the code under the schedule, and then so many plain operators of each process
+  -- the machine's image and counts and the schedule's letters are those of a run of the code under the schedule, and then so many plain
+  -- operators of each process
   pub tails : List ℕ
   pub image : Image
   pub leads : Leads code (entries s.schedule.runs) tails image
+  pub letters : AreLetters leads.run.runs s.schedule.letters
   pub shows : Shows s.machine.lacked image s.machine.image
   pub counts : (p : ℕ) → counted s.machine.counts p ≡ count_of p leads.run.history leads.run.counts + tail_of tails p
   -- tails are of processes that there are, and only of such as are able

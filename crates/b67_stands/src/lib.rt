@@ -9,7 +9,7 @@
 #![tactic(auto)]
 
 ghost use Rattle.b67_stands.specs.Alone.{TurnsKeepByOne};
-ghost use Rattle.b67_stands.specs.Commuting.{PlainOperatorsCommuteInRuns};
+ghost use Rattle.b67_stands.specs.Commuting.{PlainOperatorsCommuteInRuns, LettersStayApart};
 ghost use Rattle.b67_stands.specs.Going.{RunsTakeOperators, RunsTakeEntries};
 ghost use Rattle.b67_stands.specs.Laws.{CallsKeepStands};
 ghost use Rattle.b67_stands.specs.Turns.{TurnsKeepOn};
@@ -45,4 +45,10 @@ pub fn turns_keep_by_one()
 /// process that the rule picks.
 pub fn turns_keep_on()
     ensures { TurnsKeepOn }
+{}
+
+/// Law: an operator that touches no word of another process's private part has the same letter before a plain operator of that one and
+/// after it.
+pub fn letters_stay_apart()
+    ensures { LettersStayApart }
 {}

@@ -1,6 +1,9 @@
 use Rattle.std.specs.Prelude.{slice_set}
-use Rattle.std.proofs.Common.{◌≡◌, refl, sym, ap, subst, ◌∙◌, ℕ, ◌+◌, ◌-◌, ◌≤◌, ◌<◌, true, false, List, [], ◌∷◌, ◌++◌, length, length-append, None, arith}
-use Rattle.b67_schedule.specs.Schedules.{entries, Kept as Schedule}
+use Rattle.std.proofs.Common.{◌≡◌, refl, sym, ap, subst, ◌∙◌, true≢false, ℕ, ◌+◌, ◌-◌, ◌≤◌, ◌<◌, true, false, List, [], ◌++◌, length, take, get_or, None, arith}
+use Rattle.std.proofs.lemmas.List.{length-take-le, with_items_is}
+use Rattle.b67_deeds.specs.declared.Letter.{Letter}
+use Rattle.b67_plant.specs.declared.TheConstants.{NOTES}
+use Rattle.b67_schedule.specs.Schedules.{Kept as Schedule}
 use Rattle.b67_ready.specs.Ready.{counted_times}
 use Rattle.b67_joining.specs.Joining.{joining}
 use Rattle.b67_processors.specs.Acts.{IsActed}
@@ -15,12 +18,33 @@ use Rattle.b67_stands.proofs.Ends.{goes_on}
 use Rattle.b67_stands.proofs.Acting.{Given, stands_after}
 use Rattle.b67_stands.proofs.Turns.{turned, Grown}
 use Rattle.b67_plant.proofs.Lacking.{lacked_after}
-use Rattle.b67_plant.proofs.Entered.{budget_is, counted_spent, once, given, entered, entered_once, entered_is, queue_fits}
-use Rattle.b67_plant.proofs.Many.{one_picked, same_queue, counts_none, counts_one, number, less, operators_few, entries_few, started_same, spent_few, acts_on, stands_then, last_performs, runs_few, entries_then}
+use Rattle.b67_plant.proofs.Entered.{budget_is, counted_spent, letters_entries, once, given, entered, entered_once, entered_is, queue_fits}
+use Rattle.b67_plant.proofs.Many.{one_picked, same_queue, counts_none, counts_one, number, less, operators_few, entries_few, started_same, spent_few, acts_on, stands_then, last_performs, entries_then, grown_by, is_many, letter_noted, first_few, first_within}
+use Rattle.b67_plant.proofs.Plant.enter_many.Goals.{then-many, else-many}
 use Rattle.b67_plant.proofs.Plant.enter_many.Goals as goal
 
-pub perform_entries-entered-requires-clause-count : goal.perform_entries-entered-requires-clause-count
-perform_entries-entered-requires-clause-count g c =
+pub perform_most-entered-requires-clause-some : goal.perform_most-entered-requires-clause-some
+perform_most-entered-requires-clause-some g c = elim c.if-many.branch [ then-many w ↦ omega (arith, w.most-is) | else-many w ↦ omega (arith, w.most-is) ]
+
+pub perform_most-entered-requires-clause-room : goal.perform_most-entered-requires-clause-room
+perform_most-entered-requires-clause-room g c =
+    let few : c.if-many.most ≤ NOTES = elim c.if-many.branch [ then-many w ↦ omega (arith, w.most-is) | else-many w ↦ omega (arith, w.most-is) ] in
+    omega (arith, few, ap length c.deref_mut.ensures.value, c.self.invariant.7)
+
+pub slice_bounds-push_many-end : goal.slice_bounds-push_many-end
+slice_bounds-push_many-end g c =
+    let notes : List Letter = c.perform_most-entered.new.notes in
+    let whole = with_items_is c.self.inside.notes notes (c.perform_most-entered.ensures.size ∙ c.deref_mut.ensures.len) in
+    sym (length-take-le c.perform_most-entered.result.entries c.deref.result.now
+    (omega (arith, c.perform_most-entered.ensures.performs.few, first_within notes c.if-many.most, ap length (c.deref.ensures.value ∙ whole))))
+
+pub index-requires : goal.index-requires
+index-requires g c =
+    let notes : List Letter = c.perform_most-entered.new.notes in
+    omega (arith, c.perform_most-entered.ensures.performs.few, first_within notes c.if-many.most, c.perform_most-entered.ensures.size, c.deref_mut.ensures.len)
+
+pub perform_most-entered-requires-clause-count : goal.perform_most-entered-requires-clause-count
+perform_most-entered-requires-clause-count g c =
     let old : Running = record {
       machine = c.self.inside.machine;
       waiting = c.self.inside.ready.waiting;
@@ -53,9 +77,16 @@ push_many-requires-clause-room g c =
     let i = c.self.invariant in
     let going : answer_of g.N.Named.budget old ≡ None = subst (λ (s : Running). answer_of g.N.Named.budget s ≡ None) (sym c.self.view_is) c.requires.going in
     let held : 1 ≤ holder_of c.self.inside.out.items c.args.process = subst (λ (s : Running). 1 ≤ holder_of s.out c.args.process) (sym c.self.view_is) c.requires.out in
-    let alone : 0 < c.args.entries → c.self.inside.ready.waiting ≡ [] = subst (λ (s : Running). 0 < c.args.entries → s.waiting ≡ []) (sym c.self.view_is) c.requires.alone in
+    let notes : List Letter = c.perform_most-entered.new.notes in
+    let most = c.if-many.most in
+    let part : List Letter = take most notes in
+    let one : c.args.many ≡ false → most ≤ 1 =
+    λ f. elim c.if-many.branch [ then-many w ↦ absurd (true≢false (sym w.if-many.true ∙ f)) | else-many w ↦ omega (arith, w.most-is) ] in
+    let alone : 1 < length part → c.self.inside.ready.waiting ≡ [] =
+    λ h. subst (λ (s : Running). s.waiting ≡ []) (sym c.self.view_is)
+    (c.requires.alone (is_many c.args.many most notes one h)) in
     let first = one_picked g.P.Rule.pick g.N.Named.pick c.self.inside.ready.rule g.met.P.Rule.within i.4 in
-    omega (arith, i.7, spent_few g.N.Named.code g.N.Named.budget g.N.Named.pick old c.args.process c.args.entries c.self.inside.budget c.perform_entries-entered.result c.perform_entries-entered.new.self i.1 i.0 going held alone i.2 i.3 first c.perform_entries-entered.ensures.performs, less g.N.Named.code g.N.Named.budget g.N.Named.pick old c.args.process c.args.entries c.self.inside.budget c.perform_entries-entered.result c.perform_entries-entered.new.self i.1 i.0 going held alone i.2 i.3 first c.perform_entries-entered.ensures.performs, i.6)
+    omega (arith, entries_few g.N.Named.code g.N.Named.budget g.N.Named.pick old c.args.process part c.self.inside.budget c.perform_most-entered.result c.perform_most-entered.new.machine i.1 i.0 going held alone i.2 i.3 first c.perform_most-entered.ensures.performs, operators_few g.N.Named.code g.N.Named.budget g.N.Named.pick old c.args.process part c.self.inside.budget c.perform_most-entered.result c.perform_most-entered.new.machine i.1 i.0 going held alone i.2 i.3 first c.perform_most-entered.ensures.performs, letters_entries g.N.Named.code g.N.Named.budget old i.0, first_few c.deref.result.now c.perform_most-entered.result.entries, spent_few g.N.Named.code g.N.Named.budget g.N.Named.pick old c.args.process part c.self.inside.budget c.perform_most-entered.result c.perform_most-entered.new.machine i.1 i.0 going held alone i.2 i.3 first c.perform_most-entered.ensures.performs, less g.N.Named.code g.N.Named.budget g.N.Named.pick old c.args.process part c.self.inside.budget c.perform_most-entered.result c.perform_most-entered.new.machine i.1 i.0 going held alone i.2 i.3 first c.perform_most-entered.ensures.performs, i.6)
 
 pub push_many-requires-clause-least : goal.push_many-requires-clause-least
 push_many-requires-clause-least g c =
@@ -72,9 +103,16 @@ push_many-requires-clause-least g c =
     let i = c.self.invariant in
     let going : answer_of g.N.Named.budget old ≡ None = subst (λ (s : Running). answer_of g.N.Named.budget s ≡ None) (sym c.self.view_is) c.requires.going in
     let held : 1 ≤ holder_of c.self.inside.out.items c.args.process = subst (λ (s : Running). 1 ≤ holder_of s.out c.args.process) (sym c.self.view_is) c.requires.out in
-    let alone : 0 < c.args.entries → c.self.inside.ready.waiting ≡ [] = subst (λ (s : Running). 0 < c.args.entries → s.waiting ≡ []) (sym c.self.view_is) c.requires.alone in
+    let notes : List Letter = c.perform_most-entered.new.notes in
+    let most = c.if-many.most in
+    let part : List Letter = take most notes in
+    let one : c.args.many ≡ false → most ≤ 1 =
+    λ f. elim c.if-many.branch [ then-many w ↦ absurd (true≢false (sym w.if-many.true ∙ f)) | else-many w ↦ omega (arith, w.most-is) ] in
+    let alone : 1 < length part → c.self.inside.ready.waiting ≡ [] =
+    λ h. subst (λ (s : Running). s.waiting ≡ []) (sym c.self.view_is)
+    (c.requires.alone (is_many c.args.many most notes one h)) in
     let first = one_picked g.P.Rule.pick g.N.Named.pick c.self.inside.ready.rule g.met.P.Rule.within i.4 in
-    (number g.N.Named.code g.N.Named.budget g.N.Named.pick old c.args.process c.args.entries c.self.inside.budget c.perform_entries-entered.result c.perform_entries-entered.new.self i.1 i.0 going held alone i.2 i.3 first c.perform_entries-entered.ensures.performs).0
+    (number g.N.Named.code g.N.Named.budget g.N.Named.pick old c.args.process part c.self.inside.budget c.perform_most-entered.result c.perform_most-entered.new.machine i.1 i.0 going held alone i.2 i.3 first c.perform_most-entered.ensures.performs).0
 
 pub push_many-requires-clause-greatest : goal.push_many-requires-clause-greatest
 push_many-requires-clause-greatest g c =
@@ -91,9 +129,16 @@ push_many-requires-clause-greatest g c =
     let i = c.self.invariant in
     let going : answer_of g.N.Named.budget old ≡ None = subst (λ (s : Running). answer_of g.N.Named.budget s ≡ None) (sym c.self.view_is) c.requires.going in
     let held : 1 ≤ holder_of c.self.inside.out.items c.args.process = subst (λ (s : Running). 1 ≤ holder_of s.out c.args.process) (sym c.self.view_is) c.requires.out in
-    let alone : 0 < c.args.entries → c.self.inside.ready.waiting ≡ [] = subst (λ (s : Running). 0 < c.args.entries → s.waiting ≡ []) (sym c.self.view_is) c.requires.alone in
+    let notes : List Letter = c.perform_most-entered.new.notes in
+    let most = c.if-many.most in
+    let part : List Letter = take most notes in
+    let one : c.args.many ≡ false → most ≤ 1 =
+    λ f. elim c.if-many.branch [ then-many w ↦ absurd (true≢false (sym w.if-many.true ∙ f)) | else-many w ↦ omega (arith, w.most-is) ] in
+    let alone : 1 < length part → c.self.inside.ready.waiting ≡ [] =
+    λ h. subst (λ (s : Running). s.waiting ≡ []) (sym c.self.view_is)
+    (c.requires.alone (is_many c.args.many most notes one h)) in
     let first = one_picked g.P.Rule.pick g.N.Named.pick c.self.inside.ready.rule g.met.P.Rule.within i.4 in
-    let n = number g.N.Named.code g.N.Named.budget g.N.Named.pick old c.args.process c.args.entries c.self.inside.budget c.perform_entries-entered.result c.perform_entries-entered.new.self i.1 i.0 going held alone i.2 i.3 first c.perform_entries-entered.ensures.performs in
+    let n = number g.N.Named.code g.N.Named.budget g.N.Named.pick old c.args.process part c.self.inside.budget c.perform_most-entered.result c.perform_most-entered.new.machine i.1 i.0 going held alone i.2 i.3 first c.perform_most-entered.ensures.performs in
     omega (arith, n.1)
 
 pub push_many-requires-clause-actions : goal.push_many-requires-clause-actions
@@ -111,9 +156,16 @@ push_many-requires-clause-actions g c =
     let i = c.self.invariant in
     let going : answer_of g.N.Named.budget old ≡ None = subst (λ (s : Running). answer_of g.N.Named.budget s ≡ None) (sym c.self.view_is) c.requires.going in
     let held : 1 ≤ holder_of c.self.inside.out.items c.args.process = subst (λ (s : Running). 1 ≤ holder_of s.out c.args.process) (sym c.self.view_is) c.requires.out in
-    let alone : 0 < c.args.entries → c.self.inside.ready.waiting ≡ [] = subst (λ (s : Running). 0 < c.args.entries → s.waiting ≡ []) (sym c.self.view_is) c.requires.alone in
+    let notes : List Letter = c.perform_most-entered.new.notes in
+    let most = c.if-many.most in
+    let part : List Letter = take most notes in
+    let one : c.args.many ≡ false → most ≤ 1 =
+    λ f. elim c.if-many.branch [ then-many w ↦ absurd (true≢false (sym w.if-many.true ∙ f)) | else-many w ↦ omega (arith, w.most-is) ] in
+    let alone : 1 < length part → c.self.inside.ready.waiting ≡ [] =
+    λ h. subst (λ (s : Running). s.waiting ≡ []) (sym c.self.view_is)
+    (c.requires.alone (is_many c.args.many most notes one h)) in
     let first = one_picked g.P.Rule.pick g.N.Named.pick c.self.inside.ready.rule g.met.P.Rule.within i.4 in
-    omega (arith, spent_few g.N.Named.code g.N.Named.budget g.N.Named.pick old c.args.process c.args.entries c.self.inside.budget c.perform_entries-entered.result c.perform_entries-entered.new.self i.1 i.0 going held alone i.2 i.3 first c.perform_entries-entered.ensures.performs, entries_few g.N.Named.code g.N.Named.budget g.N.Named.pick old c.args.process c.args.entries c.self.inside.budget c.perform_entries-entered.result c.perform_entries-entered.new.self i.1 i.0 going held alone i.2 i.3 first c.perform_entries-entered.ensures.performs, operators_few g.N.Named.code g.N.Named.budget g.N.Named.pick old c.args.process c.args.entries c.self.inside.budget c.perform_entries-entered.result c.perform_entries-entered.new.self i.1 i.0 going held alone i.2 i.3 first c.perform_entries-entered.ensures.performs, i.3, budget_is)
+    omega (arith, letters_entries g.N.Named.code g.N.Named.budget old i.0, first_few c.deref.result.now c.perform_most-entered.result.entries, less g.N.Named.code g.N.Named.budget g.N.Named.pick old c.args.process part c.self.inside.budget c.perform_most-entered.result c.perform_most-entered.new.machine i.1 i.0 going held alone i.2 i.3 first c.perform_most-entered.ensures.performs, spent_few g.N.Named.code g.N.Named.budget g.N.Named.pick old c.args.process part c.self.inside.budget c.perform_most-entered.result c.perform_most-entered.new.machine i.1 i.0 going held alone i.2 i.3 first c.perform_most-entered.ensures.performs, entries_few g.N.Named.code g.N.Named.budget g.N.Named.pick old c.args.process part c.self.inside.budget c.perform_most-entered.result c.perform_most-entered.new.machine i.1 i.0 going held alone i.2 i.3 first c.perform_most-entered.ensures.performs, operators_few g.N.Named.code g.N.Named.budget g.N.Named.pick old c.args.process part c.self.inside.budget c.perform_most-entered.result c.perform_most-entered.new.machine i.1 i.0 going held alone i.2 i.3 first c.perform_most-entered.ensures.performs, i.3, budget_is)
 
 pub take_again-requires : goal.take_again-requires
 take_again-requires g c =
@@ -130,9 +182,16 @@ take_again-requires g c =
     let i = c.self.invariant in
     let going : answer_of g.N.Named.budget old ≡ None = subst (λ (s : Running). answer_of g.N.Named.budget s ≡ None) (sym c.self.view_is) c.requires.going in
     let held : 1 ≤ holder_of c.self.inside.out.items c.args.process = subst (λ (s : Running). 1 ≤ holder_of s.out c.args.process) (sym c.self.view_is) c.requires.out in
-    let alone : 0 < c.args.entries → c.self.inside.ready.waiting ≡ [] = subst (λ (s : Running). 0 < c.args.entries → s.waiting ≡ []) (sym c.self.view_is) c.requires.alone in
+    let notes : List Letter = c.perform_most-entered.new.notes in
+    let most = c.if-many.most in
+    let part : List Letter = take most notes in
+    let one : c.args.many ≡ false → most ≤ 1 =
+    λ f. elim c.if-many.branch [ then-many w ↦ absurd (true≢false (sym w.if-many.true ∙ f)) | else-many w ↦ omega (arith, w.most-is) ] in
+    let alone : 1 < length part → c.self.inside.ready.waiting ≡ [] =
+    λ h. subst (λ (s : Running). s.waiting ≡ []) (sym c.self.view_is)
+    (c.requires.alone (is_many c.args.many most notes one h)) in
     let first = one_picked g.P.Rule.pick g.N.Named.pick c.self.inside.ready.rule g.met.P.Rule.within i.4 in
-    λ some. alone (omega (arith, some, c.perform_entries-entered.ensures.performs.few))
+    λ some. alone (omega (arith, some, c.perform_most-entered.ensures.performs.few))
 
 pub overflow_add-seat : goal.overflow_add-seat
 overflow_add-seat g c =
@@ -149,9 +208,16 @@ overflow_add-seat g c =
     let i = c.self.invariant in
     let going : answer_of g.N.Named.budget old ≡ None = subst (λ (s : Running). answer_of g.N.Named.budget s ≡ None) (sym c.self.view_is) c.requires.going in
     let held : 1 ≤ holder_of c.self.inside.out.items c.args.process = subst (λ (s : Running). 1 ≤ holder_of s.out c.args.process) (sym c.self.view_is) c.requires.out in
-    let alone : 0 < c.args.entries → c.self.inside.ready.waiting ≡ [] = subst (λ (s : Running). 0 < c.args.entries → s.waiting ≡ []) (sym c.self.view_is) c.requires.alone in
+    let notes : List Letter = c.perform_most-entered.new.notes in
+    let most = c.if-many.most in
+    let part : List Letter = take most notes in
+    let one : c.args.many ≡ false → most ≤ 1 =
+    λ f. elim c.if-many.branch [ then-many w ↦ absurd (true≢false (sym w.if-many.true ∙ f)) | else-many w ↦ omega (arith, w.most-is) ] in
+    let alone : 1 < length part → c.self.inside.ready.waiting ≡ [] =
+    λ h. subst (λ (s : Running). s.waiting ≡ []) (sym c.self.view_is)
+    (c.requires.alone (is_many c.args.many most notes one h)) in
     let first = one_picked g.P.Rule.pick g.N.Named.pick c.self.inside.ready.rule g.met.P.Rule.within i.4 in
-    omega (arith, c.args.seat.now.counted, c.audit.ensures.bound, i.0.acts, spent_few g.N.Named.code g.N.Named.budget g.N.Named.pick old c.args.process c.args.entries c.self.inside.budget c.perform_entries-entered.result c.perform_entries-entered.new.self i.1 i.0 going held alone i.2 i.3 first c.perform_entries-entered.ensures.performs, entries_few g.N.Named.code g.N.Named.budget g.N.Named.pick old c.args.process c.args.entries c.self.inside.budget c.perform_entries-entered.result c.perform_entries-entered.new.self i.1 i.0 going held alone i.2 i.3 first c.perform_entries-entered.ensures.performs, operators_few g.N.Named.code g.N.Named.budget g.N.Named.pick old c.args.process c.args.entries c.self.inside.budget c.perform_entries-entered.result c.perform_entries-entered.new.self i.1 i.0 going held alone i.2 i.3 first c.perform_entries-entered.ensures.performs, i.3, budget_is)
+    omega (arith, c.args.seat.now.counted, c.audit.ensures.bound, i.0.acts, spent_few g.N.Named.code g.N.Named.budget g.N.Named.pick old c.args.process part c.self.inside.budget c.perform_most-entered.result c.perform_most-entered.new.machine i.1 i.0 going held alone i.2 i.3 first c.perform_most-entered.ensures.performs, entries_few g.N.Named.code g.N.Named.budget g.N.Named.pick old c.args.process part c.self.inside.budget c.perform_most-entered.result c.perform_most-entered.new.machine i.1 i.0 going held alone i.2 i.3 first c.perform_most-entered.ensures.performs, operators_few g.N.Named.code g.N.Named.budget g.N.Named.pick old c.args.process part c.self.inside.budget c.perform_most-entered.result c.perform_most-entered.new.machine i.1 i.0 going held alone i.2 i.3 first c.perform_most-entered.ensures.performs, i.3, budget_is)
 
 pub invariant_of-self : goal.invariant_of-self
 invariant_of-self g c =
@@ -168,28 +234,38 @@ invariant_of-self g c =
     let i = c.self.invariant in
     let going : answer_of g.N.Named.budget old ≡ None = subst (λ (s : Running). answer_of g.N.Named.budget s ≡ None) (sym c.self.view_is) c.requires.going in
     let held : 1 ≤ holder_of c.self.inside.out.items c.args.process = subst (λ (s : Running). 1 ≤ holder_of s.out c.args.process) (sym c.self.view_is) c.requires.out in
-    let alone : 0 < c.args.entries → c.self.inside.ready.waiting ≡ [] = subst (λ (s : Running). 0 < c.args.entries → s.waiting ≡ []) (sym c.self.view_is) c.requires.alone in
+    let notes : List Letter = c.perform_most-entered.new.notes in
+    let most = c.if-many.most in
+    let part : List Letter = take most notes in
+    let one : c.args.many ≡ false → most ≤ 1 =
+    λ f. elim c.if-many.branch [ then-many w ↦ absurd (true≢false (sym w.if-many.true ∙ f)) | else-many w ↦ omega (arith, w.most-is) ] in
+    let alone : 1 < length part → c.self.inside.ready.waiting ≡ [] =
+    λ h. subst (λ (s : Running). s.waiting ≡ []) (sym c.self.view_is)
+    (c.requires.alone (is_many c.args.many most notes one h)) in
     let first = one_picked g.P.Rule.pick g.N.Named.pick c.self.inside.ready.rule g.met.P.Rule.within i.4 in
     let s : Schedule = c.push_many.new.self in
-    let grown : Grown c.self.inside.schedule c.args.process c.perform_entries-entered.result.entries s = record { added = c.push_many.ensures.added; none = c.push_many.ensures.none } in
-    let mid : Running = turned old c.perform_entries-entered.result.entries c.perform_entries-entered.result.operators c.perform_entries-entered.ensures.performs.between s in
-    let st : StandsOut g.N.Named.code g.N.Named.budget c.args.process mid = stands_then g.N.Named.code g.N.Named.budget g.N.Named.pick old c.args.process c.args.entries c.self.inside.budget c.perform_entries-entered.result c.perform_entries-entered.new.self i.1 i.0 going held alone i.2 i.3 first c.perform_entries-entered.ensures.performs s grown in
-    let performs : Performs c.perform_entries-entered.ensures.performs.between c.args.process (c.self.inside.budget - mid.spent) c.perform_entries-entered.result.last c.perform_entries-entered.new.self = last_performs g.N.Named.code g.N.Named.budget g.N.Named.pick old c.args.process c.args.entries c.self.inside.budget c.perform_entries-entered.result c.perform_entries-entered.new.self i.1 i.0 going held alone i.2 i.3 first c.perform_entries-entered.ensures.performs s grown in
-    let same = same_queue c.self.inside.ready c.take_again.new.self (counted_times c.perform_entries-entered.result.entries c.self.inside.ready.takes) c.take_again.ensures.counted in
+    let whole = with_items_is c.self.inside.notes notes (c.perform_most-entered.ensures.size ∙ c.deref_mut.ensures.len) in
+    let grown : Grown c.self.inside.schedule c.args.process (take c.perform_most-entered.result.entries part) s =
+    grown_by c.self.inside.schedule s c.args.process c.deref.result.now notes most c.perform_most-entered.result.entries (c.deref.ensures.value ∙ whole)
+    c.perform_most-entered.ensures.performs.few c.push_many.ensures.added c.push_many.ensures.letters c.push_many.ensures.none in
+    let mid : Running = turned old c.perform_most-entered.result.entries c.perform_most-entered.result.operators c.perform_most-entered.ensures.performs.between s in
+    let st : StandsOut g.N.Named.code g.N.Named.budget c.args.process mid = stands_then g.N.Named.code g.N.Named.budget g.N.Named.pick old c.args.process part c.self.inside.budget c.perform_most-entered.result c.perform_most-entered.new.machine i.1 i.0 going held alone i.2 i.3 first c.perform_most-entered.ensures.performs s grown in
+    let performs : Performs c.perform_most-entered.ensures.performs.between c.args.process (c.self.inside.budget - mid.spent) c.perform_most-entered.result.last c.perform_most-entered.new.machine = last_performs g.N.Named.code g.N.Named.budget g.N.Named.pick old c.args.process part c.self.inside.budget c.perform_most-entered.result c.perform_most-entered.new.machine i.1 i.0 going held alone i.2 i.3 first c.perform_most-entered.ensures.performs s grown in
+    let same = same_queue c.self.inside.ready c.take_again.new.self (counted_times c.perform_most-entered.result.entries c.self.inside.ready.takes) c.take_again.ensures.counted in
     let kept = same.waiting in
     let takes = same.takes in
-    let none : is_action c.perform_entries-entered.result.last.done ≡ false = sym c.is_action.ensures ∙ c.if-not-is_action.true in
-    let new : Running = record mid { machine = c.perform_entries-entered.new.self; spent = mid.spent + c.perform_entries-entered.result.last.plain } in
-    let acts : ActsOnce g.N.Named.budget mid c.args.process c.perform_entries-entered.result.last new =
-    once g.N.Named.budget mid c.args.process c.perform_entries-entered.result.last new c.self.inside.budget i.2 performs false none
+    let none : is_action c.perform_most-entered.result.last.done ≡ false = sym c.is_action.ensures ∙ c.if-not-is_action.true in
+    let new : Running = record mid { machine = c.perform_most-entered.new.machine; spent = mid.spent + c.perform_most-entered.result.last.plain } in
+    let acts : ActsOnce g.N.Named.budget mid c.args.process c.perform_most-entered.result.last new =
+    once g.N.Named.budget mid c.args.process c.perform_most-entered.result.last new c.self.inside.budget i.2 performs false none
     (omega arith) (record { schedule = refl; out = refl; waiting = refl; acts = refl }) refl refl in
     let written : Running = record {
-      machine = c.perform_entries-entered.new.self;
+      machine = c.perform_most-entered.new.machine;
       waiting = c.take_again.new.self.waiting;
       takes = c.take_again.new.self.takes;
       out = c.self.inside.out.items;
       schedule = s;
-      spent = c.self.inside.spent + c.perform_entries-entered.result.operators + c.perform_entries-entered.result.last.plain;
+      spent = c.self.inside.spent + c.perform_most-entered.result.operators + c.perform_most-entered.result.last.plain;
       acts = c.add.new.self.total;
       leaves = c.self.inside.leaves.total;
     } in
@@ -197,18 +273,18 @@ invariant_of-self g c =
     let is : written ≡ new =
     ap (λ (k : ℕ). record written { acts = k }) same_acts ∙ ap (λ (ws : List ℕ). record new { waiting = ws; takes = c.take_again.new.self.takes }) kept
     ∙ ap (λ (k : ℕ). record new { takes = k }) takes in
-    let x : Given g.N.Named.code g.N.Named.budget mid c.args.process c.perform_entries-entered.result.last new =
-    given g.N.Named.code g.N.Named.budget mid c.args.process c.perform_entries-entered.result.last new i.1 st.stands st.going st.out c.perform_entries-entered.ensures.valid acts in (
+    let x : Given g.N.Named.code g.N.Named.budget mid c.args.process c.perform_most-entered.result.last new =
+    given g.N.Named.code g.N.Named.budget mid c.args.process c.perform_most-entered.result.last new i.1 st.stands st.going st.out c.perform_most-entered.ensures.valid acts in (
       subst (Stands g.N.Named.code g.N.Named.budget) (sym is)
-          (stands_after g.N.Named.code g.N.Named.budget mid c.args.process c.perform_entries-entered.result.last new x),
+          (stands_after g.N.Named.code g.N.Named.budget mid c.args.process c.perform_most-entered.result.last new x),
       i.1,
       i.2,
       i.3,
       λ k takes. ap (λ r. g.P.Rule.pick r k takes) same.rule ∙ i.4 k takes,
       omega (arith, i.5, same.room),
       omega (arith, i.6, c.push_many.ensures.room),
-      runs_few g.N.Named.code g.N.Named.budget g.N.Named.pick old c.args.process c.args.entries c.self.inside.budget c.perform_entries-entered.result c.perform_entries-entered.new.self i.1 i.0 going held alone i.2 i.3 first c.perform_entries-entered.ensures.performs s grown i.7 c.push_many.ensures.longer,
-      c.lacks-self-inside.ensures ∙ sym (lacked_after mid.machine c.perform_entries-entered.new.self c.args.process (c.self.inside.budget - mid.spent) c.perform_entries-entered.result.last (goes_on g.N.Named.budget mid st.going).lacked performs),
+      omega (arith, ap length whole, c.perform_most-entered.ensures.size, ap length c.deref_mut.ensures.value, i.7),
+      c.lacks-self-inside.ensures ∙ sym (lacked_after mid.machine c.perform_most-entered.new.machine c.args.process (c.self.inside.budget - mid.spent) c.perform_most-entered.result.last (goes_on g.N.Named.budget mid st.going).lacked performs),
       i.9,
     )
 
@@ -227,28 +303,38 @@ returns-then-not-is_action-clause-acts g c =
     let i = c.self.invariant in
     let going : answer_of g.N.Named.budget old ≡ None = subst (λ (s : Running). answer_of g.N.Named.budget s ≡ None) (sym c.self.view_is) c.requires.going in
     let held : 1 ≤ holder_of c.self.inside.out.items c.args.process = subst (λ (s : Running). 1 ≤ holder_of s.out c.args.process) (sym c.self.view_is) c.requires.out in
-    let alone : 0 < c.args.entries → c.self.inside.ready.waiting ≡ [] = subst (λ (s : Running). 0 < c.args.entries → s.waiting ≡ []) (sym c.self.view_is) c.requires.alone in
+    let notes : List Letter = c.perform_most-entered.new.notes in
+    let most = c.if-many.most in
+    let part : List Letter = take most notes in
+    let one : c.args.many ≡ false → most ≤ 1 =
+    λ f. elim c.if-many.branch [ then-many w ↦ absurd (true≢false (sym w.if-many.true ∙ f)) | else-many w ↦ omega (arith, w.most-is) ] in
+    let alone : 1 < length part → c.self.inside.ready.waiting ≡ [] =
+    λ h. subst (λ (s : Running). s.waiting ≡ []) (sym c.self.view_is)
+    (c.requires.alone (is_many c.args.many most notes one h)) in
     let first = one_picked g.P.Rule.pick g.N.Named.pick c.self.inside.ready.rule g.met.P.Rule.within i.4 in
     let s : Schedule = c.push_many.new.self in
-    let grown : Grown c.self.inside.schedule c.args.process c.perform_entries-entered.result.entries s = record { added = c.push_many.ensures.added; none = c.push_many.ensures.none } in
-    let mid : Running = turned old c.perform_entries-entered.result.entries c.perform_entries-entered.result.operators c.perform_entries-entered.ensures.performs.between s in
-    let st : StandsOut g.N.Named.code g.N.Named.budget c.args.process mid = stands_then g.N.Named.code g.N.Named.budget g.N.Named.pick old c.args.process c.args.entries c.self.inside.budget c.perform_entries-entered.result c.perform_entries-entered.new.self i.1 i.0 going held alone i.2 i.3 first c.perform_entries-entered.ensures.performs s grown in
-    let performs : Performs c.perform_entries-entered.ensures.performs.between c.args.process (c.self.inside.budget - mid.spent) c.perform_entries-entered.result.last c.perform_entries-entered.new.self = last_performs g.N.Named.code g.N.Named.budget g.N.Named.pick old c.args.process c.args.entries c.self.inside.budget c.perform_entries-entered.result c.perform_entries-entered.new.self i.1 i.0 going held alone i.2 i.3 first c.perform_entries-entered.ensures.performs s grown in
-    let same = same_queue c.self.inside.ready c.take_again.new.self (counted_times c.perform_entries-entered.result.entries c.self.inside.ready.takes) c.take_again.ensures.counted in
+    let whole = with_items_is c.self.inside.notes notes (c.perform_most-entered.ensures.size ∙ c.deref_mut.ensures.len) in
+    let grown : Grown c.self.inside.schedule c.args.process (take c.perform_most-entered.result.entries part) s =
+    grown_by c.self.inside.schedule s c.args.process c.deref.result.now notes most c.perform_most-entered.result.entries (c.deref.ensures.value ∙ whole)
+    c.perform_most-entered.ensures.performs.few c.push_many.ensures.added c.push_many.ensures.letters c.push_many.ensures.none in
+    let mid : Running = turned old c.perform_most-entered.result.entries c.perform_most-entered.result.operators c.perform_most-entered.ensures.performs.between s in
+    let st : StandsOut g.N.Named.code g.N.Named.budget c.args.process mid = stands_then g.N.Named.code g.N.Named.budget g.N.Named.pick old c.args.process part c.self.inside.budget c.perform_most-entered.result c.perform_most-entered.new.machine i.1 i.0 going held alone i.2 i.3 first c.perform_most-entered.ensures.performs s grown in
+    let performs : Performs c.perform_most-entered.ensures.performs.between c.args.process (c.self.inside.budget - mid.spent) c.perform_most-entered.result.last c.perform_most-entered.new.machine = last_performs g.N.Named.code g.N.Named.budget g.N.Named.pick old c.args.process part c.self.inside.budget c.perform_most-entered.result c.perform_most-entered.new.machine i.1 i.0 going held alone i.2 i.3 first c.perform_most-entered.ensures.performs s grown in
+    let same = same_queue c.self.inside.ready c.take_again.new.self (counted_times c.perform_most-entered.result.entries c.self.inside.ready.takes) c.take_again.ensures.counted in
     let kept = same.waiting in
     let takes = same.takes in
-    let none : is_action c.perform_entries-entered.result.last.done ≡ false = sym c.is_action.ensures ∙ c.if-not-is_action.true in
-    let new : Running = record mid { machine = c.perform_entries-entered.new.self; spent = mid.spent + c.perform_entries-entered.result.last.plain } in
-    let acts : ActsOnce g.N.Named.budget mid c.args.process c.perform_entries-entered.result.last new =
-    once g.N.Named.budget mid c.args.process c.perform_entries-entered.result.last new c.self.inside.budget i.2 performs false none
+    let none : is_action c.perform_most-entered.result.last.done ≡ false = sym c.is_action.ensures ∙ c.if-not-is_action.true in
+    let new : Running = record mid { machine = c.perform_most-entered.new.machine; spent = mid.spent + c.perform_most-entered.result.last.plain } in
+    let acts : ActsOnce g.N.Named.budget mid c.args.process c.perform_most-entered.result.last new =
+    once g.N.Named.budget mid c.args.process c.perform_most-entered.result.last new c.self.inside.budget i.2 performs false none
     (omega arith) (record { schedule = refl; out = refl; waiting = refl; acts = refl }) refl refl in
     let written : Running = record {
-      machine = c.perform_entries-entered.new.self;
+      machine = c.perform_most-entered.new.machine;
       waiting = c.take_again.new.self.waiting;
       takes = c.take_again.new.self.takes;
       out = c.self.inside.out.items;
       schedule = s;
-      spent = c.self.inside.spent + c.perform_entries-entered.result.operators + c.perform_entries-entered.result.last.plain;
+      spent = c.self.inside.spent + c.perform_most-entered.result.operators + c.perform_most-entered.result.last.plain;
       acts = c.add.new.self.total;
       leaves = c.self.inside.leaves.total;
     } in
@@ -256,18 +342,18 @@ returns-then-not-is_action-clause-acts g c =
     let is : written ≡ new =
     ap (λ (k : ℕ). record written { acts = k }) same_acts ∙ ap (λ (ws : List ℕ). record new { waiting = ws; takes = c.take_again.new.self.takes }) kept
     ∙ ap (λ (k : ℕ). record new { takes = k }) takes in (
-      c.perform_entries-entered.result.entries,
-      c.perform_entries-entered.ensures.performs.few,
-      c.perform_entries-entered.result.last,
-      subst (λ (z : Running). ActsMany g.N.Named.pick g.N.Named.budget z c.args.process c.perform_entries-entered.result.entries c.perform_entries-entered.result.last written) c.self.view_is (record {
+      c.perform_most-entered.result.entries,
+      (λ f. omega (arith, c.perform_most-entered.ensures.performs.few, first_few notes most, one f)),
+      c.perform_most-entered.result.last,
+      subst (λ (z : Running). ActsMany g.N.Named.pick g.N.Named.budget z c.args.process c.perform_most-entered.result.entries c.perform_most-entered.result.last written) c.self.view_is (record {
         between = mid;
-        acts = acts_on g.N.Named.code g.N.Named.budget g.N.Named.pick old c.args.process c.args.entries c.self.inside.budget c.perform_entries-entered.result c.perform_entries-entered.new.self i.1 i.0 going held alone i.2 i.3 first c.perform_entries-entered.ensures.performs s grown;
-        last = subst (ActsOnce g.N.Named.budget mid c.args.process c.perform_entries-entered.result.last) (sym is) acts;
+        acts = acts_on g.N.Named.code g.N.Named.budget g.N.Named.pick old c.args.process part c.self.inside.budget c.perform_most-entered.result c.perform_most-entered.new.machine i.1 i.0 going held alone i.2 i.3 first c.perform_most-entered.ensures.performs s grown;
+        last = subst (ActsOnce g.N.Named.budget mid c.args.process c.perform_most-entered.result.last) (sym is) acts;
       }),
       c.answer_to-answer.ensures,
-      subst (λ a. IsActed a (c.args.seat.now.count + c.perform_entries-entered.result.entries) (c.args.seat.now.count + c.from-2.result)) (sym c.answer_to-answer.ensures)
-          (subst (λ (k : ℕ). IsActed (answer_to c.perform_entries-entered.result.last.done) (c.args.seat.now.count + c.perform_entries-entered.result.entries) (c.args.seat.now.count + k)) (sym c.from-2.ensures)
-          (counts_none c.perform_entries-entered.result.last.done (c.args.seat.now.count + c.perform_entries-entered.result.entries) none)),
+      subst (λ a. IsActed a (c.args.seat.now.count + c.perform_most-entered.result.entries) (c.args.seat.now.count + c.from-2.result)) (sym c.answer_to-answer.ensures)
+          (subst (λ (k : ℕ). IsActed (answer_to c.perform_most-entered.result.last.done) (c.args.seat.now.count + c.perform_most-entered.result.entries) (c.args.seat.now.count + k)) (sym c.from-2.ensures)
+          (counts_none c.perform_most-entered.result.last.done (c.args.seat.now.count + c.perform_most-entered.result.entries) none)),
     )
 
 pub push-requires-clause-room : goal.push-requires-clause-room
@@ -285,17 +371,27 @@ push-requires-clause-room g c =
     let i = c.self.invariant in
     let going : answer_of g.N.Named.budget old ≡ None = subst (λ (s : Running). answer_of g.N.Named.budget s ≡ None) (sym c.self.view_is) c.requires.going in
     let held : 1 ≤ holder_of c.self.inside.out.items c.args.process = subst (λ (s : Running). 1 ≤ holder_of s.out c.args.process) (sym c.self.view_is) c.requires.out in
-    let alone : 0 < c.args.entries → c.self.inside.ready.waiting ≡ [] = subst (λ (s : Running). 0 < c.args.entries → s.waiting ≡ []) (sym c.self.view_is) c.requires.alone in
+    let notes : List Letter = c.perform_most-entered.new.notes in
+    let most = c.if-many.most in
+    let part : List Letter = take most notes in
+    let one : c.args.many ≡ false → most ≤ 1 =
+    λ f. elim c.if-many.branch [ then-many w ↦ absurd (true≢false (sym w.if-many.true ∙ f)) | else-many w ↦ omega (arith, w.most-is) ] in
+    let alone : 1 < length part → c.self.inside.ready.waiting ≡ [] =
+    λ h. subst (λ (s : Running). s.waiting ≡ []) (sym c.self.view_is)
+    (c.requires.alone (is_many c.args.many most notes one h)) in
     let first = one_picked g.P.Rule.pick g.N.Named.pick c.self.inside.ready.rule g.met.P.Rule.within i.4 in
     let s : Schedule = c.push_many.new.self in
-    let grown : Grown c.self.inside.schedule c.args.process c.perform_entries-entered.result.entries s = record { added = c.push_many.ensures.added; none = c.push_many.ensures.none } in
-    let mid : Running = turned old c.perform_entries-entered.result.entries c.perform_entries-entered.result.operators c.perform_entries-entered.ensures.performs.between s in
-    let st : StandsOut g.N.Named.code g.N.Named.budget c.args.process mid = stands_then g.N.Named.code g.N.Named.budget g.N.Named.pick old c.args.process c.args.entries c.self.inside.budget c.perform_entries-entered.result c.perform_entries-entered.new.self i.1 i.0 going held alone i.2 i.3 first c.perform_entries-entered.ensures.performs s grown in
-    let performs : Performs c.perform_entries-entered.ensures.performs.between c.args.process (c.self.inside.budget - mid.spent) c.perform_entries-entered.result.last c.perform_entries-entered.new.self = last_performs g.N.Named.code g.N.Named.budget g.N.Named.pick old c.args.process c.args.entries c.self.inside.budget c.perform_entries-entered.result c.perform_entries-entered.new.self i.1 i.0 going held alone i.2 i.3 first c.perform_entries-entered.ensures.performs s grown in
-    let same = same_queue c.self.inside.ready c.take_again.new.self (counted_times c.perform_entries-entered.result.entries c.self.inside.ready.takes) c.take_again.ensures.counted in
+    let whole = with_items_is c.self.inside.notes notes (c.perform_most-entered.ensures.size ∙ c.deref_mut.ensures.len) in
+    let grown : Grown c.self.inside.schedule c.args.process (take c.perform_most-entered.result.entries part) s =
+    grown_by c.self.inside.schedule s c.args.process c.deref.result.now notes most c.perform_most-entered.result.entries (c.deref.ensures.value ∙ whole)
+    c.perform_most-entered.ensures.performs.few c.push_many.ensures.added c.push_many.ensures.letters c.push_many.ensures.none in
+    let mid : Running = turned old c.perform_most-entered.result.entries c.perform_most-entered.result.operators c.perform_most-entered.ensures.performs.between s in
+    let st : StandsOut g.N.Named.code g.N.Named.budget c.args.process mid = stands_then g.N.Named.code g.N.Named.budget g.N.Named.pick old c.args.process part c.self.inside.budget c.perform_most-entered.result c.perform_most-entered.new.machine i.1 i.0 going held alone i.2 i.3 first c.perform_most-entered.ensures.performs s grown in
+    let performs : Performs c.perform_most-entered.ensures.performs.between c.args.process (c.self.inside.budget - mid.spent) c.perform_most-entered.result.last c.perform_most-entered.new.machine = last_performs g.N.Named.code g.N.Named.budget g.N.Named.pick old c.args.process part c.self.inside.budget c.perform_most-entered.result c.perform_most-entered.new.machine i.1 i.0 going held alone i.2 i.3 first c.perform_most-entered.ensures.performs s grown in
+    let same = same_queue c.self.inside.ready c.take_again.new.self (counted_times c.perform_most-entered.result.entries c.self.inside.ready.takes) c.take_again.ensures.counted in
     let kept = same.waiting in
     let takes = same.takes in
-    omega (arith, runs_few g.N.Named.code g.N.Named.budget g.N.Named.pick old c.args.process c.args.entries c.self.inside.budget c.perform_entries-entered.result c.perform_entries-entered.new.self i.1 i.0 going held alone i.2 i.3 first c.perform_entries-entered.ensures.performs s grown i.7 c.push_many.ensures.longer, entries_then g.N.Named.code g.N.Named.budget g.N.Named.pick old c.args.process c.args.entries c.self.inside.budget c.perform_entries-entered.result c.perform_entries-entered.new.self i.1 i.0 going held alone i.2 i.3 first c.perform_entries-entered.ensures.performs s grown, operators_few g.N.Named.code g.N.Named.budget g.N.Named.pick old c.args.process c.args.entries c.self.inside.budget c.perform_entries-entered.result c.perform_entries-entered.new.self i.1 i.0 going held alone i.2 i.3 first c.perform_entries-entered.ensures.performs, less g.N.Named.code g.N.Named.budget g.N.Named.pick old c.args.process c.args.entries c.self.inside.budget c.perform_entries-entered.result c.perform_entries-entered.new.self i.1 i.0 going held alone i.2 i.3 first c.perform_entries-entered.ensures.performs, i.6, c.push_many.ensures.room)
+    omega (arith, letters_entries g.N.Named.code g.N.Named.budget mid st.stands, entries_then g.N.Named.code g.N.Named.budget g.N.Named.pick old c.args.process part c.self.inside.budget c.perform_most-entered.result c.perform_most-entered.new.machine i.1 i.0 going held alone i.2 i.3 first c.perform_most-entered.ensures.performs s grown, operators_few g.N.Named.code g.N.Named.budget g.N.Named.pick old c.args.process part c.self.inside.budget c.perform_most-entered.result c.perform_most-entered.new.machine i.1 i.0 going held alone i.2 i.3 first c.perform_most-entered.ensures.performs, less g.N.Named.code g.N.Named.budget g.N.Named.pick old c.args.process part c.self.inside.budget c.perform_most-entered.result c.perform_most-entered.new.machine i.1 i.0 going held alone i.2 i.3 first c.perform_most-entered.ensures.performs, i.6, c.push_many.ensures.room)
 
 pub push-requires-clause-greatest : goal.push-requires-clause-greatest
 push-requires-clause-greatest g c =
@@ -312,9 +408,16 @@ push-requires-clause-greatest g c =
     let i = c.self.invariant in
     let going : answer_of g.N.Named.budget old ≡ None = subst (λ (s : Running). answer_of g.N.Named.budget s ≡ None) (sym c.self.view_is) c.requires.going in
     let held : 1 ≤ holder_of c.self.inside.out.items c.args.process = subst (λ (s : Running). 1 ≤ holder_of s.out c.args.process) (sym c.self.view_is) c.requires.out in
-    let alone : 0 < c.args.entries → c.self.inside.ready.waiting ≡ [] = subst (λ (s : Running). 0 < c.args.entries → s.waiting ≡ []) (sym c.self.view_is) c.requires.alone in
+    let notes : List Letter = c.perform_most-entered.new.notes in
+    let most = c.if-many.most in
+    let part : List Letter = take most notes in
+    let one : c.args.many ≡ false → most ≤ 1 =
+    λ f. elim c.if-many.branch [ then-many w ↦ absurd (true≢false (sym w.if-many.true ∙ f)) | else-many w ↦ omega (arith, w.most-is) ] in
+    let alone : 1 < length part → c.self.inside.ready.waiting ≡ [] =
+    λ h. subst (λ (s : Running). s.waiting ≡ []) (sym c.self.view_is)
+    (c.requires.alone (is_many c.args.many most notes one h)) in
     let first = one_picked g.P.Rule.pick g.N.Named.pick c.self.inside.ready.rule g.met.P.Rule.within i.4 in
-    let n = number g.N.Named.code g.N.Named.budget g.N.Named.pick old c.args.process c.args.entries c.self.inside.budget c.perform_entries-entered.result c.perform_entries-entered.new.self i.1 i.0 going held alone i.2 i.3 first c.perform_entries-entered.ensures.performs in
+    let n = number g.N.Named.code g.N.Named.budget g.N.Named.pick old c.args.process part c.self.inside.budget c.perform_most-entered.result c.perform_most-entered.new.machine i.1 i.0 going held alone i.2 i.3 first c.perform_most-entered.ensures.performs in
     omega (arith, n.1)
 
 pub push-requires-clause-least : goal.push-requires-clause-least
@@ -332,9 +435,16 @@ push-requires-clause-least g c =
     let i = c.self.invariant in
     let going : answer_of g.N.Named.budget old ≡ None = subst (λ (s : Running). answer_of g.N.Named.budget s ≡ None) (sym c.self.view_is) c.requires.going in
     let held : 1 ≤ holder_of c.self.inside.out.items c.args.process = subst (λ (s : Running). 1 ≤ holder_of s.out c.args.process) (sym c.self.view_is) c.requires.out in
-    let alone : 0 < c.args.entries → c.self.inside.ready.waiting ≡ [] = subst (λ (s : Running). 0 < c.args.entries → s.waiting ≡ []) (sym c.self.view_is) c.requires.alone in
+    let notes : List Letter = c.perform_most-entered.new.notes in
+    let most = c.if-many.most in
+    let part : List Letter = take most notes in
+    let one : c.args.many ≡ false → most ≤ 1 =
+    λ f. elim c.if-many.branch [ then-many w ↦ absurd (true≢false (sym w.if-many.true ∙ f)) | else-many w ↦ omega (arith, w.most-is) ] in
+    let alone : 1 < length part → c.self.inside.ready.waiting ≡ [] =
+    λ h. subst (λ (s : Running). s.waiting ≡ []) (sym c.self.view_is)
+    (c.requires.alone (is_many c.args.many most notes one h)) in
     let first = one_picked g.P.Rule.pick g.N.Named.pick c.self.inside.ready.rule g.met.P.Rule.within i.4 in
-    (number g.N.Named.code g.N.Named.budget g.N.Named.pick old c.args.process c.args.entries c.self.inside.budget c.perform_entries-entered.result c.perform_entries-entered.new.self i.1 i.0 going held alone i.2 i.3 first c.perform_entries-entered.ensures.performs).0
+    (number g.N.Named.code g.N.Named.budget g.N.Named.pick old c.args.process part c.self.inside.budget c.perform_most-entered.result c.perform_most-entered.new.machine i.1 i.0 going held alone i.2 i.3 first c.perform_most-entered.ensures.performs).0
 
 pub push-requires-clause-actions : goal.push-requires-clause-actions
 push-requires-clause-actions g c =
@@ -351,17 +461,27 @@ push-requires-clause-actions g c =
     let i = c.self.invariant in
     let going : answer_of g.N.Named.budget old ≡ None = subst (λ (s : Running). answer_of g.N.Named.budget s ≡ None) (sym c.self.view_is) c.requires.going in
     let held : 1 ≤ holder_of c.self.inside.out.items c.args.process = subst (λ (s : Running). 1 ≤ holder_of s.out c.args.process) (sym c.self.view_is) c.requires.out in
-    let alone : 0 < c.args.entries → c.self.inside.ready.waiting ≡ [] = subst (λ (s : Running). 0 < c.args.entries → s.waiting ≡ []) (sym c.self.view_is) c.requires.alone in
+    let notes : List Letter = c.perform_most-entered.new.notes in
+    let most = c.if-many.most in
+    let part : List Letter = take most notes in
+    let one : c.args.many ≡ false → most ≤ 1 =
+    λ f. elim c.if-many.branch [ then-many w ↦ absurd (true≢false (sym w.if-many.true ∙ f)) | else-many w ↦ omega (arith, w.most-is) ] in
+    let alone : 1 < length part → c.self.inside.ready.waiting ≡ [] =
+    λ h. subst (λ (s : Running). s.waiting ≡ []) (sym c.self.view_is)
+    (c.requires.alone (is_many c.args.many most notes one h)) in
     let first = one_picked g.P.Rule.pick g.N.Named.pick c.self.inside.ready.rule g.met.P.Rule.within i.4 in
     let s : Schedule = c.push_many.new.self in
-    let grown : Grown c.self.inside.schedule c.args.process c.perform_entries-entered.result.entries s = record { added = c.push_many.ensures.added; none = c.push_many.ensures.none } in
-    let mid : Running = turned old c.perform_entries-entered.result.entries c.perform_entries-entered.result.operators c.perform_entries-entered.ensures.performs.between s in
-    let st : StandsOut g.N.Named.code g.N.Named.budget c.args.process mid = stands_then g.N.Named.code g.N.Named.budget g.N.Named.pick old c.args.process c.args.entries c.self.inside.budget c.perform_entries-entered.result c.perform_entries-entered.new.self i.1 i.0 going held alone i.2 i.3 first c.perform_entries-entered.ensures.performs s grown in
-    let performs : Performs c.perform_entries-entered.ensures.performs.between c.args.process (c.self.inside.budget - mid.spent) c.perform_entries-entered.result.last c.perform_entries-entered.new.self = last_performs g.N.Named.code g.N.Named.budget g.N.Named.pick old c.args.process c.args.entries c.self.inside.budget c.perform_entries-entered.result c.perform_entries-entered.new.self i.1 i.0 going held alone i.2 i.3 first c.perform_entries-entered.ensures.performs s grown in
-    let same = same_queue c.self.inside.ready c.take_again.new.self (counted_times c.perform_entries-entered.result.entries c.self.inside.ready.takes) c.take_again.ensures.counted in
+    let whole = with_items_is c.self.inside.notes notes (c.perform_most-entered.ensures.size ∙ c.deref_mut.ensures.len) in
+    let grown : Grown c.self.inside.schedule c.args.process (take c.perform_most-entered.result.entries part) s =
+    grown_by c.self.inside.schedule s c.args.process c.deref.result.now notes most c.perform_most-entered.result.entries (c.deref.ensures.value ∙ whole)
+    c.perform_most-entered.ensures.performs.few c.push_many.ensures.added c.push_many.ensures.letters c.push_many.ensures.none in
+    let mid : Running = turned old c.perform_most-entered.result.entries c.perform_most-entered.result.operators c.perform_most-entered.ensures.performs.between s in
+    let st : StandsOut g.N.Named.code g.N.Named.budget c.args.process mid = stands_then g.N.Named.code g.N.Named.budget g.N.Named.pick old c.args.process part c.self.inside.budget c.perform_most-entered.result c.perform_most-entered.new.machine i.1 i.0 going held alone i.2 i.3 first c.perform_most-entered.ensures.performs s grown in
+    let performs : Performs c.perform_most-entered.ensures.performs.between c.args.process (c.self.inside.budget - mid.spent) c.perform_most-entered.result.last c.perform_most-entered.new.machine = last_performs g.N.Named.code g.N.Named.budget g.N.Named.pick old c.args.process part c.self.inside.budget c.perform_most-entered.result c.perform_most-entered.new.machine i.1 i.0 going held alone i.2 i.3 first c.perform_most-entered.ensures.performs s grown in
+    let same = same_queue c.self.inside.ready c.take_again.new.self (counted_times c.perform_most-entered.result.entries c.self.inside.ready.takes) c.take_again.ensures.counted in
     let kept = same.waiting in
     let takes = same.takes in
-    omega (arith, entries_then g.N.Named.code g.N.Named.budget g.N.Named.pick old c.args.process c.args.entries c.self.inside.budget c.perform_entries-entered.result c.perform_entries-entered.new.self i.1 i.0 going held alone i.2 i.3 first c.perform_entries-entered.ensures.performs s grown, operators_few g.N.Named.code g.N.Named.budget g.N.Named.pick old c.args.process c.args.entries c.self.inside.budget c.perform_entries-entered.result c.perform_entries-entered.new.self i.1 i.0 going held alone i.2 i.3 first c.perform_entries-entered.ensures.performs, less g.N.Named.code g.N.Named.budget g.N.Named.pick old c.args.process c.args.entries c.self.inside.budget c.perform_entries-entered.result c.perform_entries-entered.new.self i.1 i.0 going held alone i.2 i.3 first c.perform_entries-entered.ensures.performs, i.3, budget_is)
+    omega (arith, letters_entries g.N.Named.code g.N.Named.budget mid st.stands, entries_then g.N.Named.code g.N.Named.budget g.N.Named.pick old c.args.process part c.self.inside.budget c.perform_most-entered.result c.perform_most-entered.new.machine i.1 i.0 going held alone i.2 i.3 first c.perform_most-entered.ensures.performs s grown, operators_few g.N.Named.code g.N.Named.budget g.N.Named.pick old c.args.process part c.self.inside.budget c.perform_most-entered.result c.perform_most-entered.new.machine i.1 i.0 going held alone i.2 i.3 first c.perform_most-entered.ensures.performs, less g.N.Named.code g.N.Named.budget g.N.Named.pick old c.args.process part c.self.inside.budget c.perform_most-entered.result c.perform_most-entered.new.machine i.1 i.0 going held alone i.2 i.3 first c.perform_most-entered.ensures.performs, i.3, budget_is)
 
 pub index_mut-requires : goal.index_mut-requires
 index_mut-requires g c =
@@ -378,9 +498,16 @@ index_mut-requires g c =
     let i = c.self.invariant in
     let going : answer_of g.N.Named.budget old ≡ None = subst (λ (s : Running). answer_of g.N.Named.budget s ≡ None) (sym c.self.view_is) c.requires.going in
     let held : 1 ≤ holder_of c.self.inside.out.items c.args.process = subst (λ (s : Running). 1 ≤ holder_of s.out c.args.process) (sym c.self.view_is) c.requires.out in
-    let alone : 0 < c.args.entries → c.self.inside.ready.waiting ≡ [] = subst (λ (s : Running). 0 < c.args.entries → s.waiting ≡ []) (sym c.self.view_is) c.requires.alone in
+    let notes : List Letter = c.perform_most-entered.new.notes in
+    let most = c.if-many.most in
+    let part : List Letter = take most notes in
+    let one : c.args.many ≡ false → most ≤ 1 =
+    λ f. elim c.if-many.branch [ then-many w ↦ absurd (true≢false (sym w.if-many.true ∙ f)) | else-many w ↦ omega (arith, w.most-is) ] in
+    let alone : 1 < length part → c.self.inside.ready.waiting ≡ [] =
+    λ h. subst (λ (s : Running). s.waiting ≡ []) (sym c.self.view_is)
+    (c.requires.alone (is_many c.args.many most notes one h)) in
     let first = one_picked g.P.Rule.pick g.N.Named.pick c.self.inside.ready.rule g.met.P.Rule.within i.4 in
-    let n = number g.N.Named.code g.N.Named.budget g.N.Named.pick old c.args.process c.args.entries c.self.inside.budget c.perform_entries-entered.result c.perform_entries-entered.new.self i.1 i.0 going held alone i.2 i.3 first c.perform_entries-entered.ensures.performs in
+    let n = number g.N.Named.code g.N.Named.budget g.N.Named.pick old c.args.process part c.self.inside.budget c.perform_most-entered.result c.perform_most-entered.new.machine i.1 i.0 going held alone i.2 i.3 first c.perform_most-entered.ensures.performs in
     omega (arith, n.0, n.1, i.0.holders)
 
 pub join_queue-requires-clause-room : goal.join_queue-requires-clause-room
@@ -398,24 +525,37 @@ join_queue-requires-clause-room g c =
     let i = c.self.invariant in
     let going : answer_of g.N.Named.budget old ≡ None = subst (λ (s : Running). answer_of g.N.Named.budget s ≡ None) (sym c.self.view_is) c.requires.going in
     let held : 1 ≤ holder_of c.self.inside.out.items c.args.process = subst (λ (s : Running). 1 ≤ holder_of s.out c.args.process) (sym c.self.view_is) c.requires.out in
-    let alone : 0 < c.args.entries → c.self.inside.ready.waiting ≡ [] = subst (λ (s : Running). 0 < c.args.entries → s.waiting ≡ []) (sym c.self.view_is) c.requires.alone in
+    let notes : List Letter = c.perform_most-entered.new.notes in
+    let most = c.if-many.most in
+    let part : List Letter = take most notes in
+    let one : c.args.many ≡ false → most ≤ 1 =
+    λ f. elim c.if-many.branch [ then-many w ↦ absurd (true≢false (sym w.if-many.true ∙ f)) | else-many w ↦ omega (arith, w.most-is) ] in
+    let alone : 1 < length part → c.self.inside.ready.waiting ≡ [] =
+    λ h. subst (λ (s : Running). s.waiting ≡ []) (sym c.self.view_is)
+    (c.requires.alone (is_many c.args.many most notes one h)) in
     let first = one_picked g.P.Rule.pick g.N.Named.pick c.self.inside.ready.rule g.met.P.Rule.within i.4 in
     let s : Schedule = c.push_many.new.self in
-    let grown : Grown c.self.inside.schedule c.args.process c.perform_entries-entered.result.entries s = record { added = c.push_many.ensures.added; none = c.push_many.ensures.none } in
-    let mid : Running = turned old c.perform_entries-entered.result.entries c.perform_entries-entered.result.operators c.perform_entries-entered.ensures.performs.between s in
-    let st : StandsOut g.N.Named.code g.N.Named.budget c.args.process mid = stands_then g.N.Named.code g.N.Named.budget g.N.Named.pick old c.args.process c.args.entries c.self.inside.budget c.perform_entries-entered.result c.perform_entries-entered.new.self i.1 i.0 going held alone i.2 i.3 first c.perform_entries-entered.ensures.performs s grown in
-    let performs : Performs c.perform_entries-entered.ensures.performs.between c.args.process (c.self.inside.budget - mid.spent) c.perform_entries-entered.result.last c.perform_entries-entered.new.self = last_performs g.N.Named.code g.N.Named.budget g.N.Named.pick old c.args.process c.args.entries c.self.inside.budget c.perform_entries-entered.result c.perform_entries-entered.new.self i.1 i.0 going held alone i.2 i.3 first c.perform_entries-entered.ensures.performs s grown in
-    let same = same_queue c.self.inside.ready c.take_again.new.self (counted_times c.perform_entries-entered.result.entries c.self.inside.ready.takes) c.take_again.ensures.counted in
+    let whole = with_items_is c.self.inside.notes notes (c.perform_most-entered.ensures.size ∙ c.deref_mut.ensures.len) in
+    let grown : Grown c.self.inside.schedule c.args.process (take c.perform_most-entered.result.entries part) s =
+    grown_by c.self.inside.schedule s c.args.process c.deref.result.now notes most c.perform_most-entered.result.entries (c.deref.ensures.value ∙ whole)
+    c.perform_most-entered.ensures.performs.few c.push_many.ensures.added c.push_many.ensures.letters c.push_many.ensures.none in
+    let mid : Running = turned old c.perform_most-entered.result.entries c.perform_most-entered.result.operators c.perform_most-entered.ensures.performs.between s in
+    let st : StandsOut g.N.Named.code g.N.Named.budget c.args.process mid = stands_then g.N.Named.code g.N.Named.budget g.N.Named.pick old c.args.process part c.self.inside.budget c.perform_most-entered.result c.perform_most-entered.new.machine i.1 i.0 going held alone i.2 i.3 first c.perform_most-entered.ensures.performs s grown in
+    let performs : Performs c.perform_most-entered.ensures.performs.between c.args.process (c.self.inside.budget - mid.spent) c.perform_most-entered.result.last c.perform_most-entered.new.machine = last_performs g.N.Named.code g.N.Named.budget g.N.Named.pick old c.args.process part c.self.inside.budget c.perform_most-entered.result c.perform_most-entered.new.machine i.1 i.0 going held alone i.2 i.3 first c.perform_most-entered.ensures.performs s grown in
+    let same = same_queue c.self.inside.ready c.take_again.new.self (counted_times c.perform_most-entered.result.entries c.self.inside.ready.takes) c.take_again.ensures.counted in
     let kept = same.waiting in
     let takes = same.takes in
-    let done : is_action c.perform_entries-entered.result.last.done ≡ true = sym c.is_action.ensures ∙ c.if-not-is_action.false in
-    let new : Running = entered mid c.args.process c.perform_entries-entered.result.last c.perform_entries-entered.new.self c.push.new.self (mid.acts + 1) in
-    let acts : ActsOnce g.N.Named.budget mid c.args.process c.perform_entries-entered.result.last new =
-    entered_once g.N.Named.budget mid c.args.process c.perform_entries-entered.result.last c.perform_entries-entered.new.self c.push.new.self (mid.acts + 1)
-    c.self.inside.budget i.2 performs done c.push.ensures.added refl in
-    let x : Given g.N.Named.code g.N.Named.budget mid c.args.process c.perform_entries-entered.result.last new =
-    given g.N.Named.code g.N.Named.budget mid c.args.process c.perform_entries-entered.result.last new i.1 st.stands st.going st.out c.perform_entries-entered.ensures.valid acts in
-    let most = queue_fits g.N.Named.code g.N.Named.budget mid c.args.process c.perform_entries-entered.result.last c.perform_entries-entered.new.self c.push.new.self (mid.acts + 1) x done in
+    let done : is_action c.perform_most-entered.result.last.done ≡ true = sym c.is_action.ensures ∙ c.if-not-is_action.false in
+    let new : Running = entered mid c.args.process c.perform_most-entered.result.last c.perform_most-entered.new.machine c.push.new.self (mid.acts + 1) in
+    let acts : ActsOnce g.N.Named.budget mid c.args.process c.perform_most-entered.result.last new =
+    entered_once g.N.Named.budget mid c.args.process c.perform_most-entered.result.last c.perform_most-entered.new.machine c.push.new.self (mid.acts + 1)
+    c.self.inside.budget i.2 performs done c.push.ensures.added
+    (letter_noted c.perform_most-entered.result.last.done done s.letters notes most c.perform_most-entered.result.entries c.index.result.now c.perform_most-entered.new.machine.letter
+    c.push.new.self.letters c.perform_most-entered.ensures.performs.few (c.index.ensures ∙ ap (λ (ls : List Letter). get_or ls c.perform_most-entered.result.entries c.index.result.now) whole)
+    c.perform_most-entered.ensures.performs.last c.push.ensures.letters) refl in
+    let x : Given g.N.Named.code g.N.Named.budget mid c.args.process c.perform_most-entered.result.last new =
+    given g.N.Named.code g.N.Named.budget mid c.args.process c.perform_most-entered.result.last new i.1 st.stands st.going st.out c.perform_most-entered.ensures.valid acts in
+    let most = queue_fits g.N.Named.code g.N.Named.budget mid c.args.process c.perform_most-entered.result.last c.perform_most-entered.new.machine c.push.new.self (mid.acts + 1) x done in
     omega (arith, most, i.5, ap length kept, same.room)
 
 pub join_queue-requires-clause-few : goal.join_queue-requires-clause-few
@@ -433,24 +573,37 @@ join_queue-requires-clause-few g c =
     let i = c.self.invariant in
     let going : answer_of g.N.Named.budget old ≡ None = subst (λ (s : Running). answer_of g.N.Named.budget s ≡ None) (sym c.self.view_is) c.requires.going in
     let held : 1 ≤ holder_of c.self.inside.out.items c.args.process = subst (λ (s : Running). 1 ≤ holder_of s.out c.args.process) (sym c.self.view_is) c.requires.out in
-    let alone : 0 < c.args.entries → c.self.inside.ready.waiting ≡ [] = subst (λ (s : Running). 0 < c.args.entries → s.waiting ≡ []) (sym c.self.view_is) c.requires.alone in
+    let notes : List Letter = c.perform_most-entered.new.notes in
+    let most = c.if-many.most in
+    let part : List Letter = take most notes in
+    let one : c.args.many ≡ false → most ≤ 1 =
+    λ f. elim c.if-many.branch [ then-many w ↦ absurd (true≢false (sym w.if-many.true ∙ f)) | else-many w ↦ omega (arith, w.most-is) ] in
+    let alone : 1 < length part → c.self.inside.ready.waiting ≡ [] =
+    λ h. subst (λ (s : Running). s.waiting ≡ []) (sym c.self.view_is)
+    (c.requires.alone (is_many c.args.many most notes one h)) in
     let first = one_picked g.P.Rule.pick g.N.Named.pick c.self.inside.ready.rule g.met.P.Rule.within i.4 in
     let s : Schedule = c.push_many.new.self in
-    let grown : Grown c.self.inside.schedule c.args.process c.perform_entries-entered.result.entries s = record { added = c.push_many.ensures.added; none = c.push_many.ensures.none } in
-    let mid : Running = turned old c.perform_entries-entered.result.entries c.perform_entries-entered.result.operators c.perform_entries-entered.ensures.performs.between s in
-    let st : StandsOut g.N.Named.code g.N.Named.budget c.args.process mid = stands_then g.N.Named.code g.N.Named.budget g.N.Named.pick old c.args.process c.args.entries c.self.inside.budget c.perform_entries-entered.result c.perform_entries-entered.new.self i.1 i.0 going held alone i.2 i.3 first c.perform_entries-entered.ensures.performs s grown in
-    let performs : Performs c.perform_entries-entered.ensures.performs.between c.args.process (c.self.inside.budget - mid.spent) c.perform_entries-entered.result.last c.perform_entries-entered.new.self = last_performs g.N.Named.code g.N.Named.budget g.N.Named.pick old c.args.process c.args.entries c.self.inside.budget c.perform_entries-entered.result c.perform_entries-entered.new.self i.1 i.0 going held alone i.2 i.3 first c.perform_entries-entered.ensures.performs s grown in
-    let same = same_queue c.self.inside.ready c.take_again.new.self (counted_times c.perform_entries-entered.result.entries c.self.inside.ready.takes) c.take_again.ensures.counted in
+    let whole = with_items_is c.self.inside.notes notes (c.perform_most-entered.ensures.size ∙ c.deref_mut.ensures.len) in
+    let grown : Grown c.self.inside.schedule c.args.process (take c.perform_most-entered.result.entries part) s =
+    grown_by c.self.inside.schedule s c.args.process c.deref.result.now notes most c.perform_most-entered.result.entries (c.deref.ensures.value ∙ whole)
+    c.perform_most-entered.ensures.performs.few c.push_many.ensures.added c.push_many.ensures.letters c.push_many.ensures.none in
+    let mid : Running = turned old c.perform_most-entered.result.entries c.perform_most-entered.result.operators c.perform_most-entered.ensures.performs.between s in
+    let st : StandsOut g.N.Named.code g.N.Named.budget c.args.process mid = stands_then g.N.Named.code g.N.Named.budget g.N.Named.pick old c.args.process part c.self.inside.budget c.perform_most-entered.result c.perform_most-entered.new.machine i.1 i.0 going held alone i.2 i.3 first c.perform_most-entered.ensures.performs s grown in
+    let performs : Performs c.perform_most-entered.ensures.performs.between c.args.process (c.self.inside.budget - mid.spent) c.perform_most-entered.result.last c.perform_most-entered.new.machine = last_performs g.N.Named.code g.N.Named.budget g.N.Named.pick old c.args.process part c.self.inside.budget c.perform_most-entered.result c.perform_most-entered.new.machine i.1 i.0 going held alone i.2 i.3 first c.perform_most-entered.ensures.performs s grown in
+    let same = same_queue c.self.inside.ready c.take_again.new.self (counted_times c.perform_most-entered.result.entries c.self.inside.ready.takes) c.take_again.ensures.counted in
     let kept = same.waiting in
     let takes = same.takes in
-    let done : is_action c.perform_entries-entered.result.last.done ≡ true = sym c.is_action.ensures ∙ c.if-not-is_action.false in
-    let new : Running = entered mid c.args.process c.perform_entries-entered.result.last c.perform_entries-entered.new.self c.push.new.self (mid.acts + 1) in
-    let acts : ActsOnce g.N.Named.budget mid c.args.process c.perform_entries-entered.result.last new =
-    entered_once g.N.Named.budget mid c.args.process c.perform_entries-entered.result.last c.perform_entries-entered.new.self c.push.new.self (mid.acts + 1)
-    c.self.inside.budget i.2 performs done c.push.ensures.added refl in
-    let x : Given g.N.Named.code g.N.Named.budget mid c.args.process c.perform_entries-entered.result.last new =
-    given g.N.Named.code g.N.Named.budget mid c.args.process c.perform_entries-entered.result.last new i.1 st.stands st.going st.out c.perform_entries-entered.ensures.valid acts in
-    let most = queue_fits g.N.Named.code g.N.Named.budget mid c.args.process c.perform_entries-entered.result.last c.perform_entries-entered.new.self c.push.new.self (mid.acts + 1) x done in
+    let done : is_action c.perform_most-entered.result.last.done ≡ true = sym c.is_action.ensures ∙ c.if-not-is_action.false in
+    let new : Running = entered mid c.args.process c.perform_most-entered.result.last c.perform_most-entered.new.machine c.push.new.self (mid.acts + 1) in
+    let acts : ActsOnce g.N.Named.budget mid c.args.process c.perform_most-entered.result.last new =
+    entered_once g.N.Named.budget mid c.args.process c.perform_most-entered.result.last c.perform_most-entered.new.machine c.push.new.self (mid.acts + 1)
+    c.self.inside.budget i.2 performs done c.push.ensures.added
+    (letter_noted c.perform_most-entered.result.last.done done s.letters notes most c.perform_most-entered.result.entries c.index.result.now c.perform_most-entered.new.machine.letter
+    c.push.new.self.letters c.perform_most-entered.ensures.performs.few (c.index.ensures ∙ ap (λ (ls : List Letter). get_or ls c.perform_most-entered.result.entries c.index.result.now) whole)
+    c.perform_most-entered.ensures.performs.last c.push.ensures.letters) refl in
+    let x : Given g.N.Named.code g.N.Named.budget mid c.args.process c.perform_most-entered.result.last new =
+    given g.N.Named.code g.N.Named.budget mid c.args.process c.perform_most-entered.result.last new i.1 st.stands st.going st.out c.perform_most-entered.ensures.valid acts in
+    let most = queue_fits g.N.Named.code g.N.Named.budget mid c.args.process c.perform_most-entered.result.last c.perform_most-entered.new.machine c.push.new.self (mid.acts + 1) x done in
     omega (arith, most, ap length kept)
 
 pub overflow_add-seat-2 : goal.overflow_add-seat-2
@@ -468,17 +621,27 @@ overflow_add-seat-2 g c =
     let i = c.self.invariant in
     let going : answer_of g.N.Named.budget old ≡ None = subst (λ (s : Running). answer_of g.N.Named.budget s ≡ None) (sym c.self.view_is) c.requires.going in
     let held : 1 ≤ holder_of c.self.inside.out.items c.args.process = subst (λ (s : Running). 1 ≤ holder_of s.out c.args.process) (sym c.self.view_is) c.requires.out in
-    let alone : 0 < c.args.entries → c.self.inside.ready.waiting ≡ [] = subst (λ (s : Running). 0 < c.args.entries → s.waiting ≡ []) (sym c.self.view_is) c.requires.alone in
+    let notes : List Letter = c.perform_most-entered.new.notes in
+    let most = c.if-many.most in
+    let part : List Letter = take most notes in
+    let one : c.args.many ≡ false → most ≤ 1 =
+    λ f. elim c.if-many.branch [ then-many w ↦ absurd (true≢false (sym w.if-many.true ∙ f)) | else-many w ↦ omega (arith, w.most-is) ] in
+    let alone : 1 < length part → c.self.inside.ready.waiting ≡ [] =
+    λ h. subst (λ (s : Running). s.waiting ≡ []) (sym c.self.view_is)
+    (c.requires.alone (is_many c.args.many most notes one h)) in
     let first = one_picked g.P.Rule.pick g.N.Named.pick c.self.inside.ready.rule g.met.P.Rule.within i.4 in
     let s : Schedule = c.push_many.new.self in
-    let grown : Grown c.self.inside.schedule c.args.process c.perform_entries-entered.result.entries s = record { added = c.push_many.ensures.added; none = c.push_many.ensures.none } in
-    let mid : Running = turned old c.perform_entries-entered.result.entries c.perform_entries-entered.result.operators c.perform_entries-entered.ensures.performs.between s in
-    let st : StandsOut g.N.Named.code g.N.Named.budget c.args.process mid = stands_then g.N.Named.code g.N.Named.budget g.N.Named.pick old c.args.process c.args.entries c.self.inside.budget c.perform_entries-entered.result c.perform_entries-entered.new.self i.1 i.0 going held alone i.2 i.3 first c.perform_entries-entered.ensures.performs s grown in
-    let performs : Performs c.perform_entries-entered.ensures.performs.between c.args.process (c.self.inside.budget - mid.spent) c.perform_entries-entered.result.last c.perform_entries-entered.new.self = last_performs g.N.Named.code g.N.Named.budget g.N.Named.pick old c.args.process c.args.entries c.self.inside.budget c.perform_entries-entered.result c.perform_entries-entered.new.self i.1 i.0 going held alone i.2 i.3 first c.perform_entries-entered.ensures.performs s grown in
-    let same = same_queue c.self.inside.ready c.take_again.new.self (counted_times c.perform_entries-entered.result.entries c.self.inside.ready.takes) c.take_again.ensures.counted in
+    let whole = with_items_is c.self.inside.notes notes (c.perform_most-entered.ensures.size ∙ c.deref_mut.ensures.len) in
+    let grown : Grown c.self.inside.schedule c.args.process (take c.perform_most-entered.result.entries part) s =
+    grown_by c.self.inside.schedule s c.args.process c.deref.result.now notes most c.perform_most-entered.result.entries (c.deref.ensures.value ∙ whole)
+    c.perform_most-entered.ensures.performs.few c.push_many.ensures.added c.push_many.ensures.letters c.push_many.ensures.none in
+    let mid : Running = turned old c.perform_most-entered.result.entries c.perform_most-entered.result.operators c.perform_most-entered.ensures.performs.between s in
+    let st : StandsOut g.N.Named.code g.N.Named.budget c.args.process mid = stands_then g.N.Named.code g.N.Named.budget g.N.Named.pick old c.args.process part c.self.inside.budget c.perform_most-entered.result c.perform_most-entered.new.machine i.1 i.0 going held alone i.2 i.3 first c.perform_most-entered.ensures.performs s grown in
+    let performs : Performs c.perform_most-entered.ensures.performs.between c.args.process (c.self.inside.budget - mid.spent) c.perform_most-entered.result.last c.perform_most-entered.new.machine = last_performs g.N.Named.code g.N.Named.budget g.N.Named.pick old c.args.process part c.self.inside.budget c.perform_most-entered.result c.perform_most-entered.new.machine i.1 i.0 going held alone i.2 i.3 first c.perform_most-entered.ensures.performs s grown in
+    let same = same_queue c.self.inside.ready c.take_again.new.self (counted_times c.perform_most-entered.result.entries c.self.inside.ready.takes) c.take_again.ensures.counted in
     let kept = same.waiting in
     let takes = same.takes in
-    omega (arith, c.args.seat.now.counted, c.audit.ensures.bound, i.0.acts, spent_few g.N.Named.code g.N.Named.budget g.N.Named.pick old c.args.process c.args.entries c.self.inside.budget c.perform_entries-entered.result c.perform_entries-entered.new.self i.1 i.0 going held alone i.2 i.3 first c.perform_entries-entered.ensures.performs, entries_few g.N.Named.code g.N.Named.budget g.N.Named.pick old c.args.process c.args.entries c.self.inside.budget c.perform_entries-entered.result c.perform_entries-entered.new.self i.1 i.0 going held alone i.2 i.3 first c.perform_entries-entered.ensures.performs, operators_few g.N.Named.code g.N.Named.budget g.N.Named.pick old c.args.process c.args.entries c.self.inside.budget c.perform_entries-entered.result c.perform_entries-entered.new.self i.1 i.0 going held alone i.2 i.3 first c.perform_entries-entered.ensures.performs, i.3, budget_is, c.from.ensures)
+    omega (arith, c.args.seat.now.counted, c.audit.ensures.bound, i.0.acts, spent_few g.N.Named.code g.N.Named.budget g.N.Named.pick old c.args.process part c.self.inside.budget c.perform_most-entered.result c.perform_most-entered.new.machine i.1 i.0 going held alone i.2 i.3 first c.perform_most-entered.ensures.performs, entries_few g.N.Named.code g.N.Named.budget g.N.Named.pick old c.args.process part c.self.inside.budget c.perform_most-entered.result c.perform_most-entered.new.machine i.1 i.0 going held alone i.2 i.3 first c.perform_most-entered.ensures.performs, operators_few g.N.Named.code g.N.Named.budget g.N.Named.pick old c.args.process part c.self.inside.budget c.perform_most-entered.result c.perform_most-entered.new.machine i.1 i.0 going held alone i.2 i.3 first c.perform_most-entered.ensures.performs, i.3, budget_is, c.from.ensures)
 
 pub invariant_of-self-2 : goal.invariant_of-self-2
 invariant_of-self-2 g c =
@@ -495,53 +658,66 @@ invariant_of-self-2 g c =
     let i = c.self.invariant in
     let going : answer_of g.N.Named.budget old ≡ None = subst (λ (s : Running). answer_of g.N.Named.budget s ≡ None) (sym c.self.view_is) c.requires.going in
     let held : 1 ≤ holder_of c.self.inside.out.items c.args.process = subst (λ (s : Running). 1 ≤ holder_of s.out c.args.process) (sym c.self.view_is) c.requires.out in
-    let alone : 0 < c.args.entries → c.self.inside.ready.waiting ≡ [] = subst (λ (s : Running). 0 < c.args.entries → s.waiting ≡ []) (sym c.self.view_is) c.requires.alone in
+    let notes : List Letter = c.perform_most-entered.new.notes in
+    let most = c.if-many.most in
+    let part : List Letter = take most notes in
+    let one : c.args.many ≡ false → most ≤ 1 =
+    λ f. elim c.if-many.branch [ then-many w ↦ absurd (true≢false (sym w.if-many.true ∙ f)) | else-many w ↦ omega (arith, w.most-is) ] in
+    let alone : 1 < length part → c.self.inside.ready.waiting ≡ [] =
+    λ h. subst (λ (s : Running). s.waiting ≡ []) (sym c.self.view_is)
+    (c.requires.alone (is_many c.args.many most notes one h)) in
     let first = one_picked g.P.Rule.pick g.N.Named.pick c.self.inside.ready.rule g.met.P.Rule.within i.4 in
     let s : Schedule = c.push_many.new.self in
-    let grown : Grown c.self.inside.schedule c.args.process c.perform_entries-entered.result.entries s = record { added = c.push_many.ensures.added; none = c.push_many.ensures.none } in
-    let mid : Running = turned old c.perform_entries-entered.result.entries c.perform_entries-entered.result.operators c.perform_entries-entered.ensures.performs.between s in
-    let st : StandsOut g.N.Named.code g.N.Named.budget c.args.process mid = stands_then g.N.Named.code g.N.Named.budget g.N.Named.pick old c.args.process c.args.entries c.self.inside.budget c.perform_entries-entered.result c.perform_entries-entered.new.self i.1 i.0 going held alone i.2 i.3 first c.perform_entries-entered.ensures.performs s grown in
-    let performs : Performs c.perform_entries-entered.ensures.performs.between c.args.process (c.self.inside.budget - mid.spent) c.perform_entries-entered.result.last c.perform_entries-entered.new.self = last_performs g.N.Named.code g.N.Named.budget g.N.Named.pick old c.args.process c.args.entries c.self.inside.budget c.perform_entries-entered.result c.perform_entries-entered.new.self i.1 i.0 going held alone i.2 i.3 first c.perform_entries-entered.ensures.performs s grown in
-    let same = same_queue c.self.inside.ready c.take_again.new.self (counted_times c.perform_entries-entered.result.entries c.self.inside.ready.takes) c.take_again.ensures.counted in
+    let whole = with_items_is c.self.inside.notes notes (c.perform_most-entered.ensures.size ∙ c.deref_mut.ensures.len) in
+    let grown : Grown c.self.inside.schedule c.args.process (take c.perform_most-entered.result.entries part) s =
+    grown_by c.self.inside.schedule s c.args.process c.deref.result.now notes most c.perform_most-entered.result.entries (c.deref.ensures.value ∙ whole)
+    c.perform_most-entered.ensures.performs.few c.push_many.ensures.added c.push_many.ensures.letters c.push_many.ensures.none in
+    let mid : Running = turned old c.perform_most-entered.result.entries c.perform_most-entered.result.operators c.perform_most-entered.ensures.performs.between s in
+    let st : StandsOut g.N.Named.code g.N.Named.budget c.args.process mid = stands_then g.N.Named.code g.N.Named.budget g.N.Named.pick old c.args.process part c.self.inside.budget c.perform_most-entered.result c.perform_most-entered.new.machine i.1 i.0 going held alone i.2 i.3 first c.perform_most-entered.ensures.performs s grown in
+    let performs : Performs c.perform_most-entered.ensures.performs.between c.args.process (c.self.inside.budget - mid.spent) c.perform_most-entered.result.last c.perform_most-entered.new.machine = last_performs g.N.Named.code g.N.Named.budget g.N.Named.pick old c.args.process part c.self.inside.budget c.perform_most-entered.result c.perform_most-entered.new.machine i.1 i.0 going held alone i.2 i.3 first c.perform_most-entered.ensures.performs s grown in
+    let same = same_queue c.self.inside.ready c.take_again.new.self (counted_times c.perform_most-entered.result.entries c.self.inside.ready.takes) c.take_again.ensures.counted in
     let kept = same.waiting in
     let takes = same.takes in
-    let done : is_action c.perform_entries-entered.result.last.done ≡ true = sym c.is_action.ensures ∙ c.if-not-is_action.false in
-    let new : Running = entered mid c.args.process c.perform_entries-entered.result.last c.perform_entries-entered.new.self c.push.new.self (mid.acts + 1) in
-    let acts : ActsOnce g.N.Named.budget mid c.args.process c.perform_entries-entered.result.last new =
-    entered_once g.N.Named.budget mid c.args.process c.perform_entries-entered.result.last c.perform_entries-entered.new.self c.push.new.self (mid.acts + 1)
-    c.self.inside.budget i.2 performs done c.push.ensures.added refl in
-    let x : Given g.N.Named.code g.N.Named.budget mid c.args.process c.perform_entries-entered.result.last new =
-    given g.N.Named.code g.N.Named.budget mid c.args.process c.perform_entries-entered.result.last new i.1 st.stands st.going st.out c.perform_entries-entered.ensures.valid acts in
-    let n = number g.N.Named.code g.N.Named.budget g.N.Named.pick old c.args.process c.args.entries c.self.inside.budget c.perform_entries-entered.result c.perform_entries-entered.new.self i.1 i.0 going held alone i.2 i.3 first c.perform_entries-entered.ensures.performs in
+    let done : is_action c.perform_most-entered.result.last.done ≡ true = sym c.is_action.ensures ∙ c.if-not-is_action.false in
+    let new : Running = entered mid c.args.process c.perform_most-entered.result.last c.perform_most-entered.new.machine c.push.new.self (mid.acts + 1) in
+    let acts : ActsOnce g.N.Named.budget mid c.args.process c.perform_most-entered.result.last new =
+    entered_once g.N.Named.budget mid c.args.process c.perform_most-entered.result.last c.perform_most-entered.new.machine c.push.new.self (mid.acts + 1)
+    c.self.inside.budget i.2 performs done c.push.ensures.added
+    (letter_noted c.perform_most-entered.result.last.done done s.letters notes most c.perform_most-entered.result.entries c.index.result.now c.perform_most-entered.new.machine.letter
+    c.push.new.self.letters c.perform_most-entered.ensures.performs.few (c.index.ensures ∙ ap (λ (ls : List Letter). get_or ls c.perform_most-entered.result.entries c.index.result.now) whole)
+    c.perform_most-entered.ensures.performs.last c.push.ensures.letters) refl in
+    let x : Given g.N.Named.code g.N.Named.budget mid c.args.process c.perform_most-entered.result.last new =
+    given g.N.Named.code g.N.Named.budget mid c.args.process c.perform_most-entered.result.last new i.1 st.stands st.going st.out c.perform_most-entered.ensures.valid acts in
+    let n = number g.N.Named.code g.N.Named.budget g.N.Named.pick old c.args.process part c.self.inside.budget c.perform_most-entered.result c.perform_most-entered.new.machine i.1 i.0 going held alone i.2 i.3 first c.perform_most-entered.ensures.performs in
     let out = slice_set c.self.inside.out.items (c.args.process - 1) 0 in
     let written : Running = record {
-      machine = c.perform_entries-entered.new.self;
+      machine = c.perform_most-entered.new.machine;
       waiting = c.join_queue.new.ready.waiting;
       takes = c.join_queue.new.ready.takes;
       out = out;
       schedule = c.push.new.self;
-      spent = c.self.inside.spent + c.perform_entries-entered.result.operators + c.perform_entries-entered.result.last.plain + 1;
+      spent = c.self.inside.spent + c.perform_most-entered.result.operators + c.perform_most-entered.result.last.plain + 1;
       acts = c.add-2.new.self.total;
       leaves = c.self.inside.leaves.total;
     } in
     let same_acts : c.add-2.new.self.total ≡ mid.acts + 1 = omega (arith, c.add-2.ensures.total, c.add.ensures.total, c.audit.ensures.total, c.from.ensures) in
-    let started : c.started-before.result ≡ mid.machine.image.started = c.started-before.ensures ∙ sym (started_same g.N.Named.code g.N.Named.budget g.N.Named.pick old c.args.process c.args.entries c.self.inside.budget c.perform_entries-entered.result c.perform_entries-entered.new.self i.1 i.0 going held alone i.2 i.3 first c.perform_entries-entered.ensures.performs) in
+    let started : c.started-before.result ≡ mid.machine.image.started = c.started-before.ensures ∙ sym (started_same g.N.Named.code g.N.Named.budget g.N.Named.pick old c.args.process part c.self.inside.budget c.perform_most-entered.result c.perform_most-entered.new.machine i.1 i.0 going held alone i.2 i.3 first c.perform_most-entered.ensures.performs) in
     let is : written ≡ new =
     ap (λ (k : ℕ). record written { acts = k }) same_acts
-    ∙ entered_is mid c.args.process c.perform_entries-entered.result.last c.perform_entries-entered.new.self c.push.new.self (mid.acts + 1) c.started-before.result
+    ∙ entered_is mid c.args.process c.perform_most-entered.result.last c.perform_most-entered.new.machine c.push.new.self (mid.acts + 1) c.started-before.result
     c.join_queue.new.ready.takes c.self.inside.leaves.total c.join_queue.new.ready.waiting out n.0 started
-    (c.join_queue.ensures.waiting ∙ ap (λ (ws : List ℕ). ws ++ joining c.started-before.result c.perform_entries-entered.new.self.image c.args.process c.perform_entries-entered.new.self.released) kept) refl
+    (c.join_queue.ensures.waiting ∙ ap (λ (ws : List ℕ). ws ++ joining c.started-before.result c.perform_most-entered.new.machine.image c.args.process c.perform_most-entered.new.machine.released) kept) refl
     (c.join_queue.ensures.takes ∙ takes) refl in (
       subst (Stands g.N.Named.code g.N.Named.budget) (sym is)
-          (stands_after g.N.Named.code g.N.Named.budget mid c.args.process c.perform_entries-entered.result.last new x),
+          (stands_after g.N.Named.code g.N.Named.budget mid c.args.process c.perform_most-entered.result.last new x),
       i.1,
       i.2,
       i.3,
       λ k takes. ap (λ r. g.P.Rule.pick r k takes) c.join_queue.ensures.rule ∙ ap (λ r. g.P.Rule.pick r k takes) same.rule ∙ i.4 k takes,
       omega (arith, i.5, same.room, c.join_queue.ensures.room),
       omega (arith, i.6, c.push_many.ensures.room, c.push.ensures.room),
-      omega (arith, runs_few g.N.Named.code g.N.Named.budget g.N.Named.pick old c.args.process c.args.entries c.self.inside.budget c.perform_entries-entered.result c.perform_entries-entered.new.self i.1 i.0 going held alone i.2 i.3 first c.perform_entries-entered.ensures.performs s grown i.7 c.push_many.ensures.longer, c.push.ensures.longer, ap length c.push.ensures.added, length-append (entries s.runs) (c.args.process ∷ [])),
-      c.lacks-self-inside.ensures ∙ sym (lacked_after mid.machine c.perform_entries-entered.new.self c.args.process (c.self.inside.budget - mid.spent) c.perform_entries-entered.result.last (goes_on g.N.Named.budget mid st.going).lacked performs),
+      omega (arith, ap length whole, c.perform_most-entered.ensures.size, ap length c.deref_mut.ensures.value, i.7),
+      c.lacks-self-inside.ensures ∙ sym (lacked_after mid.machine c.perform_most-entered.new.machine c.args.process (c.self.inside.budget - mid.spent) c.perform_most-entered.result.last (goes_on g.N.Named.budget mid st.going).lacked performs),
       i.9,
     )
 
@@ -560,55 +736,68 @@ returns-clause-acts g c =
     let i = c.self.invariant in
     let going : answer_of g.N.Named.budget old ≡ None = subst (λ (s : Running). answer_of g.N.Named.budget s ≡ None) (sym c.self.view_is) c.requires.going in
     let held : 1 ≤ holder_of c.self.inside.out.items c.args.process = subst (λ (s : Running). 1 ≤ holder_of s.out c.args.process) (sym c.self.view_is) c.requires.out in
-    let alone : 0 < c.args.entries → c.self.inside.ready.waiting ≡ [] = subst (λ (s : Running). 0 < c.args.entries → s.waiting ≡ []) (sym c.self.view_is) c.requires.alone in
+    let notes : List Letter = c.perform_most-entered.new.notes in
+    let most = c.if-many.most in
+    let part : List Letter = take most notes in
+    let one : c.args.many ≡ false → most ≤ 1 =
+    λ f. elim c.if-many.branch [ then-many w ↦ absurd (true≢false (sym w.if-many.true ∙ f)) | else-many w ↦ omega (arith, w.most-is) ] in
+    let alone : 1 < length part → c.self.inside.ready.waiting ≡ [] =
+    λ h. subst (λ (s : Running). s.waiting ≡ []) (sym c.self.view_is)
+    (c.requires.alone (is_many c.args.many most notes one h)) in
     let first = one_picked g.P.Rule.pick g.N.Named.pick c.self.inside.ready.rule g.met.P.Rule.within i.4 in
     let s : Schedule = c.push_many.new.self in
-    let grown : Grown c.self.inside.schedule c.args.process c.perform_entries-entered.result.entries s = record { added = c.push_many.ensures.added; none = c.push_many.ensures.none } in
-    let mid : Running = turned old c.perform_entries-entered.result.entries c.perform_entries-entered.result.operators c.perform_entries-entered.ensures.performs.between s in
-    let st : StandsOut g.N.Named.code g.N.Named.budget c.args.process mid = stands_then g.N.Named.code g.N.Named.budget g.N.Named.pick old c.args.process c.args.entries c.self.inside.budget c.perform_entries-entered.result c.perform_entries-entered.new.self i.1 i.0 going held alone i.2 i.3 first c.perform_entries-entered.ensures.performs s grown in
-    let performs : Performs c.perform_entries-entered.ensures.performs.between c.args.process (c.self.inside.budget - mid.spent) c.perform_entries-entered.result.last c.perform_entries-entered.new.self = last_performs g.N.Named.code g.N.Named.budget g.N.Named.pick old c.args.process c.args.entries c.self.inside.budget c.perform_entries-entered.result c.perform_entries-entered.new.self i.1 i.0 going held alone i.2 i.3 first c.perform_entries-entered.ensures.performs s grown in
-    let same = same_queue c.self.inside.ready c.take_again.new.self (counted_times c.perform_entries-entered.result.entries c.self.inside.ready.takes) c.take_again.ensures.counted in
+    let whole = with_items_is c.self.inside.notes notes (c.perform_most-entered.ensures.size ∙ c.deref_mut.ensures.len) in
+    let grown : Grown c.self.inside.schedule c.args.process (take c.perform_most-entered.result.entries part) s =
+    grown_by c.self.inside.schedule s c.args.process c.deref.result.now notes most c.perform_most-entered.result.entries (c.deref.ensures.value ∙ whole)
+    c.perform_most-entered.ensures.performs.few c.push_many.ensures.added c.push_many.ensures.letters c.push_many.ensures.none in
+    let mid : Running = turned old c.perform_most-entered.result.entries c.perform_most-entered.result.operators c.perform_most-entered.ensures.performs.between s in
+    let st : StandsOut g.N.Named.code g.N.Named.budget c.args.process mid = stands_then g.N.Named.code g.N.Named.budget g.N.Named.pick old c.args.process part c.self.inside.budget c.perform_most-entered.result c.perform_most-entered.new.machine i.1 i.0 going held alone i.2 i.3 first c.perform_most-entered.ensures.performs s grown in
+    let performs : Performs c.perform_most-entered.ensures.performs.between c.args.process (c.self.inside.budget - mid.spent) c.perform_most-entered.result.last c.perform_most-entered.new.machine = last_performs g.N.Named.code g.N.Named.budget g.N.Named.pick old c.args.process part c.self.inside.budget c.perform_most-entered.result c.perform_most-entered.new.machine i.1 i.0 going held alone i.2 i.3 first c.perform_most-entered.ensures.performs s grown in
+    let same = same_queue c.self.inside.ready c.take_again.new.self (counted_times c.perform_most-entered.result.entries c.self.inside.ready.takes) c.take_again.ensures.counted in
     let kept = same.waiting in
     let takes = same.takes in
-    let done : is_action c.perform_entries-entered.result.last.done ≡ true = sym c.is_action.ensures ∙ c.if-not-is_action.false in
-    let new : Running = entered mid c.args.process c.perform_entries-entered.result.last c.perform_entries-entered.new.self c.push.new.self (mid.acts + 1) in
-    let acts : ActsOnce g.N.Named.budget mid c.args.process c.perform_entries-entered.result.last new =
-    entered_once g.N.Named.budget mid c.args.process c.perform_entries-entered.result.last c.perform_entries-entered.new.self c.push.new.self (mid.acts + 1)
-    c.self.inside.budget i.2 performs done c.push.ensures.added refl in
-    let x : Given g.N.Named.code g.N.Named.budget mid c.args.process c.perform_entries-entered.result.last new =
-    given g.N.Named.code g.N.Named.budget mid c.args.process c.perform_entries-entered.result.last new i.1 st.stands st.going st.out c.perform_entries-entered.ensures.valid acts in
-    let n = number g.N.Named.code g.N.Named.budget g.N.Named.pick old c.args.process c.args.entries c.self.inside.budget c.perform_entries-entered.result c.perform_entries-entered.new.self i.1 i.0 going held alone i.2 i.3 first c.perform_entries-entered.ensures.performs in
+    let done : is_action c.perform_most-entered.result.last.done ≡ true = sym c.is_action.ensures ∙ c.if-not-is_action.false in
+    let new : Running = entered mid c.args.process c.perform_most-entered.result.last c.perform_most-entered.new.machine c.push.new.self (mid.acts + 1) in
+    let acts : ActsOnce g.N.Named.budget mid c.args.process c.perform_most-entered.result.last new =
+    entered_once g.N.Named.budget mid c.args.process c.perform_most-entered.result.last c.perform_most-entered.new.machine c.push.new.self (mid.acts + 1)
+    c.self.inside.budget i.2 performs done c.push.ensures.added
+    (letter_noted c.perform_most-entered.result.last.done done s.letters notes most c.perform_most-entered.result.entries c.index.result.now c.perform_most-entered.new.machine.letter
+    c.push.new.self.letters c.perform_most-entered.ensures.performs.few (c.index.ensures ∙ ap (λ (ls : List Letter). get_or ls c.perform_most-entered.result.entries c.index.result.now) whole)
+    c.perform_most-entered.ensures.performs.last c.push.ensures.letters) refl in
+    let x : Given g.N.Named.code g.N.Named.budget mid c.args.process c.perform_most-entered.result.last new =
+    given g.N.Named.code g.N.Named.budget mid c.args.process c.perform_most-entered.result.last new i.1 st.stands st.going st.out c.perform_most-entered.ensures.valid acts in
+    let n = number g.N.Named.code g.N.Named.budget g.N.Named.pick old c.args.process part c.self.inside.budget c.perform_most-entered.result c.perform_most-entered.new.machine i.1 i.0 going held alone i.2 i.3 first c.perform_most-entered.ensures.performs in
     let out = slice_set c.self.inside.out.items (c.args.process - 1) 0 in
     let written : Running = record {
-      machine = c.perform_entries-entered.new.self;
+      machine = c.perform_most-entered.new.machine;
       waiting = c.join_queue.new.ready.waiting;
       takes = c.join_queue.new.ready.takes;
       out = out;
       schedule = c.push.new.self;
-      spent = c.self.inside.spent + c.perform_entries-entered.result.operators + c.perform_entries-entered.result.last.plain + 1;
+      spent = c.self.inside.spent + c.perform_most-entered.result.operators + c.perform_most-entered.result.last.plain + 1;
       acts = c.add-2.new.self.total;
       leaves = c.self.inside.leaves.total;
     } in
     let same_acts : c.add-2.new.self.total ≡ mid.acts + 1 = omega (arith, c.add-2.ensures.total, c.add.ensures.total, c.audit.ensures.total, c.from.ensures) in
-    let started : c.started-before.result ≡ mid.machine.image.started = c.started-before.ensures ∙ sym (started_same g.N.Named.code g.N.Named.budget g.N.Named.pick old c.args.process c.args.entries c.self.inside.budget c.perform_entries-entered.result c.perform_entries-entered.new.self i.1 i.0 going held alone i.2 i.3 first c.perform_entries-entered.ensures.performs) in
+    let started : c.started-before.result ≡ mid.machine.image.started = c.started-before.ensures ∙ sym (started_same g.N.Named.code g.N.Named.budget g.N.Named.pick old c.args.process part c.self.inside.budget c.perform_most-entered.result c.perform_most-entered.new.machine i.1 i.0 going held alone i.2 i.3 first c.perform_most-entered.ensures.performs) in
     let is : written ≡ new =
     ap (λ (k : ℕ). record written { acts = k }) same_acts
-    ∙ entered_is mid c.args.process c.perform_entries-entered.result.last c.perform_entries-entered.new.self c.push.new.self (mid.acts + 1) c.started-before.result
+    ∙ entered_is mid c.args.process c.perform_most-entered.result.last c.perform_most-entered.new.machine c.push.new.self (mid.acts + 1) c.started-before.result
     c.join_queue.new.ready.takes c.self.inside.leaves.total c.join_queue.new.ready.waiting out n.0 started
-    (c.join_queue.ensures.waiting ∙ ap (λ (ws : List ℕ). ws ++ joining c.started-before.result c.perform_entries-entered.new.self.image c.args.process c.perform_entries-entered.new.self.released) kept) refl
+    (c.join_queue.ensures.waiting ∙ ap (λ (ws : List ℕ). ws ++ joining c.started-before.result c.perform_most-entered.new.machine.image c.args.process c.perform_most-entered.new.machine.released) kept) refl
     (c.join_queue.ensures.takes ∙ takes) refl in (
-      c.perform_entries-entered.result.entries,
-      c.perform_entries-entered.ensures.performs.few,
-      c.perform_entries-entered.result.last,
-      subst (λ (z : Running). ActsMany g.N.Named.pick g.N.Named.budget z c.args.process c.perform_entries-entered.result.entries c.perform_entries-entered.result.last written) c.self.view_is (record {
+      c.perform_most-entered.result.entries,
+      (λ f. omega (arith, c.perform_most-entered.ensures.performs.few, first_few notes most, one f)),
+      c.perform_most-entered.result.last,
+      subst (λ (z : Running). ActsMany g.N.Named.pick g.N.Named.budget z c.args.process c.perform_most-entered.result.entries c.perform_most-entered.result.last written) c.self.view_is (record {
         between = mid;
-        acts = acts_on g.N.Named.code g.N.Named.budget g.N.Named.pick old c.args.process c.args.entries c.self.inside.budget c.perform_entries-entered.result c.perform_entries-entered.new.self i.1 i.0 going held alone i.2 i.3 first c.perform_entries-entered.ensures.performs s grown;
-        last = subst (ActsOnce g.N.Named.budget mid c.args.process c.perform_entries-entered.result.last) (sym is) acts;
+        acts = acts_on g.N.Named.code g.N.Named.budget g.N.Named.pick old c.args.process part c.self.inside.budget c.perform_most-entered.result c.perform_most-entered.new.machine i.1 i.0 going held alone i.2 i.3 first c.perform_most-entered.ensures.performs s grown;
+        last = subst (ActsOnce g.N.Named.budget mid c.args.process c.perform_most-entered.result.last) (sym is) acts;
       }),
       c.answer_to-answer.ensures,
-      subst (λ a. IsActed a (c.args.seat.now.count + c.perform_entries-entered.result.entries) (c.args.seat.now.count + c.from-2.result + 1)) (sym c.answer_to-answer.ensures)
-          (subst (λ (k : ℕ). IsActed (answer_to c.perform_entries-entered.result.last.done) (c.args.seat.now.count + c.perform_entries-entered.result.entries) (c.args.seat.now.count + k + 1)) (sym c.from-2.ensures)
-          (counts_one c.perform_entries-entered.result.last.done (c.args.seat.now.count + c.perform_entries-entered.result.entries) done)),
+      subst (λ a. IsActed a (c.args.seat.now.count + c.perform_most-entered.result.entries) (c.args.seat.now.count + c.from-2.result + 1)) (sym c.answer_to-answer.ensures)
+          (subst (λ (k : ℕ). IsActed (answer_to c.perform_most-entered.result.last.done) (c.args.seat.now.count + c.perform_most-entered.result.entries) (c.args.seat.now.count + k + 1)) (sym c.from-2.ensures)
+          (counts_one c.perform_most-entered.result.last.done (c.args.seat.now.count + c.perform_most-entered.result.entries) done)),
     )
 
 pub returns-then-not-is_action-clause-fits : goal.returns-then-not-is_action-clause-fits
@@ -626,9 +815,16 @@ returns-then-not-is_action-clause-fits g c =
     let i = c.self.invariant in
     let going : answer_of g.N.Named.budget old ≡ None = subst (λ (s : Running). answer_of g.N.Named.budget s ≡ None) (sym c.self.view_is) c.requires.going in
     let held : 1 ≤ holder_of c.self.inside.out.items c.args.process = subst (λ (s : Running). 1 ≤ holder_of s.out c.args.process) (sym c.self.view_is) c.requires.out in
-    let alone : 0 < c.args.entries → c.self.inside.ready.waiting ≡ [] = subst (λ (s : Running). 0 < c.args.entries → s.waiting ≡ []) (sym c.self.view_is) c.requires.alone in
+    let notes : List Letter = c.perform_most-entered.new.notes in
+    let most = c.if-many.most in
+    let part : List Letter = take most notes in
+    let one : c.args.many ≡ false → most ≤ 1 =
+    λ f. elim c.if-many.branch [ then-many w ↦ absurd (true≢false (sym w.if-many.true ∙ f)) | else-many w ↦ omega (arith, w.most-is) ] in
+    let alone : 1 < length part → c.self.inside.ready.waiting ≡ [] =
+    λ h. subst (λ (s : Running). s.waiting ≡ []) (sym c.self.view_is)
+    (c.requires.alone (is_many c.args.many most notes one h)) in
     let first = one_picked g.P.Rule.pick g.N.Named.pick c.self.inside.ready.rule g.met.P.Rule.within i.4 in
-    omega (arith, c.args.seat.now.counted, c.audit.ensures.bound, i.0.acts, spent_few g.N.Named.code g.N.Named.budget g.N.Named.pick old c.args.process c.args.entries c.self.inside.budget c.perform_entries-entered.result c.perform_entries-entered.new.self i.1 i.0 going held alone i.2 i.3 first c.perform_entries-entered.ensures.performs, entries_few g.N.Named.code g.N.Named.budget g.N.Named.pick old c.args.process c.args.entries c.self.inside.budget c.perform_entries-entered.result c.perform_entries-entered.new.self i.1 i.0 going held alone i.2 i.3 first c.perform_entries-entered.ensures.performs, operators_few g.N.Named.code g.N.Named.budget g.N.Named.pick old c.args.process c.args.entries c.self.inside.budget c.perform_entries-entered.result c.perform_entries-entered.new.self i.1 i.0 going held alone i.2 i.3 first c.perform_entries-entered.ensures.performs, i.3, budget_is, c.from.ensures)
+    omega (arith, c.args.seat.now.counted, c.audit.ensures.bound, i.0.acts, spent_few g.N.Named.code g.N.Named.budget g.N.Named.pick old c.args.process part c.self.inside.budget c.perform_most-entered.result c.perform_most-entered.new.machine i.1 i.0 going held alone i.2 i.3 first c.perform_most-entered.ensures.performs, entries_few g.N.Named.code g.N.Named.budget g.N.Named.pick old c.args.process part c.self.inside.budget c.perform_most-entered.result c.perform_most-entered.new.machine i.1 i.0 going held alone i.2 i.3 first c.perform_most-entered.ensures.performs, operators_few g.N.Named.code g.N.Named.budget g.N.Named.pick old c.args.process part c.self.inside.budget c.perform_most-entered.result c.perform_most-entered.new.machine i.1 i.0 going held alone i.2 i.3 first c.perform_most-entered.ensures.performs, i.3, budget_is, c.from.ensures)
 
 pub returns-clause-fits : goal.returns-clause-fits
 returns-clause-fits g c =
@@ -645,6 +841,13 @@ returns-clause-fits g c =
     let i = c.self.invariant in
     let going : answer_of g.N.Named.budget old ≡ None = subst (λ (s : Running). answer_of g.N.Named.budget s ≡ None) (sym c.self.view_is) c.requires.going in
     let held : 1 ≤ holder_of c.self.inside.out.items c.args.process = subst (λ (s : Running). 1 ≤ holder_of s.out c.args.process) (sym c.self.view_is) c.requires.out in
-    let alone : 0 < c.args.entries → c.self.inside.ready.waiting ≡ [] = subst (λ (s : Running). 0 < c.args.entries → s.waiting ≡ []) (sym c.self.view_is) c.requires.alone in
+    let notes : List Letter = c.perform_most-entered.new.notes in
+    let most = c.if-many.most in
+    let part : List Letter = take most notes in
+    let one : c.args.many ≡ false → most ≤ 1 =
+    λ f. elim c.if-many.branch [ then-many w ↦ absurd (true≢false (sym w.if-many.true ∙ f)) | else-many w ↦ omega (arith, w.most-is) ] in
+    let alone : 1 < length part → c.self.inside.ready.waiting ≡ [] =
+    λ h. subst (λ (s : Running). s.waiting ≡ []) (sym c.self.view_is)
+    (c.requires.alone (is_many c.args.many most notes one h)) in
     let first = one_picked g.P.Rule.pick g.N.Named.pick c.self.inside.ready.rule g.met.P.Rule.within i.4 in
-    omega (arith, c.args.seat.now.counted, c.audit.ensures.bound, i.0.acts, spent_few g.N.Named.code g.N.Named.budget g.N.Named.pick old c.args.process c.args.entries c.self.inside.budget c.perform_entries-entered.result c.perform_entries-entered.new.self i.1 i.0 going held alone i.2 i.3 first c.perform_entries-entered.ensures.performs, entries_few g.N.Named.code g.N.Named.budget g.N.Named.pick old c.args.process c.args.entries c.self.inside.budget c.perform_entries-entered.result c.perform_entries-entered.new.self i.1 i.0 going held alone i.2 i.3 first c.perform_entries-entered.ensures.performs, operators_few g.N.Named.code g.N.Named.budget g.N.Named.pick old c.args.process c.args.entries c.self.inside.budget c.perform_entries-entered.result c.perform_entries-entered.new.self i.1 i.0 going held alone i.2 i.3 first c.perform_entries-entered.ensures.performs, i.3, budget_is, c.from.ensures)
+    omega (arith, c.args.seat.now.counted, c.audit.ensures.bound, i.0.acts, spent_few g.N.Named.code g.N.Named.budget g.N.Named.pick old c.args.process part c.self.inside.budget c.perform_most-entered.result c.perform_most-entered.new.machine i.1 i.0 going held alone i.2 i.3 first c.perform_most-entered.ensures.performs, entries_few g.N.Named.code g.N.Named.budget g.N.Named.pick old c.args.process part c.self.inside.budget c.perform_most-entered.result c.perform_most-entered.new.machine i.1 i.0 going held alone i.2 i.3 first c.perform_most-entered.ensures.performs, operators_few g.N.Named.code g.N.Named.budget g.N.Named.pick old c.args.process part c.self.inside.budget c.perform_most-entered.result c.perform_most-entered.new.machine i.1 i.0 going held alone i.2 i.3 first c.perform_most-entered.ensures.performs, i.3, budget_is, c.from.ensures)

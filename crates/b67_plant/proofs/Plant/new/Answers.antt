@@ -1,4 +1,4 @@
-use Rattle.std.proofs.Common.{refl, sym, ap, subst, ◌∙◌, length, arith}
+use Rattle.std.proofs.Common.{refl, sym, ap, subst, ◌∙◌}
 use Rattle.b67_segment.specs.declared.code.Code.{Code}
 use Rattle.b67_table.specs.Sound.{Sound}
 use Rattle.b67_table.specs.Valid.{IsValid}
@@ -30,6 +30,7 @@ invariant_of-plant g c =
       takes = is.queue.1;
       out = is.out;
       schedule = is.schedule.0;
+      letters = is.schedule.1;
       spent = refl;
       acts = c.open-acts.ensures.total;
       leaves = c.open-leaves.ensures.total;
@@ -40,8 +41,8 @@ invariant_of-plant g c =
       c.requires.budget.2,
       λ n takes. ap (λ r. g.P.Rule.pick r n takes) is.rule ∙ c.requires.rule n takes,
       is.room,
-      is.schedule.1,
-      omega (arith, ap length is.schedule.0),
+      is.schedule.2,
+      is.notes,
       sym c.requires.fresh.lacked,
       sym c.open-leaves.ensures.total,
     )
