@@ -7,4 +7,4 @@ mod stepping;
 
 pub use ending::{End, end_of};
 pub use following::follow;
-pub use stepping::{Stepped, step};
+pub use stepping::{Stepped, step, step_in_place};

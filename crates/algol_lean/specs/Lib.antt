@@ -1,0 +1,4 @@
+pub mod Lean
+pub mod Beside
+pub mod Laws
+pub mod Shed
