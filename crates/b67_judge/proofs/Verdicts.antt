@@ -1,0 +1,34 @@
+-- From a walk to a verdict.
+use Rattle.std.proofs.Common.{◌≡◌, refl, ◌∙◌, ℕ, List, length, Some}
+use Rattle.algol_tree.specs.Plain.{PProgram}
+use Rattle.algol_tree.specs.Scopes.{scopes_of}
+use Rattle.algol_meaning.specs.World.{World}
+use Rattle.algol_meaning.specs.Run.{run, run_from, start}
+use Rattle.b67_schedule.specs.Schedules.{entries}
+use Rattle.b67_report.specs.declared.Report.{Report}
+use Rattle.b67_judge.specs.Judging.{EndFits, HasOutput, IsJust, IsFirstIllegal, IsFirstOther, IsOtherLine, IsOtherEnd}
+use Rattle.b67_judge.specs.Walked.{StopsAt}
+
+pub run_is : (tree : PProgram) (h : List ℕ) → run tree h ≡ run_from (scopes_of tree) h (Some (start (scopes_of tree)))
+unfolding run
+run_is tree h = refl
+
+module _ (tree : PProgram) (report : Report) (w : World) where
+  pub bad_entry : (number : ℕ) → StopsAt (scopes_of tree) (entries report.schedule.runs) (start (scopes_of tree)) w number → IsFirstIllegal tree (entries report.schedule.runs) number
+  bad_entry number s =
+      record { done = s.done; process = s.process; left = s.left; split = s.split; world = w; legal = run_is tree s.done ∙ s.legal; stays = s.stays; is = s.is }
+
+  module _ (legal : run_from (scopes_of tree) (entries report.schedule.runs) (Some (start (scopes_of tree))) ≡ Some w) where
+    pub bad_line : (number : ℕ) → IsFirstOther report.output w.output number → IsOtherLine tree report number
+    bad_line number other = record { world = w; legal = run_is tree (entries report.schedule.runs) ∙ legal; other = other }
+
+    abbrev pub has_output : report.output ≡ w.output → HasOutput tree report
+    has_output same = record { world = w; legal = run_is tree (entries report.schedule.runs) ∙ legal; output = same }
+
+    pub just : report.output ≡ w.output → EndFits w (length (entries report.schedule.runs)) report.end → IsJust tree report
+    just same fits = record { has = has_output same; end = fits }
+
+    pub bad_end : report.output ≡ w.output → (EndFits w (length (entries report.schedule.runs)) report.end → ⊥) → IsOtherEnd tree report
+    bad_end same other = record { has = has_output same; other = other }
+
+pub ruleset verdict_laws = (bad_entry, bad_line, just, bad_end)

@@ -1,0 +1,4 @@
+pub mod Schedules
+pub mod Texts
+pub mod Told
+pub mod Walking
