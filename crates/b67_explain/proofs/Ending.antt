@@ -14,7 +14,7 @@ use Rattle.b67_table.specs.Ending.{ImageEnd, image_end, goes_on, may_act}
 use Rattle.b67_table.specs.Ending as machine
 use Rattle.b67_faithful.specs.Agreement.{end_as, Shows, Fits}
 use Rattle.b67_machine.specs.declared.replay.Replayed.{Replayed}
-use Rattle.b67_machine.specs.declared.replay.Replayed.TheVariants.{Ended, Ran, Illegal, BudgetSpent, NoMemory}
+use Rattle.b67_machine.specs.declared.replay.Replayed.TheVariants.{Ended, Ran, Illegal, BudgetSpent, NoMemory, Differs}
 use Rattle.b67_machine.specs.Kept.{Kept}
 use Rattle.b67_machine.specs.Reads.{machine_end, end_by, shown, limit_end}
 use Rattle.b67_machine.specs.Replaying.{Answers, MayGo, AtLimit, IsIllegal}
@@ -133,3 +133,6 @@ module _ (tree : PProgram) (code : Code) (w : World) (img : Image) (shows : Show
         subst (λ (x : EndWords). Said budget operators performed left tail x) (sym tells)
         (record { ended = (none_there a.0, omega (arith, a.1)); leaves = tt; alone = tt })
     said_of NoMemory count a tells = absurd tells
+    said_of (Differs number) count a tells =
+        subst (λ (x : EndWords). Said budget operators performed left tail x) (sym tells)
+        (record { ended = within; leaves = omega (arith, a.1, count); alone = a.0 })

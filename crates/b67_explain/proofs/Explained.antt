@@ -8,10 +8,16 @@ use Rattle.algol_tree.specs.Scopes.{scopes_of}
 use Rattle.algol_meaning.specs.World.{World, is_able, process_at}
 use Rattle.algol_meaning.specs.Run.{run, start, may_go}
 use Rattle.algol_laws.specs.Kept.{EachRunGrows}
+use Rattle.b67_deeds.specs.declared.Letter.{Letter}
+use Rattle.b67_schedule.specs.declared.reading.Given.{Given}
+use Rattle.b67_schedule.specs.declared.reading.Given.TheVariants.{One, Two}
+use Rattle.b67_schedule.specs.Giving.{given_entries}
 use Rattle.b67_schedule.specs.Schedules.{entries, IsSchedule, Kept as Schedule}
+use Rattle.b67_machine.specs.Letters.{AreLetters}
 use Rattle.b67_report.specs.Reading.{IsLine, IsReport}
 use Rattle.b67_report.specs.declared.Report.{Report}
 use Rattle.b67_report.specs.declared.EndWords.{EndWords}
+use Rattle.b67_report.specs.declared.EndWords.TheVariants as words
 use Rattle.b67_listing.specs.Listings.{ListingText}
 use Rattle.b67_segment.specs.declared.code.Code.{Code}
 use Rattle.b67_table.specs.Image.{Image}
@@ -20,11 +26,14 @@ use Rattle.b67_table.specs.Runs.{TableRun, Runs, begin, entry, count_of, none}
 use Rattle.b67_faithful.specs.Agreement.{Agrees}
 use Rattle.b67_faithful.specs.Faithful.{Faithful, longest}
 use Rattle.b67_machine.specs.declared.replay.Replayed.{Replayed}
-use Rattle.b67_machine.specs.declared.replay.Replayed.TheVariants.{Ended, Ran, Illegal, BudgetSpent, NoMemory}
+use Rattle.b67_machine.specs.declared.replay.Replayed.TheVariants.{Ended, Ran, Illegal, BudgetSpent, NoMemory, Differs}
+use Rattle.b67_machine.specs.declared.reads.End.{End}
+use Rattle.b67_machine.specs.declared.reads.End.TheVariants as machine_ends
 use Rattle.b67_machine.specs.Kept.{Kept, counted}
 use Rattle.b67_machine.specs.Reads.{machine_end, end_by, shown, limit_end}
-use Rattle.b67_machine.specs.Replaying.{Replays, Answers, MayGo, AtLimit, Stands, is_lacking, tails_of, tail_of}
-use Rattle.b67_explain.specs.Explaining.{EndIs, IsLeft, IsTail, NextGoes, Explains, IsOwnEnd, ExplainsRun, ExplainsReplay}
+use Rattle.b67_machine.specs.Replaying.{Replays, ReplaysEntries, Answers, MayGo, AtLimit, Stands, is_lacking, tails_of, tail_of, NoneDiffers, AgreeAs, letters_of}
+use Rattle.b67_explain.specs.Explaining.{EndIs, IsLeft, IsTail, NextGoes, Explains, IsOwnEnd, ExplainsRun, ExplainsReplay, AgreeBy}
+use Rattle.b67_explain.specs.Explaining.{NoneDiffers as NoneSaid, AgreeAs as SaidAs}
 use Rattle.b67_explain.specs.Telling.{CanBeTold, Tells, IsReportOf}
 use Rattle.b67_explain.proofs.Outputs.{run_writes}
 use Rattle.b67_explain.proofs.Printed.{listing_fine, output_fine}
@@ -52,6 +61,7 @@ not_lacking Ran m end tells = refl
 not_lacking (Illegal number) m end tells = refl
 not_lacking BudgetSpent m end tells = refl
 not_lacking NoMemory m end tells = absurd tells
+not_lacking (Differs number) m end tells = refl
 
 -- who may go on is able
 able_if : (n : ℕ) (w : World) (p : ℕ) → (n ≡ 0) ⊎ (may_go w p ≡ true) → (n ≡ 0) ⊎ (is_able ((process_at w p).state) ≡ true)
@@ -67,6 +77,7 @@ tail_may_go code budget spent done left tail img m Ran a = inl a.0
 tail_may_go code budget spent done left tail img m (Illegal number) a = inl a.0
 tail_may_go code budget spent done left tail img m BudgetSpent a = a.2
 tail_may_go code budget spent done left tail img m NoMemory a = inr a.1
+tail_may_go code budget spent done left tail img m (Differs number) a = inl a.0
 
 bound_without : (tree : PProgram) (code : Code) (n : ℕ) (done tails : List ℕ) (tail : ℕ) (img : Image) → Faithful tree code → (r : TableRun code done tails img) → tail ≡ 0 →
     sum r.counts + tail ≤ (length done + n) * longest code.segments
@@ -89,7 +100,7 @@ bound_of tree code n done (q ∷ left) tail img faithful r (inr there) =
     omega (arith, few, more, all_tails)
 
 module _ (grows : EachRunGrows) (tree : PProgram) (code : Code) (faithful : Faithful tree code) (given : List ℕ) (budget : ℕ) (m : Kept) (answer : Replayed) (schedule : Schedule)
-    (replays : Replays code given budget (entries schedule.runs) m answer) (processors : ℕ) (lines : List (List ℕ)) (report : Report)
+    (replays : ReplaysEntries code given budget (entries schedule.runs) schedule.letters m answer) (processors : ℕ) (lines : List (List ℕ)) (report : Report)
     (is : IsReportOf m answer lines processors schedule report) where
   abbrev done : List ℕ
   done = entries schedule.runs
@@ -161,7 +172,7 @@ module _ (grows : EachRunGrows) (tree : PProgram) (code : Code) (faithful : Fait
       said_of tree code agrees.world replays.image agrees.shows agrees.fits m budget (sum replays.run.counts + replays.tail) (length done) done replays.left replays.tail
       report.end same replays.within answer refl replays.answers is.end
 
-  module _ (valid : IsSchedule schedule.runs) (listed : ListingText code lines) where
+  module _ (valid : IsSchedule schedule.runs schedule.letters) (listed : ListingText code lines) where
     schedule_is : report.schedule.runs ≡ schedule.runs
     schedule_is = ap (λ (x : Schedule). x.runs) is.performed
 
@@ -188,7 +199,7 @@ module _ (grows : EachRunGrows) (tree : PProgram) (code : Code) (faithful : Fait
       end = is.sizes.end;
       operators = is.sizes.operators;
       acts = is.sizes.acts;
-      schedule = subst IsSchedule (sym schedule_is) valid;
+      schedule = subst (λ (x : Schedule). IsSchedule x.runs x.letters) (sym is.performed) valid;
     }
 
     pub explained : Explains tree processors budget report
@@ -212,6 +223,7 @@ module _ (grows : EachRunGrows) (tree : PProgram) (code : Code) (faithful : Fait
         runs = replays.run.runs;
         after = replays.run.after;
       };
+      letters = subst (λ (x : Schedule). AreLetters replays.run.runs x.letters) (sym is.performed) replays.letters_are;
       shown = sym (is.output ∙ ap (λ (i : Image). i.output) same);
       same_end = agrees.shows.ends;
       processes = number_of;
@@ -251,8 +263,8 @@ module _ (grows : EachRunGrows) (tree : PProgram) (code : Code) (faithful : Fait
     all_within = omega (arith, all_operators, replays.within)
 
 pub run_explained : (grows : EachRunGrows) (tree : PProgram) (code : Code) → Faithful tree code → (given : List ℕ) (budget : ℕ) (m : Kept) (answer : Replayed) (schedule : Schedule) →
-    Replays code given budget (entries schedule.runs) m answer → (processors : ℕ) (lines : List (List ℕ)) (report : Report) → IsReportOf m answer lines processors schedule report →
-    IsSchedule schedule.runs → ListingText code lines → IsOwnEnd report.end → ExplainsRun tree processors budget report
+    ReplaysEntries code given budget (entries schedule.runs) schedule.letters m answer → (processors : ℕ) (lines : List (List ℕ)) (report : Report) → IsReportOf m answer lines processors schedule report →
+    IsSchedule schedule.runs schedule.letters → ListingText code lines → IsOwnEnd report.end → ExplainsRun tree processors budget report
 unfolding explained
 run_explained grows tree code faithful given budget m answer schedule replays processors lines report is valid listed own = record {
   explains = explained grows tree code faithful given budget m answer schedule replays processors lines report is valid listed;
@@ -260,20 +272,69 @@ run_explained grows tree code faithful given budget m answer schedule replays pr
   able = each_able grows tree code faithful given budget m answer schedule replays processors lines report is valid listed;
 }
 
-pub replay_explained : (grows : EachRunGrows) (tree : PProgram) (code : Code) → Faithful tree code → (given : List ℕ) (budget : ℕ) (m : Kept) (answer : Replayed) (schedule : Schedule) →
-    Replays code given budget (entries schedule.runs) m answer → (lines : List (List ℕ)) (report : Report) → IsReportOf m answer lines 1 schedule report → IsSchedule schedule.runs →
+-- ---- the letters of a replay
+
+-- the noted letters are the first of the given ones
+abbrev pub IsFront : Option (List Letter) → List Letter → Type 0
+IsFront None noted = Unit {0}
+IsFront (Some given) noted = (more : List Letter) × (given ≡ noted ++ more)
+
+front_of : (answer : Replayed) → NoneDiffers answer → (given : Option (List Letter)) (noted : List Letter) → AgreeAs answer given noted → IsFront given noted
+front_of answer n None noted h = tt
+front_of Ended n (Some given) noted h = h
+front_of Ran n (Some given) noted h = h
+front_of (Illegal number) n (Some given) noted h = h
+front_of BudgetSpent n (Some given) noted h = h
+front_of NoMemory n (Some given) noted h = h
+front_of (Differs number) n (Some given) noted h = absurd n
+
+said_by : (end : EndWords) → NoneSaid end → (given noted : List Letter) → (more : List Letter) × (given ≡ noted ++ more) → AgreeBy end given noted
+said_by words.Finished n given noted h = h
+said_by (words.Fault kind process) n given noted h = h
+said_by words.AllWaiting n given noted h = h
+said_by words.BudgetSpent n given noted h = h
+said_by (words.StackLimit process count) n given noted h = h
+said_by words.ScheduleEnded n given noted h = h
+said_by (words.Illegal number) n given noted h = h
+said_by (words.Differs number) n given noted h = absurd n
+
+said_as : (end : EndWords) → NoneSaid end → (given : Given) (noted : List Letter) → IsFront (letters_of given) noted → SaidAs end given noted
+said_as end n (One old) noted h = n
+said_as end n (Two schedule) noted h = said_by end n schedule.letters noted h
+
+-- an end of the machine is not said as a letter that differs
+plain_end : (o : Option End) (end : EndWords) → Tells Ended o end → NoneSaid end
+plain_end None end tells = absurd tells
+plain_end (Some machine_ends.Finished) end tells = subst NoneSaid (sym tells) tt
+plain_end (Some (machine_ends.Fault kind process)) end tells = subst NoneSaid (sym tells) tt
+plain_end (Some machine_ends.AllWaiting) end tells = subst NoneSaid (sym tells) tt
+plain_end (Some (machine_ends.StackLimit process count)) end tells = subst NoneSaid (sym tells) tt
+
+agrees_said : (answer : Replayed) (o : Option End) (end : EndWords) (given : Given) (noted : List Letter) → Tells answer o end → AgreeAs answer (letters_of given) noted → SaidAs end given noted
+agrees_said Ended o end given noted tells h = said_as end (plain_end o end tells) given noted (front_of Ended tt (letters_of given) noted h)
+agrees_said Ran o end given noted tells h = said_as end (subst NoneSaid (sym tells) tt) given noted (front_of Ran tt (letters_of given) noted h)
+agrees_said (Illegal number) o end given noted tells h = said_as end (subst NoneSaid (sym tells) tt) given noted (front_of (Illegal number) tt (letters_of given) noted h)
+agrees_said BudgetSpent o end given noted tells h = said_as end (subst NoneSaid (sym tells) tt) given noted (front_of BudgetSpent tt (letters_of given) noted h)
+agrees_said NoMemory o end given noted tells h = absurd tells
+agrees_said (Differs number) o end (One old) noted tells h = absurd h
+agrees_said (Differs number) o end (Two schedule) noted tells h = subst (λ (x : EndWords). SaidAs x (Two schedule) noted) (sym tells) h
+
+pub replay_explained : (grows : EachRunGrows) (tree : PProgram) (code : Code) → Faithful tree code → (given : Given) (budget : ℕ) (m : Kept) (answer : Replayed) (schedule : Schedule) →
+    Replays code given budget schedule m answer → (lines : List (List ℕ)) (report : Report) → IsReportOf m answer lines 1 schedule report → IsSchedule schedule.runs schedule.letters →
     ListingText code lines → ExplainsReplay tree given budget report
 unfolding explained
 replay_explained grows tree code faithful given budget m answer schedule replays lines report is valid listed = record {
-  explains = explained grows tree code faithful given budget m answer schedule replays 1 lines report is valid listed;
-  left = replays.left;
-  split = left_split grows tree code faithful given budget m answer schedule replays 1 lines report is valid listed;
-  leaves = left_said grows tree code faithful given budget m answer schedule replays 1 lines report is valid listed;
-  tail = replays.tail;
+  explains = explained grows tree code faithful (given_entries given) budget m answer schedule replays.0 1 lines report is valid listed;
+  left = replays.0.left;
+  split = left_split grows tree code faithful (given_entries given) budget m answer schedule replays.0 1 lines report is valid listed;
+  agrees = agrees_said answer (machine_end m) report.end given report.schedule.letters is.end
+      (subst (λ (x : Schedule). AgreeAs answer (letters_of given) x.letters) (sym is.performed) replays.1);
+  leaves = left_said grows tree code faithful (given_entries given) budget m answer schedule replays.0 1 lines report is valid listed;
+  tail = replays.0.tail;
   tails = refl;
-  alone = tail_alone grows tree code faithful given budget m answer schedule replays 1 lines report is valid listed;
-  goes = tail_goes grows tree code faithful given budget m answer schedule replays 1 lines report is valid listed;
-  within = all_within grows tree code faithful given budget m answer schedule replays 1 lines report is valid listed;
+  alone = tail_alone grows tree code faithful (given_entries given) budget m answer schedule replays.0 1 lines report is valid listed;
+  goes = tail_goes grows tree code faithful (given_entries given) budget m answer schedule replays.0 1 lines report is valid listed;
+  within = all_within grows tree code faithful (given_entries given) budget m answer schedule replays.0 1 lines report is valid listed;
 }
 
 -- ---- a run that can be told
@@ -291,14 +352,16 @@ limit_can code m img (p ∷ left) there_is goes at =
     ap (λ o. end_by o m) (ap image_end there_is ∙ (acting img p goes).0) ∙ ap (λ o. limit_end o m.image.regs) at.1 in
     subst (CanBeTold Ended) (sym there) tt
 
-pub can_be_told : (code : Code) (given : List ℕ) (budget : ℕ) (performed : List ℕ) (m : Kept) (answer : Replayed) → Replays code given budget performed m answer → answer ≢ NoMemory →
+pub can_be_told : (code : Code) (given : List ℕ) (budget : ℕ) (performed : List ℕ) (noted : List Letter) (m : Kept) (answer : Replayed) →
+    ReplaysEntries code given budget performed noted m answer → answer ≢ NoMemory →
     CanBeTold answer (machine_end m)
-can_be_told code given budget performed m Ended r some = by r.answers
+can_be_told code given budget performed noted m Ended r some = by r.answers
   where
     by : Answers code budget (sum r.run.counts + r.tail) performed r.left r.tail r.image m Ended → CanBeTold Ended (machine_end m)
     by (inl a) = ended_can m r.image (image_end r.image) r.stands refl a.2
     by (inr a) = limit_can code m r.image r.left r.stands a.1 a.2
-can_be_told code given budget performed m Ran r some = tt
-can_be_told code given budget performed m (Illegal number) r some = tt
-can_be_told code given budget performed m BudgetSpent r some = tt
-can_be_told code given budget performed m NoMemory r some = absurd (some refl)
+can_be_told code given budget performed noted m Ran r some = tt
+can_be_told code given budget performed noted m (Illegal number) r some = tt
+can_be_told code given budget performed noted m BudgetSpent r some = tt
+can_be_told code given budget performed noted m NoMemory r some = absurd (some refl)
+can_be_told code given budget performed noted m (Differs number) r some = tt

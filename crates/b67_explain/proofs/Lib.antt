@@ -8,3 +8,4 @@ mod Printed
 pub mod Explained
 pub mod Ran
 pub mod Turning
+mod Lettering

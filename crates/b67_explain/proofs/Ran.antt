@@ -30,6 +30,7 @@ use Rattle.b67_machine.specs.declared.replay.Replayed.TheVariants.{Ended, Budget
 use Rattle.b67_machine.specs.declared.reads.End.{End}
 use Rattle.b67_machine.specs.declared.reads.End.TheVariants as ends_of
 use Rattle.b67_machine.specs.Kept.{Kept, or_none, counted}
+use Rattle.b67_machine.specs.Letters.{AreLetters}
 use Rattle.b67_machine.specs.Reads.{machine_end, shown, end_by, limit_end}
 use Rattle.b67_machine.specs.Replaying.{Stands as Shows}
 use Rattle.b67_stands.specs.Tails.{at_place, tail_of}
@@ -206,7 +207,7 @@ module _ (grows : EachRunGrows) (tree : PProgram) (code : Code) (faithful : Fait
   -- ---- the report
 
   module _ (processors : ℕ) (lines : List (List ℕ)) (report : Report) (is : IsReportOf s.machine answer lines processors s.schedule report)
-      (valid : IsSchedule s.schedule.runs) (listed : ListingText code lines) where
+      (valid : IsSchedule s.schedule.runs s.schedule.letters) (listed : ListingText code lines) where
     number_of : length report.operators ≡ stands.image.started
     number_of = is.operators.each ∙ ap (λ (i : Image). i.started) same
 
@@ -255,7 +256,7 @@ module _ (grows : EachRunGrows) (tree : PProgram) (code : Code) (faithful : Fait
       end = is.sizes.end;
       operators = is.sizes.operators;
       acts = is.sizes.acts;
-      schedule = subst IsSchedule (sym schedule_is) valid;
+      schedule = subst (λ (x : Schedule). IsSchedule x.runs x.letters) (sym is.performed) valid;
     }
 
     -- who has a tail is able in the world
@@ -284,6 +285,7 @@ module _ (grows : EachRunGrows) (tree : PProgram) (code : Code) (faithful : Fait
         runs = stands.leads.run.runs;
         after = stands.leads.run.after;
       };
+      letters = subst (λ (x : Schedule). AreLetters stands.leads.run.runs x.letters) (sym is.performed) stands.letters;
       shown = sym (is.output ∙ ap (λ (i : Image). i.output) same);
       same_end = agrees.shows.ends;
       processes = number_of;
@@ -336,15 +338,15 @@ module _ (grows : EachRunGrows) (tree : PProgram) (code : Code) (faithful : Fait
   left_can_be_told h =
       subst (λ (k : Kept). CanBeTold answer (machine_end k)) h.machine_is (ran_can_be_told grows tree code faithful budget h.plant h.stands answer h.answered some)
 
-  module _ (processors : ℕ) (lines : List (List ℕ)) (report : Report) (is : IsReportOf m answer lines processors schedule report) (valid : IsSchedule schedule.runs)
+  module _ (processors : ℕ) (lines : List (List ℕ)) (report : Report) (is : IsReportOf m answer lines processors schedule report) (valid : IsSchedule schedule.runs schedule.letters)
       (listed : ListingText code lines) where
     is_of : (h : HasRun code budget m schedule answer) → IsReportOf h.plant.machine answer lines processors h.plant.schedule report
     is_of h =
         subst (λ (k : Kept). IsReportOf k answer lines processors h.plant.schedule report) (sym h.machine_is)
         (subst (λ (x : Schedule). IsReportOf m answer lines processors x report) (sym h.schedule_is) is)
 
-    valid_of : (h : HasRun code budget m schedule answer) → IsSchedule h.plant.schedule.runs
-    valid_of h = subst (λ (x : Schedule). IsSchedule x.runs) (sym h.schedule_is) valid
+    valid_of : (h : HasRun code budget m schedule answer) → IsSchedule h.plant.schedule.runs h.plant.schedule.letters
+    valid_of h = subst (λ (x : Schedule). IsSchedule x.runs x.letters) (sym h.schedule_is) valid
 
     pub left_alone_explained : (pick : Pick) → HasRunAlone code budget pick m schedule answer → AreOfFirst processors (length (entries schedule.runs)) report.acts
         → ExplainsAlone tree pick processors budget report

@@ -1,12 +1,11 @@
 -- The operators of a run, by processes and by entries.
-use Rattle.std.proofs.Common.{◌≡◌, ◌⊎◌, inl, inr, ℕ, zero, suc, ◌+◌, ◌<◌, ◌≤◌, Bool, true, false, List, [], ◌∷◌, length, Option, Some, None, refl, sym, ap, ◌∙◌, subst, arith}
+use Rattle.std.proofs.Common.{◌≡◌, ◌⊎◌, inl, inr, ℕ, zero, suc, ◌+◌, ◌<◌, ◌≤◌, Bool, List, [], ◌∷◌, length, refl, ap, ◌∙◌, arith}
 use Rattle.std.specs.Prelude.{if◌then◌else◌, nat_eq, sum}
 use Rattle.std.specs.List.{AllByRecursion}
 use Rattle.std.proofs.lemmas.Bool.{eq-eqb, ne_eqb}
 use Rattle.std.proofs.lemmas.List.Sums.{sum_by-cons}
-use Rattle.b67_list.specs.Numbered.{numbered}
 use Rattle.b67_table.specs.Runs.{count_of}
-use Rattle.b67_machine.specs.Kept.{or_none, counted}
+use Rattle.b67_machine.specs.Kept.{counted}
 use Rattle.b67_explain.proofs.Naming.{IsOneOf}
 
 -- what so many processes from p on have

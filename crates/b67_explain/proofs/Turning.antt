@@ -1,6 +1,6 @@
 -- The entries of a run by one processor are the turns of the source.
 use Rattle.std.specs.Prelude.{reverse, if◌then◌else◌, slice_get, take, drop, remove}
-use Rattle.std.proofs.Common.{◌≡◌, refl, sym, ap, subst, ◌∙◌, ℕ, zero, suc, ◌+◌, Bool, true, false, List, [], ◌∷◌, ◌++◌, length, Option, Some, None, append_assoc, append-nil, arith}
+use Rattle.std.proofs.Common.{◌≡◌, refl, sym, ap, subst, ◌∙◌, ℕ, suc, ◌+◌, Bool, true, false, List, [], ◌∷◌, ◌++◌, length, Option, Some, None, append_assoc, append-nil, arith}
 use Rattle.std.proofs.lemmas.List.{length-reverse}
 use Rattle.b67_list.specs.Numbered.{numbered}
 use Rattle.algol_tree.specs.Plain.{PProgram}
@@ -17,7 +17,7 @@ use Rattle.b67_letters.specs.Entries.{all_released, all_started}
 use Rattle.b67_table.specs.Ending.{ImageEnd, image_end, may_act}
 use Rattle.b67_table.specs.Ending as ending
 use Rattle.b67_table.specs.Image.{Image, is_able}
-use Rattle.b67_table.specs.Runs.{Runs, begin, entry, Entry, TableRun, none}
+use Rattle.b67_table.specs.Runs.{Runs, begin, entry, TableRun, none}
 use Rattle.b67_faithful.specs.Agreement.{Agrees, Shows, end_as}
 use Rattle.b67_faithful.specs.Correspondence.{released_in, started_in, source_released, source_started}
 use Rattle.b67_faithful.specs.Faithful.{Faithful}

@@ -5,6 +5,10 @@ use Rattle.b67_words.specs.declared.TheConstants.{MOST_STRETCH}
 use Rattle.algol_tree.specs.Plain.{PProgram}
 use Rattle.algol_meaning.specs.World.{World, is_able, process_at}
 use Rattle.algol_meaning.specs.Run.{run, may_go, end_of, finished, fault, all_waiting}
+use Rattle.b67_deeds.specs.declared.Letter.{Letter}
+use Rattle.b67_schedule.specs.declared.reading.Given.{Given}
+use Rattle.b67_schedule.specs.declared.reading.Given.TheVariants.{One, Two}
+use Rattle.b67_schedule.specs.Giving.{given_entries}
 use Rattle.b67_schedule.specs.Schedules.{entries}
 use Rattle.b67_report.specs.Reading.{IsReport}
 use Rattle.b67_report.specs.declared.Report.{Report}
@@ -19,7 +23,8 @@ use Rattle.b67_table.specs.Table.{table, length_in}
 use Rattle.b67_table.specs.Ending.{image_end}
 use Rattle.b67_table.specs.Runs.{TableRun, count_of}
 use Rattle.b67_machine.specs.Kept.{counted}
-use Rattle.b67_machine.specs.Replaying.{tails_of}
+use Rattle.b67_machine.specs.Letters.{AreLetters}
+use Rattle.b67_machine.specs.Replaying.{tails_of, DiffersAt}
 use Rattle.b67_faithful.specs.Weight.{weight}
 use Rattle.b67_faithful.specs.Agreement.{end_as}
 use Rattle.b67_faithful.specs.Faithful.{Faithful, longest}
@@ -36,7 +41,8 @@ pub record AtLimit (tree : PProgram) (code : Code) (world : World) (image : Imag
 
 -- The printed end is that of the world, and the operators are at most as many as the budget. Or the world has none, and the operators came
 -- to the budget, the stack limit, or the end of the schedule, the latter two before the budget was spent. Or an entry is illegal: there was
--- an end before it, at most at the budget, or its process is not able, and the budget was not spent.
+-- an end before it, at most at the budget, or its process is not able, and the budget was not spent. Or an entry has another letter than the
+-- given one, whatever comes after it.
 module _ (tree : PProgram) (code : Code) (world : World) (image : Image) (budget operators : ℕ) where
   abbrev pub EndIs : EndWords → Type 0
   EndIs ends.Finished = (end_of world ≡ Some finished) × (operators ≤ budget)
@@ -46,6 +52,7 @@ module _ (tree : PProgram) (code : Code) (world : World) (image : Image) (budget
   EndIs (ends.StackLimit process words) = (end_of world ≡ None) × (operators < budget) × AtLimit tree code world image process words
   EndIs ends.ScheduleEnded = (end_of world ≡ None) × (operators < budget)
   EndIs (ends.Illegal entry) = ((end_of world ≢ None) × (operators ≤ budget)) ⊎ (operators < budget)
+  EndIs (ends.Differs entry) = operators ≤ budget
 
 -- ---- a report
 
@@ -65,10 +72,11 @@ pub record Explains (tree : PProgram) (processors budget : ℕ) (report : Report
   pub code : Code
   pub listed : ListingText code report.listing
   pub faithful : Faithful tree code
-  -- that code, run under the operator table with the printed schedule, has this output and end
+  -- that code, run under the operator table with the printed schedule, has this output and end, and these are the letters of its actions
   pub tails : List ℕ
   pub image : Image
   pub table_run : TableRun code (entries report.schedule.runs) tails image
+  pub letters : AreLetters table_run.runs report.schedule.letters
   pub shown : image.output ≡ report.output
   pub same_end : end_of world ≡ end_as (image_end image)
   -- there is one count of operators for each process that there has been: those of its entries, and its tail
@@ -86,6 +94,7 @@ pub record Explains (tree : PProgram) (processors budget : ℕ) (report : Report
 abbrev pub IsOwnEnd : EndWords → Type 0
 IsOwnEnd ends.ScheduleEnded = ⊥
 IsOwnEnd (ends.Illegal entry) = ⊥
+IsOwnEnd (ends.Differs entry) = ⊥
 IsOwnEnd end = Unit {0}
 
 -- The report is one of a run of this source. Its end is its own, and only a process that is able in the world has performed operators
@@ -121,6 +130,7 @@ IsLeft world performed ends.BudgetSpent left = Unit {0}
 IsLeft world performed (ends.StackLimit process words) left = NextIs process left
 IsLeft world performed ends.ScheduleEnded left = left ≡ []
 IsLeft world performed (ends.Illegal entry) left = (entry ≡ performed + 1) × NextIsIllegal world left
+IsLeft world performed (ends.Differs entry) left = entry ≡ performed
 
 -- only the budget and the stack limit end a run within an entry
 abbrev pub IsTail : EndWords → ℕ → Type 0
@@ -128,13 +138,29 @@ IsTail ends.BudgetSpent tail = Unit {0}
 IsTail (ends.StackLimit process words) tail = Unit {0}
 IsTail end tail = tail ≡ 0
 
+-- the letters of what was performed are those that were given, but for the last one where it is said that it differs
+abbrev pub AgreeBy : EndWords → List Letter → List Letter → Type 0
+AgreeBy (ends.Differs entry) given performed = DiffersAt given entry performed
+AgreeBy end given performed = (more : List Letter) × (given ≡ performed ++ more)
+
+-- none differs
+abbrev pub NoneDiffers : EndWords → Type 0
+NoneDiffers (ends.Differs entry) = ⊥
+NoneDiffers end = Unit {0}
+
+-- where letters are given
+abbrev pub AgreeAs : EndWords → Given → List Letter → Type 0
+AgreeAs end (One old) performed = NoneDiffers end
+AgreeAs end (Two schedule) performed = AgreeBy end schedule.letters performed
+
 -- The report is one of a run of this source on one processor that follows the given schedule. Its printed schedule is the part that
--- was performed, and after it only the process of the next entry may have performed operators, where it may go on. All of them are at
--- most as many as the budget.
-pub record ExplainsReplay (tree : PProgram) (given : List ℕ) (budget : ℕ) (report : Report) : Type 0 where
+-- was performed, with the letters that were given, where some were, up to the first that differs; and after it only the process of the next
+-- entry may have performed operators, where it may go on. All of them are at most as many as the budget.
+pub record ExplainsReplay (tree : PProgram) (given : Given) (budget : ℕ) (report : Report) : Type 0 where
   pub explains : Explains tree 1 budget report
   pub left : List ℕ
-  pub split : given ≡ entries report.schedule.runs ++ left
+  pub split : given_entries given ≡ entries report.schedule.runs ++ left
+  pub agrees : AgreeAs report.end given report.schedule.letters
   pub leaves : IsLeft explains.world (length (entries report.schedule.runs)) report.end left
   pub tail : ℕ
   pub tails : explains.tails ≡ tails_of left tail

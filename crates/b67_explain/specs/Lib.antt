@@ -3,3 +3,4 @@ pub mod Telling
 pub mod Alone
 pub mod Shared
 pub mod Turning
+pub mod Lettering

@@ -9,7 +9,7 @@ use Rattle.b67_report.specs.declared.EndWords.TheVariants as words
 use Rattle.b67_machine.specs.declared.reads.End.{End}
 use Rattle.b67_machine.specs.declared.reads.End.TheVariants as ends
 use Rattle.b67_machine.specs.declared.replay.Replayed.{Replayed}
-use Rattle.b67_machine.specs.declared.replay.Replayed.TheVariants.{Ended, Ran, Illegal, BudgetSpent, NoMemory}
+use Rattle.b67_machine.specs.declared.replay.Replayed.TheVariants.{Ended, Ran, Illegal, BudgetSpent, NoMemory, Differs}
 use Rattle.b67_machine.specs.Kept.{Kept, counted}
 use Rattle.b67_machine.specs.Reads.{machine_end}
 
@@ -33,6 +33,7 @@ Tells Ran end told = told ≡ words.ScheduleEnded
 Tells (Illegal entry) end told = told ≡ words.Illegal entry
 Tells BudgetSpent end told = told ≡ words.BudgetSpent
 Tells NoMemory end told = ⊥
+Tells (Differs entry) end told = told ≡ words.Differs entry
 
 -- one count for each process that there has been
 pub record AreCounts (machine : Kept) (operators : List ℕ) : Type 0 where

@@ -35,5 +35,6 @@ pub fn words_of(answer: Replayed, end: Option<End>) -> EndWords
         Replayed::Illegal { entry } => EndWords::Illegal { entry },
         Replayed::BudgetSpent => EndWords::BudgetSpent,
         Replayed::NoMemory => unreachable!(),
+        Replayed::Differs { entry } => EndWords::Differs { entry },
     }
 }

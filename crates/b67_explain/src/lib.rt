@@ -7,6 +7,7 @@
 mod ends;
 mod report;
 
+ghost use Rattle.b67_explain.specs.Lettering.{PrintedLettersAreTheSources};
 ghost use Rattle.b67_explain.specs.Turning.{PickedRunsAreTurns};
 
 pub use report::{acts_of, report_of};
@@ -15,4 +16,9 @@ pub use report::{acts_of, report_of};
 /// source under that rule.
 pub fn picked_runs_are_turns()
     ensures { PickedRunsAreTurns }
+{}
+
+/// Law: the letters that a report prints are those of the source's own actions, entry by entry.
+pub fn printed_letters_are_the_sources()
+    ensures { PrintedLettersAreTheSources }
 {}

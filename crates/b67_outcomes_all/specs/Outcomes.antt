@@ -10,6 +10,7 @@ use Rattle.b67_table.specs.Ending.{ImageEnd, image_end, may_act}
 use Rattle.b67_table.specs.Ending as machine
 use Rattle.b67_table.specs.Table.{length_in}
 use Rattle.b67_table.specs.Runs.{TableRun}
+use Rattle.b67_schedule.specs.declared.reading.Given.{Given}
 use Rattle.b67_report.specs.declared.Report.{Report}
 use Rattle.b67_report.specs.declared.EndWords.{EndWords}
 use Rattle.b67_report.specs.declared.EndWords.TheVariants as ends
@@ -37,9 +38,10 @@ IsOutcomeEnd ends.BudgetSpent = ⊥
 IsOutcomeEnd (ends.StackLimit process words) = Unit {0}
 IsOutcomeEnd ends.ScheduleEnded = ⊥
 IsOutcomeEnd (ends.Illegal entry) = ⊥
+IsOutcomeEnd (ends.Differs entry) = ⊥
 
--- the report of a replay of the schedule under the greatest budget has this outcome
-pub record Confirms (tree : PProgram) (given : List ℕ) (o : Outcome) : Type 0 where
+-- the report of a replay of the given schedule under the greatest budget has this outcome
+pub record Confirms (tree : PProgram) (given : Given) (o : Outcome) : Type 0 where
   pub report : Report
   pub explains : ExplainsReplay tree given MOST_BUDGET report
   pub output : report.output ≡ o.output
@@ -108,7 +110,7 @@ ToldAreAll =
 
 pub record Told : Type 0 where
   pub outcome : Outcome
-  pub schedule : List ℕ
+  pub schedule : Given
 
 -- the outcomes, each with a schedule that is replayed to it; how many states were kept; and whether some outcomes may be missing
 pub record Telling : Type 0 where
