@@ -1,4 +1,7 @@
 pub mod Laws
+pub mod Sizes
+pub mod Judged
+pub mod JudgedJust
 pub mod Answering
 pub mod Told
 pub mod Executing

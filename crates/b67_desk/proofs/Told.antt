@@ -8,6 +8,7 @@ use Rattle.b67_listing.specs.Listings.{ListingText, IsListable}
 use Rattle.b67_segment.specs.declared.TheConstants.{MOST_SEGMENT_WORDS}
 use Rattle.b67_segment.specs.declared.code.Code.{Code}
 use Rattle.b67_segment.specs.declared.code.Segment.{Segment}
+use Rattle.b67_schedule.specs.declared.reading.Given.{Given}
 use Rattle.b67_schedule.specs.Schedules.{entries, IsSchedule, Kept as Schedule}
 use Rattle.b67_report.specs.declared.Report.{Report}
 use Rattle.b67_machine.specs.declared.replay.Replayed.{Replayed}
@@ -54,7 +55,7 @@ alone_can_be_told code kept tree faithful budget pick m schedule answer some sam
 
 -- what is left of a run is told by its report
 pub left_is : (m : Kept) (answer : Replayed) (lines : List (List ℕ)) (processors : ℕ) (schedule : Schedule) (result : Result Report AllocError) → answer ≢ NoMemory →
-    IsSchedule schedule.runs → IfOk result (IsReportOf m answer lines processors schedule) → IfOk result (IsLeft m answer lines processors schedule)
+    IsSchedule schedule.runs schedule.letters → IfOk result (IsReportOf m answer lines processors schedule) → IfOk result (IsLeft m answer lines processors schedule)
 left_is m answer lines processors schedule (Ok report) some valid is = record { some = some; valid = valid; is = is }
 left_is m answer lines processors schedule (Err e) some valid is = is
 
@@ -80,7 +81,7 @@ share_reported job m answer schedule acts run lines (Ok report) left same listed
 share_reported job m answer schedule acts run lines (Err e) left same listed = left
 
 -- and of a replay
-pub replay_answered : (code : Code) (given : List ℕ) (budget : ℕ) (m : Kept) (answer : Replayed) (schedule : Schedule) → Replays code given budget (entries schedule.runs) m answer →
+pub replay_answered : (code : Code) (given : Given) (budget : ℕ) (m : Kept) (answer : Replayed) (schedule : Schedule) → Replays code given budget schedule m answer →
     (lines : List (List ℕ)) (result : Result Report AllocError) → IfOk result (IsLeft m answer lines 1 schedule) → ListingText code lines →
     IfOk result (λ report. (tree : PProgram) → Faithful tree code → ExplainsReplay tree given budget report)
 replay_answered code given budget m answer schedule replays lines (Ok report) left listed =

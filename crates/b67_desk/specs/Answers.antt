@@ -12,7 +12,7 @@ use Rattle.b67_io.specs.Faults.{Rose}
 use Rattle.b67_words.specs.declared.TheConstants.{MOST_BUDGET}
 use Rattle.b67_words.specs.declared.Rule.{Rule}
 use Rattle.b67_words.specs.declared.Rule.TheVariants as rules
-use Rattle.b67_words.specs.declared.Task.TheVariants.{Run, Check, Replay}
+use Rattle.b67_words.specs.declared.Task.TheVariants.{Run, Check, Replay, Judge, Race}
 use Rattle.b67_words.specs.declared.Task.TheVariants.{List as ListCode}
 use Rattle.b67_words.specs.declared.Words.{Words}
 use Rattle.b67_words.specs.declared.Words.TheVariants.{OnSource, Exec, Trial}
@@ -24,8 +24,9 @@ use Rattle.b67_text.specs.Texts.{IsRefused}
 use Rattle.b67_ready.specs.declared.order.Order.{Order}
 use Rattle.b67_ready.specs.declared.order.Order.TheVariants as orders
 use Rattle.b67_ready.specs.Orders.{place_of}
-use Rattle.b67_schedule.specs.Schedules.{entries}
-use Rattle.b67_schedule.specs.Reading.{IsScheduleText}
+use Rattle.b67_schedule.specs.declared.reading.Given.{Given}
+use Rattle.b67_schedule.specs.Giving.{IsTextOf}
+use Rattle.b67_schedule.specs.Reading.{IsGivenText}
 use Rattle.b67_report.specs.declared.Report.{Report}
 use Rattle.b67_report.specs.declared.EndWords.{EndWords}
 use Rattle.b67_report.specs.declared.EndWords.TheVariants as ends
@@ -50,6 +51,7 @@ use Rattle.b67_desk.specs.declared.status.Code.{Code as RefusalCode}
 use Rattle.b67_desk.specs.declared.status.Code.TheVariants.{OfSource, OfText}
 use Rattle.b67_desk.specs.declared.status.Status.{Status}
 use Rattle.b67_desk.specs.declared.status.Status.TheVariants as status
+use Rattle.b67_desk.specs.Judging.{OrBadReport, OrUnjust, SaysJust, TellsRaces}
 
 -- ---- texts
 
@@ -95,8 +97,14 @@ pub record Form : Type 0 where
   pub mark : Option (List ℕ)
   pub most : ℕ
 
+-- that of an input which has a text after a source
+abbrev pub with_text : List ℕ → Form
+with_text mark = record { mark = Some mark; most = MOST_INPUT_BYTES }
+
 abbrev pub form_of : Words → Form
-form_of (OnSource (Replay budget)) = record { mark = Some (codes "%%SCHEDULE"); most = MOST_INPUT_BYTES }
+form_of (OnSource (Replay budget)) = with_text (codes "%%SCHEDULE")
+form_of (OnSource Judge) = with_text (codes "%%REPORT")
+form_of (OnSource Race) = with_text (codes "%%REPORT")
 form_of command = record { mark = None; most = MOST_SOURCE_BYTES }
 
 -- the source in the bytes that are read, and the text after it: where there is a mark those of the two parts, else all is the source
@@ -122,6 +130,7 @@ status_of ends.BudgetSpent = status.BudgetSpent
 status_of (ends.StackLimit process words) = status.StackLimit process words
 status_of ends.ScheduleEnded = status.ScheduleEnded
 status_of (ends.Illegal entry) = status.Illegal entry
+status_of (ends.Differs entry) = status.Differs entry
 
 -- what a source that is checked is answered by: it is said to be accepted
 abbrev pub SaysAccepted : List ℕ → Status → Type 0
@@ -165,20 +174,20 @@ pub data Lists (tree : PProgram) : List ℕ → Status → Type 0 where
 -- the first place at which a schedule text is bad; where the input has none, that is said at the input's end
 abbrev pub IsBadSchedule : Option (List ℕ) → ℕ → ℕ → Type 0
 IsBadSchedule None input byte = byte ≡ input
-IsBadSchedule (Some text) input byte = IsRefused IsScheduleText text byte
+IsBadSchedule (Some text) input byte = IsRefused IsGivenText text byte
 
--- the entries of the schedule of a text
-abbrev pub AreGiven : Option (List ℕ) → List ℕ → Type 0
-AreGiven None given = ⊥
-AreGiven (Some text) given = (is : IsScheduleText text) × (given ≡ entries is.runs)
+-- what a text tells of a schedule
+abbrev pub IsGiven : Option (List ℕ) → Given → Type 0
+IsGiven None given = ⊥
+IsGiven (Some text) given = IsTextOf given text
 
--- What a schedule text is answered by: a refusal exactly where it is bad, else what answers its entries.
-pub data OrBadSchedule (schedule : Option (List ℕ)) (input : ℕ) (AnswersIts : List ℕ → List ℕ → Status → Type 0) : List ℕ → Status → Type 0 where
+-- What a schedule text is answered by: a refusal exactly where it is bad, else what answers that which it tells.
+pub data OrBadSchedule (schedule : Option (List ℕ)) (input : ℕ) (AnswersIts : Given → List ℕ → Status → Type 0) : List ℕ → Status → Type 0 where
   bad_schedule : (byte : ℕ) → IsBadSchedule schedule input byte → OrBadSchedule schedule input AnswersIts (bad_schedule_text byte) (status.BadSchedule byte)
-  followed : (given text : List ℕ) (s : Status) → AreGiven schedule given → AnswersIts given text s → OrBadSchedule schedule input AnswersIts text s
+  followed : (given : Given) (text : List ℕ) (s : Status) → IsGiven schedule given → AnswersIts given text s → OrBadSchedule schedule input AnswersIts text s
 
--- `replay`: a report that explains a run that follows these entries
-pub data Replays (budget : ℕ) (tree : PProgram) (given : List ℕ) : List ℕ → Status → Type 0 where
+-- `replay`: a report that explains a run that follows what is given
+pub data Replays (budget : ℕ) (tree : PProgram) (given : Given) : List ℕ → Status → Type 0 where
   replayed : (report : Report) → ExplainsReplay tree given budget report → Replays budget tree given (ReportText report) (status_of report.end)
 
 -- `trial`: the output and the end of a report that explains a run of the source by one processor, first in, first out, under the greatest
@@ -192,6 +201,8 @@ AnswersTree by (OnSource (Run processors budget rule)) beside input tree = Runs 
 AnswersTree by (OnSource Check) beside input tree = SaysAccepted
 AnswersTree by (OnSource ListCode) beside input tree = Lists tree
 AnswersTree by (OnSource (Replay budget)) beside input tree = OrBadSchedule beside input (Replays budget tree)
+AnswersTree by (OnSource Judge) beside input tree = OrBadReport beside input (λ report. OrUnjust tree report SaysJust)
+AnswersTree by (OnSource Race) beside input tree = OrBadReport beside input (λ report. OrUnjust tree report (TellsRaces tree report))
 AnswersTree by (Trial n) beside input tree = Tries input tree
 AnswersTree by (Exec budget) beside input tree = λ text s. ⊥
 

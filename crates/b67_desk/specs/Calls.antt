@@ -119,7 +119,7 @@ CallAnswered by words r (Err why.NoMemory) = ReadsIfAsked words r
 -- the report of what a run has left, where memory did not lack
 pub record IsLeft (machine : Kept) (answer : Replayed) (lines : List (List ℕ)) (processors : ℕ) (schedule : Schedule) (report : Report) : Type 0 where
   pub some : answer ≢ NoMemory
-  pub valid : IsSchedule schedule.runs
+  pub valid : IsSchedule schedule.runs schedule.letters
   pub is : IsReportOf machine answer lines processors schedule report
 
 -- ---- answers

@@ -19,4 +19,7 @@ exit_status status.TooLong = 10
 exit_status (status.Illegal entry) = 11
 exit_status status.ScheduleEnded = 12
 exit_status (status.BadSchedule byte) = 13
+exit_status (status.Differs entry) = 14
 exit_status (status.Interrupt kind process) = 15
+exit_status (status.Unjust verdict) = 16
+exit_status (status.BadReport byte) = 17

@@ -1,6 +1,7 @@
 //! The forms of the commands' inputs: how each is divided, and how long it may be.
 
-ghost use Rattle.std.specs.Prelude.{◌≡◌, option_copied};
+ghost use Rattle.std.specs.Prelude.{◌≡◌, Some, option_copied};
+ghost use Rattle.b67_parts.specs.declared.TheConstants.{MOST_INPUT_BYTES};
 ghost use Rattle.b67_desk.specs.Answers.{DividedBy, form_of};
 
 use algol_tree::MOST_SOURCE_BYTES;
@@ -16,16 +17,25 @@ pub struct Form {
     pub most: usize,
 }
 
+/// The form of an input that has a text after a source.
+fn with_text(mark: &'static [u8]) -> Form
+    ensures mark { option_copied result.mark ≡ Some mark.now }
+    ensures most { result.most ≡ MOST_INPUT_BYTES }
+{
+    Form {
+        mark: Some(mark),
+        most: MOST_INPUT_BYTES,
+    }
+}
+
 /// The form of a command's input.
 pub fn form_of(command: Words) -> Form
     ensures mark { option_copied result.mark ≡ (form_of command).mark }
     ensures most { result.most ≡ (form_of command).most }
 {
     match command {
-        Words::OnSource(Task::Replay { .. }) => Form {
-            mark: Some(b"%%SCHEDULE"),
-            most: MOST_INPUT_BYTES,
-        },
+        Words::OnSource(Task::Replay { .. }) => with_text(b"%%SCHEDULE"),
+        Words::OnSource(Task::Judge | Task::Race) => with_text(b"%%REPORT"),
         Words::OnSource(Task::Run { .. } | Task::Check | Task::List)
         | Words::Exec { .. }
         | Words::Trial { .. } => Form {

@@ -4,6 +4,7 @@ ghost use Rattle.std.specs.Prelude.{◌≡◌, ◌≢◌, ◌≤◌, IfOk, lengt
 ghost use Rattle.algol_tree.specs.Plain.{PProgram};
 ghost use Rattle.b67_words.specs.declared.TheConstants.{MOST_BUDGET};
 ghost use Rattle.b67_ready.specs.Orders.{place_of};
+ghost use Rattle.b67_schedule.specs.Giving.{HasRuns};
 ghost use Rattle.b67_schedule.specs.Schedules.{entries};
 ghost use Rattle.b67_report.specs.Reading.{AreCounts as AreNumbers};
 ghost use Rattle.b67_machine.specs.Reads.{machine_end};
@@ -24,7 +25,7 @@ use b67_plant::{Ran, run_by_caller, run_by_processors};
 use b67_processors::Gate;
 use b67_ready::Order;
 use b67_report::Report;
-use b67_schedule::Schedule;
+use b67_schedule::{Given, Schedule};
 use b67_segment::Code;
 use b67_words::Rule;
 use std::alloc::{AllocError, Global};
@@ -120,16 +121,18 @@ pub fn share_report<R: Threads + Wait + Sync, G: Gate + Sync>(
 pub fn replay_report(
     alloc: Global,
     budget: u64,
-    given: &Schedule,
+    given: &Given,
     code: Code,
 ) -> Result<Report, AllocError>
     requires most { budget ≤ MOST_BUDGET }
+    requires runs { HasRuns given.now }
     requires faithful { (tree : PProgram) × Faithful tree code }
-    ensures { IfOk result (λ report. (tree : PProgram) → Faithful tree code → ExplainsReplay tree (entries given.now.runs) budget report) }
+    ensures { IfOk result (λ report. (tree : PProgram) → Faithful tree code → ExplainsReplay tree given.now budget report) }
 {
     let lines = listing(alloc, &code)?;
     let mut machine = Machine::load(alloc, code, FlatCore::new(alloc))?;
-    let mut done = Schedule::with_room(alloc, given.len().min(budget) as usize)?;
+    let entries = given.len().min(budget) as usize;
+    let mut done = Schedule::with_room(alloc, entries)?;
     let answer = machine.replay(given, budget as u32, &mut done);
     let acts = acts_of(alloc, 1, done.len())?;
     let ran = Ran {

@@ -5,6 +5,7 @@ ghost use Rattle.b67_desk.specs.Exits.{exit_status};
 
 use algol_tree::{Code as SourceCode, Spot};
 use b67_asm::Rule;
+use b67_judge::Verdict;
 use b67_num::FaultKind;
 use b67_table::InterruptKind;
 use b67_words::UsageKind;
@@ -47,8 +48,14 @@ pub enum Status {
     ScheduleEnded,
     /// The schedule text is no schedule from this byte on.
     BadSchedule { byte: u64 },
+    /// The entry of this number of the schedule to be followed, counted from 1, was performed with another letter than the given one.
+    Differs { entry: u64 },
     /// The next operator of a process can not be performed.
     Interrupt { kind: InterruptKind, process: u32 },
+    /// What the report says is not so of the source, and this is what is wrong with it.
+    Unjust { verdict: Verdict },
+    /// The report text is no report from this byte on.
+    BadReport { byte: u64 },
 }
 
 impl Status {
@@ -71,7 +78,10 @@ impl Status {
             Status::Illegal { .. } => 11,
             Status::ScheduleEnded => 12,
             Status::BadSchedule { .. } => 13,
+            Status::Differs { .. } => 14,
             Status::Interrupt { .. } => 15,
+            Status::Unjust { .. } => 16,
+            Status::BadReport { .. } => 17,
         }
     }
 }

@@ -1,8 +1,8 @@
 //! The top call.
 
-ghost use Rattle.std.specs.Prelude.{◌≡◌, ℕ, List, IfOk, map, string_bytes};
+ghost use Rattle.std.specs.Prelude.{◌≡◌, ◌≤◌, ℕ, List, IfOk, length, map, string_bytes};
 ghost use Rattle.b67_make.specs.Made.{made};
-ghost use Rattle.b67_desk.specs.Answers.{AnswersBytes, HasAnswer, Reading, Workers, by_all, by_one, reading, writing};
+ghost use Rattle.b67_desk.specs.Answers.{AnswersBytes, most_bytes, HasAnswer, Reading, Workers, by_all, by_one, reading, writing};
 ghost use Rattle.b67_desk.specs.Calls.{Asks, CallAnswered, CallAsked, CanBeMade, CommandAsked, InRange, InputRead, IsFound, IsRunAnswer, IsTooLong, IsUsage, SourceAsked};
 
 use crate::asking::{Answer, Asked, Found, Job, Unanswered, settled};
@@ -52,7 +52,8 @@ fn find(alloc: Global, source: &[u8]) -> Result<Found, AllocError>
 
 /// What a task with the source in bytes that were read asks for.
 fn ask_bytes(alloc: Global, task: Task, bytes: &[u8]) -> Result<Asked, AllocError>
-    requires { InRange (Words.OnSource task) }
+    requires range { InRange (Words.OnSource task) }
+    requires few { length bytes.now ≤ most_bytes (Words.OnSource task) }
     ensures { IfOk result (Asks (λ by. AnswersBytes by (Words.OnSource task) bytes.now)) }
 {
     let (source, text) = divide(form_of(Words::OnSource(task)).mark, bytes);
@@ -241,12 +242,13 @@ fn write_answer<K: Sink>(sink: &mut K, answer: Result<Answer, Unanswered>) -> St
 ///
 /// `words` are the words after the program's name; the commands are `run P B`, `run P B --rule=R`, `replay B` and `exec B`
 /// with P of 1 to [`MOST_PROCESSORS`](b67_words::MOST_PROCESSORS) processors, a budget B of 1 to [`MOST_BUDGET`](b67_words::MOST_BUDGET)
-/// operators and a rule of dispatch R, `check`, `list`, and `trial N` with a number N of 0 to [`MOST_TRIAL`](b67_words::MOST_TRIAL).
+/// operators and a rule of dispatch R, `check`, `list`, `judge`, `race`, and `trial N` with a number N of 0 to [`MOST_TRIAL`](b67_words::MOST_TRIAL).
 /// `source` gives the bytes of an ALGOL source, at most [`MOST_SOURCE_BYTES`] of them, and is read to its end. Under `replay` it gives at
 /// most [`MOST_INPUT_BYTES`](b67_parts::MOST_INPUT_BYTES): after the source a record that is exactly `%%SCHEDULE`, and after that the text of the schedule to be
-/// followed. Under `exec` it gives a text of code in place of a source. Under `trial` nothing is read, and the source is the one that is
+/// followed. Under `judge` and `race` it gives as many: after the source a record that is exactly `%%REPORT`, and after that the text of a
+/// report. Under `exec` it gives a text of code in place of a source. Under `trial` nothing is read, and the source is the one that is
 /// made from the number. `sink` gets the answer whole: the report of the run, the listing of the code, the word ACCEPTED, what a run by
-/// turns says, what a trial says, or one line of refusal. It returns on every input.
+/// turns says, what a trial says, that a report is just or what is wrong with it, its races, or one line of refusal. It returns on every input.
 ///
 /// The first of these that holds is the answer. `Usage` comes exactly where the words break the grammar, names the first word
 /// that does, and nothing is read. `ReadFault` comes only where the source's count of faults rose, and nothing is written.
@@ -256,7 +258,12 @@ fn write_answer<K: Sink>(sink: &mut K, answer: Result<Answer, Unanswered>) -> St
 /// is none, at the length of its longest front that begins one. Else `check` and `list` end with `Finished`, and `run` and
 /// `replay` are reported: `Finished`, `Fault` or `AllWaiting` where the run has that end, and on `replay` no entry is left;
 /// `BudgetSpent` where the operators came to the budget first, and `StackLimit` where a stack would have too many words; and on
-/// `replay` `Illegal` where the next entry can not be performed, and `ScheduleEnded` where none is left and the run goes on.
+/// `replay` `Illegal` where the next entry can not be performed, `ScheduleEnded` where none is left and the run goes on, and `Differs`
+/// where an entry was performed with another letter than the given one, whatever the run comes to with it. A schedule of version 1
+/// gives no letters.
+/// `BadReport` comes on `judge` and `race` as `BadSchedule` on `replay`, of the report's text. `Unjust` comes there exactly where what the
+/// report says is not so of the source, with what is wrong with it. Else they end with `Finished`, and `race` tells each race of the source
+/// under the report's schedule.
 /// On `exec` `Refused` comes exactly where the text has no code, at the start of the first line that breaks a rule, with the code of the
 /// lowest rule that it breaks. Else the run of its code by turns is told: `Finished`, `Fault` or `AllWaiting` where it comes to that end,
 /// `Interrupt` and `StackLimit` exactly where the next operator of the process whose turn it is comes to that, and `BudgetSpent` where as

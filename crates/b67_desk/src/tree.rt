@@ -5,8 +5,10 @@ ghost use Rattle.algol_tree.specs.Image.{program as plain};
 ghost use Rattle.b67_words.specs.declared.TheConstants.{MOST_BUDGET, MOST_PROCESSORS};
 ghost use Rattle.b67_desk.specs.Answers.{AnswersTree, OrBadSchedule, SaysAccepted, Runs, Lists, Replays, Tries, status_of};
 ghost use Rattle.b67_desk.specs.Calls.{Asks, InRange, IsRefusal, IsBadAt, IsReportAnswer, IsTrialAnswer};
+ghost use Rattle.b67_desk.specs.Judged.{IsShort};
 
 use crate::asking::{Answer, Asked, Job, settled};
+use crate::judging::{answer_judge, answer_race};
 use crate::running::{replay_report, run_report};
 use crate::status::{Code, Status};
 use crate::texts::{accepted_line, bad_schedule_line, listing_lines, refused_line, trial_lines};
@@ -31,6 +33,7 @@ fn status_of(end: EndWords) -> Status
         EndWords::StackLimit { process, words } => Status::StackLimit { process, words },
         EndWords::ScheduleEnded => Status::ScheduleEnded,
         EndWords::Illegal { entry } => Status::Illegal { entry },
+        EndWords::Differs { entry } => Status::Differs { entry },
     }
 }
 
@@ -164,7 +167,8 @@ pub fn ask_tree(
     input: usize,
     checked: &Checked,
 ) -> Result<Asked, AllocError>
-    requires { InRange (Words.OnSource task) }
+    requires range { InRange (Words.OnSource task) }
+    requires short { IsShort (option_copied text) }
     ensures { IfOk result (Asks (λ by. AnswersTree by (Words.OnSource task) (option_copied text.entry) input (plain checked.now.program))) }
 {
     match task {
@@ -176,5 +180,7 @@ pub fn ask_tree(
         Task::Check => settled(accept_source(alloc)),
         Task::List => settled(answer_list(alloc, checked)),
         Task::Replay { budget } => settled(answer_replay(alloc, budget, text, input, checked)),
+        Task::Judge => settled(answer_judge(alloc, text, input, checked)),
+        Task::Race => settled(answer_race(alloc, text, input, checked)),
     }
 }

@@ -1,5 +1,5 @@
 -- The commands by their words, and how their words can begin.
-use Rattle.std.proofs.Common.{◌≡◌, ◌≢◌, ◌⊎◌, inl, inr, ℕ, ◌≤◌, List, [], ◌∷◌, ◌++◌, length, drop, get_or, refl, sym, ap, subst, ◌∙◌, arith}
+use Rattle.std.proofs.Common.{◌≡◌, ◌≢◌, ◌⊎◌, inl, inr, ℕ, ◌+◌, ◌≤◌, List, [], ◌∷◌, ◌++◌, length, drop, get_or, refl, sym, ap, subst, ◌∙◌, arith}
 use Rattle.std.specs.Prelude.{codes}
 use Rattle.std.proofs.lemmas.Fmt.{decimal_digit, decimal_injective}
 use Rattle.b67_words.specs.declared.TheConstants.{MOST_BUDGET, MOST_PROCESSORS, MOST_SEED, MOST_TRIAL}
@@ -7,14 +7,16 @@ use Rattle.b67_words.specs.declared.Rule.{Rule}
 use Rattle.b67_words.specs.declared.Rule.TheVariants.{Fifo, Lifo, Seed}
 use Rattle.b67_words.specs.declared.Words.{Words}
 use Rattle.b67_words.specs.declared.Task.TheVariants as tasks
-use Rattle.b67_words.specs.declared.Task.TheVariants.{Run, Check, Replay}
+use Rattle.b67_words.specs.declared.Task.TheVariants.{Run, Check, Replay, Judge, Race}
 use Rattle.b67_words.specs.declared.Words.TheVariants.{OnSource, Exec, Trial}
-use Rattle.b67_words.specs.Grammar.{IsNumber, IsFromZero, IsRule, fifo, lifo, seed, NameRule, IsCommand, run, check, list, replay, exec, trial, BeginCommand, IsWhole}
+use Rattle.b67_words.specs.Grammar.{IsNumber, IsFromZero, IsRule, fifo, lifo, seed, NameRule, IsCommand, run, check, list, replay, judge, race, exec, trial, BeginCommand, IsWhole}
 
 -- the word is a command by itself, which means this
 pub data IsAlone (name : List ℕ) (meaning : Words) : Type 0 where
   is_check : name ≡ codes "check" → meaning ≡ OnSource Check → IsAlone name meaning
   is_list : name ≡ codes "list" → meaning ≡ OnSource tasks.List → IsAlone name meaning
+  is_judge : name ≡ codes "judge" → meaning ≡ OnSource Judge → IsAlone name meaning
+  is_race : name ≡ codes "race" → meaning ≡ OnSource Race → IsAlone name meaning
 
 -- the word with a budget after it is a command, which means this
 pub data IsBudgeted (name : List ℕ) (b : ℕ) (meaning : Words) : Type 0 where
@@ -33,90 +35,110 @@ pub form_of : (words : List (List ℕ)) (meaning : Words) → IsCommand words me
 form_of _ _ (run processors budget last p b rule f s n) = a_run processors budget last p b rule refl f s n refl
 form_of _ _ check = a_word (codes "check") refl (is_check refl refl)
 form_of _ _ list = a_word (codes "list") refl (is_list refl refl)
+form_of _ _ judge = a_word (codes "judge") refl (is_judge refl refl)
+form_of _ _ race = a_word (codes "race") refl (is_race refl refl)
 form_of _ _ (replay budget b s) = a_budget (codes "replay") budget b refl s (is_replay refl refl)
 form_of _ _ (trial number n is) = a_trial number n refl is refl
 form_of _ _ (exec budget b s) = a_budget (codes "exec") budget b refl s (is_exec refl refl)
 
--- ---- the names of the commands are told apart by a letter
+-- ---- the names of the commands are told apart by their first two letters
 
-differ : {B : Type 0} (a b m n : ℕ) → a ≡ m → b ≡ n → a ≡ b → m ≢ n → B
-differ a b m n p q e other = absurd (other (omega arith))
+-- the sum of the first two letters of a name
+abbrev weight : List ℕ → ℕ
+weight name = get_or name 0 0 + get_or name 1 0
 
-pub alone_letter : (name : List ℕ) (meaning : Words) → IsAlone name meaning → (99 ≤ get_or name 0 0) × (get_or name 0 0 ≤ 108)
-alone_letter name meaning (is_check e m) = let first : get_or name 0 0 ≡ 99 = rw e refl in (omega arith, omega arith)
-alone_letter name meaning (is_list e m) = let first : get_or name 0 0 ≡ 108 = rw e refl in (omega arith, omega arith)
+weigh : (name other : List ℕ) (n : ℕ) → name ≡ other → weight other ≡ n → weight name ≡ n
+weigh name other n e f = ap weight e ∙ f
 
-pub run_not_alone : {B : Type 0} (name : List ℕ) (meaning : Words) → IsAlone name meaning → name ≡ codes "run" → B
-run_not_alone name meaning is e =
-    let first : get_or name 0 0 ≡ 114 = rw e refl in let low = (alone_letter name meaning is).1 in absurd (omega arith)
+apart : {B : Type 0} (name : List ℕ) (n k : ℕ) → weight name ≡ n → weight name ≡ k → n ≢ k → B
+apart name n k e f h = absurd (h (sym e ∙ f))
 
--- the first letter of a command's name that a budget follows, and the second one
+-- a letter of a name
 letter : (name other : List ℕ) (i n : ℕ) → name ≡ other → get_or other i 0 ≡ n → get_or name i 0 ≡ n
 letter name other i n e f = ap (λ (w : List ℕ). get_or w i 0) e ∙ f
 
-budget_first : (name : List ℕ) (b : ℕ) (meaning : Words) → IsBudgeted name b meaning → (get_or name 0 0 ≡ 114) ⊎ (get_or name 0 0 ≡ 101)
-budget_first name b meaning (is_replay e m) = inl (letter name (codes "replay") 0 114 e refl)
-budget_first name b meaning (is_exec e m) = inr (letter name (codes "exec") 0 101 e refl)
+alone_apart : {B : Type 0} (name : List ℕ) (meaning : Words) (n : ℕ) → IsAlone name meaning → weight name ≡ n → 203 ≢ n → 213 ≢ n → 223 ≢ n → 211 ≢ n → B
+alone_apart name meaning n (is_check e m) w c l j r = apart name 203 n (weigh name (codes "check") 203 e refl) w c
+alone_apart name meaning n (is_list e m) w c l j r = apart name 213 n (weigh name (codes "list") 213 e refl) w l
+alone_apart name meaning n (is_judge e m) w c l j r = apart name 223 n (weigh name (codes "judge") 223 e refl) w j
+alone_apart name meaning n (is_race e m) w c l j r = apart name 211 n (weigh name (codes "race") 211 e refl) w r
 
-budget_second : (name : List ℕ) (b : ℕ) (meaning : Words) → IsBudgeted name b meaning → (get_or name 1 0 ≡ 101) ⊎ (get_or name 1 0 ≡ 120)
-budget_second name b meaning (is_replay e m) = inl (letter name (codes "replay") 1 101 e refl)
-budget_second name b meaning (is_exec e m) = inr (letter name (codes "exec") 1 120 e refl)
+budget_weight : (name : List ℕ) (b : ℕ) (meaning : Words) → IsBudgeted name b meaning → (weight name ≡ 215) ⊎ (weight name ≡ 221)
+budget_weight name b meaning (is_replay e m) = inl (weigh name (codes "replay") 215 e refl)
+budget_weight name b meaning (is_exec e m) = inr (weigh name (codes "exec") 221 e refl)
 
-alone_first : (name : List ℕ) (meaning : Words) → IsAlone name meaning → (get_or name 0 0 ≡ 99) ⊎ (get_or name 0 0 ≡ 108)
-alone_first name meaning (is_check e m) = inl (letter name (codes "check") 0 99 e refl)
-alone_first name meaning (is_list e m) = inr (letter name (codes "list") 0 108 e refl)
+pub alone_letter : (name : List ℕ) (meaning : Words) → IsAlone name meaning → 99 ≤ get_or name 0 0
+alone_letter name meaning (is_check e m) = let first = letter name (codes "check") 0 99 e refl in omega (arith, first)
+alone_letter name meaning (is_list e m) = let first = letter name (codes "list") 0 108 e refl in omega (arith, first)
+alone_letter name meaning (is_judge e m) = let first = letter name (codes "judge") 0 106 e refl in omega (arith, first)
+alone_letter name meaning (is_race e m) = let first = letter name (codes "race") 0 114 e refl in omega (arith, first)
 
-two_apart : {B : Type 0} (n a b c d : ℕ) → (n ≡ a) ⊎ (n ≡ b) → (n ≡ c) ⊎ (n ≡ d) → a ≢ c → a ≢ d → b ≢ c → b ≢ d → B
-two_apart n a b c d (inl e) (inl f) h i j k = absurd (h (sym e ∙ f))
-two_apart n a b c d (inl e) (inr f) h i j k = absurd (i (sym e ∙ f))
-two_apart n a b c d (inr e) (inl f) h i j k = absurd (j (sym e ∙ f))
-two_apart n a b c d (inr e) (inr f) h i j k = absurd (k (sym e ∙ f))
+pub budget_letter : (name : List ℕ) (b : ℕ) (meaning : Words) → IsBudgeted name b meaning → 101 ≤ get_or name 0 0
+budget_letter name b meaning (is_replay e m) = let first = letter name (codes "replay") 0 114 e refl in omega (arith, first)
+budget_letter name b meaning (is_exec e m) = let first = letter name (codes "exec") 0 101 e refl in omega (arith, first)
+
+pub run_not_alone : {B : Type 0} (name : List ℕ) (meaning : Words) → IsAlone name meaning → name ≡ codes "run" → B
+run_not_alone name meaning is e =
+    alone_apart name meaning 231 is (weigh name (codes "run") 231 e refl) (λ p. omega arith) (λ p. omega arith) (λ p. omega arith) (λ p. omega arith)
 
 pub budget_not_alone : {B : Type 0} (name : List ℕ) (b : ℕ) (one other : Words) → IsBudgeted name b one → IsAlone name other → B
-budget_not_alone name b one other is also =
-    two_apart (get_or name 0 0) 114 101 99 108 (budget_first name b one is) (alone_first name other also) (λ p. omega arith) (λ p. omega arith) (λ p. omega arith)
-    (λ p. omega arith)
+budget_not_alone {B = B} name b one other is also = by (budget_weight name b one is)
+  where
+    by : (weight name ≡ 215) ⊎ (weight name ≡ 221) → B
+    by (inl w) = alone_apart name other 215 also w (λ p. omega arith) (λ p. omega arith) (λ p. omega arith) (λ p. omega arith)
+    by (inr w) = alone_apart name other 221 also w (λ p. omega arith) (λ p. omega arith) (λ p. omega arith) (λ p. omega arith)
+
+-- the name of a command that a budget follows has another weight
+budget_apart : {B : Type 0} (name : List ℕ) (b : ℕ) (meaning : Words) (n : ℕ) → IsBudgeted name b meaning → weight name ≡ n → 215 ≢ n → 221 ≢ n → B
+budget_apart {B = B} name b meaning n is w h k = by (budget_weight name b meaning is)
+  where
+    by : (weight name ≡ 215) ⊎ (weight name ≡ 221) → B
+    by (inl v) = apart name 215 n v w h
+    by (inr v) = apart name 221 n v w k
 
 pub budget_not_run : {B : Type 0} (name : List ℕ) (b : ℕ) (meaning : Words) → IsBudgeted name b meaning → name ≡ codes "run" → B
-budget_not_run name b meaning is e =
-    let u : get_or name 1 0 ≡ 117 = letter name (codes "run") 1 117 e refl in
-    two_apart (get_or name 1 0) 101 120 117 117 (budget_second name b meaning is) (inl u) (λ p. omega arith) (λ p. omega arith) (λ p. omega arith) (λ p. omega arith)
+budget_not_run name b meaning is e = budget_apart name b meaning 231 is (weigh name (codes "run") 231 e refl) (λ p. omega arith) (λ p. omega arith)
 
 -- the name of a trial is none of the others
-trial_first : (name : List ℕ) → name ≡ codes "trial" → get_or name 0 0 ≡ 116
-trial_first name t = letter name (codes "trial") 0 116 t refl
+trial_weight : (name : List ℕ) → name ≡ codes "trial" → weight name ≡ 230
+trial_weight name t = weigh name (codes "trial") 230 t refl
 
 pub trial_not_run : {B : Type 0} (name : List ℕ) → name ≡ codes "trial" → name ≡ codes "run" → B
-trial_not_run name t e =
-    differ (get_or name 0 0) (get_or name 0 0) 116 114 (trial_first name t) (letter name (codes "run") 0 114 e refl) refl (λ p. omega arith)
+trial_not_run name t e = apart name 230 231 (trial_weight name t) (weigh name (codes "run") 231 e refl) (λ p. omega arith)
 
 pub trial_not_budgeted : {B : Type 0} (name : List ℕ) (b : ℕ) (meaning : Words) → IsBudgeted name b meaning → name ≡ codes "trial" → B
-trial_not_budgeted name b meaning is t =
-    two_apart (get_or name 0 0) 114 101 116 116 (budget_first name b meaning is) (inl (trial_first name t)) (λ p. omega arith) (λ p. omega arith) (λ p. omega arith)
-    (λ p. omega arith)
+trial_not_budgeted name b meaning is t = budget_apart name b meaning 230 is (trial_weight name t) (λ p. omega arith) (λ p. omega arith)
 
 pub trial_not_alone : {B : Type 0} (name : List ℕ) (meaning : Words) → IsAlone name meaning → name ≡ codes "trial" → B
 trial_not_alone name meaning is t =
-    let first = trial_first name t in let low = (alone_letter name meaning is).1 in absurd (omega arith)
-
-pub budget_letter : (name : List ℕ) (b : ℕ) (meaning : Words) → IsBudgeted name b meaning → 101 ≤ get_or name 0 0
-budget_letter name b meaning is = by (budget_first name b meaning is)
-  where
-    by : (get_or name 0 0 ≡ 114) ⊎ (get_or name 0 0 ≡ 101) → 101 ≤ get_or name 0 0
-    by (inl e) = omega (arith, e)
-    by (inr e) = omega (arith, e)
-
-replay_not_exec : {B : Type 0} → codes "replay" ≡ codes "exec" → B
-replay_not_exec e = differ (get_or (codes "replay") 0 0) (get_or (codes "exec") 0 0) 114 101 refl refl (ap (λ (w : List ℕ). get_or w 0 0) e) (λ p. omega arith)
+    alone_apart name meaning 230 is (trial_weight name t) (λ p. omega arith) (λ p. omega arith) (λ p. omega arith) (λ p. omega arith)
 
 pub same_budgeted : (name : List ℕ) (b k : ℕ) (one other : Words) → b ≡ k → IsBudgeted name b one → IsBudgeted name k other → one ≡ other
 same_budgeted name b k one other same (is_replay e m) (is_replay f n) = m ∙ ap (λ (x : ℕ). OnSource (Replay x)) same ∙ sym n
-same_budgeted name b k one other same (is_replay e m) (is_exec f n) = replay_not_exec (sym e ∙ f)
-same_budgeted name b k one other same (is_exec e m) (is_replay f n) = replay_not_exec (sym f ∙ e)
+same_budgeted name b k one other same (is_replay e m) (is_exec f n) =
+    apart name 215 221 (weigh name (codes "replay") 215 e refl) (weigh name (codes "exec") 221 f refl) (λ p. omega arith)
+same_budgeted name b k one other same (is_exec e m) (is_replay f n) =
+    apart name 221 215 (weigh name (codes "exec") 221 e refl) (weigh name (codes "replay") 215 f refl) (λ p. omega arith)
 same_budgeted name b k one other same (is_exec e m) (is_exec f n) = m ∙ ap (λ (x : ℕ). Exec x) same ∙ sym n
 
-pub check_not_list : {B : Type 0} → codes "check" ≡ codes "list" → B
-check_not_list e = differ (get_or (codes "check") 0 0) (get_or (codes "list") 0 0) 99 108 refl refl (ap (λ (w : List ℕ). get_or w 0 0) e) (λ p. omega arith)
+-- a word that is a command by itself means one
+pub same_alone : (name : List ℕ) (one other : Words) → IsAlone name one → IsAlone name other → one ≡ other
+same_alone name one other (is_check e m) (is_check f n) = m ∙ sym n
+same_alone name one other (is_list e m) (is_list f n) = m ∙ sym n
+same_alone name one other (is_judge e m) (is_judge f n) = m ∙ sym n
+same_alone name one other (is_race e m) (is_race f n) = m ∙ sym n
+same_alone name one other (is_check e m) (is_list f n) = apart name 203 213 (weigh name (codes "check") 203 e refl) (weigh name (codes "list") 213 f refl) (λ p. omega arith)
+same_alone name one other (is_check e m) (is_judge f n) = apart name 203 223 (weigh name (codes "check") 203 e refl) (weigh name (codes "judge") 223 f refl) (λ p. omega arith)
+same_alone name one other (is_check e m) (is_race f n) = apart name 203 211 (weigh name (codes "check") 203 e refl) (weigh name (codes "race") 211 f refl) (λ p. omega arith)
+same_alone name one other (is_list e m) (is_check f n) = apart name 213 203 (weigh name (codes "list") 213 e refl) (weigh name (codes "check") 203 f refl) (λ p. omega arith)
+same_alone name one other (is_list e m) (is_judge f n) = apart name 213 223 (weigh name (codes "list") 213 e refl) (weigh name (codes "judge") 223 f refl) (λ p. omega arith)
+same_alone name one other (is_list e m) (is_race f n) = apart name 213 211 (weigh name (codes "list") 213 e refl) (weigh name (codes "race") 211 f refl) (λ p. omega arith)
+same_alone name one other (is_judge e m) (is_check f n) = apart name 223 203 (weigh name (codes "judge") 223 e refl) (weigh name (codes "check") 203 f refl) (λ p. omega arith)
+same_alone name one other (is_judge e m) (is_list f n) = apart name 223 213 (weigh name (codes "judge") 223 e refl) (weigh name (codes "list") 213 f refl) (λ p. omega arith)
+same_alone name one other (is_judge e m) (is_race f n) = apart name 223 211 (weigh name (codes "judge") 223 e refl) (weigh name (codes "race") 211 f refl) (λ p. omega arith)
+same_alone name one other (is_race e m) (is_check f n) = apart name 211 203 (weigh name (codes "race") 211 e refl) (weigh name (codes "check") 203 f refl) (λ p. omega arith)
+same_alone name one other (is_race e m) (is_list f n) = apart name 211 213 (weigh name (codes "race") 211 e refl) (weigh name (codes "list") 213 f refl) (λ p. omega arith)
+same_alone name one other (is_race e m) (is_judge f n) = apart name 211 223 (weigh name (codes "race") 211 e refl) (weigh name (codes "judge") 223 f refl) (λ p. omega arith)
 
 -- ---- what follows the name of a command
 
@@ -213,6 +235,12 @@ whole_check = whole_alone (codes "check") (OnSource Check) check (is_check refl 
 
 pub whole_list : IsWhole (codes "list" ∷ []) (OnSource tasks.List)
 whole_list = whole_alone (codes "list") (OnSource tasks.List) list (is_list refl refl)
+
+pub whole_judge : IsWhole (codes "judge" ∷ []) (OnSource Judge)
+whole_judge = whole_alone (codes "judge") (OnSource Judge) judge (is_judge refl refl)
+
+pub whole_race : IsWhole (codes "race" ∷ []) (OnSource Race)
+whole_race = whole_alone (codes "race") (OnSource Race) race (is_race refl refl)
 
 pub whole_run : (processors budget word : List ℕ) (p b : ℕ) (rule : Rule) → IsNumber MOST_PROCESSORS processors p → IsNumber MOST_BUDGET budget b → IsRule word rule →
     IsWhole (codes "run" ∷ processors ∷ budget ∷ word ∷ []) (OnSource (Run p b rule))

@@ -13,7 +13,7 @@ use Rattle.b67_words.specs.declared.UsageKind.TheVariants.{Missing, Unknown, Bad
 use Rattle.b67_words.specs.declared.BadWords.{BadWords}
 use Rattle.b67_words.specs.declared.BadWords.TheVariants.{Usage}
 use Rattle.b67_words.specs.Grammar.{IsNumber, IsFromZero, IsRule, NameRule, IsCommand, BeginCommand, Wants, command, numeral, named as rule_named, nothing, Breaks, missing, wrong, WordsMean, meant, broken}
-use Rattle.b67_words.proofs.Commands.{IsAlone, is_check, is_list, IsBudgeted, Form, a_run, a_budget, a_trial, a_word, form_of, alone_letter, budget_letter, run_not_alone, budget_not_alone, budget_not_run, trial_not_run, trial_not_budgeted, trial_not_alone, same_budgeted, check_not_list, begin_check, rule_first, same_name}
+use Rattle.b67_words.proofs.Commands.{IsAlone, IsBudgeted, Form, a_run, a_budget, a_trial, a_word, form_of, alone_letter, budget_letter, run_not_alone, budget_not_alone, budget_not_run, trial_not_run, trial_not_budgeted, trial_not_alone, same_budgeted, same_alone, begin_check, rule_first, same_name}
 use Rattle.b67_words.proofs.Reading.{begins}
 use Rattle.b67_words.proofs.Numbers.{first_digit, digit_first}
 
@@ -24,12 +24,6 @@ same_number most word n k small a b = decimal_injective n k (omega (arith, a.gre
 
 same_from_zero : (most : ℕ) (word : List ℕ) (n k : ℕ) → most < 2 ^ 64 → IsFromZero most word n → IsFromZero most word k → n ≡ k
 same_from_zero most word n k small a b = decimal_injective n k (omega (arith, a.greatest)) (omega (arith, b.greatest)) (sym a.written ∙ b.written)
-
-same_alone : (name other : List ℕ) (a b : Words) → name ≡ other → IsAlone name a → IsAlone other b → a ≡ b
-same_alone name other a b same (is_check e m) (is_check f n) = m ∙ sym n
-same_alone name other a b same (is_check e m) (is_list f n) = check_not_list (sym e ∙ same ∙ f)
-same_alone name other a b same (is_list e m) (is_check f n) = check_not_list (sym f ∙ sym same ∙ e)
-same_alone name other a b same (is_list e m) (is_list f n) = m ∙ sym n
 
 same_form : (words : List (List ℕ)) (a b : Words) → Form words a → Form words b → a ≡ b
 same_form words a b (a_run processors budget last p n rule e f s u m) (a_run others other more q k by also g t v l) =
@@ -81,7 +75,7 @@ same_form words a b (a_word name e is) (a_budget other budget k also t too) =
 same_form words a b (a_word name e is) (a_trial number k also too l) =
     let same = sym e ∙ also in trial_not_alone name a is (let word : name ≡ codes "trial" = cc in word)
 same_form words a b (a_word name e is) (a_word other also too) =
-    let same = sym e ∙ also in same_alone name other a b (let word : name ≡ other = cc in word) is too
+    let same = sym e ∙ also in let named : other ≡ name = cc in same_alone name a b is (subst (λ w. IsAlone w b) named too)
 
 same_command : (words : List (List ℕ)) (a b : Words) → IsCommand words a → IsCommand words b → a ≡ b
 same_command words a b is also = same_form words a b (form_of words a is) (form_of words b also)
@@ -104,7 +98,7 @@ number_form word rest meaning low (a_trial number n e is m) =
 number_form word rest meaning low (a_word name e is) =
     let same : word ≡ name = cc in
     let first : get_or word 0 0 ≡ get_or name 0 0 = ap (λ (w : List ℕ). get_or w 0 0) same in
-    let high = (alone_letter name meaning is).0 in
+    let high = alone_letter name meaning is in
     absurd (omega arith)
 
 no_number_first : {B : Type 0} (word : List ℕ) (n : ℕ) → IsNumber MOST_BUDGET word n → BeginCommand (word ∷ []) → B

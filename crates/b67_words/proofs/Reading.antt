@@ -9,13 +9,13 @@ use Rattle.b67_words.specs.declared.Rule.{Rule}
 use Rattle.b67_words.specs.declared.Rule.TheVariants.{Fifo}
 use Rattle.b67_words.specs.declared.Words.{Words}
 use Rattle.b67_words.specs.declared.Task.TheVariants as tasks
-use Rattle.b67_words.specs.declared.Task.TheVariants.{Run, Check, Replay}
+use Rattle.b67_words.specs.declared.Task.TheVariants.{Run, Check, Replay, Judge, Race}
 use Rattle.b67_words.specs.declared.Words.TheVariants.{OnSource, Exec, Trial}
 use Rattle.b67_words.specs.declared.BadWords.{BadWords}
 use Rattle.b67_words.specs.declared.BadWords.TheVariants.{Usage}
 use Rattle.b67_words.specs.declared.UsageKind.TheVariants.{Missing, Unknown, BadNumber, BadRule, Extra}
 use Rattle.b67_words.specs.Grammar.{IsNumber, IsFromZero, IsRule, fifo, NameRule, IsCommand, run, replay, exec, BeginCommand, IsWhole, BeginWhole, command, numeral, named as rule_named, nothing, missing, wrong, WordsMean, meant, broken, NumberStandsAt, IsRuleOrNone, RuleStandsAt}
-use Rattle.b67_words.proofs.Commands.{Form, a_run, a_budget, a_trial, a_word, IsAlone, is_check, is_list, IsBudgeted, is_replay, is_exec, form_of, begin_nothing, begin_run, begin_trial, one, after_run, after_name, after_trial, whole_run, whole_budget, whole_trial, whole_check, whole_list}
+use Rattle.b67_words.proofs.Commands.{Form, a_run, a_budget, a_trial, a_word, IsAlone, is_check, is_list, is_judge, is_race, IsBudgeted, is_replay, is_exec, form_of, begin_nothing, begin_run, begin_trial, one, after_run, after_name, after_trial, whole_run, whole_budget, whole_trial, whole_check, whole_list, whole_judge, whole_race}
 
 -- the words begin with these
 abbrev pub GoOn : List (List ℕ) → List (List ℕ) → Type 0
@@ -181,6 +181,12 @@ begin_check_whole words h = begin_whole (codes "check" ∷ []) words (OnSource C
 pub begin_list_whole : (words : List (List ℕ)) → slice_get words 0 ≡ Some (codes "list") → BeginWhole words 1 (OnSource tasks.List)
 begin_list_whole words h = begin_whole (codes "list" ∷ []) words (OnSource tasks.List) (starts (codes "list") words h) whole_list
 
+pub begin_judge_whole : (words : List (List ℕ)) → slice_get words 0 ≡ Some (codes "judge") → BeginWhole words 1 (OnSource Judge)
+begin_judge_whole words h = begin_whole (codes "judge" ∷ []) words (OnSource Judge) (starts (codes "judge") words h) whole_judge
+
+pub begin_race_whole : (words : List (List ℕ)) → slice_get words 0 ≡ Some (codes "race") → BeginWhole words 1 (OnSource Race)
+begin_race_whole words h = begin_whole (codes "race" ∷ []) words (OnSource Race) (starts (codes "race") words h) whole_race
+
 -- ---- after a whole command
 
 extra_after : (front after : List (List ℕ)) (count : ℕ) (meaning : Words) → IsWhole front meaning → length front ≡ count → count < length (front ++ after) →
@@ -299,12 +305,16 @@ pub record NamesNone (word : List ℕ) : Type 0 where
   pub not_check : word ≢ codes "check"
   pub not_list : word ≢ codes "list"
   pub not_replay : word ≢ codes "replay"
+  pub not_judge : word ≢ codes "judge"
+  pub not_race : word ≢ codes "race"
   pub not_exec : word ≢ codes "exec"
   pub not_trial : word ≢ codes "trial"
 
 not_alone : (word : List ℕ) (meaning : Words) → NamesNone word → IsAlone word meaning → ⊥
 not_alone word meaning none (is_check e m) = none.not_check e
 not_alone word meaning none (is_list e m) = none.not_list e
+not_alone word meaning none (is_judge e m) = none.not_judge e
+not_alone word meaning none (is_race e m) = none.not_race e
 
 not_budgeted : (word : List ℕ) (b : ℕ) (meaning : Words) → NamesNone word → IsBudgeted word b meaning → ⊥
 not_budgeted word b meaning none (is_replay e m) = none.not_replay e

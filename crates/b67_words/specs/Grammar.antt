@@ -6,7 +6,7 @@ use Rattle.b67_words.specs.declared.Rule.{Rule}
 use Rattle.b67_words.specs.declared.Rule.TheVariants.{Fifo, Lifo, Seed}
 use Rattle.b67_words.specs.declared.Words.{Words}
 use Rattle.b67_words.specs.declared.Task.TheVariants as tasks
-use Rattle.b67_words.specs.declared.Task.TheVariants.{Run, Check, Replay}
+use Rattle.b67_words.specs.declared.Task.TheVariants.{Run, Check, Replay, Judge, Race}
 use Rattle.b67_words.specs.declared.Words.TheVariants.{OnSource, Exec, Trial}
 use Rattle.b67_words.specs.declared.UsageKind.{UsageKind}
 use Rattle.b67_words.specs.declared.UsageKind.TheVariants.{Missing, Unknown, BadNumber, BadRule, Extra}
@@ -43,6 +43,8 @@ pub data IsCommand : List (List ℕ) → Words → Type 0 where
   check : IsCommand (codes "check" ∷ []) (OnSource Check)
   list : IsCommand (codes "list" ∷ []) (OnSource tasks.List)
   replay : (budget : List ℕ) (b : ℕ) → IsNumber MOST_BUDGET budget b → IsCommand (codes "replay" ∷ budget ∷ []) (OnSource (Replay b))
+  judge : IsCommand (codes "judge" ∷ []) (OnSource Judge)
+  race : IsCommand (codes "race" ∷ []) (OnSource Race)
   exec : (budget : List ℕ) (b : ℕ) → IsNumber MOST_BUDGET budget b → IsCommand (codes "exec" ∷ budget ∷ []) (Exec b)
   trial : (number : List ℕ) (n : ℕ) → IsFromZero MOST_TRIAL number n → IsCommand (codes "trial" ∷ number ∷ []) (Trial n)
 

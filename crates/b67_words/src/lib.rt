@@ -53,6 +53,10 @@ pub enum Task {
     Replay {
         budget: u64,
     },
+    /// `judge`: say whether the report that stands after it is a report of it.
+    Judge,
+    /// `race`: say, of the report that stands after it, which entries of its schedule race, where it is a report of the source.
+    Race,
 }
 
 /// A command with what its words say.
@@ -109,6 +113,8 @@ pub fn read_words(words: &[String]) -> Result<Words, BadWords>
         "check" => whole(words, 1, Words::OnSource(Task::Check)),
         "list" => whole(words, 1, Words::OnSource(Task::List)),
         "replay" => read_replay(words),
+        "judge" => whole(words, 1, Words::OnSource(Task::Judge)),
+        "race" => whole(words, 1, Words::OnSource(Task::Race)),
         "exec" => read_exec(words),
         "trial" => read_trial(words),
         _ => Err(BadWords::Usage {

@@ -1,5 +1,6 @@
+use Rattle.std.proofs.Common.{ℕ, ◌≤◌, List, length, sym, subst}
 use Rattle.b67_words.specs.declared.Words.TheVariants.{OnSource}
-use Rattle.b67_desk.specs.Answers.{AnswersInput, AnswersSource}
+use Rattle.b67_desk.specs.Answers.{AnswersInput, AnswersSource, most_bytes}
 use Rattle.b67_desk.proofs.Answering.{asks_so, input_out, too_long_is}
 use Rattle.b67_desk.proofs.top.ask_source.Goals as goal
 
@@ -13,3 +14,9 @@ pub returns-in_ok-refuse_length-in-None : goal.returns-in_ok-refuse_length-in-No
 returns-in_ok-refuse_length-in-None g c = λ by.
     too_long_is by (OnSource c.args.task) c.form_of.result.most _ _ c.in_ok-refuse_length-in-None.field-0 c.form_of.ensures.most
     (rw c.in-None.is at c.in_ok-bytes.ensures) c.in_ok-refuse_length-in-None.ensures
+
+pub ask_bytes-requires-clause-few : goal.ask_bytes-requires-clause-few
+ask_bytes-requires-clause-few g c =
+    let few = (rw c.in-Some.is at c.in_ok-bytes.ensures).0 in
+    subst (λ (bytes : List ℕ). length bytes ≤ most_bytes (OnSource c.args.task)) (sym c.as_slice.ensures.value)
+    (subst (λ (n : ℕ). length c.in-Some.bytes.items ≤ n) c.form_of.ensures.most few)

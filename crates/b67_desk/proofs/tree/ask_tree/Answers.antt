@@ -35,3 +35,19 @@ returns-in-Replay c =
     task_asks c.args.task task beside c.args.input tree c.settled-in-Replay.result c.in-Replay.is
     (settled_asks (λ by. AnswersTree by (OnSource task) beside c.args.input tree) c.answer_replay.result c.settled-in-Replay.result c.settled-in-Replay.ensures
     (λ by. c.answer_replay.ensures))
+
+pub returns-in-Judge : goal.returns-in-Judge
+returns-in-Judge c =
+    let beside = option_copied c.args.text in
+    let tree = plain c.args.checked.now.program in
+    task_asks c.args.task tasks.Judge beside c.args.input tree c.settled-in-Judge.result c.in-Judge.is
+    (settled_asks (λ by. AnswersTree by (OnSource tasks.Judge) beside c.args.input tree) c.answer_judge.result c.settled-in-Judge.result c.settled-in-Judge.ensures
+    (λ by. c.answer_judge.ensures))
+
+pub returns-in-Race : goal.returns-in-Race
+returns-in-Race c =
+    let beside = option_copied c.args.text in
+    let tree = plain c.args.checked.now.program in
+    task_asks c.args.task tasks.Race beside c.args.input tree c.settled-in-Race.result c.in-Race.is
+    (settled_asks (λ by. AnswersTree by (OnSource tasks.Race) beside c.args.input tree) c.answer_race.result c.settled-in-Race.result c.settled-in-Race.ensures
+    (λ by. c.answer_race.ensures))
