@@ -1,8 +1,8 @@
-//! The limits that the language and the machine share: each is one constant, which both sides read.
+//! The limits that the language and the machine share, and those of a run: each is one constant, which all sides read.
 #![tactic(auto)]
 
 ghost use Rattle.std.specs.Prelude.{◌≡◌};
-ghost use Rattle.b67_limits.specs.declared.TheConstants.{OUTER_LEVEL, MOST_LEVEL, MOST_BLOCK_CELLS, MOST_FRAME_CELLS, MOST_PROCEDURES, MOST_ELEMENTS, MOST_PROCESSES, MOST_EVENTS};
+ghost use Rattle.b67_limits.specs.declared.TheConstants.{OUTER_LEVEL, MOST_LEVEL, MOST_BLOCK_CELLS, MOST_FRAME_CELLS, MOST_PROCEDURES, MOST_ELEMENTS, MOST_PROCESSES, MOST_EVENTS, MOST_BUDGET, MOST_STRETCH, MOST_PROCESSORS};
 
 /// The level of the outer block: the program's own, under which level 0 is the system's.
 pub const OUTER_LEVEL: u8 = 2;
@@ -29,6 +29,16 @@ pub const MOST_PROCESSES: u32 = 256;
 /// The most events for which a process waits at once, by this project's profile.
 pub const MOST_EVENTS: u8 = 8;
 
+/// The greatest budget of a run, in operators.
+pub const MOST_BUDGET: u64 = 4_194_304;
+
+/// A run whose budget is spent has performed fewer operators than its budget and these together. Every other end of a run comes with at
+/// most as many operators as the budget.
+pub const MOST_STRETCH: u64 = 64;
+
+/// The greatest number of processors of a run.
+pub const MOST_PROCESSORS: u64 = 8;
+
 /// Law: the numbers of this crate, which the language and the machine are defined with. The deepest level, the cells of a frame and the procedures
 /// are as many as five, nine and ten bits of a control word have; the level of the outer block is 2, above the system's; the others are this
 /// project's profile. docs/LANGUAGE.md and docs/MACHINE.md have them.
@@ -41,4 +51,7 @@ pub fn numbers_are_told()
     ensures elements { MOST_ELEMENTS ≡ 1048576 }
     ensures processes { MOST_PROCESSES ≡ 256 }
     ensures events { MOST_EVENTS ≡ 8 }
+    ensures budget { MOST_BUDGET ≡ 4194304 }
+    ensures stretch { MOST_STRETCH ≡ 64 }
+    ensures processors { MOST_PROCESSORS ≡ 8 }
 {}

@@ -14,7 +14,7 @@ use Rattle.b67_schedule.specs.declared.reading.Given.{Given}
 use Rattle.b67_report.specs.declared.Report.{Report}
 use Rattle.b67_report.specs.declared.EndWords.{EndWords}
 use Rattle.b67_report.specs.declared.EndWords.TheVariants as ends
-use Rattle.b67_words.specs.declared.TheConstants.{MOST_BUDGET}
+use Rattle.b67_limits.specs.declared.TheConstants.{MOST_BUDGET}
 use Rattle.b67_faithful.specs.Faithful.{Faithful, ComesToLimit}
 use Rattle.b67_explain.specs.Explaining.{ExplainsReplay}
 use Rattle.b67_outcomes.specs.declared.found.Found.{Found}

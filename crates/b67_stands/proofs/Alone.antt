@@ -8,7 +8,7 @@ use Rattle.b67_list.specs.Numbered.{numbered, set_numbered}
 use Rattle.b67_num.specs.declared.FaultKind.{FaultKind}
 use Rattle.b67_schedule.specs.Schedules.{entries, Kept as Schedule}
 use Rattle.b67_segment.specs.declared.code.Code.{Code}
-use Rattle.b67_words.specs.declared.TheConstants.{MOST_BUDGET}
+use Rattle.b67_limits.specs.declared.TheConstants.{MOST_BUDGET}
 use Rattle.b67_letters.specs.Releases.{registers_releases, released_by, releases, started_between, started_by, starts}
 use Rattle.b67_table.specs.declared.ProcessState.{ProcessState}
 use Rattle.b67_table.specs.Ending.{ImageEnd, image_end, may_act, failed}

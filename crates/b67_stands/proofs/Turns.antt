@@ -8,7 +8,7 @@ use Rattle.b67_deeds.specs.declared.Letter.{Letter}
 use Rattle.b67_schedule.specs.Schedules.{entries, Kept as Schedule}
 use Rattle.b67_schedule.proofs.Pushes.{entries-push}
 use Rattle.b67_segment.specs.declared.code.Code.{Code}
-use Rattle.b67_words.specs.declared.TheConstants.{MOST_BUDGET}
+use Rattle.b67_limits.specs.declared.TheConstants.{MOST_BUDGET}
 use Rattle.b67_table.specs.Image.{Image}
 use Rattle.b67_table.specs.Sound.{Sound}
 use Rattle.b67_action.specs.Able.{one_if, able_in, newly}

@@ -1,6 +1,6 @@
 -- A plant stands from its first take to its end.
 use Rattle.std.specs.Prelude.{◌≡◌, ◌≢◌, ◌≤◌, ℕ, nat_le, [], None}
-use Rattle.b67_words.specs.declared.TheConstants.{MOST_STRETCH}
+use Rattle.b67_limits.specs.declared.TheConstants.{MOST_STRETCH}
 use Rattle.b67_segment.specs.declared.code.Code.{Code}
 use Rattle.b67_table.specs.Beginning.{first_image}
 use Rattle.b67_table.specs.Sound.{Sound}

@@ -1,6 +1,6 @@
 -- What holds of a plant whenever its lock is free.
 use Rattle.std.specs.Prelude.{◌≡◌, ◌≢◌, ◌⊎◌, ℕ, ◌+◌, ◌<◌, ◌≤◌, true, List, length, sum, Some, None}
-use Rattle.b67_words.specs.declared.TheConstants.{MOST_STRETCH}
+use Rattle.b67_limits.specs.declared.TheConstants.{MOST_STRETCH}
 use Rattle.b67_schedule.specs.Schedules.{entries}
 use Rattle.b67_segment.specs.declared.code.Code.{Code}
 use Rattle.b67_table.specs.Image.{Image}

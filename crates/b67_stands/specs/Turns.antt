@@ -1,6 +1,6 @@
 -- Turns of one process, one after another.
 use Rattle.std.specs.Prelude.{◌≡◌, ◌≤◌, ℕ, suc, None}
-use Rattle.b67_words.specs.declared.TheConstants.{MOST_BUDGET}
+use Rattle.b67_limits.specs.declared.TheConstants.{MOST_BUDGET}
 use Rattle.b67_segment.specs.declared.code.Code.{Code}
 use Rattle.b67_table.specs.Sound.{Sound}
 use Rattle.b67_table.specs.Valid.{IsValid}
