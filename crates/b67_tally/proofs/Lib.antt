@@ -1,0 +1,5 @@
+pub mod Numbers
+pub mod Places
+pub mod Steps
+pub mod Sent
+pub mod Walks
