@@ -3,7 +3,7 @@ use Rattle.std.specs.Prelude.{slice_set, IfSome}
 use Rattle.std.proofs.Common.{◌≡◌, refl, sym, ap, subst, ◌∙◌, ℕ, ◌+◌, ◌-◌, ◌<◌, ◌≤◌, ◌^◌, true, List, [], ◌∷◌, ◌++◌, length, Option, Some, None, arith}
 use Rattle.b67_list.specs.Numbered.{numbered}
 use Rattle.b67_segment.specs.declared.code.Code.{Code}
-use Rattle.b67_words.specs.declared.TheConstants.{MOST_BUDGET, MOST_STRETCH}
+use Rattle.b67_limits.specs.declared.TheConstants.{MOST_BUDGET, MOST_STRETCH}
 use Rattle.b67_table.specs.declared.Private.{Private}
 use Rattle.b67_table.specs.Image.{is_live}
 use Rattle.b67_table.specs.Limits.{most_processes}

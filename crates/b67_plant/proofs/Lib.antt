@@ -7,3 +7,4 @@ pub mod Stretching
 pub mod Landing
 pub mod Made
 pub mod Sharing
+pub mod Seats

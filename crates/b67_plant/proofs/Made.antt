@@ -1,14 +1,11 @@
 -- How many acts each of the processors that share a plant made.
-use Rattle.std.proofs.Common.{◌≡◌, refl, sym, ap, subst, ◌∙◌, ℕ, zero, suc, ◌+◌, ◌-◌, ◌<◌, ◌≤◌, ◌^◌, Bool, true, false, Option, Some, None, List, [], ◌∷◌, length, map, get_or, take, set, All, arith}
+use Rattle.std.proofs.Common.{◌≡◌, refl, sym, ap, subst, ◌∙◌, ℕ, zero, suc, ◌+◌, ◌<◌, ◌≤◌, Bool, true, false, Option, Some, None, List, [], ◌∷◌, length, map, All, arith}
 use Rattle.std.specs.Prelude.{slice_get, slice_set, sum}
 use Rattle.std.specs.List.{sum_by}
-use Rattle.std.proofs.Math.Seq.{take-set-lt}
-use Rattle.std.proofs.lemmas.Option.{slice_get-get_or}
-use Rattle.std.proofs.lemmas.List.{length-replicate, length-map, length-take-le, get_or-take}
+use Rattle.std.proofs.lemmas.List.{length-replicate, length-map}
 use Rattle.std.proofs.lemmas.List.Elements.{All-map}
 use Rattle.std.proofs.lemmas.List.Folds.{sum_by-replicate}
 use Rattle.std.proofs.lemmas.List.Sums.{sum_by-cons, sum-map}
-use Rattle.b67_words.specs.declared.TheConstants.{MOST_BUDGET, MOST_STRETCH, MOST_PROCESSORS}
 use Rattle.b67_segment.specs.declared.code.Code.{Code}
 use Rattle.b67_action.specs.declared.done.Done.{Done}
 use Rattle.b67_action.specs.declared.done.Done.TheVariants as dones
@@ -16,16 +13,15 @@ use Rattle.b67_action.specs.Able.{one_if}
 use Rattle.b67_machine.specs.Kept.{or_none, counted}
 use Rattle.b67_machine.specs.declared.replay.Replayed.{Replayed}
 use Rattle.b67_machine.specs.declared.replay.Replayed.TheVariants.{Ended, Ran, Illegal, BudgetSpent, NoMemory, Differs}
+use Rattle.b67_processors.specs.Acts.{IsActed}
 use Rattle.b67_processors.specs.declared.Acted.{Acted}
 use Rattle.b67_processors.specs.declared.Acted.TheVariants as acted
 use Rattle.b67_stands.specs.Running.{Running}
 use Rattle.b67_stands.specs.Picked.{Pick}
-use Rattle.b67_stands.specs.Stands.{Stands}
 use Rattle.b67_stands.specs.Calls.{is_action, Records}
 use Rattle.b67_stands.specs.Shared.{Shared, begin, take as takes, land as lands, act as acts_once, leave as leaves, with_acts, ByProcessors}
 use Rattle.b67_stands.proofs.Places.{length_set}
 use Rattle.b67_plant.specs.Calls.{answer_to, acts_in, refusal}
-use Rattle.b67_plant.proofs.Entered.{budget_is, entries_spent}
 
 -- ---- numbers
 
@@ -50,11 +46,11 @@ sum_more acts (suc k) n one most = at acts k (omega (arith, most))
         let rest = at xs k (omega (arith, h)) in
         omega (arith, rest, sum_by-cons (λ (y : ℕ). y) x (slice_set xs k (or_none (slice_get xs k) + n)), sum_by-cons (λ (y : ℕ). y) x xs)
 
--- nobody made more than all did
-few : (acts : List ℕ) (k d : ℕ) → k < length acts → d ≡ get_or acts k 0 → d ≤ sum acts
-few [] k d h e = absurd (omega (arith, h))
-few (x ∷ xs) zero d h e = omega (arith, e, sum_by-cons (λ (y : ℕ). y) x xs)
-few (x ∷ xs) (suc k) d h e = let rest = few xs k d (omega (arith, h)) e in omega (arith, rest, sum_by-cons (λ (y : ℕ). y) x xs)
+-- an act raises the number at the place of the processor's seat
+pub raised : (acts : List ℕ) (place number me n : ℕ) → place + 1 ≡ me → slice_get acts place ≡ Some number → slice_set acts place (number + n) ≡ with_acts acts me n
+raised acts place number me n is found =
+    let next : suc place ≡ me = omega (arith, is) in
+    ap (λ (o : Option ℕ). slice_set acts place (or_none o + n)) (sym found) ∙ ap (λ (m : ℕ). with_acts acts m n) next
 
 -- ---- what an answer counts
 
@@ -78,6 +74,14 @@ action_counts (Some (dones.Fault kind)) = refl
 action_counts (Some (dones.Interrupt kind)) = refl
 action_counts (Some dones.StackLimit) = refl
 action_counts (Some dones.NoMemory) = refl
+
+-- and its seat has as many more
+pub acted_more : (answer : Acted) (before now : ℕ) → IsActed answer before now → now ≡ before + acts_in answer
+acted_more acted.Went before now e = e
+acted_more acted.Waits before now e = e
+acted_more acted.NotOut before now e = omega (arith, e)
+acted_more acted.Over before now e = omega (arith, e)
+acted_more acted.NoMemory before now e = omega (arith, e)
 
 -- ---- of a plant that is shared
 
@@ -119,68 +123,9 @@ module _ (code : Code) (budget : ℕ) (pick : Pick) (processors : ℕ) where
     leaves_book = sum-map left xs ∙ book;
   }
 
--- ---- as the numbers are written
-
--- so many more of a processor, where the numbers of some stand before others
-pub more_made : (made : List ℕ) (processors me n : ℕ) → 1 ≤ me → me ≤ processors → processors ≤ length made
-    → take processors (set made (me - 1) (get_or made (me - 1) 0 + n)) ≡ with_acts (take processors made) me n
-more_made made processors zero n one most long = absurd (omega (arith, one))
-more_made made processors (suc k) n one most long =
-    let k_is : suc k - 1 ≡ k = omega arith in
-    let here : counted (take processors made) (suc k) ≡ get_or made k 0 =
-    ap or_none (slice_get-get_or (take processors made) k 0 (omega (arith, most, length-take-le processors made long)))
-    ∙ get_or-take processors made k 0 (omega (arith, most)) in
-    ap (λ (j : ℕ). take processors (set made j (get_or made j 0 + n))) k_is ∙ take-set-lt processors made k (get_or made k 0 + n) (omega (arith, most))
-    ∙ ap (λ (w : ℕ). set (take processors made) k (w + n)) (sym here)
-
--- none made more than all did
-pub made_few : (made : List ℕ) (processors me : ℕ) → 1 ≤ me → me ≤ processors → processors ≤ length made → get_or made (me - 1) 0 ≤ sum (take processors made)
-made_few made processors me one most long =
-    few (take processors made) (me - 1) (get_or made (me - 1) 0) (omega (arith, one, most, length-take-le processors made long))
-    (sym (get_or-take processors made (me - 1) 0 (omega (arith, one, most))))
-
-pub taken_few : (n : ℕ) (xs : List ℕ) → length (take n xs) ≤ n
-taken_few zero xs = omega arith
-taken_few (suc n) [] = omega arith
-taken_few (suc n) (x ∷ xs) = let rest = taken_few n xs in omega (arith, rest)
-
--- and as they are noted
-pub shared_as : (code : Code) (budget : ℕ) (pick : Pick) (named processors : ℕ) (made noted : List ℕ) (s t : Running) → processors ≡ named
-    → noted ≡ take processors made → t ≡ s → Shared code budget pick named (take named made) s → Shared code budget pick processors noted t
+-- so it is of the numbers that the seats have
+pub shared_as : (code : Code) (budget : ℕ) (pick : Pick) (named processors : ℕ) (made noted : List ℕ) (s t : Running) → processors ≡ named → noted ≡ made → t ≡ s
+    → Shared code budget pick named made s → Shared code budget pick processors noted t
 shared_as code budget pick named processors made noted s t same is still shared =
     subst (Shared code budget pick processors noted) (sym still)
-    (subst (λ (acts : List ℕ). Shared code budget pick processors acts s) (sym is)
-    (subst (λ (n : ℕ). Shared code budget pick n (take n made) s) (sym same) shared))
-
--- ---- how large they are
-
-pub processors_are : MOST_PROCESSORS ≡ 8
-processors_are = refl
-
-stretch_is : MOST_STRETCH ≡ 64
-stretch_is = refl
-
-in_few : (answer : Acted) → acts_in answer ≤ 1
-in_few acted.Went = omega arith
-in_few acted.Waits = omega arith
-in_few acted.NotOut = omega arith
-in_few acted.Over = omega arith
-in_few acted.NoMemory = omega arith
-
--- there is an operator at least for each act, so a number has its bits after another act
-pub number_fits : (code : Code) (budget : ℕ) (pick : Pick) (processors : ℕ) (made : List ℕ) (s : Running) (me : ℕ) (answer : Acted)
-    → Shared code budget pick processors (take processors made) s → Stands code budget s → budget ≤ MOST_BUDGET → 1 ≤ me → me ≤ processors → processors ≤ length made
-    → get_or made (me - 1) 0 + acts_in answer < 2 ^ 64
-number_fits code budget pick processors made s me answer shared stands most one within long =
-    omega (
-      arith,
-      made_few made processors me one within long,
-      all_made code budget pick processors (take processors made) s shared,
-      stands.acts,
-      entries_spent code budget s stands,
-      stands.below,
-      in_few answer,
-      most,
-      budget_is,
-      stretch_is,
-    )
+    (subst (λ (acts : List ℕ). Shared code budget pick processors acts s) (sym is) (subst (λ (n : ℕ). Shared code budget pick n made s) (sym same) shared))

@@ -5,7 +5,7 @@ use Rattle.std.proofs.lemmas.List.{length-take-le}
 use Rattle.b67_deeds.specs.declared.Letter.{Letter}
 use Rattle.b67_segment.specs.declared.code.Code.{Code}
 use Rattle.b67_schedule.specs.Schedules.{entries, Kept as Schedule}
-use Rattle.b67_words.specs.declared.TheConstants.{MOST_BUDGET}
+use Rattle.b67_limits.specs.declared.TheConstants.{MOST_BUDGET}
 use Rattle.b67_table.specs.Limits.{most_processes}
 use Rattle.b67_table.specs.Sound.{Sound}
 use Rattle.b67_action.specs.declared.done.Done.{Done}

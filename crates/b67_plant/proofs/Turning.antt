@@ -1,7 +1,7 @@
 -- A turn of one processor on a plant: a take, and the act of who was taken.
 use Rattle.std.proofs.Common.{◌≡◌, ◌≢◌, refl, ap, subst, ◌∙◌, ℕ, ◌+◌, ◌-◌, ◌≤◌, ◌<◌, Bool, true, false, [], Option, Some, None, arith}
 use Rattle.b67_segment.specs.declared.code.Code.{Code}
-use Rattle.b67_words.specs.declared.TheConstants.{MOST_BUDGET}
+use Rattle.b67_limits.specs.declared.TheConstants.{MOST_BUDGET}
 use Rattle.b67_table.specs.Sound.{Sound}
 use Rattle.b67_action.specs.Able.{one_if}
 use Rattle.b67_machine.specs.declared.entry.Performed.{Performed}

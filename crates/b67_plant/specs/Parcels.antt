@@ -1,7 +1,7 @@
 -- What a parcel is: a stretch of a process, performed on a copy of its private part.
 use Rattle.std.specs.Prelude.{◌≡◌, ◌⊎◌, ℕ, ◌≤◌, Bool, true, false, Some}
 use Rattle.b67_list.specs.Numbered.{numbered}
-use Rattle.b67_words.specs.declared.TheConstants.{MOST_STRETCH}
+use Rattle.b67_limits.specs.declared.TheConstants.{MOST_STRETCH}
 use Rattle.b67_segment.specs.declared.code.Code.{Code}
 use Rattle.b67_table.specs.declared.Private.{Private}
 use Rattle.b67_table.specs.Image.{Image, is_able}

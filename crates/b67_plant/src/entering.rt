@@ -60,6 +60,7 @@ impl<N: Named, L: Ledger, C: Core, P: Rule> Plant<N, L, C, P> {
         ensures count { IsActed result seat.old.count seat.new.count }
         ensures fits { seat.new.count < 2 ^ 64 }
         ensures leaves { seat.new.left ≡ seat.old.left }
+        ensures mark { seat.new.mark ≡ seat.old.mark }
     {
         self.enter_many(process, false, seat)
     }
@@ -74,6 +75,7 @@ impl<N: Named, L: Ledger, C: Core, P: Rule> Plant<N, L, C, P> {
             × IsActed result (seat.old.count + turns) seat.new.count }
         ensures fits { seat.new.count < 2 ^ 64 }
         ensures leaves { seat.new.left ≡ seat.old.left }
+        ensures mark { seat.new.mark ≡ seat.old.mark }
     {
         let _count = seat.count;
         let before = self.machine.started();

@@ -1,9 +1,8 @@
-// What is behind the lock: a plant whose calls were those of processors that share it, and how many acts each of them made.
-ghost use Rattle.std.specs.Prelude.{◌≡◌, ◌≢◌, ◌+◌, ◌<◌, ◌≤◌, ◌^◌, replicate, take, true, false, None};
+// What is behind the lock: a plant whose calls were those of processors that share it, and the tally of the acts that each of them made.
+ghost use Rattle.std.specs.Prelude.{◌≡◌, ◌≢◌, ◌+◌, ◌<◌, ◌≤◌, ◌^◌, true, false, None};
 ghost use Rattle.b67_processors.specs.Acts.{IsActed};
 ghost use Rattle.b67_stands.specs.Running.{answer_of};
 ghost use Rattle.b67_stands.specs.Shared.{Shared};
-ghost use Rattle.b67_words.specs.declared.TheConstants.{MOST_BUDGET, MOST_PROCESSORS};
 ghost use Rattle.b67_plant.specs.Calls.{LandsOrStays, Acts, LeavesOr};
 
 use crate::placing::acts_in;
@@ -12,7 +11,7 @@ use b67_machine::Replayed;
 use b67_processors::Acted;
 use b67_ready::Rule;
 use b67_store::Core;
-use b67_words::MOST_PROCESSORS;
+use b67_tally::Tally;
 use std::marker::Model;
 use std::sync::ledger::Ledger;
 
@@ -21,37 +20,32 @@ use std::sync::ledger::Ledger;
 #[derive(Drop)]
 pub struct Floor<N: Named, L: Ledger, C: Core, P: Rule> {
     plant: Plant<N, L, C, P>,
-    // By the processors' numbers from 1: how many acts each made.
-    made: [u64; MOST_PROCESSORS as usize],
+    // How many acts each processor made, in their order.
+    tally: Tally,
 }
 
 impl<N: Named, L: Ledger, C: Core, P: Rule> Model for Floor<N, L, C, P> {
-    ghost use Rattle.std.specs.Prelude.{◌≤◌, take};
+    ghost use Rattle.std.specs.Prelude.{◌≡◌};
     ghost use Rattle.b67_stands.specs.Running.{Running};
     ghost use Rattle.b67_stands.specs.Shared.{Shared};
-    ghost use Rattle.b67_words.specs.declared.TheConstants.{MOST_BUDGET, MOST_PROCESSORS};
 
     ghost Value = { Running };
 
     ghost view = { λ f. f.plant };
 
     ghost invariant = { λ f.
-        Shared N.code N.budget N.pick N.processors (take N.processors f.made) f.plant
-        × (N.processors ≤ MOST_PROCESSORS)
-        × (N.budget ≤ MOST_BUDGET) };
+        Shared N.code N.budget N.pick N.processors f.tally.numbers f.plant
+        × (f.tally.name ≡ N.tally) };
 }
 
 impl<N: Named, L: Ledger, C: Core, P: Rule> Floor<N, L, C, P> {
-    // The plant is shared from here on, and nobody has made an act.
-    pub fn new(plant: Plant<N, L, C, P>) -> Floor<N, L, C, P>
-        requires shared { Shared N.code N.budget N.pick N.processors (replicate N.processors 0) plant }
-        requires limits { (N.processors ≤ MOST_PROCESSORS) × (N.budget ≤ MOST_BUDGET) }
+    // The plant is shared from here on, and the tally is that of its acts.
+    pub fn new(plant: Plant<N, L, C, P>, tally: Tally) -> Floor<N, L, C, P>
+        requires tally { tally.name ≡ N.tally }
+        requires shared { Shared N.code N.budget N.pick N.processors tally.numbers plant }
         ensures { result ≡ plant }
     {
-        Floor {
-            plant,
-            made: [0; MOST_PROCESSORS as usize],
-        }
+        Floor { plant, tally }
     }
 
     // The plant.
@@ -61,13 +55,14 @@ impl<N: Named, L: Ledger, C: Core, P: Rule> Floor<N, L, C, P> {
         &self.plant
     }
 
-    // The plant comes out, and how many acts each processor made, in their order.
-    pub fn into_parts(self) -> (Plant<N, L, C, P>, [u64; MOST_PROCESSORS as usize])
+    // The plant comes out, and the tally of the acts that each processor made.
+    pub fn into_parts(self) -> (Plant<N, L, C, P>, Tally)
         ensures same { result.0 ≡ self }
-        ensures shared { Shared N.code N.budget N.pick N.processors (take N.processors result.1) result.0 }
+        ensures tally { result.1.name ≡ N.tally }
+        ensures shared { Shared N.code N.budget N.pick N.processors result.1.numbers result.0 }
     {
-        let Floor { plant, made } = self;
-        (plant, made)
+        let Floor { plant, tally } = self;
+        (plant, tally)
     }
 
     // Takes a process for a processor that has none ahead. Where one is out with the processor all the same, since its parcel was stale, that
@@ -101,16 +96,18 @@ impl<N: Named, L: Ledger, C: Core, P: Rule> Floor<N, L, C, P> {
         self.plant.land_or_stay(me, parcel)
     }
 
-    // The action of a process, as the plant's. It is counted of the processor where it was performed.
+    // The action of a process, as the plant's. It is counted of the processor, whose seat it is, where it was performed.
     pub fn act(&mut self, me: u32, process: u32, seat: &mut Seat<N, L>) -> Acted
-        requires { (1 ≤ me) × (me ≤ N.processors) }
+        requires me { (1 ≤ me) × (me ≤ N.processors) }
+        requires whose { seat.old.mark.place + 1 ≡ me }
         ensures acts { Acts N.budget me process self.old result self.new }
         ensures count { IsActed result seat.old.count seat.new.count }
         ensures fits { seat.new.count < 2 ^ 64 }
         ensures leaves { seat.new.left ≡ seat.old.left }
+        ensures whose { seat.new.mark.place ≡ seat.old.mark.place }
     {
         let acted = self.plant.act(me, process, seat);
-        self.made[me as usize - 1] += acts_in(acted);
+        self.tally.add(&mut seat.mark, acts_in(acted));
         acted
     }
 
@@ -122,6 +119,7 @@ impl<N: Named, L: Ledger, C: Core, P: Rule> Floor<N, L, C, P> {
         ensures refused { result ≡ false → seat.new.left ≡ seat.old.left }
         ensures count { seat.new.count ≡ seat.old.count }
         ensures ahead { seat.new.ahead ≡ seat.old.ahead }
+        ensures mark { seat.new.mark ≡ seat.old.mark }
     {
         self.plant.leave(seat)
     }

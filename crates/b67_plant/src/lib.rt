@@ -16,7 +16,7 @@ mod shared;
 mod taking;
 mod working;
 
-ghost use Rattle.std.specs.Prelude.{◌≡◌, ℕ, [], length};
+ghost use Rattle.std.specs.Prelude.{◌≡◌, ◌≤◌, ℕ, [], length};
 ghost use Rattle.b67_segment.specs.declared.code.Code.{Code as MachineCode};
 
 use b67_deeds::Letter;
@@ -24,6 +24,7 @@ use b67_machine::Machine;
 use b67_ready::{Dispatcher, Rule};
 use b67_schedule::Schedule;
 use b67_store::Core;
+use b67_tally::Mark;
 pub use fetching::Ahead;
 pub use floor::Floor;
 pub use joins::{gather, run_all};
@@ -46,6 +47,9 @@ pub trait Named: Ledger {
     ghost processors: { ℕ };
 
     ghost pick: { ℕ → ℕ → ℕ };
+
+    /// The name of the tally of the processors' acts.
+    ghost tally: { ℕ };
 }
 
 impl Named for Brand {
@@ -56,9 +60,12 @@ impl Named for Brand {
     ghost processors = { 0 };
 
     ghost pick = { λ length takes. 0 };
+
+    ghost tally = { 0 };
 }
 
-/// A processor's shares of the books of acts and of leaves, and the process that it has taken ahead.
+/// A processor's shares of the books of acts and of leaves, its mark on the tally of acts, and the process that it has taken ahead. No more
+/// acts are marked than were made.
 #[derive(Drop)]
 pub struct Seat<N: Named, L: Ledger> {
     count: u64,
@@ -66,10 +73,13 @@ pub struct Seat<N: Named, L: Ledger> {
     ahead: Ahead<N>,
     acts: Share<N>,
     leaves: Share<L>,
+    mark: Mark,
     ghost counted: { count ≡ acts.amount },
     ghost lefts: { left ≡ leaves.amount },
     ghost one: { acts.parts ≡ 1 },
     ghost one_leaf: { leaves.parts ≡ 1 },
+    ghost marked: { mark.number ≤ count },
+    ghost named: { mark.name ≡ N.tally },
 }
 
 impl<N: Named, L: Ledger> Seat<N, L> {
@@ -112,7 +122,7 @@ impl<N: Named, L: Ledger, C: Core, P: Rule> Model for Plant<N, L, C, P> {
     ghost use Rattle.b67_plant.specs.declared.TheConstants.{NOTES};
     ghost use Rattle.b67_table.specs.Limits.{most_processes};
     ghost use Rattle.b67_table.specs.Sound.{Sound};
-    ghost use Rattle.b67_words.specs.declared.TheConstants.{MOST_BUDGET};
+    ghost use Rattle.b67_limits.specs.declared.TheConstants.{MOST_BUDGET};
     ghost use Rattle.b67_stands.specs.Stands.{Stands};
 
     ghost Value = { Running };

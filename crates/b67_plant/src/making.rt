@@ -1,11 +1,12 @@
 // A plant before its first take.
-ghost use Rattle.std.specs.Prelude.{◌≡◌, ℕ, ◌+◌, ◌≤◌, false, [], ◌∷◌, All, IfOk, OnErr, length, replicate, vec_capacity};
+ghost use Rattle.std.specs.Prelude.{◌≡◌, ℕ, ◌+◌, ◌≤◌, false, [], ◌∷◌, All, IfOk, OnErr, length, map, replicate, vec_capacity};
 ghost use Rattle.b67_segment.specs.declared.TheConstants.{MOST_SEGMENT_WORDS};
 ghost use Rattle.b67_table.specs.Limits.{most_processes};
 ghost use Rattle.b67_table.specs.Sound.{Sound};
-ghost use Rattle.b67_words.specs.declared.TheConstants.{MOST_BUDGET};
+ghost use Rattle.b67_limits.specs.declared.TheConstants.{MOST_BUDGET};
 ghost use Rattle.b67_machine.specs.Beginning.{IsFresh};
 ghost use Rattle.b67_plant.specs.declared.TheConstants.{NOTES};
+ghost use Rattle.b67_plant.specs.Places.{in_order};
 ghost use Rattle.b67_stands.specs.Calls.{IsFirst};
 
 use crate::{Ahead, NOTES, Named, Parcel, Plant, Post, Seat};
@@ -17,6 +18,7 @@ use b67_ready::{Dispatcher, Rule};
 use b67_schedule::Schedule;
 use b67_store::Core;
 use b67_table::first_image_is_valid;
+use b67_tally::{Mark, Tally};
 use std::alloc::{AllocError, Global};
 use std::sync::ledger::{Blank, Ledger, Share};
 
@@ -27,12 +29,19 @@ struct Bench<N: Named> {
     ahead: Ahead<N>,
 }
 
-// A processor's place, with its memory and its shares.
-fn post<N: Named, L: Ledger>(bench: Bench<N>, acts: Share<N>, leaves: Share<L>) -> Post<N, L>
+// A processor's place, with its memory, its shares and its mark.
+fn post<N: Named, L: Ledger>(
+    bench: Bench<N>,
+    acts: Share<N>,
+    leaves: Share<L>,
+    mark: Mark,
+) -> Post<N, L>
     requires acts { (acts.parts ≡ 1) × (acts.amount ≡ 0) }
     requires leaves { (leaves.parts ≡ 1) × (leaves.amount ≡ 0) }
+    requires mark { (mark.name ≡ N.tally) × (mark.number ≡ 0) }
     ensures numbers { (result.seat.count ≡ 0) × (result.seat.left ≡ 0) }
     ensures ahead { result.seat.ahead ≡ bench.ahead }
+    ensures mark { result.seat.mark ≡ mark }
 {
     let Bench { parcel, ahead } = bench;
     Post {
@@ -43,6 +52,7 @@ fn post<N: Named, L: Ledger>(bench: Bench<N>, acts: Share<N>, leaves: Share<L>) 
             ahead,
             acts,
             leaves,
+            mark,
         },
     }
 }
@@ -70,27 +80,32 @@ fn benches_of<N: Named>(alloc: Global, processors: u32) -> Result<Vec<Bench<N>>,
     Ok(benches)
 }
 
-// One place for each of these benches. Takes no memory.
+// One place for each of these benches, in the order of their marks. Takes no memory.
 fn fill_posts<N: Named, L: Ledger>(
     posts: &mut Vec<Post<N, L>>,
     benches: Vec<Bench<N>>,
     acts: Share<N>,
     leaves: Share<L>,
+    tally: &mut Tally,
 )
     requires none { posts.old.items ≡ [] }
     requires room { length benches.items ≤ vec_capacity posts.old }
     requires acts { (acts.parts ≡ length benches.items) × (acts.amount ≡ 0) }
     requires leaves { (leaves.parts ≡ length benches.items) × (leaves.amount ≡ 0) }
+    requires tally { (tally.old.name ≡ N.tally) × (tally.old.numbers ≡ []) }
     requires free { All (λ bench. bench.ahead.is_there ≡ false) benches.items }
     ensures each { length posts.new.items ≡ length benches.items }
     ensures seats { All (λ post. (post.seat.count ≡ 0) × (post.seat.left ≡ 0) × (post.seat.ahead.is_there ≡ false)) posts.new.items }
+    ensures places { map (λ post. post.seat.mark.place) posts.new.items ≡ in_order (length benches.items) }
+    ensures tally { (tally.new.name ≡ N.tally) × (tally.new.numbers ≡ replicate (length benches.items) 0) }
 {
     let mut benches = benches;
     let mut acts = acts;
     let mut leaves = leaves;
     'posts: while let Some(bench) = benches.pop() {
+        let mark = tally.mark();
         posts
-            .push(post(bench, acts.split_off(1, 0), leaves.split_off(1, 0)))
+            .push(post(bench, acts.split_off(1, 0), leaves.split_off(1, 0), mark))
             .unwrap();
     }
 }
@@ -125,7 +140,8 @@ fn rooms_of<P: Rule>(alloc: Global, rule: P, budget: u32) -> Result<Rooms<P>, Al
 
 impl<N: Named, L: Ledger, C: Core, P: Rule> Plant<N, L, C, P> {
     /// A plant of a machine that has performed nothing. There is a place for each of its processors among the posts, which have the
-    /// room, and none where memory lacks. No seat has an act or a leave yet, nor a process taken ahead.
+    /// room, and none where memory lacks. No seat has an act or a leave yet, nor a process taken ahead. The seats' marks are on the tally, in
+    /// the order of the processors.
     pub fn new(
         alloc: Global,
         machine: Machine<C>,
@@ -134,6 +150,7 @@ impl<N: Named, L: Ledger, C: Core, P: Rule> Plant<N, L, C, P> {
         processors: u32,
         acts: Blank,
         leaves: Blank,
+        tally: &mut Tally,
         posts: &mut Vec<Post<N, L>>,
     ) -> Result<Plant<N, L, C, P>, AllocError>
         requires fresh { IsFresh machine }
@@ -144,12 +161,15 @@ impl<N: Named, L: Ledger, C: Core, P: Rule> Plant<N, L, C, P> {
         requires processors { (processors ≡ N.processors) × (1 ≤ processors) }
         requires acts { (acts.name ≡ N.name) × (acts.parts ≡ N.parts) × (acts.parts ≡ processors) }
         requires leaves { (leaves.name ≡ L.name) × (leaves.parts ≡ L.parts) × (leaves.parts ≡ processors) }
+        requires tally { (tally.old.name ≡ N.tally) × (tally.old.numbers ≡ []) }
         requires rule { (n takes : ℕ) → P.pick rule n takes ≡ N.pick n takes }
         requires none { posts.old.items ≡ [] }
         requires room { processors ≤ vec_capacity posts.old }
         ensures posts { IfOk result (λ plant. length posts.new.items ≡ processors) }
         ensures seats { IfOk result (λ plant. All (λ post. (post.seat.count ≡ 0) × (post.seat.left ≡ 0) × (post.seat.ahead.is_there ≡ false)) posts.new.items) }
         ensures no_posts { OnErr result (posts.new.items ≡ []) }
+        ensures places { IfOk result (λ plant. map (λ post. post.seat.mark.place) posts.new.items ≡ in_order processors) }
+        ensures tally { IfOk result (λ plant. (tally.new.name ≡ N.tally) × (tally.new.numbers ≡ replicate processors 0)) }
         ensures first { IfOk result (IsFirst N.code) }
     {
         first_image_is_valid();
@@ -157,7 +177,7 @@ impl<N: Named, L: Ledger, C: Core, P: Rule> Plant<N, L, C, P> {
         let rooms = rooms_of(alloc, rule, budget)?;
         let (acts, all) = acts.open::<N>();
         let (leaves, all_left) = leaves.open::<L>();
-        fill_posts(posts, benches, all, all_left);
+        fill_posts(posts, benches, all, all_left, tally);
         let Rooms {
             ready,
             out,

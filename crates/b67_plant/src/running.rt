@@ -1,11 +1,11 @@
 // Whole runs, from a machine that has performed nothing to the end.
-ghost use Rattle.std.specs.Prelude.{◌≡◌, ◌≢◌, ℕ, ◌<◌, ◌≤◌, ◌^◌, [], All, IfOk, OnErr, Some, None, length, sum, vec_capacity};
+ghost use Rattle.std.specs.Prelude.{◌≡◌, ◌≢◌, ℕ, ◌<◌, ◌≤◌, ◌^◌, [], All, IfOk, OnErr, Some, None, length, map, sum, vec_capacity};
 ghost use Rattle.b67_ready.specs.Orders.{place_of};
 ghost use Rattle.b67_schedule.specs.Schedules.{entries};
 ghost use Rattle.b67_segment.specs.declared.TheConstants.{MOST_SEGMENT_WORDS};
 ghost use Rattle.b67_table.specs.Sound.{Sound};
 ghost use Rattle.b67_machine.specs.Beginning.{IsFresh};
-ghost use Rattle.b67_words.specs.declared.TheConstants.{MOST_BUDGET, MOST_PROCESSORS};
+ghost use Rattle.b67_limits.specs.declared.TheConstants.{MOST_BUDGET, MOST_PROCESSORS};
 ghost use Rattle.b67_stands.specs.Alone.{ByOne};
 ghost use Rattle.b67_stands.specs.Ran.{HasRunAlone, HasRunShared};
 ghost use Rattle.b67_stands.specs.Running.{answer_of};
@@ -19,6 +19,7 @@ use b67_ready::{Order, Rule};
 use b67_schedule::Schedule;
 use b67_segment::Code;
 use b67_store::Core;
+use b67_tally::Tally;
 use std::alloc::{AllocError, Global};
 use std::marker::Brand;
 use std::sync::Wait;
@@ -85,6 +86,7 @@ fn run_named_alone<N: Named, L: Ledger, C: Core, P: Rule>(
     budget: u32,
     acts: Blank,
     leaves: Blank,
+    tally: Tally,
 ) -> Result<Ran<C>, AllocError>
     requires fresh { IsFresh machine }
     requires code { machine.code ≡ N.code }
@@ -94,12 +96,14 @@ fn run_named_alone<N: Named, L: Ledger, C: Core, P: Rule>(
     requires processors { 1 ≡ N.processors }
     requires acts { (acts.name ≡ N.name) × (acts.parts ≡ N.parts) × (acts.parts ≡ 1) }
     requires leaves { (leaves.name ≡ L.name) × (leaves.parts ≡ L.parts) × (leaves.parts ≡ 1) }
+    requires tally { (tally.name ≡ N.tally) × (tally.numbers ≡ []) }
     requires rule { (n takes : ℕ) → P.pick rule n takes ≡ N.pick n takes }
     ensures { IfOk result (λ ran. HasRunAlone N.code N.budget N.pick ran.machine ran.schedule ran.answer) }
 {
+    let mut tally = tally;
     let mut posts = Vec::with_capacity(alloc, 1)?;
     let mut plant = Plant::<N, L, C, P>::new(
-        alloc, machine, rule, budget, 1, acts, leaves, &mut posts,
+        alloc, machine, rule, budget, 1, acts, leaves, &mut tally, &mut posts,
     )?;
     let _answer = work_alone(&mut plant, &mut posts[0]);
     Ok(left_by(plant))
@@ -125,20 +129,21 @@ pub fn run_by_caller<C: Core>(
         budget,
         Blank::new(1),
         Blank::new(1),
+        Tally::new(),
     )
 }
 
 // ---- by processors
 
-// How many acts each processor made, in their order.
-fn note_acts(counts: &mut Vec<u64>, made: &[u64])
+// How many acts each processor made: the number of its own seat, in the order of the posts.
+fn note_acts<N: Named, L: Ledger>(counts: &mut Vec<u64>, posts: &[Post<N, L>])
     requires none { counts.old.items ≡ [] }
-    requires room { length made.now ≤ vec_capacity counts.old }
-    ensures each { counts.new.items ≡ made.now }
+    requires room { length posts.now ≤ vec_capacity counts.old }
+    ensures each { counts.new.items ≡ map (λ post. post.seat.count) posts.now }
     ensures numbers { All (λ count. count < 2 ^ 64) counts.new.items }
 {
-    'processors: for acts in made {
-        counts.push(*acts).unwrap();
+    'processors: for post in posts {
+        counts.push(post.seat.count()).unwrap();
     }
 }
 
@@ -161,6 +166,7 @@ fn run_named<
     processors: u32,
     acts: Blank,
     leaves: Blank,
+    tally: Tally,
     counts: &mut Vec<u64>,
 ) -> Result<Ran<C>, AllocError>
     requires fresh { IsFresh machine }
@@ -172,6 +178,7 @@ fn run_named<
     requires processors { (processors ≡ N.processors) × (1 ≤ processors) × (processors ≤ MOST_PROCESSORS) }
     requires acts { (acts.name ≡ N.name) × (acts.parts ≡ N.parts) × (acts.parts ≡ processors) }
     requires leaves { (leaves.name ≡ L.name) × (leaves.parts ≡ L.parts) × (leaves.parts ≡ processors) }
+    requires tally { (tally.name ≡ N.tally) × (tally.numbers ≡ []) }
     requires rule { (n takes : ℕ) → P.pick rule n takes ≡ N.pick n takes }
     requires none { counts.old.items ≡ [] }
     requires room { processors ≤ vec_capacity counts.old }
@@ -181,19 +188,20 @@ fn run_named<
     ensures numbers { IfOk result (λ ran. All (λ count. count < 2 ^ 64) counts.new.items) }
     ensures no_counts { OnErr result (counts.new.items ≡ []) }
 {
+    let mut tally = tally;
     let mut posts = Vec::with_capacity(alloc, processors as usize)?;
     let plant = Plant::<N, L, C, P>::new(
-        alloc, machine, rule, budget, processors, acts, leaves, &mut posts,
+        alloc, machine, rule, budget, processors, acts, leaves, &mut tally, &mut posts,
     )?;
-    let floor = run_all(rt, gate, plant, named, posts.as_mut_slice());
-    let (mut plant, made) = floor.into_parts();
-    note_acts(counts, &made[..processors as usize]);
-    gather(&mut plant, posts);
+    let floor = run_all(rt, gate, plant, tally, named, posts.as_mut_slice());
+    let (mut plant, mut tally) = floor.into_parts();
+    note_acts(counts, posts.as_slice());
+    gather(&mut plant, &mut tally, posts);
     Ok(left_by(plant))
 }
 
 /// The run of a machine that has performed nothing, by so many processors that share it, under a rule and a budget. How many acts each
-/// processor made is noted in their order, as it was counted under the lock, and none where memory lacks.
+/// processor made is noted in their order, from its own seat, and none where memory lacks.
 pub fn run_by_processors<C: Core + Send, G: Gate + Sync, R: Threads + Wait + Sync>(
     rt: &R,
     alloc: Global,
@@ -229,6 +237,7 @@ pub fn run_by_processors<C: Core + Send, G: Gate + Sync, R: Threads + Wait + Syn
         processors,
         Blank::new(u64::from(processors)),
         Blank::new(u64::from(processors)),
+        Tally::new(),
         counts,
     )
 }

@@ -3,11 +3,10 @@
 // Under the lock lie landing, action and the copy of the process that is taken next: an entry holds it once, from its landing until the next
 // process is taken. Where nobody is ready a processor waits, and takes the lock once more. A parcel is worked outside, and so it begins and
 // ends there.
-ghost use Rattle.std.specs.Prelude.{◌≡◌, ◌≢◌, ℕ, ◌+◌, ◌<◌, ◌≤◌, ◌^◌, List, replicate, true, false, Some};
+ghost use Rattle.std.specs.Prelude.{◌≡◌, ◌≢◌, ℕ, ◌+◌, ◌<◌, ◌≤◌, ◌^◌, List, true, false, Some};
 ghost use Rattle.std.specs.Sync.Mutex.{mutex_guard_value};
 ghost use Rattle.b67_processors.specs.Acts.{IsActed};
 ghost use Rattle.b67_stands.specs.Shared.{Shared};
-ghost use Rattle.b67_words.specs.declared.TheConstants.{MOST_BUDGET, MOST_PROCESSORS};
 ghost use Rattle.b67_plant.specs.Calls.{HasLanded};
 ghost use Rattle.b67_plant.specs.Parcels.{IsWorked};
 
@@ -16,6 +15,7 @@ use b67_processors::{Acted, Landing, Shop, Work};
 use b67_ready::Rule;
 use b67_segment::Code;
 use b67_store::Core;
+use b67_tally::Tally;
 use std::sync::ledger::Ledger;
 use std::sync::{Condvar, Mutex, MutexGuard, Wait};
 use std::thread::Threads;
@@ -66,6 +66,7 @@ fn tried<N: Named, L: Ledger, C: Core, P: Rule>(
     ensures over { result ≡ Some Work.Over → seat.new.left ≡ seat.old.left + 1 }
     ensures other { result ≢ Some Work.Over → seat.new.left ≡ seat.old.left }
     ensures count { seat.new.count ≡ seat.old.count }
+    ensures mark { seat.new.mark ≡ seat.old.mark }
     ensures there { result ≡ Some Work.Parcel → seat.new.ahead.is_there ≡ true }
     ensures free { result ≢ Some Work.Parcel → seat.new.ahead.is_there ≡ false }
 {
@@ -91,6 +92,7 @@ fn take_next<N: Named, L: Ledger, C: Core, P: Rule>(
     requires { (1 ≤ me) × (me ≤ N.processors) }
     ensures count { seat.new.count ≡ seat.old.count }
     ensures left { seat.new.left ≡ seat.old.left }
+    ensures mark { seat.new.mark ≡ seat.old.mark }
     ensures kept { seat.old.ahead.is_there ≡ true → seat.new.ahead ≡ seat.old.ahead }
 {
     if seat.ahead.is_there() {
@@ -103,13 +105,13 @@ fn take_next<N: Named, L: Ledger, C: Core, P: Rule>(
 }
 
 impl<N: Named, L: Ledger, C: Core, P: Rule> SharedPlant<N, L, C, P> {
-    /// The plant goes behind the lock, and the code stays beside it. Nobody has made an act.
-    pub fn new(plant: Plant<N, L, C, P>, code: Code) -> SharedPlant<N, L, C, P>
+    /// The plant goes behind the lock with the tally of its acts, and the code stays beside it.
+    pub fn new(plant: Plant<N, L, C, P>, tally: Tally, code: Code) -> SharedPlant<N, L, C, P>
         requires code { code ≡ N.code }
-        requires shared { Shared N.code N.budget N.pick N.processors (replicate N.processors 0) plant }
-        requires limits { (N.processors ≤ MOST_PROCESSORS) × (N.budget ≤ MOST_BUDGET) }
+        requires tally { tally.name ≡ N.tally }
+        requires shared { Shared N.code N.budget N.pick N.processors tally.numbers plant }
     {
-        SharedPlant::of(Floor::new(plant), code)
+        SharedPlant::of(Floor::new(plant, tally), code)
     }
 
     /// What was shared before goes behind the lock.
@@ -146,6 +148,7 @@ impl<N: Named, L: Ledger, C: Core, P: Rule> SharedPlant<N, L, C, P> {
         ensures over { result ≡ Work.Over → seat.new.left ≡ seat.old.left + 1 }
         ensures other { result ≢ Work.Over → seat.new.left ≡ seat.old.left }
         ensures count { seat.new.count ≡ seat.old.count }
+        ensures mark { seat.new.mark ≡ seat.old.mark }
         ensures there { result ≢ Work.Over → seat.new.ahead.is_there ≡ true }
         ensures kept { seat.old.ahead.is_there ≡ true → (result ≢ Work.Over) × (seat.new.ahead ≡ seat.old.ahead) }
     {
@@ -191,6 +194,8 @@ impl<'a, N: Named + Send + Sync, L: Ledger + Send + Sync, C: Core + Send, P: Rul
     ghost leaves = { λ s. s.left };
 
     ghost parts = { λ s. s.acts.parts };
+
+    ghost whose = { λ s. s.mark.place + 1 };
 
     fn take<R: Threads + Wait + Sync>(
         &self,

@@ -159,6 +159,7 @@ impl<N: Named, L: Ledger, C: Core, P: Rule> Plant<N, L, C, P> {
         ensures count { IsActed result seat.old.count seat.new.count }
         ensures fits { seat.new.count < 2 ^ 64 }
         ensures leaves { seat.new.left ≡ seat.old.left }
+        ensures mark { seat.new.mark ≡ seat.old.mark }
         ensures stands { Stands N.code N.budget self.old }
     {
         let _count = seat.count;
@@ -238,6 +239,7 @@ impl<N: Named, L: Ledger, C: Core, P: Rule> Plant<N, L, C, P> {
         ensures refused { result ≡ false → seat.new.left ≡ seat.old.left }
         ensures count { seat.new.count ≡ seat.old.count }
         ensures ahead { seat.new.ahead ≡ seat.old.ahead }
+        ensures mark { seat.new.mark ≡ seat.old.mark }
     {
         self.leaves.audit(&mut seat.leaves);
         if self.left == u64::MAX {

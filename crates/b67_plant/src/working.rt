@@ -9,13 +9,13 @@ ghost use Rattle.b67_plant.specs.Parcels.{IsStretch, IsWorked, IsCopied};
 
 use crate::copying::copy_part;
 use crate::{Ahead, Named};
+use b67_limits::MOST_STRETCH;
 use b67_load::first_registers;
 use b67_machine::{Levels, Machine, decoded, prepare};
 use b67_private::burst;
 use b67_segment::Code;
 use b67_store::Core;
 use b67_table::{Private, Words, first_image_is_valid};
-use b67_words::MOST_STRETCH;
 use std::alloc::{AllocError, Global};
 use std::marker::{Model, PhantomData};
 
@@ -102,7 +102,7 @@ impl<N: Named> Parcel<N> {
     }
 
     /// Performs the plain operators of the code that come next at the end, so that there are at most
-    /// [`MOST_STRETCH`](b67_words::MOST_STRETCH) of them, and answers how many there are. Takes no memory that it needs.
+    /// [`MOST_STRETCH`](b67_limits::MOST_STRETCH) of them, and answers how many there are. Takes no memory that it needs.
     pub fn work(&mut self, code: &Code) -> u32
         requires { code.now ≡ N.code }
         ensures worked { IsWorked N.code self.new }

@@ -47,7 +47,7 @@ pub enum Acted {
     NoMemory,
 }
 
-/// Where processors get their work. A seat is a processor's: it has a count of acts, a count of leaves, and parts.
+/// Where processors get their work. A seat is a processor's, for good: it has a count of acts, a count of leaves, and parts.
 pub trait Shop: Sync {
     type Parcel;
 
@@ -65,6 +65,9 @@ pub trait Shop: Sync {
 
     ghost parts: { Self.Seat → ℕ };
 
+    /// The number of the processor whose seat it is.
+    ghost whose: { Self.Seat → ℕ };
+
     /// Waits for a parcel. An Over, and nothing else, is a leave.
     fn take<R: Threads + Wait + Sync>(
         &self,
@@ -73,10 +76,12 @@ pub trait Shop: Sync {
         parcel: &mut Self::Parcel,
         seat: &mut Self::Seat,
     ) -> Work
-        requires { (1 ≤ me) × (me ≤ processors self.now) }
+        requires me { (1 ≤ me) × (me ≤ processors self.now) }
+        requires whose { whose seat.old ≡ me }
         ensures leaves { HasTaken result (leaves seat.old) (leaves seat.new) }
         ensures count { count seat.new ≡ count seat.old }
-        ensures parts { parts seat.new ≡ parts seat.old };
+        ensures parts { parts seat.new ≡ parts seat.old }
+        ensures whose { whose seat.new ≡ whose seat.old };
 
     /// Works a parcel, by nobody's leave.
     fn work(&self, parcel: &mut Self::Parcel) -> u32
@@ -100,11 +105,13 @@ pub trait Shop: Sync {
         pass: Self::Pass,
         seat: &mut Self::Seat,
     ) -> Acted
-        requires { (1 ≤ me) × (me ≤ processors self.now) }
+        requires me { (1 ≤ me) × (me ≤ processors self.now) }
+        requires whose { whose seat.old ≡ me }
         ensures count { IsActed result (count seat.old) (count seat.new) }
         ensures fits { count seat.new < 2 ^ 64 }
         ensures leaves { leaves seat.new ≡ leaves seat.old }
-        ensures parts { parts seat.new ≡ parts seat.old };
+        ensures parts { parts seat.new ≡ parts seat.old }
+        ensures whose { whose seat.new ≡ whose seat.old };
 }
 
 /// Takes, works, passes the gate, lands and acts until the shop is over, and answers how many acts were made.
@@ -116,10 +123,12 @@ pub fn serve<S: Shop, G: Gate, R: Threads + Wait + Sync>(
     parcel: &mut S::Parcel,
     seat: &mut S::Seat,
 ) -> u64
-    requires { (1 ≤ me) × (me ≤ S.processors shop.now) }
+    requires me { (1 ≤ me) × (me ≤ S.processors shop.now) }
+    requires whose { S.whose seat.old ≡ me }
     ensures count { S.count seat.new ≡ S.count seat.old + result }
     ensures leaves { S.leaves seat.new ≡ S.leaves seat.old + 1 }
     ensures parts { S.parts seat.new ≡ S.parts seat.old }
+    ensures whose { S.whose seat.new ≡ S.whose seat.old }
 {
     let mut acts = 0u64;
     let mut turn = 0u64;
@@ -148,11 +157,13 @@ fn lands_and_acts<S: Shop, R: Threads + Wait + Sync>(
     seat: &mut S::Seat,
 ) -> bool
     requires me { (1 ≤ me) × (me ≤ S.processors shop.now) }
+    requires whose { S.whose seat.old ≡ me }
     requires worked { S.worked shop.now parcel.now }
     ensures count { HasGiven result (S.count seat.old) (S.count seat.new) }
     ensures fits { result ≡ true → S.count seat.new < 2 ^ 64 }
     ensures leaves { S.leaves seat.new ≡ S.leaves seat.old }
     ensures parts { S.parts seat.new ≡ S.parts seat.old }
+    ensures whose { S.whose seat.new ≡ S.whose seat.old }
 {
     match shop.land(rt, me, parcel) {
         Landing::Landed(pass) => match shop.act(rt, me, pass, seat) {

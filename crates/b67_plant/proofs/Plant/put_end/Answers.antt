@@ -1,5 +1,5 @@
 use Rattle.std.proofs.Common.{◌≡◌, ◌+◌, ◌≤◌, ℕ, sym, subst, ◌∙◌, None}
-use Rattle.b67_words.specs.declared.TheConstants.{MOST_STRETCH}
+use Rattle.b67_limits.specs.declared.TheConstants.{MOST_STRETCH}
 use Rattle.b67_stands.specs.Running.{Running, answer_of}
 use Rattle.b67_stands.specs.Placing.{holder_of}
 use Rattle.b67_stands.proofs.Ends.{goes_on}

@@ -1,5 +1,5 @@
 use Rattle.std.proofs.Common.{◌≡◌, ℕ, ◌≤◌, Some, None, sym, subst, ◌∙◌, arith}
-use Rattle.b67_words.specs.declared.TheConstants.{MOST_BUDGET}
+use Rattle.b67_limits.specs.declared.TheConstants.{MOST_BUDGET}
 use Rattle.b67_table.specs.Sound.{Sound}
 use Rattle.b67_stands.proofs.Alone.{turns_keep_by_one}
 use Rattle.b67_plant.proofs.running.run_named_alone.Goals as goal

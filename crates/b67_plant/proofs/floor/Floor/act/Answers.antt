@@ -1,6 +1,9 @@
-use Rattle.std.proofs.Common.{ℕ, ◌≤◌, List, length, take, sym, ap, subst, ◌∙◌, arith}
+use Rattle.std.proofs.Common.{◌≡◌, ℕ, ◌+◌, List, sym, ap, subst, ◌∙◌}
+use Rattle.b67_tally.specs.declared.Mark.{Mark}
+use Rattle.b67_tally.specs.declared.Tally.{Tally}
 use Rattle.b67_stands.specs.Shared.{Shared, with_acts}
-use Rattle.b67_plant.proofs.Made.{processors_are, more_made, number_fits}
+use Rattle.b67_plant.specs.Calls.{acts_in}
+use Rattle.b67_plant.proofs.Made.{raised}
 use Rattle.b67_plant.proofs.Sharing.{acted_on}
 use Rattle.b67_plant.proofs.floor.Floor.act.Goals as goal
 
@@ -8,20 +11,15 @@ pub invariant_of-self : goal.invariant_of-self
 invariant_of-self g c =
     let i = c.self.invariant in
     let n : ℕ = g.N.Named.processors in
-    let made : List ℕ = c.self.inside.made in
-    let long : n ≤ length made = omega (arith, i.1, c.self.told, processors_are) in (
-      subst (λ (acts : List ℕ). Shared g.N.Named.code g.N.Named.budget g.N.Named.pick n acts c.act-acted.new.self)
-          (ap (with_acts (take n made) c.args.me) (sym c.acts_in.ensures) ∙ sym (more_made made n c.args.me c.acts_in.result c.requires.0 c.requires.1 long))
-          (acted_on g.N.Named.code g.N.Named.budget g.N.Named.pick n (take n made) c.self.inside.plant c.act-acted.new.self i.0 c.args.me c.args.process c.act-acted.result
-          c.requires.0 c.requires.1 c.act-acted.ensures.acts),
-      i.1,
-      i.2,
+    let numbers : List ℕ = c.self.inside.tally.numbers in
+    let mark : Mark = c.act-acted.new.seat.mark in
+    let whose : mark.place + 1 ≡ c.args.me = ap (λ (m : Mark). m.place + 1) c.act-acted.ensures.mark ∙ c.requires.whose in
+    let is : c.add.new.self.numbers ≡ with_acts numbers c.args.me (acts_in c.act-acted.result) =
+    ap (λ (t : Tally). t.numbers) c.add.ensures.tally
+    ∙ raised numbers mark.place mark.number c.args.me c.acts_in.result whose c.add.ensures.found
+    ∙ ap (with_acts numbers c.args.me) c.acts_in.ensures in (
+      subst (λ (acts : List ℕ). Shared g.N.Named.code g.N.Named.budget g.N.Named.pick n acts c.act-acted.new.self) (sym is)
+          (acted_on g.N.Named.code g.N.Named.budget g.N.Named.pick n numbers c.self.inside.plant c.act-acted.new.self i.0 c.args.me c.args.process c.act-acted.result
+          c.requires.me.0 c.requires.me.1 c.act-acted.ensures.acts),
+      ap (λ (t : Tally). t.name) c.add.ensures.tally ∙ i.1,
     )
-
-pub overflow_add-self : goal.overflow_add-self
-overflow_add-self g c =
-    let i = c.self.invariant in
-    let fits =
-    number_fits g.N.Named.code g.N.Named.budget g.N.Named.pick g.N.Named.processors c.self.inside.made c.self.inside.plant c.args.me c.act-acted.result i.0
-    c.act-acted.ensures.stands i.2 c.requires.0 c.requires.1 (omega (arith, i.1, c.self.told, processors_are)) in
-    omega (arith, fits, c.acts_in.ensures)

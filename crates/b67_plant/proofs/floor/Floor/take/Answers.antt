@@ -1,12 +1,10 @@
-use Rattle.std.proofs.Common.{take}
 use Rattle.b67_plant.proofs.Sharing.{taken_on}
 use Rattle.b67_plant.proofs.floor.Floor.take.Goals as goal
 
 pub invariant_of-self : goal.invariant_of-self
 invariant_of-self g c =
     let i = c.self.invariant in (
-      taken_on g.N.Named.code g.N.Named.budget g.N.Named.pick g.N.Named.processors (take g.N.Named.processors c.self.inside.made) c.self.inside.plant c.take_ahead.new.self i.0
+      taken_on g.N.Named.code g.N.Named.budget g.N.Named.pick g.N.Named.processors c.self.inside.tally.numbers c.self.inside.plant c.take_ahead.new.self i.0
           c.args.me c.take_ahead.result c.take_ahead.new.ahead.process c.requires.me.0 c.requires.me.1 (c.out_with.ensures.free c.in_default.is) c.take_ahead.ensures.taken,
       i.1,
-      i.2,
     )
