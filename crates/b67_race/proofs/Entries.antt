@@ -1,5 +1,5 @@
 -- Entries of a list to which one more is added.
-use Rattle.std.proofs.Common.{arith, ◌≡◌, refl, sym, ap, ◌∙◌, ℕ, zero, suc, ◌+◌, ◌<◌, ◌≤◌, List, [], ◌∷◌, ◌++◌, length, Option, Some, None, slice_get}
+use Rattle.std.proofs.Common.{arith, ◌≡◌, refl, sym, ap, ◌∙◌, ℕ, zero, suc, ◌+◌, ◌<◌, ◌≤◌, List, [], ◌∷◌, ◌++◌, length, Some, slice_get}
 use Rattle.b67_race.specs.Entries.{Done, Is}
 
 place_bound : (ds : List Done) (k : ℕ) (d : Done) → slice_get ds k ≡ Some d → k < length ds

@@ -1,15 +1,11 @@
 -- The walk as a function finds the races, and there are no other ones.
-use Rattle.std.proofs.Common.{arith, ◌≡◌, ◌≢◌, ◌⊎◌, inl, inr, refl, sym, ap, ◌∙◌, subst, ℕ, zero, suc, ◌+◌, ◌<◌, ◌≤◌, ◌==◌, Bool, true, false, List, [], ◌∷◌, ◌++◌, length, Option, Some, None, if◌then◌else◌, append_assoc, append-nil}
-use Rattle.std.specs.declared.cmp.Ordering.{Ordering}
-use Rattle.std.specs.declared.cmp.Ordering.TheVariants.{Less, Equal, Greater}
-use Rattle.std.specs.Ordering.{nat_cmp, ordering_then, is_eq}
-use Rattle.std.specs.Cmp.Lexicographic.{slice_cmp}
+use Rattle.std.proofs.Common.{arith, ◌≡◌, ◌⊎◌, inl, inr, refl, sym, ap, ◌∙◌, subst, ℕ, zero, suc, ◌+◌, ◌<◌, Bool, true, false, List, [], ◌∷◌, ◌++◌, length, Option, Some, None, if◌then◌else◌, append_assoc, append-nil}
 use Rattle.b67_race.specs.Entries.{CellName, Signal, nothing, sets, goes_by, frees, takes, Access, Done, Is}
-use Rattle.b67_race.specs.Clocks.{Becomes, Notes, own_clock, joined, process_clock}
+use Rattle.b67_race.specs.Clocks.{Becomes, own_clock, joined}
 use Rattle.b67_race.specs.Watching.{Covers, Watches, none_yet, rivals}
-use Rattle.b67_race.specs.Cells.{Standing, quiet, cell_of, is_cell, number_of, at_of, rival_in, standing_after}
-use Rattle.b67_race.specs.Races.{Race, IsAmong, Rise, AreRaces, Walks, race_by, Finds}
-use Rattle.b67_race.specs.Found.{same_cell, put_at, Walk, first_walk, set_after, freed_after, cells_after, found_after, walked, walked_from, races_of, RacesAreComputed, RacesAreOneList}
+use Rattle.b67_race.specs.Cells.{Standing, cell_of, is_cell, number_of, at_of, standing_after}
+use Rattle.b67_race.specs.Races.{Race, IsAmong, Rise, Walks, Finds}
+use Rattle.b67_race.specs.Found.{same_cell, put_at, Walk, first_walk, set_after, freed_after, cells_after, found_after, walked, walked_from, RacesAreComputed, RacesAreOneList}
 use Rattle.b67_race.proofs.Entries.{length_more}
 use Rattle.b67_race.proofs.Keys.{key_of, at_number, is_own_cell, own_cell_is, sets_same, frees_same}
 use Rattle.b67_race.proofs.Walking.{walks_go_on, walks_find_all}

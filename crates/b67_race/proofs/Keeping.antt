@@ -1,10 +1,10 @@
 -- The clocks stay clocks when an entry is noted.
-use Rattle.std.proofs.Common.{arith, ◌≡◌, ◌⊎◌, inl, inr, refl, sym, ap, ◌∙◌, subst, ℕ, ◌+◌, ◌<◌, ◌≤◌, ◌==◌, ◌||◌, max, Bool, true, false, List, [], ◌∷◌, ◌++◌, length, Option, Some, None, if◌then◌else◌}
-use Rattle.b67_race.specs.Entries.{Signal, nothing, sets, goes_by, frees, takes, CellName, Done, is_this, is_one_of, touches, Is}
-use Rattle.b67_race.specs.Orders.{IsLast, Directly, by_process, by_cause, by_liberate, Ordered, one, chain, UpTo}
-use Rattle.b67_race.specs.Clocks.{IsKnown, IsBehind, Tells, Tracks, by_signal, joined, with_own, own_clock, Becomes, process_clock, Notes, ClocksTell, ClocksStay}
-use Rattle.b67_race.proofs.Entries.{is_least, is_within, is_more, is_old, is_new, same_done, length_more}
-use Rattle.b67_race.proofs.Stable.{longer, AreEntries, directly_are, directly_more, directly_old, ordered_are, ordered_more, ordered_old, up_more, up_old, last_step, from_step, last_more, last_old}
+use Rattle.std.proofs.Common.{arith, ◌≡◌, ◌⊎◌, inl, inr, refl, sym, ap, ◌∙◌, subst, ℕ, ◌+◌, ◌<◌, ◌≤◌, ◌==◌, ◌||◌, Bool, true, false, List, [], ◌∷◌, length, if◌then◌else◌}
+use Rattle.b67_race.specs.Entries.{Signal, sets, frees, CellName, Done, is_this, is_one_of, touches, Is}
+use Rattle.b67_race.specs.Orders.{IsLast, by_process, one, UpTo}
+use Rattle.b67_race.specs.Clocks.{IsKnown, IsBehind, Tells, Tracks, joined, own_clock, Becomes, process_clock, ClocksStay}
+use Rattle.b67_race.proofs.Entries.{is_within, is_more, is_old, is_new, same_done, length_more}
+use Rattle.b67_race.proofs.Stable.{longer, ordered_are, up_more, up_old}
 use Rattle.b67_race.proofs.Tracking.{above_left, above_right, above_either, known_before, joined_all, joined_only, joined_within}
 
 pub same_number : (a b : ℕ) → (a == b) ≡ true → a ≡ b

@@ -1,5 +1,6 @@
 -- The table of cells by their keys.
-use Rattle.std.proofs.Common.{rules, arith, ◌≡◌, ◌⊎◌, inl, inr, refl, sym, ap, ◌∙◌, ℕ, zero, suc, ◌+◌, Bool, true, false, List, [], ◌∷◌, Option, Some, None, if◌then◌else◌, cond}
+use Rattle.std.proofs.Common.{arith, ◌≡◌, inl, inr, refl, sym, ap, ◌∙◌, subst, ℕ, zero, suc, ◌+◌, Bool, true, false, List, [], ◌∷◌, Option, Some, None, if◌then◌else◌, cond}
+use Rattle.std.specs.Prelude.{IsSome, Result, Ok, Err, OnOk}
 use Rattle.std.specs.declared.cmp.Ordering.{Ordering}
 use Rattle.std.specs.declared.cmp.Ordering.TheVariants.{Less, Equal, Greater}
 use Rattle.std.specs.Ordering.{nat_cmp, ordering_then, is_eq}
@@ -7,13 +8,15 @@ use Rattle.std.specs.Cmp.Lexicographic.{slice_cmp}
 use Rattle.std.specs.Cmp.{nat_cmp_is}
 use Rattle.std.specs.BTreeMap.{BTreeMap, UpdatesBy, get_by}
 use Rattle.std.proofs.lemmas.Map.Lookups.{exact_unsigned, exact_bytes}
-use Rattle.b67_race.specs.Entries.{CellName, Signal, nothing, sets, goes_by, frees, takes}
+use Rattle.b67_race.specs.Entries.{CellName, Signal, sets, frees}
 use Rattle.b67_race.specs.Clocks.{Becomes}
 use Rattle.b67_race.specs.declared.cells.Key.{Key}
 use Rattle.b67_race.specs.declared.cells.Kept.{Kept}
 use Rattle.b67_race.specs.Times.{time_of}
 use Rattle.b67_race.specs.Timed.{or_empty, event_time}
-use Rattle.b67_race.specs.Cells.{Standing, number_of, at_of, cell_of, is_cell, order, standing, standing_in}
+use Rattle.b67_race.specs.Watching.{none_yet, watched}
+use Rattle.b67_race.specs.declared.cells.Past.{Past}
+use Rattle.b67_race.specs.Cells.{Standing, quiet, rival_in, standing_after, number_of, at_of, cell_of, is_cell, order, standing, standing_in}
 
 abbrev pub is_setting : Signal → Bool
 is_setting (sets c) = true
@@ -44,8 +47,6 @@ put_key k old new w u c = ap standing (u.0 (key_of c)) ∙ chosen (is_cell k c) 
     chosen true w o = refl
     chosen false w o = refl
 
-pub ruleset putting = put_key
-
 -- a cell out of the table
 pub take_own : (k : Key) (old : BTreeMap Key Kept) (o : Option Kept) → o ≡ get_by (key_order k) old → standing o ≡ standing_in old (cell_of k)
 take_own k old o e =
@@ -55,7 +56,17 @@ pub take_others : (k : Key) (old new : BTreeMap Key Kept) (w : Option Kept) → 
     is_cell k c ≡ false → standing_in new c ≡ standing_in old c
 take_others k old new w u c other = put_key k old new w u c ∙ ap (λ (b : Bool). if b then standing w else standing_in old c) other
 
-pub ruleset taking = (take_own, take_others)
+-- the table after what was lent of it is another
+module _ (k : Key) (old new : BTreeMap Key Kept) (x w : Kept) (e : Some x ≡ get_by (key_order k) old)
+    (h : IsSome (get_by (key_order k) old) → UpdatesBy key_order (key_order k) old new (Some w)) where
+  updated : UpdatesBy key_order (key_order k) old new (Some w)
+  updated = h (subst (λ (o : Option Kept). IsSome o) e refl)
+
+  pub lent_own : standing (Some w) ≡ standing_in new (cell_of k)
+  lent_own = take_own k new (Some w) (sym updated.1)
+
+  pub lent_others : (c : CellName) → is_cell k c ≡ false → standing_in new c ≡ standing_in old c
+  lent_others = take_others k old new (Some w) updated
 
 -- a key is that of its cell, and of no other
 numbers_same : (n : ℕ) → nat_cmp n n ≡ Equal
@@ -100,15 +111,27 @@ own_cell_is k c e =
 
 -- ---- an access is noted
 
-pub note_own : (k : Key) (old new : BTreeMap Key Kept) (w : Kept) (s : Standing) → standing (Some w) ≡ s
-    → ((c : CellName) → standing_in new c ≡ (if is_cell k c then standing (Some w) else standing_in old c)) → standing_in new (cell_of k) ≡ s
-note_own k old new w s e h = h (cell_of k) ∙ ap (λ (b : Bool). if b then standing (Some w) else standing_in old (cell_of k)) (is_own_cell k) ∙ e
+-- what holds in any case
+pub on_ok : {A E P : Type 0} (r : Result A E) → P → OnOk r P
+on_ok (Ok x) p = p
+on_ok (Err e) p = tt
 
-pub note_others : (k : Key) (before old new : BTreeMap Key Kept) (w : Kept)
-    → ((c : CellName) → is_cell k c ≡ false → standing_in old c ≡ standing_in before c)
-    → ((c : CellName) → standing_in new c ≡ (if is_cell k c then standing (Some w) else standing_in old c)) → (c : CellName) → is_cell k c ≡ false
-    → standing_in new c ≡ standing_in before c
-note_others k before old new w g h c other = h c ∙ ap (λ (b : Bool). if b then standing (Some w) else standing_in old c) other ∙ g c other
+-- what was not there is quiet
+pub first_rival : (storing : Bool) (clock : ℕ → ℕ) → 0 ≡ rival_in storing clock (quiet none_yet)
+first_rival true clock = refl
+first_rival false clock = refl
+
+pub first_after : (storing : Bool) (clock : ℕ → ℕ) (now : Past) → quiet (watched storing now none_yet) ≡ standing_after storing clock now (quiet none_yet)
+first_after true clock now = refl
+first_after false clock now = refl
+
+pub put_own : (k : Key) (old new : BTreeMap Key Kept) (s : Standing) → ((c : CellName) → standing_in new c ≡ (if is_cell k c then s else standing_in old c))
+    → standing_in new (cell_of k) ≡ s
+put_own k old new s h = h (cell_of k) ∙ ap (λ (b : Bool). if b then s else standing_in old (cell_of k)) (is_own_cell k)
+
+pub put_others : (k : Key) (old new : BTreeMap Key Kept) (s : Standing) → ((c : CellName) → standing_in new c ≡ (if is_cell k c then s else standing_in old c))
+    → (c : CellName) → is_cell k c ≡ false → standing_in new c ≡ standing_in old c
+put_others k old new s h c other = h c ∙ ap (λ (b : Bool). if b then s else standing_in old c) other
 
 -- ---- clocks of events
 

@@ -1,7 +1,7 @@
 -- An entry is noted.
-use Rattle.std.proofs.Common.{arith, ◌≡◌, ◌⊎◌, inl, inr, refl, sym, ap, ◌∙◌, subst, ℕ, zero, suc, ◌+◌, ◌<◌, ◌≤◌, ◌==◌, Bool, true, false, List, [], ◌∷◌, ◌++◌, length, map, Option, Some, None, if◌then◌else◌, append-nil}
+use Rattle.std.proofs.Common.{arith, ◌≡◌, ◌⊎◌, inl, inr, refl, sym, ap, ◌∙◌, subst, ℕ, zero, suc, ◌+◌, ◌<◌, ◌≤◌, ◌==◌, max, Bool, true, false, List, [], ◌∷◌, ◌++◌, length, map, Some, if◌then◌else◌}
 use Rattle.std.specs.BTreeMap.{BTreeMap}
-use Rattle.b67_race.specs.Entries.{CellName, Access, Done, sets, frees, touches}
+use Rattle.b67_race.specs.Entries.{CellName, Done, sets, frees, touches}
 use Rattle.b67_race.specs.Clocks.{Notes, Becomes, joined, own_clock, process_clock}
 use Rattle.b67_race.specs.Cells.{cell_of, is_cell, rival_in, standing_after, standing_in}
 use Rattle.b67_race.specs.Races as races
@@ -65,6 +65,17 @@ module _ (entry : ℕ) (d : Done) (of_process : ℕ → ℕ → ℕ) (set_by fre
 
       same : own ≡ own_clock entry d of_process set_by freed_by
       same = λ i q. at q i
+
+-- a clock that the entry's own process has is not asked
+pub process_same : (own_process touched : Bool) (own old other : ℕ → ℕ) → (own_process ≡ false → (q : ℕ) → old q ≡ other q) → (q : ℕ)
+    → process_clock own_process touched own old q ≡ process_clock own_process touched own other q
+process_same true touched own old other h q = refl
+process_same false true own old other h q = ap (λ (n : ℕ). max n (own q)) (h refl q)
+process_same false false own old other h q = h refl q
+
+-- the clocks of events before the entry are those that stood when its clock was taken
+pub notes_before : {A B : Type 0} (P : A → B → Type 0) (set set' : A) (freed freed' : B) → set' ≡ set → freed' ≡ freed → P set' freed' → P set freed
+notes_before {A = A} {B = B} P set set' freed freed' a b h = subst (λ (s : A). P s freed) a (subst (λ (f : B). P set' f) b h)
 
 -- ---- an entry
 

@@ -1,8 +1,8 @@
 -- What is ordered stays so when an entry is added, and nothing else of the earlier ones is.
-use Rattle.std.proofs.Common.{arith, ◌≡◌, ◌⊎◌, inl, inr, refl, sym, ap, ◌∙◌, subst, ℕ, ◌+◌, ◌<◌, ◌≤◌, Bool, true, false, List, [], ◌∷◌, ◌++◌, length, Some}
-use Rattle.b67_race.specs.Entries.{Signal, nothing, sets, goes_by, frees, takes, CellName, Done, touches, Is}
+use Rattle.std.proofs.Common.{arith, inl, inr, refl, sym, subst, ℕ, ◌+◌, ◌<◌, ◌≤◌, List, [], ◌∷◌, ◌++◌, length}
+use Rattle.b67_race.specs.Entries.{Signal, sets, frees, Done, Is}
 use Rattle.b67_race.specs.Orders.{IsLast, Directly, by_process, by_cause, by_liberate, Ordered, one, chain, UpTo}
-use Rattle.b67_race.proofs.Entries.{is_least, is_within, is_more, is_old, is_new, same_done, length_more}
+use Rattle.b67_race.proofs.Entries.{is_within, is_more, is_old}
 
 module _ (ds : List Done) (x : Done) where
   abbrev pub longer : List Done

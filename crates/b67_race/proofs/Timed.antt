@@ -1,10 +1,9 @@
 -- Clocks of processes.
-use Rattle.std.proofs.Common.{arith, ◌≡◌, refl, ap, sym, ◌∙◌, ℕ, zero, suc, ◌+◌, ◌-◌, ◌<◌, ◌≤◌, ◌==◌, max, ◌||◌, Bool, true, false, List, [], ◌∷◌, ◌++◌, length, Option, Some, None, if◌then◌else◌, slice_get, slice_set}
-use Rattle.b67_list.specs.Numbered.{numbered}
+use Rattle.std.proofs.Common.{arith, ◌≡◌, refl, ap, sym, ◌∙◌, ℕ, zero, suc, ◌<◌, ◌==◌, max, ◌||◌, Bool, true, false, List, [], ◌∷◌, ◌++◌, length, if◌then◌else◌, get_or, slice_set}
 use Rattle.b67_race.specs.Entries.{is_one_of}
 use Rattle.b67_race.specs.Clocks.{process_clock}
-use Rattle.b67_race.specs.Times.{or_zero, time_of}
-use Rattle.b67_race.specs.Timed.{or_empty, time_in, joined_if}
+use Rattle.b67_race.specs.Times.{time_of}
+use Rattle.b67_race.specs.Timed.{time_in, joined_if}
 
 -- one clock more, which tells nothing
 pub time_push : (cs : List (List ℕ)) (p q : ℕ) → time_in (cs ++ [] ∷ []) p q ≡ time_in cs p q
@@ -25,19 +24,28 @@ time_set (d ∷ cs) (suc n) c l (suc k) q =
     let e : (n == k) ≡ (suc n == suc k) = grind arith in
     time_set cs n c (omega (arith, l)) k q ∙ ap (λ (b : Bool). if b then time_of c q else time_in cs k q) e
 
--- a clock that is joined
-pub time_joined : (before after : List (List ℕ)) (process : ℕ) (copy clock own : List ℕ) → ((q : ℕ) → time_of copy q ≡ time_in before process q)
-    → ((q : ℕ) → time_of clock q ≡ max (time_of copy q) (time_of own q))
-    → ((p q : ℕ) → time_in after p q ≡ (if process == p then time_of clock q else time_in before p q)) → (p q : ℕ)
-    → time_in after p q ≡ (if process == p then max (time_in before p q) (time_of own q) else time_in before p q)
-time_joined before after process copy clock own a b d p q = d p q ∙ by (process == p) refl
+-- the clock in a place
+time_here : (cs : List (List ℕ)) (n q : ℕ) (d : List ℕ) → n < length cs → time_in cs n q ≡ time_of (get_or cs n d) q
+time_here [] n q d l = absurd (omega (arith, l))
+time_here (c ∷ cs) zero q d l = refl
+time_here (c ∷ cs) (suc n) q d l = time_here cs n q d (omega (arith, l))
+
+-- a clock that is joined in its place
+pub time_joined : (before cs : List (List ℕ)) (process : ℕ) (here clock own : List ℕ) → process < length cs → ((p q : ℕ) → time_in cs p q ≡ time_in before p q)
+    → here ≡ get_or cs process here → ((q : ℕ) → time_of clock q ≡ max (time_of here q) (time_of own q)) → (p q : ℕ)
+    → time_in (slice_set cs process clock) p q ≡ (if process == p then max (time_in before p q) (time_of own q) else time_in before p q)
+time_joined before cs process here clock own l a g b p q = time_set cs process clock l p q ∙ by (process == p) refl
   where
     same : (process == p) ≡ true → process ≡ p
     same e = grind (arith, e)
 
-    by : (t : Bool) → (process == p) ≡ t → (if t then time_of clock q else time_in before p q) ≡ (if t then max (time_in before p q) (time_of own q) else time_in before p q)
-    by true e = b q ∙ ap (λ (n : ℕ). max n (time_of own q)) (a q ∙ ap (λ (r : ℕ). time_in before r q) (same e))
-    by false e = refl
+    old : (process == p) ≡ true → time_of here q ≡ time_in before p q
+    old e =
+        ap (λ (c : List ℕ). time_of c q) g ∙ sym (time_here cs process q here l) ∙ ap (λ (r : ℕ). time_in cs r q) (same e) ∙ a p q
+
+    by : (t : Bool) → (process == p) ≡ t → (if t then time_of clock q else time_in cs p q) ≡ (if t then max (time_in before p q) (time_of own q) else time_in before p q)
+    by true e = b q ∙ ap (λ (n : ℕ). max n (time_of own q)) (old e)
+    by false e = a p q
 
 -- one process more that is released
 pub one_of_more : (qs : List ℕ) (q p : ℕ) → is_one_of (qs ++ q ∷ []) p ≡ (is_one_of qs p || (q == p))

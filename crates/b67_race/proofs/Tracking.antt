@@ -1,10 +1,10 @@
 -- The clocks after one entry more.
-use Rattle.std.proofs.Common.{arith, ◌≡◌, ◌⊎◌, inl, inr, refl, sym, ap, ◌∙◌, subst, ℕ, ◌+◌, ◌<◌, ◌≤◌, ◌==◌, max, Bool, true, false, List, [], ◌∷◌, ◌++◌, length, Option, Some, None, if◌then◌else◌}
+use Rattle.std.proofs.Common.{arith, ◌≡◌, ◌⊎◌, inl, inr, refl, sym, ap, ◌∙◌, subst, ℕ, ◌+◌, ◌<◌, ◌≤◌, max, true, List, [], ◌∷◌, length}
 use Rattle.b67_race.specs.Entries.{Signal, nothing, sets, goes_by, frees, takes, CellName, Done, touches, Is}
-use Rattle.b67_race.specs.Orders.{IsLast, Directly, by_process, by_cause, by_liberate, Ordered, one, chain, UpTo}
-use Rattle.b67_race.specs.Clocks.{IsKnown, IsBehind, Tells, Tracks, by_signal, joined, with_own, ClocksTell}
-use Rattle.b67_race.proofs.Entries.{is_least, is_within, is_more, is_old, is_new, same_done, length_more}
-use Rattle.b67_race.proofs.Stable.{longer, Behind, directly_are, directly_more, directly_old, ordered_are, ordered_more, ordered_old, up_more, up_old, last_step, from_step, last_more, last_old}
+use Rattle.b67_race.specs.Orders.{Directly, by_process, by_cause, by_liberate, Ordered, UpTo}
+use Rattle.b67_race.specs.Clocks.{IsKnown, IsBehind, Tracks, by_signal, joined, ClocksTell}
+use Rattle.b67_race.proofs.Entries.{is_least, is_within, is_more, is_old, is_new, same_done}
+use Rattle.b67_race.proofs.Stable.{longer, up_more, up_old, last_step, from_step, last_more, last_old}
 
 -- ---- the greater of two clocks
 

@@ -1,12 +1,11 @@
 -- A walk over entries finds their races.
-use Rattle.std.proofs.Common.{arith, ◌≡◌, ◌≢◌, ◌⊎◌, inl, inr, refl, sym, ap, ◌∙◌, subst, ℕ, zero, suc, ◌+◌, ◌<◌, ◌≤◌, Bool, true, false, List, [], ◌∷◌, ◌++◌, length, Option, Some, None, append-nil}
-use Rattle.b67_race.specs.Entries.{CellName, Access, Done, Is}
-use Rattle.b67_race.specs.Clocks.{Tracks, Notes, joined}
-use Rattle.b67_race.specs.Racing.{Conflict, IsRace}
-use Rattle.b67_race.specs.Watching.{Watch, Watches, Next, Elsewhere, rivals, latest, watched}
-use Rattle.b67_race.specs.declared.cells.Past.{Past}
+use Rattle.std.proofs.Common.{arith, ◌≡◌, ◌⊎◌, inl, inr, refl, sym, ap, ◌∙◌, subst, ℕ, zero, suc, ◌+◌, ◌<◌, Bool, List, [], ◌∷◌, ◌++◌, length, Option, Some, None, append-nil}
+use Rattle.b67_race.specs.Entries.{CellName, Access, Done}
+use Rattle.b67_race.specs.Clocks.{Notes, joined}
+use Rattle.b67_race.specs.Racing.{IsRace}
+use Rattle.b67_race.specs.Watching.{Next, Elsewhere, rivals, latest, watched}
 use Rattle.b67_race.specs.Cells.{Standing, quiet, raced, rival_in, standing_with, standing_after}
-use Rattle.b67_race.specs.Races.{Race, IsAmong, AreBelow, Rise, AreRaces, StandsSo, Walks, race_by, Finds, WalksGoOn, WalksFindAll}
+use Rattle.b67_race.specs.Races.{Race, IsAmong, AreBelow, Rise, StandsSo, Walks, race_by, Finds, WalksGoOn, WalksFindAll}
 use Rattle.b67_race.proofs.Entries.{length_more}
 use Rattle.b67_race.proofs.Stable.{longer}
 use Rattle.b67_race.proofs.Tracking.{clocks_tell}
@@ -62,12 +61,12 @@ module _ (ds : List Done) (x : Done) where
     where
       by : (k : ℕ) → latest clock (rivals storing w) ≡ k
           → StandsSo (longer ds x) (rs ++ race_by (latest clock (rivals storing w)) (length ds + 1) c) c
-          (standing_with (latest clock (rivals storing w)) (watched storing clock (record { entry = length ds + 1; process = x.process }) w))
+          (standing_with (latest clock (rivals storing w)) (watched storing (record { entry = length ds + 1; process = x.process }) w))
       by zero e =
-          subst (λ (m : ℕ). StandsSo (longer ds x) (rs ++ race_by m (length ds + 1) c) c (standing_with m (watched storing clock (record { entry = length ds + 1; process = x.process }) w))) (sym e)
+          subst (λ (m : ℕ). StandsSo (longer ds x) (rs ++ race_by m (length ds + 1) c) c (standing_with m (watched storing (record { entry = length ds + 1; process = x.process }) w))) (sym e)
           (watches_still ds x c storing clock w h n e)
       by (suc k) e =
-          subst (λ (m : ℕ). StandsSo (longer ds x) (rs ++ race_by m (length ds + 1) c) c (standing_with m (watched storing clock (record { entry = length ds + 1; process = x.process }) w))) (sym e) (
+          subst (λ (m : ℕ). StandsSo (longer ds x) (rs ++ race_by m (length ds + 1) c) c (standing_with m (watched storing (record { entry = length ds + 1; process = x.process }) w))) (sym e) (
             suc k,
             length ds + 1,
             subst (λ (m : ℕ). IsRace (longer ds x) c m (length ds + 1)) e (race_of ds x c storing clock w h n (λ z. let q : 0 ≡ suc k = sym z ∙ e in absurd (omega (arith, q)))),

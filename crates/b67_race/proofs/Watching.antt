@@ -1,15 +1,14 @@
 -- The races of a cell when an entry is added.
 use Rattle.std.proofs.Common.{arith, ◌≡◌, ◌≢◌, ◌⊎◌, inl, inr, refl, sym, ap, ◌∙◌, subst, ℕ, ◌+◌, ◌<◌, ◌≤◌, ◌==◌, ◌||◌, Bool, true, false, List, [], ◌∷◌, ◌++◌, length, Option, Some, None}
-use Rattle.b67_race.specs.Entries.{CellName, Access, Done, is_this, is_one_of, touches, Is}
+use Rattle.b67_race.specs.Entries.{CellName, Access, Done, is_this, is_one_of, Is}
 use Rattle.b67_race.specs.Orders.{Ordered, one, chain, by_process, UpTo}
-use Rattle.b67_race.specs.Clocks.{Tells}
 use Rattle.b67_race.specs.Racing.{Touches, Conflict, IsRace}
 use Rattle.b67_race.specs.declared.cells.Past.{Past}
-use Rattle.b67_race.specs.Watching.{IsIn, Watch, rivals, latest, apart, watched, IsRival, IsCovered, Covers, Watches, Next, LatestMakeRaces, WatchesStay, Elsewhere, OthersStay, RacesStay, CellsHaveOne}
-use Rattle.b67_race.proofs.Entries.{is_least, is_within, is_more, is_old, is_new, same_done, length_more}
-use Rattle.b67_race.proofs.Stable.{longer, ordered_are, ordered_more, ordered_old, up_more, up_old}
-use Rattle.b67_race.proofs.Keeping.{same_number, eq_refl, or_left, new_or_old}
-use Rattle.b67_race.proofs.Rivals.{in_left, in_right, in_either, latest_bounds, latest_is, apart_is, apart_all}
+use Rattle.b67_race.specs.Watching.{IsIn, Watch, rivals, latest, noted, watched, IsRival, IsCovered, Covers, Watches, Next, LatestMakeRaces, WatchesStay, Elsewhere, OthersStay, RacesStay, CellsHaveOne}
+use Rattle.b67_race.proofs.Entries.{is_least, is_within, is_more, is_old, is_new, same_done}
+use Rattle.b67_race.proofs.Stable.{longer, ordered_are, ordered_more, ordered_old, up_more}
+use Rattle.b67_race.proofs.Keeping.{eq_refl, or_left, new_or_old}
+use Rattle.b67_race.proofs.Rivals.{in_left, in_right, in_either, latest_bounds, latest_is, noted_now, noted_is, noted_all}
 
 ordered_on : (ds : List Done) (k i j : ℕ) → Ordered ds k i → Ordered ds i j → Ordered ds k j
 ordered_on ds k i j a (one d) = chain i a d
@@ -80,6 +79,14 @@ module _ (ds : List Done) (x : Done) where
     is_next : Touches (longer ds x) c (length ds + 1) x storing
     is_next = record { is = is_new ds x; access = n.0 }
 
+    -- an entry of its process
+    own_before : (k : ℕ) (d : Done) → Is ds k d → d.process ≡ x.process → Ordered (longer ds x) k (length ds + 1)
+    own_before k d is same =
+        let within : k ≤ length ds = is_within ds k d is in
+        one (by_process d x (is_more ds (x ∷ []) k d is) (is_new ds x) (omega (arith, within))
+        (or_left (d.process == x.process) (is_this d.started x.process || is_one_of d.released x.process)
+        (subst (λ (p : ℕ). (d.process == p) ≡ true) same (eq_refl d.process))))
+
     -- an access that its clock does not tell
     apart_of : (y : Past) → IsRival ds c storing y → clock y.process < y.entry → Conflict (longer ds x) c y.entry (length ds + 1)
     apart_of y r less =
@@ -92,9 +99,7 @@ module _ (ds : List Done) (x : Done) where
           second_stores = storing;
           first_is = touches_more c y.entry r.done r.stores r.is;
           second_is = is_next;
-          processes = λ same. ordered_no (one (by_process r.done x (is_more ds (x ∷ []) y.entry r.done r.is.is) (is_new ds x) (omega (arith, within))
-              (or_left (r.done.process == x.process) (is_this r.done.started x.process || is_one_of r.done.released x.process)
-              (subst (λ (p : ℕ). (r.done.process == p) ≡ true) same (eq_refl r.done.process)))));
+          processes = λ same. ordered_no (own_before y.entry r.done r.is.is same);
           stores = r.either;
           apart = ordered_no;
         }
@@ -229,52 +234,51 @@ module _ (ds : List Done) (x : Done) where
           all_of i d b t (inl e) (inr u) = covered_more w.stores i ((h.covers false).all i d b (touches_old c i d b u.0 t) (inl e))
 
       abbrev after_read : List Past
-      after_read = w.stores ++ (apart clock w.reads ++ record { entry = length ds + 1; process = x.process } ∷ [])
+      after_read = w.stores ++ noted (record { entry = length ds + 1; process = x.process }) w.reads
 
       now_in : IsIn after_read (record { entry = length ds + 1; process = x.process })
-      now_in = in_right w.stores (apart clock w.reads ++ record { entry = length ds + 1; process = x.process } ∷ []) (record { entry = length ds + 1; process = x.process })
-          (in_right (apart clock w.reads) (record { entry = length ds + 1; process = x.process } ∷ []) (record { entry = length ds + 1; process = x.process }) (inl refl))
+      now_in = in_right w.stores (noted (record { entry = length ds + 1; process = x.process }) w.reads) (record { entry = length ds + 1; process = x.process })
+          (noted_now (record { entry = length ds + 1; process = x.process }) w.reads)
 
       read_covers : Covers (longer ds x) c true after_read
       read_covers =
           record {
-            are = λ y m. are_of y (in_either w.stores (apart clock w.reads ++ record { entry = length ds + 1; process = x.process } ∷ []) y m);
+            are = λ y m. are_of y (in_either w.stores (noted (record { entry = length ds + 1; process = x.process }) w.reads) y m);
             all = λ i d b t e. all_of i d b t (new_or_old ds x i d t.is);
           }
         where
-          are_reads : (y : Past) → IsIn (apart clock w.reads) y ⊎ IsIn (record { entry = length ds + 1; process = x.process } ∷ []) y → IsRival (longer ds x) c true y
-          are_reads y (inl m) = rival_more c true y ((h.covers true).are y (in_right w.stores w.reads y (apart_is clock w.reads y m)))
-          are_reads y (inr (inl same)) = subst (λ (z : Past). IsRival (longer ds x) c true z) same (now_rival true (inr refl))
-          are_reads y (inr (inr m)) = absurd m
+          are_reads : (y : Past) → (record { entry = length ds + 1; process = x.process } ≡ y) ⊎ IsIn w.reads y → IsRival (longer ds x) c true y
+          are_reads y (inl same) = subst (λ (z : Past). IsRival (longer ds x) c true z) same (now_rival true (inr refl))
+          are_reads y (inr m) = rival_more c true y ((h.covers true).are y (in_right w.stores w.reads y m))
 
-          are_of : (y : Past) → IsIn w.stores y ⊎ IsIn (apart clock w.reads ++ record { entry = length ds + 1; process = x.process } ∷ []) y → IsRival (longer ds x) c true y
+          are_of : (y : Past) → IsIn w.stores y ⊎ IsIn (noted (record { entry = length ds + 1; process = x.process }) w.reads) y → IsRival (longer ds x) c true y
           are_of y (inl m) = rival_more c true y ((h.covers true).are y (in_left w.stores w.reads y m))
-          are_of y (inr m) = are_reads y (in_either (apart clock w.reads) (record { entry = length ds + 1; process = x.process } ∷ []) y m)
-
-          by_now : (i : ℕ) → Ordered (longer ds x) i (length ds + 1) → IsCovered (longer ds x) after_read i
-          by_now i o = record { past = record { entry = length ds + 1; process = x.process }; in_it = now_in; up_to = inr o }
+          are_of y (inr m) = are_reads y (noted_is (record { entry = length ds + 1; process = x.process }) w.reads y m)
 
           old_covered : (i : ℕ) (v : IsCovered ds (w.stores ++ w.reads) i) → IsIn w.stores v.past ⊎ IsIn w.reads v.past → IsCovered (longer ds x) after_read i
           old_covered i v (inl m) =
               record {
                 past = v.past;
-                in_it = in_left w.stores (apart clock w.reads ++ record { entry = length ds + 1; process = x.process } ∷ []) v.past m;
+                in_it = in_left w.stores (noted (record { entry = length ds + 1; process = x.process }) w.reads) v.past m;
                 up_to = up_more ds x i v.past.entry v.up_to;
               }
-          old_covered i v (inr m) = on (apart_all clock w.reads v.past m)
+          old_covered i v (inr m) = on (noted_all (record { entry = length ds + 1; process = x.process }) w.reads v.past m)
             where
               rival : IsRival ds c true v.past
               rival = (h.covers true).are v.past v.in_it
 
-              on : (v.past.entry ≤ clock v.past.process) ⊎ IsIn (apart clock w.reads) v.past → IsCovered (longer ds x) after_read i
-              on (inl l) =
-                  by_now i (up_on (longer ds x) i v.past.entry (length ds + 1) (up_more ds x i v.past.entry v.up_to)
-                  (n.1.only v.past.entry rival.done rival.is.is (subst (λ (p : ℕ). v.past.entry ≤ clock p) (sym rival.process) l)))
+              on : (v.past.process ≡ x.process) ⊎ IsIn (noted (record { entry = length ds + 1; process = x.process }) w.reads) v.past → IsCovered (longer ds x) after_read i
+              on (inl same) =
+                  record {
+                    past = record { entry = length ds + 1; process = x.process };
+                    in_it = now_in;
+                    up_to = inr (up_on (longer ds x) i v.past.entry (length ds + 1) (up_more ds x i v.past.entry v.up_to)
+                        (own_before v.past.entry rival.done rival.is.is (rival.process ∙ same)));
+                  }
               on (inr k) =
                   record {
                     past = v.past;
-                    in_it = in_right w.stores (apart clock w.reads ++ record { entry = length ds + 1; process = x.process } ∷ []) v.past
-                        (in_left (apart clock w.reads) (record { entry = length ds + 1; process = x.process } ∷ []) v.past k);
+                    in_it = in_right w.stores (noted (record { entry = length ds + 1; process = x.process }) w.reads) v.past k;
                     up_to = up_more ds x i v.past.entry v.up_to;
                   }
 
@@ -285,13 +289,13 @@ module _ (ds : List Done) (x : Done) where
               let v = (h.covers true).all i d b (touches_old c i d b u.0 t) (inr refl) in
               old_covered i v (in_either w.stores w.reads v.past v.in_it)
 
-      covers_still : (s kind : Bool) → storing ≡ s → Covers (longer ds x) c kind (rivals kind (watched s clock (record { entry = length ds + 1; process = x.process }) w))
+      covers_still : (s kind : Bool) → storing ≡ s → Covers (longer ds x) c kind (rivals kind (watched s (record { entry = length ds + 1; process = x.process }) w))
       covers_still true true e = store_covers true e
       covers_still true false e = store_covers false e
       covers_still false true e = read_covers
       covers_still false false e = read_covers_stores e
 
-      pub watches_still : Watches (longer ds x) c (watched storing clock (record { entry = length ds + 1; process = x.process }) w)
+      pub watches_still : Watches (longer ds x) c (watched storing (record { entry = length ds + 1; process = x.process }) w)
       watches_still = record { quiet = quiet_still; covers = λ kind. covers_still storing kind refl }
 
   -- ---- the next entry does not access the cell

@@ -1,6 +1,5 @@
 -- What the code keeps of the accesses of each cell.
-use Rattle.std.specs.Prelude.{◌≡◌, ◌↔◌, ℕ, zero, suc, ◌+◌, ◌&&◌, nat_eq, if◌then◌else◌, Bool, true, false, List, [], ◌∷◌, Option, Some, None, cond}
-use Rattle.std.specs.Borrow.{Bor}
+use Rattle.std.specs.Prelude.{ℕ, zero, suc, ◌+◌, Bool, List, [], ◌∷◌, Option, Some, None}
 use Rattle.std.specs.declared.cmp.Ordering.{Ordering}
 use Rattle.std.specs.Ordering.{nat_cmp, ordering_then, is_eq}
 use Rattle.std.specs.Cmp.Lexicographic.{slice_cmp}
@@ -69,5 +68,5 @@ standing_with (suc k) w = raced
 
 -- how a cell stands after an access
 abbrev pub standing_after : Bool → (ℕ → ℕ) → Past → Standing → Standing
-standing_after storing clock now (quiet w) = standing_with (latest clock (rivals storing w)) (watched storing clock now w)
+standing_after storing clock now (quiet w) = standing_with (latest clock (rivals storing w)) (watched storing now w)
 standing_after storing clock now raced = raced

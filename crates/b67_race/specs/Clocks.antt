@@ -1,6 +1,6 @@
 -- Clocks: for each process the number of its last entry that is known, 0 for none.
-use Rattle.std.specs.Prelude.{◌≡◌, ◌⊎◌, ℕ, ◌+◌, ◌≤◌, ◌==◌, max, if◌then◌else◌, Bool, true, false, List, [], ◌∷◌, ◌++◌, length, Option, Some, None}
-use Rattle.b67_race.specs.Entries.{Signal, nothing, sets, goes_by, frees, takes, CellName, Done, touches, Is}
+use Rattle.std.specs.Prelude.{◌≡◌, ◌⊎◌, ℕ, ◌+◌, ◌≤◌, ◌==◌, max, if◌then◌else◌, Bool, true, false, List, [], ◌∷◌, ◌++◌, length}
+use Rattle.b67_race.specs.Entries.{Signal, sets, goes_by, frees, takes, CellName, Done, touches, Is}
 use Rattle.b67_race.specs.Orders.{IsLast, Ordered, UpTo}
 
 -- The entries that come before the next one of a process, unless that goes on by an event or takes one: those of the process, those that

@@ -1,5 +1,5 @@
 -- What the entries of a schedule did, as far as their order and their accesses go.
-use Rattle.std.specs.Prelude.{◌≡◌, ℕ, ◌==◌, ◌||◌, Bool, true, false, List, [], ◌∷◌, Option, Some, None}
+use Rattle.std.specs.Prelude.{◌≡◌, ℕ, ◌==◌, ◌||◌, Bool, false, List, [], ◌∷◌, Option, Some, None}
 use Rattle.b67_list.specs.Numbered.{numbered}
 
 -- A cell: its instance, by number from 1, its name, and of an array the number of an element, row by row from 0.

@@ -1,7 +1,6 @@
 -- A walk over the entries of a schedule, as the code keeps it.
-use Rattle.std.specs.Prelude.{◌≡◌, ℕ, Bool, List, [], ◌∷◌, ◌++◌, length, map, Option, Some, None}
-use Rattle.b67_race.specs.Entries.{CellName, Access, Done}
-use Rattle.b67_race.specs.Times.{time_of}
+use Rattle.std.specs.Prelude.{◌≡◌, List, length, map, Option, Some, None}
+use Rattle.b67_race.specs.Entries.{Access, Done}
 use Rattle.b67_race.specs.Timed.{event_time, signal_of, time_in}
 use Rattle.b67_race.specs.Cells.{cell_of, standing_in}
 use Rattle.b67_race.specs.Races as races

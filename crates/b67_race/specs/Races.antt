@@ -1,10 +1,9 @@
 -- The list of a schedule's races, and the walk that finds it.
-use Rattle.std.specs.Prelude.{◌≡◌, ◌≢◌, ◌⊎◌, ℕ, zero, suc, ◌+◌, ◌<◌, ◌≤◌, Bool, true, false, List, [], ◌∷◌, ◌++◌, length, Option, Some, None}
-use Rattle.b67_race.specs.Entries.{CellName, Access, Done, Is}
+use Rattle.std.specs.Prelude.{◌≡◌, ◌⊎◌, ℕ, zero, suc, ◌+◌, ◌<◌, List, [], ◌∷◌, ◌++◌, length, Option, Some, None}
+use Rattle.b67_race.specs.Entries.{CellName, Access, Done}
 use Rattle.b67_race.specs.Clocks.{Tracks, Notes, joined}
 use Rattle.b67_race.specs.Racing.{IsRace}
 use Rattle.b67_race.specs.Watching.{Watches}
-use Rattle.b67_race.specs.declared.cells.Past.{Past}
 use Rattle.b67_race.specs.Cells.{Standing, quiet, raced, rival_in, standing_after}
 
 pub record Race : Type 0 where

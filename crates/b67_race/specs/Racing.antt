@@ -1,7 +1,6 @@
 -- The races of a schedule.
-use Rattle.std.specs.Prelude.{◌≡◌, ◌≢◌, ◌⊎◌, ◌↔◌, ℕ, ◌<◌, ◌≤◌, Bool, true, List, Some}
-use Rattle.std.specs.List.{Contains}
-use Rattle.b67_race.specs.Entries.{CellName, Access, Done, Is}
+use Rattle.std.specs.Prelude.{◌≡◌, ◌≢◌, ◌⊎◌, ℕ, ◌<◌, ◌≤◌, Bool, true, List, Some}
+use Rattle.b67_race.specs.Entries.{CellName, Done, Is}
 use Rattle.b67_race.specs.Orders.{Ordered}
 
 -- Entry k reads or stores that cell.

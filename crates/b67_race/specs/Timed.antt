@@ -1,9 +1,9 @@
 -- The clocks of processes and events, as the code keeps them.
-use Rattle.std.specs.Prelude.{◌≡◌, ◌⊎◌, ℕ, ◌==◌, max, if◌then◌else◌, Bool, true, false, List, [], ◌∷◌, Option, Some, None, slice_get}
+use Rattle.std.specs.Prelude.{ℕ, max, Bool, true, false, List, [], Option, Some, None, slice_get}
 use Rattle.std.specs.BTreeMap.{BTreeMap, get_by}
 use Rattle.b67_race.specs.Entries.{CellName, Signal, nothing, sets, goes_by, frees, takes}
 use Rattle.b67_race.specs.Times.{time_of}
-use Rattle.b67_race.specs.Cells.{order, cell_of, is_cell}
+use Rattle.b67_race.specs.Cells.{order, cell_of}
 use Rattle.b67_race.specs.declared.cells.Key.{Key}
 use Rattle.b67_race.specs.declared.timing.Event.{Event}
 use Rattle.b67_race.specs.declared.timing.Event.TheVariants as events

@@ -1,6 +1,6 @@
 -- What is kept of a cell's accesses: enough to find the greatest one that is not ordered before the next.
-use Rattle.std.specs.Prelude.{◌≡◌, ◌≢◌, ◌⊎◌, ℕ, ◌+◌, ◌<◌, ◌≤◌, nat_lt, max, if◌then◌else◌, Bool, true, false, List, [], ◌∷◌, ◌++◌, length, Option, Some, None}
-use Rattle.b67_race.specs.Entries.{CellName, Access, Done, Is}
+use Rattle.std.specs.Prelude.{◌≡◌, ◌≢◌, ◌⊎◌, ℕ, ◌+◌, nat_lt, max, ◌==◌, if◌then◌else◌, Bool, true, false, List, [], ◌∷◌, ◌++◌, length, Some}
+use Rattle.b67_race.specs.Entries.{CellName, Done}
 use Rattle.b67_race.specs.Orders.{Ordered, UpTo}
 use Rattle.b67_race.specs.Clocks.{Tells}
 use Rattle.b67_race.specs.Racing.{Touches, Conflict, IsRace}
@@ -10,7 +10,7 @@ abbrev pub IsIn : List Past → Past → Type 0
 IsIn [] x = ⊥
 IsIn (y ∷ ys) x = (y ≡ x) ⊎ IsIn ys x
 
--- the last store, where there is one, and the reads since then of which none is ordered before another
+-- the last store, where there is one, and of each process its last read since then
 pub record Watch : Type 0 where
   pub stores : List Past
   pub reads : List Past
@@ -32,14 +32,15 @@ abbrev pub latest : (ℕ → ℕ) → List Past → ℕ
 latest clock [] = 0
 latest clock (x ∷ xs) = if is_apart clock x then max x.entry (latest clock xs) else latest clock xs
 
-abbrev pub apart : (ℕ → ℕ) → List Past → List Past
-apart clock [] = []
-apart clock (x ∷ xs) = if is_apart clock x then x ∷ apart clock xs else apart clock xs
+-- a read comes: it takes the place of that of its process, where there is one
+abbrev pub noted : Past → List Past → List Past
+noted x [] = x ∷ []
+noted x (y ∷ ys) = if y.process == x.process then x ∷ ys else y ∷ noted x ys
 
 -- what is kept after an access that is ordered after its rivals
-abbrev pub watched : Bool → (ℕ → ℕ) → Past → Watch → Watch
-watched true clock x w = record { stores = x ∷ []; reads = [] }
-watched false clock x w = record { stores = w.stores; reads = apart clock w.reads ++ x ∷ [] }
+abbrev pub watched : Bool → Past → Watch → Watch
+watched true x w = record { stores = x ∷ []; reads = [] }
+watched false x w = record { stores = w.stores; reads = noted x w.reads }
 
 -- It is an access of the cell with which one of that kind may conflict.
 pub record IsRival (ds : List Done) (c : CellName) (storing : Bool) (x : Past) : Type 0 where
@@ -81,7 +82,7 @@ LatestMakeRaces =
 abbrev pub WatchesStay : Type 0
 WatchesStay =
     (ds : List Done) (d : Done) (c : CellName) (storing : Bool) (clock : ℕ → ℕ) (w : Watch) → Watches ds c w → Next ds d c storing clock →
-    latest clock (rivals storing w) ≡ 0 → Watches (ds ++ d ∷ []) c (watched storing clock (record { entry = length ds + 1; process = d.process }) w)
+    latest clock (rivals storing w) ≡ 0 → Watches (ds ++ d ∷ []) c (watched storing (record { entry = length ds + 1; process = d.process }) w)
 
 -- the entry does not access the cell
 abbrev pub Elsewhere : Done → CellName → Type 0

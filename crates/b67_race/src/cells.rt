@@ -4,12 +4,14 @@ ghost use Rattle.std.specs.Prelude.{◌≡◌, if◌then◌else◌, Some, false,
 ghost use Rattle.b67_race.specs.Entries.{CellName};
 ghost use Rattle.b67_race.specs.Times.{time_of};
 ghost use Rattle.b67_race.specs.Watching as watching;
-ghost use Rattle.b67_race.specs.Watching.{none_yet, rivals, latest, apart, watched};
-ghost use Rattle.b67_race.specs.Cells.{cell_of, is_cell, rival_in, standing, standing_after, standing_in, watch_of};
+ghost use Rattle.b67_race.specs.Watching.{none_yet, rivals, latest, noted, watched};
+ghost use Rattle.b67_race.specs.Cells.{quiet, cell_of, is_cell, rival_in, standing, standing_after, standing_in, watch_of};
 
 use crate::clock::Clock;
+use b67_list::discard;
 use std::alloc::{AllocError, Global};
 use std::collections::BTreeMap;
+use std::mem;
 
 /// A cell: its instance, the number of its element from 1, or 0 where it is no array's, and its name.
 #[derive(Clone, Copy, PartialEq, Eq, PartialOrd, Ord)]
@@ -26,7 +28,7 @@ pub struct Past {
     pub process: usize,
 }
 
-/// Of a cell the last store, and the reads since then of which none is ordered before another.
+/// Of a cell the last store, and of each process its last read since then.
 #[derive(Drop)]
 pub struct Watched {
     pub store: Option<Past>,
@@ -60,17 +62,20 @@ fn latest(clock: &Clock, past: &[Past]) -> u32
     most
 }
 
-/// Those that a clock does not tell.
-fn apart(alloc: Global, clock: &Clock, past: &[Past]) -> Result<Vec<Past>, AllocError>
-    ensures { IfOk result (λ left. left.items ≡ apart (time_of clock.now) past.now) }
+/// A read comes: it takes the place of that of its process, where there is one.
+fn keep(reads: &mut Vec<Past>, now: Past) -> Result<(), AllocError>
+    ensures { OnOk result (reads.new.items ≡ noted now reads.old.items) }
 {
-    let mut left = Vec::new(alloc);
-    'asking: for x in past {
-        if is_apart(clock, *x) {
-            left.push(*x)?;
+    let mut at = 0;
+    'seeking: while at < reads.len() {
+        if reads[at].process == now.process {
+            reads[at] = now;
+            return Ok(());
         }
+        at += 1;
     }
-    Ok(left)
+    reads.push(now)?;
+    Ok(())
 }
 
 impl Watched {
@@ -107,72 +112,56 @@ impl Watched {
     }
 
     /// An access comes that is ordered after its rivals.
-    fn note(
-        &mut self,
-        alloc: Global,
-        clock: &Clock,
-        storing: bool,
-        now: Past,
-    ) -> Result<(), AllocError>
-        ensures { OnOk result (watch_of self.new ≡ watched storing (time_of clock.now) now (watch_of self.old)) }
+    fn note(&mut self, storing: bool, now: Past) -> Result<(), AllocError>
+        ensures { OnOk result (watch_of self.new ≡ watched storing now (watch_of self.old)) }
     {
         if storing {
             self.store = Some(now);
             self.reads.clear();
+            Ok(())
         } else {
-            let mut reads = apart(alloc, clock, self.reads.as_slice())?;
-            reads.push(now)?;
-            self.reads = reads;
+            keep(&mut self.reads, now)
         }
-        Ok(())
     }
 }
 
 /// The table of what is kept of cells.
 pub type Cells<'p> = BTreeMap<Key<'p>, Kept>;
 
-/// What is kept of a cell after an access, and the greatest rival of that which the clock does not tell: 0 where it tells all, or the race
-/// of the cell has been found.
-fn settle(
-    alloc: Global,
-    kept: Option<Kept>,
-    clock: &Clock,
-    storing: bool,
-    now: Past,
-) -> Result<(Kept, u32), AllocError>
-    ensures rival { IfOk result (λ r. r.1 ≡ rival_in storing (time_of clock.now) (standing kept)) }
-    ensures after { IfOk result (λ r. standing (Some r.0) ≡ standing_after storing (time_of clock.now) now (standing kept)) }
+/// What is kept of a cell becomes that after an access: the greatest rival of that which the clock does not tell, 0 where it tells all, or
+/// the race of the cell has been found.
+fn settle(kept: &mut Kept, clock: &Clock, storing: bool, now: Past) -> Result<u32, AllocError>
+    ensures rival { IfOk result (λ r. r ≡ rival_in storing (time_of clock.now) (standing (Some kept.old))) }
+    ensures after { OnOk result (standing (Some kept.new) ≡ standing_after storing (time_of clock.now) now (standing (Some kept.old))) }
 {
-    let mut w = match kept {
-        None => Watched::new(alloc),
-        Some(Kept::Quiet(w)) => w,
-        Some(Kept::Raced) => return Ok((Kept::Raced, 0)),
-    };
-    let rival = w.rival(clock, storing);
-    if rival == 0 {
-        w.note(alloc, clock, storing, now)?;
-        Ok((Kept::Quiet(w), 0))
-    } else {
-        Ok((Kept::Raced, rival))
+    match kept {
+        Kept::Raced => Ok(0),
+        Kept::Quiet(w) => {
+            let rival = w.rival(clock, storing);
+            if rival == 0 {
+                w.note(storing, now)?;
+            } else {
+                discard(mem::replace(kept, Kept::Raced));
+            }
+            Ok(rival)
+        }
     }
 }
 
-/// What is kept of a cell is this.
-#[tactic(auto, using(crate::proofs::Keys::putting))]
-fn put<'p>(cells: &mut Cells<'p>, key: Key<'p>, kept: Kept) -> Result<(), AllocError>
-    ensures { OnOk result ((c : CellName) → standing_in cells.new c ≡ (if is_cell key.entry c then standing (Some kept) else standing_in cells.old c)) }
+/// The first access of a cell is kept.
+fn put_first<'p>(
+    cells: &mut Cells<'p>,
+    alloc: Global,
+    key: Key<'p>,
+    storing: bool,
+    now: Past,
+) -> Result<(), AllocError>
+    ensures { OnOk result ((c : CellName) → standing_in cells.new c ≡ (if is_cell key.entry c then quiet (watched storing now none_yet) else standing_in cells.old c)) }
 {
-    cells.insert(key, kept)?;
+    let mut w = Watched::new(alloc);
+    w.note(storing, now)?;
+    cells.insert(key, Kept::Quiet(w))?;
     Ok(())
-}
-
-/// What is kept of a cell, out of the table.
-#[tactic(auto, using(crate::proofs::Keys::taking))]
-fn take<'p>(cells: &mut Cells<'p>, key: Key<'p>) -> Option<Kept>
-    ensures own { standing result ≡ standing_in cells.old (cell_of key.entry) }
-    ensures others { (c : CellName) → is_cell key.entry c ≡ false → standing_in cells.new c ≡ standing_in cells.old c }
-{
-    cells.remove(&key)
 }
 
 /// Notes an access of a cell, which is this entry: the greatest of its rivals that the clock does not tell, 0 where it tells all, or the race
@@ -189,8 +178,9 @@ pub fn note_access<'p>(
     ensures own { OnOk result (standing_in cells.new (cell_of key.entry) ≡ standing_after storing (time_of clock.now) now (standing_in cells.old (cell_of key.entry))) }
     ensures others { OnOk result ((c : CellName) → is_cell key.entry c ≡ false → standing_in cells.new c ≡ standing_in cells.old c) }
 {
-    let kept = take(cells, key);
-    let (kept, rival) = settle(alloc, kept, clock, storing, now)?;
-    put(cells, key, kept)?;
-    Ok(rival)
+    if let Some(kept) = cells.get_mut(&key) {
+        return settle(kept, clock, storing, now);
+    }
+    put_first(cells, alloc, key, storing, now)?;
+    Ok(0)
 }

@@ -13,7 +13,7 @@ ghost use Rattle.b67_race.specs.Watching.{LatestMakeRaces, WatchesStay, OthersSt
 
 pub use cells::{Cells, Kept, Key, Past, Watched, note_access};
 pub use clock::Clock;
-pub use timing::{Event, Events, Timing, before, note_event, note_processes};
+pub use timing::{Event, Events, Timing, clock_before, note_event, note_processes};
 pub use walk::{Access, Entry, Race, Walk, begin, note, races_of};
 
 /// Law: the entries that are ordered before the next one are those that the clock of its process and of its event tells.

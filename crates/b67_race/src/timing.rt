@@ -1,6 +1,6 @@
 //! The clocks of processes and of events.
 
-ghost use Rattle.std.specs.Prelude.{◌≡◌, ℕ, ◌<◌, ◌==◌, ◌||◌, max, length, if◌then◌else◌, IfOk, OnOk};
+ghost use Rattle.std.specs.Prelude.{◌≡◌, ℕ, ◌<◌, ◌==◌, ◌||◌, max, length, false, if◌then◌else◌, IfOk, OnOk};
 ghost use Rattle.b67_race.specs.Entries.{CellName, frees, is_one_of, is_this, sets};
 ghost use Rattle.b67_race.specs.Clocks.{Becomes, by_signal, process_clock};
 ghost use Rattle.b67_race.specs.Times.{time_of};
@@ -11,6 +11,7 @@ use crate::cells::Key;
 use crate::clock::Clock;
 use std::alloc::{AllocError, Global};
 use std::collections::BTreeMap;
+use std::mem;
 
 /// What an entry does with an event.
 #[derive(Clone, Copy)]
@@ -63,18 +64,18 @@ fn put_clock(
     Ok(())
 }
 
-/// A clock that tells what that of a process does.
-fn copy_of(alloc: Global, clocks: &[Clock], process: usize) -> Result<Clock, AllocError>
-    ensures { IfOk result (λ copy. (q : ℕ) → time_of copy q ≡ time_in clocks.now process q) }
+/// The clock of a process, out of its place.
+fn take_clock(alloc: Global, clocks: &mut Vec<Clock>, process: usize) -> Clock
+    ensures clock { (q : ℕ) → time_of result q ≡ time_in clocks.old.items process q }
+    ensures others { (p q : ℕ) → (process == p) ≡ false → time_in clocks.new.items p q ≡ time_in clocks.old.items p q }
 {
-    match clocks.get(process) {
-        None => Ok(Clock::new(alloc)),
-        Some(clock) => clock.copy(alloc),
+    match clocks.get_mut(process) {
+        None => Clock::new(alloc),
+        Some(clock) => mem::replace(clock, Clock::new(alloc)),
     }
 }
 
 /// All that a clock tells is known to a process too.
-#[tactic(auto, using(crate::proofs::Timed::time_joined))]
 fn join_clock(
     alloc: Global,
     clocks: &mut Vec<Clock>,
@@ -83,9 +84,9 @@ fn join_clock(
 ) -> Result<(), AllocError>
     ensures { OnOk result ((p q : ℕ) → time_in clocks.new.items p q ≡ (if process == p then max (time_in clocks.old.items p q) (time_of own.now q) else time_in clocks.old.items p q)) }
 {
-    let mut clock = copy_of(alloc, clocks.as_slice(), process)?;
-    clock.join(own)?;
-    put_clock(alloc, clocks, process, clock)
+    reach(alloc, clocks, process)?;
+    clocks[process].join(own)?;
+    Ok(())
 }
 
 /// All that a clock tells is known to these processes too.
@@ -175,16 +176,20 @@ fn join_started(
     }
 }
 
-/// The clock of what is ordered before the next entry, which is of this process and does this with an event.
-pub fn before<'p>(
-    timing: &Timing<'p>,
+/// The clock of what is ordered before the next entry, which is of this process and does this with an event: that of the process, out of its
+/// place.
+pub fn clock_before<'p>(
+    timing: &mut Timing<'p>,
     alloc: Global,
     process: usize,
     event: Event<'p>,
 ) -> Result<Clock, AllocError>
-    ensures { IfOk result (λ clock. (q : ℕ) → time_of clock q ≡ max (time_in timing.now.processes.items process q) (by_signal (signal_of event.entry) (event_time timing.now.set) (event_time timing.now.freed) q)) }
+    ensures clock { IfOk result (λ clock. (q : ℕ) → time_of clock q ≡ max (time_in timing.old.processes.items process q) (by_signal (signal_of event.entry) (event_time timing.old.set) (event_time timing.old.freed) q)) }
+    ensures others { OnOk result ((p q : ℕ) → (process == p) ≡ false → time_in timing.new.processes.items p q ≡ time_in timing.old.processes.items p q) }
+    ensures set { OnOk result (timing.new.set ≡ timing.old.set) }
+    ensures freed { OnOk result (timing.new.freed ≡ timing.old.freed) }
 {
-    let mut clock = copy_of(alloc, timing.processes.as_slice(), process)?;
+    let mut clock = take_clock(alloc, &mut timing.processes, process);
     match event {
         Event::GoesBy(key) => join_event(&mut clock, &timing.set, key)?,
         Event::Takes(key) => join_event(&mut clock, &timing.freed, key)?,

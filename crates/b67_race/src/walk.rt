@@ -1,6 +1,6 @@
 //! A walk over the entries of a schedule that finds their races.
 
-ghost use Rattle.std.specs.Prelude.{◌≡◌, ℕ, ◌+◌, ◌<◌, ◌≤◌, ◌^◌, List, [], ◌∷◌, ◌++◌, map, Option, IfOk, OnOk};
+ghost use Rattle.std.specs.Prelude.{◌≡◌, ℕ, ◌+◌, ◌<◌, ◌≤◌, ◌==◌, ◌^◌, false, List, [], ◌∷◌, ◌++◌, map, Option, IfOk, OnOk};
 ghost use Rattle.b67_race.specs.Entries.{Done};
 ghost use Rattle.b67_race.specs.Clocks.{Notes, joined};
 ghost use Rattle.b67_race.specs.Times.{time_of};
@@ -11,7 +11,7 @@ ghost use Rattle.b67_race.specs.Noted.{StandsAfter, access_of, done_of, race_of}
 
 use crate::cells::{Cells, Key, Past, note_access};
 use crate::clock::Clock;
-use crate::timing::{Event, Timing, before, note_event, note_processes};
+use crate::timing::{Event, Timing, clock_before, note_event, note_processes};
 use std::alloc::{AllocError, Global};
 use std::collections::BTreeMap;
 
@@ -90,7 +90,7 @@ fn note_race<'p>(
     Ok(())
 }
 
-/// Notes the clocks after an entry, where its clock before it is that.
+/// Notes the clocks after an entry, where its clock before it is that; what its process has in its place is not asked.
 fn note_clocks<'p>(
     timing: &mut Timing<'p>,
     alloc: Global,
@@ -99,8 +99,9 @@ fn note_clocks<'p>(
     clock: Clock,
 ) -> Result<(), AllocError>
     requires { 1 ≤ done.now.process }
-    ensures { OnOk result (((q : ℕ) → time_of clock q ≡ joined (done_of done.now) (time_in timing.old.processes.items) (event_time timing.old.set) (event_time timing.old.freed) q)
-        → Notes entry (done_of done.now) (time_in timing.old.processes.items) (event_time timing.old.set) (event_time timing.old.freed)
+    ensures { OnOk result ((of_process : ℕ → ℕ → ℕ) → ((p q : ℕ) → (done.now.process == p) ≡ false → time_in timing.old.processes.items p q ≡ of_process p q)
+        → ((q : ℕ) → time_of clock q ≡ joined (done_of done.now) of_process (event_time timing.old.set) (event_time timing.old.freed) q)
+        → Notes entry (done_of done.now) of_process (event_time timing.old.set) (event_time timing.old.freed)
         (time_in timing.new.processes.items) (event_time timing.new.set) (event_time timing.new.freed)) }
 {
     let mut own = clock;
@@ -125,7 +126,7 @@ pub fn note<'p>(walk: &mut Walk<'p>, alloc: Global, done: &Entry<'p>) -> Result<
     ensures entries { OnOk result (walk.new.entries ≡ walk.old.entries + 1) }
 {
     let entry = walk.entries + 1;
-    let clock = before(&walk.timing, alloc, done.process, done.event)?;
+    let clock = clock_before(&mut walk.timing, alloc, done.process, done.event)?;
     let now = Past {
         entry,
         process: done.process,

@@ -1,4 +1,4 @@
-use Rattle.std.proofs.Common.{rules, arith, ◌≡◌, ℕ, length, ◌<◌, ap, sym, ◌∙◌, List, take, get_or}
+use Rattle.std.proofs.Common.{rules, ℕ, length, ◌<◌, ap, sym, ◌∙◌, List, take, get_or}
 use Rattle.std.proofs.lemmas.List.{take_more}
 use Rattle.b67_race.specs.Entries.{is_one_of}
 use Rattle.b67_race.specs.Times.{time_of}

@@ -1,8 +1,8 @@
 use Rattle.std.proofs.Common.{rules, ◌≡◌, ℕ, ap, sym, ◌∙◌, subst, List, if◌then◌else◌}
-use Rattle.b67_race.specs.Entries.{CellName, Signal, sets, frees}
+use Rattle.b67_race.specs.Entries.{Signal, sets, frees}
 use Rattle.b67_race.specs.Clocks.{Becomes}
 use Rattle.b67_race.specs.Times.{time_of}
-use Rattle.b67_race.specs.Cells.{cell_of, is_cell}
+use Rattle.b67_race.specs.Cells.{is_cell}
 use Rattle.b67_race.specs.Timed.{event_time, signal_of}
 use Rattle.b67_race.specs.declared.timing.Event.TheVariants as events
 use Rattle.b67_race.proofs.Keys.{sets_become, sets_same, frees_same}
