@@ -10,3 +10,4 @@ pub mod OfSeveral
 pub mod Steps
 pub mod EventLaws
 pub mod OnceLaws
+pub mod Same

@@ -17,6 +17,7 @@ ghost use Rattle.b67_events.specs.Once.{EachWaitsOnce, ReleasedWaitNowhere};
 ghost use Rattle.b67_events.specs.Worked.{TwoEventsAtWork};
 ghost use Rattle.b67_events.specs.declared.Queue.TheVariants.{Waiters, Procurers};
 
+mod again;
 mod several;
 
 use crate::several::{Several, is_among, locate, unlist_all, with_list};
@@ -50,7 +51,7 @@ pub struct Woken {
 }
 
 // Whether an event has happened, and whether it is available.
-#[derive(Clone, Copy, Drop)]
+#[derive(Clone, Copy, Drop, PartialEq)]
 struct Flags {
     happened: bool,
     available: bool,

@@ -10,3 +10,4 @@ pub mod Holding
 pub mod Opened
 pub mod Lending
 pub mod Least
+pub mod Same

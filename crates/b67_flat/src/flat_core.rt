@@ -5,6 +5,8 @@ ghost use Rattle.b67_flat.specs.declared.Holder.TheVariants.{Stack, Row};
 ghost use Rattle.b67_flat.specs.Spans.{place_for, opened, closed};
 ghost use Rattle.b67_flat.specs.Flat.{IsMemory, AreSpans, stacks_in, rows_in, lengthened, stacks_of, rows_of, zeroed, place_of_stack, place_of_row};
 
+mod again;
+
 use crate::memory::{open_span, read_at, write_at, zero};
 use crate::row_table::{HeldRow, RowTable};
 use crate::spans::Spans;

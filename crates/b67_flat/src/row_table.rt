@@ -25,6 +25,13 @@ impl HeldRow {
     }
 }
 
+// Takes all numbers out.
+fn take_all(free: &mut FreeNumbers)
+    ensures { free.new.numbers ≡ [] }
+{
+    'taking: while let Some(_) = free.take_least() {}
+}
+
 #[derive(Drop)]
 pub struct RowTable {
     rows: Vec<Option<HeldRow>>,
@@ -54,6 +61,22 @@ impl RowTable {
             free: FreeNumbers::new(alloc),
             counted: 0,
         }
+    }
+
+    // How many numbers there are, of open rows and of closed ones.
+    pub fn len(&self) -> u32
+        ensures { result ≡ length self.now }
+    {
+        self.rows.len() as u32
+    }
+
+    // No number is in use or was. It keeps its memory.
+    pub fn clear(&mut self)
+        ensures { self.new ≡ [] }
+    {
+        self.rows.clear();
+        take_all(&mut self.free);
+        self.counted = 0;
     }
 
     #[inline(always)]

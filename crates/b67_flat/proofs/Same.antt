@@ -1,0 +1,88 @@
+-- Lists by number that are seen alike, and the spans of what is left where the last of a list is forgotten.
+use Rattle.std.proofs.Common.{◌≡◌, ◌≢◌, ⊎_elim, subst, Bool, true, false, if◌then◌else◌, ℕ, zero, suc, ◌+◌, ◌<◌, ◌≤◌, List, [], ◌∷◌, ◌++◌, length, set, Option, Some, None, refl, sym, ap, ◌∙◌, arith}
+use Rattle.std.specs.Prelude.{is_some, option_map}
+use Rattle.std.proofs.lemmas.Bool.{cases_eq, cases_lt}
+use Rattle.b67_store.proofs.StoreLaws.{closed_here, changed_others}
+use Rattle.b67_store.specs.Store.{at_number, closed_at}
+use Rattle.b67_flat.specs.declared.Holder.{Holder}
+use Rattle.b67_flat.specs.declared.Holder.TheVariants as of
+use Rattle.b67_flat.specs.declared.Span.{Span}
+use Rattle.b67_flat.specs.declared.stack_table.HeldStack.{HeldStack}
+use Rattle.b67_flat.specs.declared.row_table.HeldRow.{HeldRow}
+use Rattle.b67_flat.specs.Flat.{IsHeld, AreSpans}
+
+-- what is open at each number, and how many there are, is all of a list
+pub all_numbers : {X : Type 0} (xs ys : List (Option X)) → length xs ≡ length ys → ((k : ℕ) → k < length xs → at_number xs k ≡ at_number ys k) → xs ≡ ys
+all_numbers [] [] e h = refl
+all_numbers [] (y ∷ ys) e h = absurd (omega (arith, e))
+all_numbers (x ∷ xs) [] e h = absurd (omega (arith, e))
+all_numbers {X = X} (x ∷ xs) (y ∷ ys) e h =
+    let same : x ≡ y = h 0 (omega arith) in
+    ap (λ (z : Option X). z ∷ xs) same ∙ ap (λ (zs : List (Option X)). y ∷ zs) (all_numbers xs ys (omega (arith, e)) (λ k p. h (suc k) (omega (arith, p))))
+
+pub beyond : {X : Type 0} (xs : List (Option X)) (k : ℕ) → length xs ≤ k → at_number xs k ≡ None
+beyond [] k p = refl
+beyond (x ∷ xs) zero p = absurd (omega (arith, p))
+beyond (x ∷ xs) (suc k) p = beyond xs k (omega (arith, p))
+
+-- what holds at each number below another one, and at that one
+pub one_more : (P : ℕ → Type 0) (n : ℕ) → ((k : ℕ) → k < n → P k) → P n → (k : ℕ) → k < n + 1 → P k
+one_more P n h here k p = ⊎_elim
+    (λ (q : k < n). h k q)
+    (λ (q : n ≤ k). let e : n ≡ k = omega (arith, p, q) in subst P e here)
+    (cases_lt k n)
+
+-- all from a number on are closed
+none_of : {X : Type 0} (o : Option X) → is_some o ≡ false → o ≡ None
+none_of None e = refl
+none_of (Some x) e = cc
+
+pub closed_from : {X : Type 0} (old new : List (Option X)) (ok : Bool) (n : ℕ) → ok ≡ is_some (at_number old n) → new ≡ (if ok then closed_at old n else old)
+    → ((k : ℕ) → n + 1 ≤ k → at_number old k ≡ None) → (k : ℕ) → n ≤ k → at_number new k ≡ None
+closed_from {X = X} old new true n found is h k p =
+    ap (λ (xs : List (Option X)). at_number xs k) is
+    ∙ ⊎_elim
+    (λ (e : k ≡ n). ap (λ (i : ℕ). at_number (set old n None) i) e ∙ closed_here old n)
+    (λ (d : k ≢ n). changed_others old n k None d ∙ h k (omega (arith, p, d)))
+    (cases_eq k n)
+closed_from {X = X} old new false n found is h k p =
+    ap (λ (xs : List (Option X)). at_number xs k) is
+    ∙ ⊎_elim
+    (λ (e : k ≡ n). ap (λ (i : ℕ). at_number old i) e ∙ none_of (at_number old n) (sym found))
+    (λ (d : k ≢ n). h k (omega (arith, p, d)))
+    (cases_eq k n)
+
+pub unmapped : {X Y : Type 0} (f : X → Y) (o : Option X) → option_map f o ≡ None → o ≡ None
+unmapped f None e = refl
+unmapped f (Some x) e = cc
+
+-- the last of a list, and the list without it where it is closed
+pub at_end : {X : Type 0} (ys : List (Option X)) (o : Option X) → at_number (ys ++ o ∷ []) (length ys) ≡ o
+at_end [] o = refl
+at_end (y ∷ ys) o = at_end ys o
+
+pub closed_at_end : {X : Type 0} (ys : List (Option X)) (o : Option X) (k : ℕ) → at_number ys k ≡ at_number (set (ys ++ o ∷ []) (length ys) None) k
+closed_at_end [] o zero = refl
+closed_at_end [] o (suc k) = refl
+closed_at_end (y ∷ ys) o zero = refl
+closed_at_end (y ∷ ys) o (suc k) = closed_at_end ys o k
+
+pub none_at_end : {X : Type 0} (ys : List (Option X)) (k : ℕ) → at_number ys k ≡ at_number (ys ++ None ∷ []) k
+none_at_end [] zero = refl
+none_at_end [] (suc k) = refl
+none_at_end (y ∷ ys) zero = refl
+none_at_end (y ∷ ys) (suc k) = none_at_end ys k
+
+-- the spans are those of what is open, whatever else the lists have
+module _ (spans : List Span) (stacks now : List (Option HeldStack)) (rows left : List (Option HeldRow)) (same : (k : ℕ) → at_number now k ≡ at_number stacks k) (alike : (k : ℕ) → at_number left k ≡ at_number rows k) where
+  still_held : (holder : Holder) (s : Span) → IsHeld stacks rows holder s → IsHeld now left holder s
+  still_held (of.Stack k) s (x, e, f) = (x, same k ∙ e, f)
+  still_held (of.Row k) s (x, e, f) = (x, alike k ∙ e, f)
+
+  pub spans_still : AreSpans spans stacks rows → AreSpans spans now left
+  spans_still are =
+      record {
+        of_stacks = λ k x e. are.of_stacks k x (sym (same k) ∙ e);
+        of_rows = λ k x e. are.of_rows k x (sym (alike k) ∙ e);
+        no_other = λ s o. still_held s.holder s (are.no_other s o);
+      }
