@@ -39,7 +39,7 @@ module _ (old one : Stacks) (xs : List Word) (none : NoneOpen old) (is : one ≡
 
 -- ---- the whole image
 
-abbrev built : Stacks → Rows → List Event → List (List Place) → List Registers → List ProcessState → List ℕ → List (List ℕ) → ℕ → Image
+abbrev pub built : Stacks → Rows → List Event → List (List Place) → List Registers → List ProcessState → List ℕ → List (List ℕ) → ℕ → Image
 built stacks rows events lists regs states numbers output started =
     record {
       stacks = stacks;

@@ -14,11 +14,7 @@ use Rattle.b67_machine.specs.declared.reads.End.TheVariants as ends
 use Rattle.b67_machine.specs.Kept.{Kept}
 use Rattle.b67_machine.specs.declared.Failure.{Failure as Failed}
 use Rattle.b67_machine.specs.Machines.{failure}
-use Rattle.b67_machine.specs.Reads.{is_able_state, lives, shown, limit_end, end_by, machine_end, ended_by}
-
-abbrev pub end_of : Option ImageEnd → Option End
-end_of None = None
-end_of (Some e) = Some (shown e)
+use Rattle.b67_machine.specs.Reads.{is_able_state, lives, shown_end, limit_end, end_by, machine_end, ended_by}
 
 limit_none : (o : Option ℕ) (regs : List Registers) → limit_end o regs ≡ None → o ≡ None
 limit_none None regs e = refl
@@ -81,12 +77,12 @@ lives_any (states.Ended ∷ ss) = lives_any ss
 
 -- ---- what the end rests on
 
-waiting : (b : Bool) → end_of (if b then Some all_waiting else None) ≡ (if b then Some ends.AllWaiting else None)
+waiting : (b : Bool) → shown_end (if b then Some all_waiting else None) ≡ (if b then Some ends.AllWaiting else None)
 waiting true = refl
 waiting false = refl
 
 by_parts : (b : Bool) (f : Option Failed) (ss : List ProcessState)
-    → end_of (if b then Some finished else ending.end_by (failure f) ss) ≡ ended_by b f (list_any is_able_state ss) (list_any lives ss)
+    → shown_end (if b then Some finished else ending.end_by (failure f) ss) ≡ ended_by b f (list_any is_able_state ss) (list_any lives ss)
 by_parts true f ss = refl
 by_parts false (Some f) ss = refl
 by_parts false None ss =
@@ -95,23 +91,23 @@ by_parts false None ss =
     ∙ ap (λ (b : Bool). if list_any lives ss && not b then Some ends.AllWaiting else None) (able_any ss)
 
 pub end_is : (img : Image) (f : Option Failed) → img.fault ≡ failure f
-    → end_of (image_end img) ≡ ended_by (has_ended (numbered img.states 1)) f (list_any is_able_state img.states) (list_any lives img.states)
+    → shown_end (image_end img) ≡ ended_by (has_ended (numbered img.states 1)) f (list_any is_able_state img.states) (list_any lives img.states)
 unfolding image_end
 end_is img f e =
-    ap (λ (o : Option Failure). end_of (if has_ended (numbered img.states 1) then Some finished else ending.end_by o img.states)) e
+    ap (λ (o : Option Failure). shown_end (if has_ended (numbered img.states 1) then Some finished else ending.end_by o img.states)) e
     ∙ by_parts (has_ended (numbered img.states 1)) f img.states
 
-pub end_some : (m : Kept) (o : Option ImageEnd) (e : End) → end_of o ≡ Some e → Some e ≡ end_by o m
+pub end_some : (m : Kept) (o : Option ImageEnd) (e : End) → shown_end o ≡ Some e → Some e ≡ end_by o m
 end_some m None e h = cc
 end_some m (Some x) e h = sym h
 
-pub end_none : (m : Kept) (o : Option ImageEnd) → end_of o ≡ None → limit_end m.limit m.image.regs ≡ end_by o m
+pub end_none : (m : Kept) (o : Option ImageEnd) → shown_end o ≡ None → limit_end m.limit m.image.regs ≡ end_by o m
 end_none m None h = refl
 end_none m (Some x) h = cc
 
 -- the end by what is found out of an image
 pub ended_by_found : (m : Kept) (f : Option Failed) (seen : List ProcessState) (a b d : Bool) (r : Option End) → m.image.fault ≡ failure f → seen ≡ m.image.states
-    → a ≡ has_ended (numbered seen 1) → b ≡ list_any is_able_state seen → d ≡ list_any lives seen → r ≡ ended_by a f b d → end_of (image_end m.image) ≡ r
+    → a ≡ has_ended (numbered seen 1) → b ≡ list_any is_able_state seen → d ≡ list_any lives seen → r ≡ ended_by a f b d → shown_end (image_end m.image) ≡ r
 ended_by_found m f seen a b d r e s i j k l =
     end_is m.image f e
     ∙ ap (λ (ss : List ProcessState). ended_by (has_ended (numbered ss 1)) f (list_any is_able_state ss) (list_any lives ss)) (sym s)

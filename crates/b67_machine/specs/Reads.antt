@@ -24,6 +24,10 @@ shown finished = ends.Finished
 shown (faulted kind p) = ends.Fault kind p
 shown all_waiting = ends.AllWaiting
 
+abbrev pub shown_end : Option ImageEnd → Option End
+shown_end None = None
+shown_end (Some e) = Some (shown e)
+
 abbrev pub limit_end : Option ℕ → List Registers → Option End
 limit_end None regs = None
 limit_end (Some p) regs = Some (ends.StackLimit p (length_in (numbered regs p)))

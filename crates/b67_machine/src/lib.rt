@@ -3,9 +3,11 @@
 //! A [`Machine`] begins with the first image of a code ([`Machine::load`]). It performs operators of a process one by one
 //! ([`Machine::step`]), entries of a schedule ([`Machine::perform_entry`]) and whole schedules ([`Machine::replay`]). The private part of a
 //! process is copied ([`Machine::copy_private`]), compared ([`Machine::differs`]) and put back ([`Machine::put_private`]), so that its plain
-//! operators can be performed elsewhere.
+//! operators can be performed elsewhere. A word of a stack and the registers of a process are shown ([`Machine::word_at`],
+//! [`Machine::registers`]).
 #![tactic(auto)]
 
+mod again;
 mod comparing;
 mod counting;
 mod entries;
@@ -16,9 +18,11 @@ mod parts;
 mod reads;
 mod replay;
 mod running;
+mod same;
 mod step;
 mod stretch;
 mod tables;
+mod words;
 
 use b67_deeds::Letter;
 use b67_events::Kernel;

@@ -1,12 +1,12 @@
 // What a machine tells of itself.
-ghost use Rattle.std.specs.Prelude.{◌≡◌};
+ghost use Rattle.std.specs.Prelude.{◌≡◌, ℕ, ◌<◌, ◌≤◌, ◌^◌, true};
 ghost use Rattle.std.specs.List.{list_any};
 ghost use Rattle.b67_list.specs.Numbered.{numbered};
-ghost use Rattle.b67_table.specs.Ending.{has_ended};
+ghost use Rattle.b67_table.specs.Ending.{has_ended, image_end, may_act};
 ghost use Rattle.b67_table.specs.Image.{is_able};
 ghost use Rattle.b67_table.specs.Table.{length_in};
 ghost use Rattle.b67_machine.specs.Kept.{counted};
-ghost use Rattle.b67_machine.specs.Reads.{ended_by, is_able_state, limit_end, lives, machine_end};
+ghost use Rattle.b67_machine.specs.Reads.{ended_by, is_able_state, limit_end, lives, machine_end, shown_end};
 
 use crate::{Failure, Machine};
 use b67_deeds::Letter;
@@ -44,6 +44,19 @@ impl<C: Core> Machine<C> {
             Some(end) => Some(end),
             None => limit_end(self.limit, &self.parts.regs),
         }
+    }
+
+    /// The end of the image, whatever operator was tried.
+    pub fn image_end(&self) -> Option<End>
+        ensures { result ≡ shown_end (image_end self.now.image) }
+    {
+        let states = self.parts.states.as_slice();
+        ended_by(
+            first_ended(states),
+            self.failure,
+            some_able(states),
+            some_lives(states),
+        )
     }
 
     /// The lines that were written.
@@ -98,6 +111,14 @@ impl<C: Core> Machine<C> {
         ensures { result ≡ self.now.letter }
     {
         self.letter
+    }
+
+    /// The greatest number of a process that there has been, which no process that may act exceeds.
+    pub fn last_process(&self) -> u32
+        ensures few { result < 2 ^ 16 }
+        ensures all { (p : ℕ) → may_act self.now.image p ≡ true → (1 ≤ p) × (p ≤ result) }
+    {
+        self.parts.started
     }
 
     /// How many processes there have been.

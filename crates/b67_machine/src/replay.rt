@@ -3,7 +3,7 @@ ghost use Rattle.std.specs.Prelude.{◌≡◌, ◌+◌, ◌≤◌, ◌⊎◌, []
 ghost use Rattle.b67_schedule.specs.Giving.{given_entries};
 ghost use Rattle.b67_schedule.specs.Schedules.{most, entries};
 ghost use Rattle.b67_table.specs.Sound.{Sound};
-ghost use Rattle.b67_machine.specs.Replaying.{Advances, AdvancesBy, Agrees, AgreesBy, Between, Compares, EndsAfter, Replays, ReplaysRuns, StopsBefore, first_of, rest_of, within_entry};
+ghost use Rattle.b67_machine.specs.Replaying.{Advances, AdvancesBy, Agrees, AgreesBy, Between, Compares, EndsAfter, NoneDiffers, Replays, ReplaysRuns, StopsBefore, first_of, rest_of, within_entry};
 ghost use Rattle.b67_machine.specs.declared.replay.TheConstants.{NOTES};
 ghost use Rattle.b67_machine.specs.Beginning.{IsFresh};
 
@@ -85,6 +85,29 @@ impl<C: Core> Machine<C> {
             left = more;
         }
         self.after_all(budget, spent)
+    }
+
+    /// Performs so many entries of a process after those that `done` has, as [`replay`](Machine::replay) does where no letters are given: up to
+    /// the first that can not be performed, or until the operators are as many as the budget, the stack limit comes, or memory lacks.
+    /// `spent` is how many operators were performed. None comes where all these entries were.
+    pub fn advance(
+        &mut self,
+        run: &Run,
+        budget: u32,
+        spent: &mut u32,
+        done: &mut Schedule,
+    ) -> Option<Replayed>
+        requires sound { Sound self.old.code }
+        requires between { Between self.old.code (entries done.old.runs) done.old.letters spent.old self.old }
+        requires within { spent.old ≤ budget }
+        requires room { (length done.old.letters + run.now.times ≤ done.old.room) ⊎ (budget ≤ done.old.room) }
+        requires few { (length done.old.letters + run.now.times ≤ most) ⊎ (budget ≤ most) }
+        ensures entries { Advances self.old.code budget (entries done.old.runs) (replicate run.now.times run.now.process) spent.new (entries done.new.runs) done.new.letters self.new result }
+        ensures agrees { IfSome result NoneDiffers }
+        ensures room { done.old.room ≤ done.new.room }
+    {
+        let mut notes = [Letter::Read; NOTES];
+        self.replay_run(run, None, budget, &mut notes, spent, done)
     }
 
     // The entries of a run, with their letters where these are given.
