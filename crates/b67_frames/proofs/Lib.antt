@@ -7,6 +7,7 @@ pub mod StaticParents
 pub mod ArraysKept
 pub mod Expressions
 pub mod Lying
+pub mod Resumed
 pub mod AskedJumps
 pub mod Formals
 pub mod Variables
@@ -24,6 +25,7 @@ pub mod Closing
 pub mod ExitRow
 pub mod LabelRoom
 pub mod JumpClosing
+pub mod JumpSteps
 pub mod JumpRow
 pub mod TouchingWords
 pub mod TouchingCalls

@@ -7,13 +7,13 @@ use Rattle.algol_tree.specs.Scopes.{Scopes, scopes_of, use_of}
 use Rattle.algol_tree.specs.Sorts.{is_variable, is_formal}
 use Rattle.algol_meaning.specs.Rest.{Given, valued, passed, refers, names}
 use Rattle.algol_meaning.specs.World.{Instance, Part, World, instance_at, or_no_instance, ancestor}
-use Rattle.algol_paths.specs.Arrays.{DeclaredArray, an_array, Shape, shape_of}
+use Rattle.algol_paths.specs.Arrays.{DeclaredArray, an_array, Shape, shape_of, Made}
 use Rattle.algol_paths.specs.Blocks.{IsSeen, IsSeenAround}
 use Rattle.algol_standing.specs.Worlds.{IsStanding}
 use Rattle.b67_word.specs.Word.{Word}
 use Rattle.b67_ops.specs.declared.Couple.{Couple}
 use Rattle.b67_table.specs.References.{cell_word}
-use Rattle.b67_templates.specs.Cells.{Agrees, simple_cells, made_base, found_from, IsDeclaredArray, made_of, made_from, FoundMade}
+use Rattle.b67_templates.specs.Cells.{Agrees, simple_cells, made_base, found_from, IsDeclaredArray, made_of, made_from, FoundMade, IsMadeThere}
 use Rattle.b67_faithful.proofs.Contradictions.{some_same}
 use Rattle.b67_rows.proofs.AskedEntries.{InReferred}
 use Rattle.b67_frames.specs.Arrays.{Layout, named_from, LeadsTo, Names, an_array_named, an_event_named, a_variable_named, IsNamed}
@@ -53,6 +53,15 @@ pub up_complete : (sc : Scopes) (w : World) (lay : Layout) (i k : ℕ) → IsCom
 up_complete sc w lay i zero (inl whole) further = whole
 up_complete sc w lay i zero (inr far) further = absurd (omega (arith, far))
 up_complete sc w lay i (suc k) made further = further (omega arith)
+
+-- The name of what a block makes, by whatever couple it is named: the couple's index is that of its number there.
+pub made_index : (sc : Scopes) (w : World) (lay : Layout) (level at base : ℕ) (n : Named) (made : Made) (c couple : Couple) (m : IsMadeThere sc level n made c) → is_variable ((use_of sc n).sort) ≡ false →
+    base ≡ (use_of sc n).block → Names sc w lay at n couple → couple.index ≡ made_base sc (block_numbered sc.blocks base) + m.number
+made_index sc w lay level at base n made c couple m constant same (an_array_named other is) =
+    omega (arith, is.made.index_is, ap (λ (y : FoundMade). y.number) (some_same (sym is.made.there ∙ m.there)), ap (λ (j : ℕ). made_base sc (block_numbered sc.blocks j)) same)
+made_index sc w lay level at base n made c couple m constant same (an_event_named is) =
+    omega (arith, is.made.index_is, ap (λ (y : FoundMade). y.number) (some_same (sym is.made.there ∙ m.there)), ap (λ (j : ℕ). made_base sc (block_numbered sc.blocks j)) same)
+made_index sc w lay level at base n made c couple m constant same (a_variable_named kind is) = absurd (let clash : false ≡ true = sym constant ∙ is.variable in cc)
 
 -- The part's instance stands. Instances that stand are placed, and have their cells.
 module _ (tree : PProgram) (w : World) (lay : Layout) (placed : ArePlaced (scopes_of tree) w lay) (each : (j : ℕ) → IsStanding w j → HasCells (scopes_of tree) w lay j)
@@ -107,24 +116,7 @@ module _ (tree : PProgram) (w : World) (lay : Layout) (placed : ArePlaced (scope
       same_block = ap (λ (y : Instance). y.block) instance_here ∙ block_here
 
       index_is : h.couple.index ≡ made_base sc (block_numbered sc.blocks ((instance_at w home).block)) + v.made.number
-      index_is = by_name h.names
-        where
-          by_name : Names sc w lay h.level n h.couple → h.couple.index ≡ made_base sc (block_numbered sc.blocks ((instance_at w home).block)) + v.made.number
-          by_name (an_array_named other is) =
-              omega (
-                arith,
-                is.made.index_is,
-                ap (λ (y : FoundMade). y.number) (some_same (sym is.made.there ∙ v.made.there)),
-                ap (λ (j : ℕ). made_base sc (block_numbered sc.blocks j)) same_block,
-              )
-          by_name (an_event_named is) =
-              omega (
-                arith,
-                is.made.index_is,
-                ap (λ (y : FoundMade). y.number) (some_same (sym is.made.there ∙ v.made.there)),
-                ap (λ (j : ℕ). made_base sc (block_numbered sc.blocks j)) same_block,
-              )
-          by_name (a_variable_named kind is) = absurd (let clash : false ≡ true = sym (ap is_variable v.sort_is) ∙ is.variable in cc)
+      index_is = made_index sc w lay level h.level ((instance_at w home).block) n (an_array d) c h.couple v.made (ap is_variable v.sort_is) same_block h.names
 
       leads_there : LeadsTo sc w lay Stand shape (named_from sc w lay part.instance n) x
       leads_there =

@@ -1,5 +1,5 @@
 -- The name of a declared event that is given to a procedure leads to the cell of an event, which its instance has made.
-use Rattle.std.proofs.Common.{◌≡◌, ◌⊎◌, inl, inr, sym, ap, ◌∙◌, ℕ, ◌+◌, ◌≤◌, Some, true, false, arith}
+use Rattle.std.proofs.Common.{◌≡◌, ◌⊎◌, inl, inr, sym, ap, ◌∙◌, ℕ, ◌+◌, ◌≤◌, Some, true, false}
 use Rattle.algol_tree.specs.declared.tree.Named.{Named}
 use Rattle.algol_tree.specs.Blocks.{block_numbered}
 use Rattle.algol_tree.specs.Plain.{PProgram}
@@ -12,11 +12,10 @@ use Rattle.algol_standing.specs.Worlds.{IsStanding}
 use Rattle.b67_word.specs.Word.{Word}
 use Rattle.b67_ops.specs.declared.Couple.{Couple}
 use Rattle.b67_table.specs.References.{cell_word}
-use Rattle.b67_templates.specs.Cells.{simple_cells, made_base, found_from, IsDeclaredEvent, made_of, made_from, FoundMade}
-use Rattle.b67_faithful.proofs.Contradictions.{some_same}
-use Rattle.b67_frames.specs.Arrays.{Layout, named_from, LeadsToEvent, Names, an_array_named, an_event_named, a_variable_named, IsNamed}
+use Rattle.b67_templates.specs.Cells.{simple_cells, made_base, found_from, IsDeclaredEvent, made_of, made_from}
+use Rattle.b67_frames.specs.Arrays.{Layout, named_from, LeadsToEvent, IsNamed}
 use Rattle.b67_frames.specs.Frames.{IsComplete, ArePlaced}
-use Rattle.b67_frames.proofs.NamedArrays.{IsSeenMade, up_complete}
+use Rattle.b67_frames.proofs.NamedArrays.{IsSeenMade, up_complete, made_index}
 use Rattle.b67_frames.proofs.OwnCells.{OwnCells, HasCells, none_later}
 use Rattle.b67_frames.proofs.OwnEvents.{OwnEvent, own_event}
 use Rattle.b67_frames.proofs.StaticParents.{IsParent, parents}
@@ -65,27 +64,9 @@ module _ (tree : PProgram) (w : World) (lay : Layout) (placed : ArePlaced (scope
         (ap (λ (j : ℕ). found_from 0 (simple_cells sc (block_numbered sc.blocks j)) n.name) block_here ∙ v.made.apart)
 
     index_is : h.couple.index ≡ made_base sc (block_numbered sc.blocks ((instance_at w home).block)) + v.made.number
-    index_is = by_name h.names
-      where
-        same_block : (instance_at w home).block ≡ (use_of sc n).block
-        same_block = ap (λ (y : Instance). y.block) instance_here ∙ block_here
-
-        by_name : Names sc w lay h.level n h.couple → h.couple.index ≡ made_base sc (block_numbered sc.blocks ((instance_at w home).block)) + v.made.number
-        by_name (an_array_named other is) =
-            omega (
-              arith,
-              is.made.index_is,
-              ap (λ (y : FoundMade). y.number) (some_same (sym is.made.there ∙ v.made.there)),
-              ap (λ (j : ℕ). made_base sc (block_numbered sc.blocks j)) same_block,
-            )
-        by_name (an_event_named is) =
-            omega (
-              arith,
-              is.made.index_is,
-              ap (λ (y : FoundMade). y.number) (some_same (sym is.made.there ∙ v.made.there)),
-              ap (λ (j : ℕ). made_base sc (block_numbered sc.blocks j)) same_block,
-            )
-        by_name (a_variable_named kind is) = absurd (let clash : false ≡ true = sym (ap is_variable v.sort_is) ∙ is.variable in cc)
+    index_is =
+        made_index sc w lay level h.level ((instance_at w home).block) n (an_event n.name) c h.couple v.made (ap is_variable v.sort_is)
+        (ap (λ (y : Instance). y.block) instance_here ∙ block_here) h.names
 
     leads_there : LeadsToEvent sc w lay Stand (named_from sc w lay part.instance n) x
     leads_there =

@@ -191,7 +191,7 @@ module _ (tree : PProgram) (code : Code) (texts : Texts) (fragments : FragmentsA
       (after : IsAfter (scopes_of tree) w (with_process (stored_world w i x at with_cells) p (record q { todo = record part { rest = resume (scopes_of tree) part.rest answer } ∷ outer; state = state })) p)
       (arrays : ArraysAre (scopes_of tree) (with_process (stored_world w i x at with_cells) p (record q { todo = record part { rest = resume (scopes_of tree) part.rest answer } ∷ outer; state = state })) lay base.rows)
       (events : EventsAre (scopes_of tree) (with_process (stored_world w i x at with_cells) p (record q { todo = record part { rest = resume (scopes_of tree) part.rest answer } ∷ outer; state = state })) lay base.events)
-      (list_same : list_in state ≡ list_in q.state) (lists : base.lists ≡ img.lists) (numbers : base.numbers ≡ img.numbers) (awaiting : AreAwaiting base) (output : base.output ≡ img.output) (fault : base.fault ≡ img.fault) (started : base.started ≡ img.started) (many_states : length base.states ≡ length img.states)
+      (list_same : list_in state ≡ list_in q.state) (lists : base.lists ≡ img.lists) (numbers : base.numbers ≡ img.numbers) (awaiting : AreAwaiting base) (output : base.output ≡ img.output) (fault : base.fault ≡ img.fault) (started : base.started ≡ img.started) (regs : length base.regs ≡ length img.regs) (many_states : length base.states ≡ length img.states)
       (states : (m : ℕ) → m ≢ p → numbered base.states m ≡ numbered img.states m) (lives_so : lives state ≡ true) (state_is : StateIs (scopes_of tree) w lay state (numbered base.states p)) where
     has : HasCore base p core
     has = same p core s.has
@@ -228,7 +228,7 @@ module _ (tree : PProgram) (code : Code) (texts : Texts) (fragments : FragmentsA
       own_pictured =
           comes_to tree code texts w lay img s.by p q s.at changed_world lay (with_core base p own_core) q' refl (s.by.laid ∙ as_many) arrays events (record { numbers = waits_then.numbers; woken = waits_then.woken; lists = waits_then.lists; awaiting = waits_then.awaiting })
           (λ r other. alike_but sc w changed_world lay r i x (changed w i x at with_cells) (alone after r other) at (λ (e : r ≡ x.process). other (e ∙ mine ∙ here)) refl events_stay)
-          (output ∙ s.by.output) refl fault started many_states states (system_stays base p core own_core has same_stack q w s.at ∙ system)
+          (output ∙ s.by.output) refl fault started (length_set_numbered base.regs p own_core.registers ∙ regs) many_states states (system_stays base p core own_core has same_stack q w s.at ∙ system)
           (λ r other_core apart had. others_have base p core own_core has same_stack r other_core apart (same r other_core had)) (living lives_so state_then living_own)
 
     -- where it is one of another process
@@ -280,6 +280,6 @@ module _ (tree : PProgram) (code : Code) (texts : Texts) (fragments : FragmentsA
           (λ c had. others_have with_it p core before has_so same_stack f.number (over (put word c.below k) c) other (core_put base f.number k word c (low_there c had) (same f.number c had)))
           (λ r c apart elsewhere had. others_have with_it p core before has_so same_stack r c apart (core_beside base f.number k word r c elsewhere (same r c had)))
           (λ r apart. ap (λ (ss : List ProcessState). numbered ss r) only.states ∙ states r apart) s.by q s.at (subst (λ rows. ArraysAre sc changed_world lay rows) (sym only.rows) arrays)
-          (subst (λ es. EventsAre sc changed_world lay es) (sym only.events) events) waits_there (only.output ∙ output ∙ s.by.output) (only.fault ∙ fault) (only.started ∙ started) (ap length only.states ∙ many_states)
+          (subst (λ es. EventsAre sc changed_world lay es) (sym only.events) events) waits_there (only.output ∙ output ∙ s.by.output) (only.fault ∙ fault) (only.started ∙ started) (length_set_numbered with_it.regs p before.registers ∙ ap length only.registers ∙ regs) (ap length only.states ∙ many_states)
           (system_stays with_it p core before has_so same_stack q w s.at ∙ stacks_beside base f.number k word 0 nobody ∙ system)
           (living lives_so (subst (λ (ss : List ProcessState). StateIs sc changed_world lay state (numbered ss p)) (sym only.states) state_then) living_here)

@@ -280,11 +280,11 @@ module _ (tree : PProgram) (code : Code) (texts : Texts) (fragments : FragmentsA
         by_number (inl here) =
             own_pictured tree code texts fragments kept order w lay img p q part outer bound core s (unmade part.rest (ap makes asks)) done tt i found instance instance_there cells' 0 None many (λ set. absurd set) (λ set. absurd set) keeps
             (refers_fewer instance.cells r.name (array later) refl) changes words new.registers (record { is = refl }) next below core_at held (answered done next below (refl, refl)) smaller able_is q.state img' with_other_rows refl (after_so may)
-            arrays_after events_after refl refl refl s.by.waits.awaiting refl refl refl refl (λ m other. refl) able_is able_p here
+            arrays_after events_after refl refl refl s.by.waits.awaiting refl refl refl refl refl (λ m other. refl) able_is able_p here
         by_number (inr other) =
             other_pictured tree code texts fragments kept order w lay img p q part outer bound core s (unmade part.rest (ap makes asks)) done tt i found instance instance_there cells' 0 None many (λ set. absurd set) (λ set. absurd set) keeps
             (refers_fewer instance.cells r.name (array later) refl) changes words new.registers (record { is = refl }) next below core_at held (answered done next below (refl, refl)) smaller able_is q.state img' with_other_rows refl (after_so may)
-            arrays_after events_after refl refl refl s.by.waits.awaiting refl refl refl refl (λ m other. refl) able_is able_p other
+            arrays_after events_after refl refl refl s.by.waits.awaiting refl refl refl refl refl (λ m other. refl) able_is able_p other
 
     does : Does tree code texts w img p
     does =

@@ -241,7 +241,7 @@ module _ (tree : PProgram) (code : Code) (texts : Texts) (closing : FramesClose)
         pictured : is_able ((process_at w p).state) ≡ true → IsLater → PicturesBy tree code texts w' lay after
         pictured able_now after_it =
             comes_to tree code texts w lay img s.by p q s.at w' lay after q' refl (s.by.laid ∙ sym (length_set_numbered w.instances i left_instance)) (arrays_unchanged sc left_world w' lay shut.rows refl arrays_left_world)
-            (events_unchanged sc left_world w' lay after.events refl events_left_world) (waits_now able_now) (alike after_it) s.by.output refl refl refl
+            (events_unchanged sc left_world w' lay after.events refl events_left_world) (waits_now able_now) (alike after_it) s.by.output refl refl refl (length_set_numbered img.regs p left)
             (length_set_numbered img.states p Ended) (λ r other. numbered_other img.states p r Ended (λ e. other (sym e))) system_stays others
             (dead refl (numbered_set img.states p state_now.0 Ended state_now.1))
 

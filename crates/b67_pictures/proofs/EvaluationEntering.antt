@@ -48,6 +48,7 @@ use Rattle.b67_cores.specs.Stretches.{CoreAt, FragmentsArePerformed}
 use Rattle.b67_cores.proofs.Moving.{slots_length}
 use Rattle.b67_faithful.specs.Faithful.{IsShort}
 use Rattle.b67_faithful.specs.Weight.{tokens_around, part_weight, weight, parts_weight}
+use Rattle.b67_faithful.proofs.Choices.{length_set_numbered}
 use Rattle.b67_templates.specs.Nested.{LiesNested}
 use Rattle.b67_rows.proofs.Cored.{has_now, others_have, system_stays}
 use Rattle.b67_rows.proofs.Displays.{shown, shown_below}
@@ -58,11 +59,11 @@ use Rattle.b67_frames.specs.Arrays.{Layout, IsActual, AreKnown}
 use Rattle.b67_frames.specs.Frames.{IsInReach, most_around, run_level, IsChained, Frame, Waits, Around, of_lent}
 use Rattle.b67_frames.specs.Lent.{IsAsked, IsOfExpression, Lent}
 use Rattle.b67_frames.proofs.ArraysKept.{arrays_unchanged}
-use Rattle.b67_frames.proofs.Expressions.{expression_resumed}
 use Rattle.b67_frames.proofs.Facts.{HasFacts, facts_of}
 use Rattle.b67_frames.proofs.Knowing.{keeps_same}
 use Rattle.b67_frames.proofs.Linked.{Linked}
-use Rattle.b67_frames.proofs.Lying.{StayBelow, shape_on, top_still}
+use Rattle.b67_frames.proofs.Resumed.{frame_resumed}
+use Rattle.b67_frames.proofs.Lying.{StayBelow, top_still}
 use Rattle.b67_frames.proofs.Onward.{StandOn, StandsStill, path_still}
 use Rattle.b67_frames.proofs.EventsKept.{events_unchanged}
 use Rattle.b67_scenes.specs.Pictures.{Living, Pictures, PicturesBy}
@@ -378,27 +379,7 @@ module _ (tree : PProgram) (code : Code) (texts : Texts) (nested : LiesNested tr
             }
 
         abbrev frame_around : Frame tree code texts w' lay p part' outer core.below
-        frame_around =
-            record {
-              lower = still.frame.lower;
-              mark = still.frame.mark;
-              control = still.frame.control;
-              cells = still.frame.cells;
-              words_are = still.frame.words_are;
-              instance = still.frame.instance;
-              is = still.frame.is;
-              known = still.frame.known;
-              home = still.frame.home;
-              df = still.frame.df;
-              mark_is = still.frame.mark_is;
-              back = still.frame.back;
-              control_is = still.frame.control_is;
-              level_is = still.frame.level_is;
-              gives = still.frame.gives;
-              text = keeps.resumed sc ((instance_at w part.instance).block) part.rest entered s.stands.frame.text tt;
-              shape = shape_on tree code texts w' lay p part outer (length still.frame.lower) still.frame.mark still.frame.control still.frame.cells still.frame.home still.frame.gives part'.rest
-                  (sym behind.unmade ∙ sym (order.resumed sc ((instance_at w part.instance).block) part.rest entered s.stands.frame.text)) (expression_resumed sc part.rest entered) still.frame.shape;
-            }
+        frame_around = frame_resumed tree code texts w' lay p keeps order part outer core.below core.below still.frame refl behind.unmade entered tt
 
         -- ---- what waits
 
@@ -483,7 +464,7 @@ module _ (tree : PProgram) (code : Code) (texts : Texts) (nested : LiesNested tr
         pub pictured : PicturesBy tree code texts w' lay (with_core img p new)
         pictured =
             goes_on tree code texts w lay img s.by p q s.at w' lay (with_core img p new) q' refl able_is s.by.laid (arrays_unchanged sc w w' lay img.rows refl s.by.arrays)
-            (events_unchanged sc w w' lay img.events refl s.by.events) refl refl refl refl (λ m there listed. listed) (λ r other. alike_by sc w w' lay r (leaves_alone sc w w' lay lay p facts after_it (λ j st later. keeps_same sc w w' lay lay j refl refl) (λ j g there. there) laid_all (dependent_but w.processes p q q' s.at refl (λ e. e)) r other) refl) s.by.output refl refl refl refl (system_stays img p core new s.has refl q w s.at)
+            (events_unchanged sc w w' lay img.events refl s.by.events) refl refl refl refl (λ m there listed. listed) (λ r other. alike_by sc w w' lay r (leaves_alone sc w w' lay lay p facts after_it (λ j st later. keeps_same sc w w' lay lay j refl refl) (λ j g there. there) laid_all (dependent_but w.processes p q q' s.at refl (λ e. e)) r other) refl) s.by.output refl refl refl (length_set_numbered img.regs p new.registers) refl (system_stays img p core new s.has refl q w s.at)
             (state_stays sc w w' lay lay (λ j. events_same w w' j refl) (λ j f laid. laid) q.state (numbered img.states p) able_p) (others_have img p core new s.has refl) living_now
 
     -- where the operator enters the code of the actual, and the choice is the entry, the operator does it

@@ -165,9 +165,9 @@ module _ (tree : PProgram) (code : Code) (texts : Texts) (nested : AreNested (sc
           own_pictured tree code texts fragments kept order w lay img p q part outer bound core s unmade answer nameless i l.found instance (instance_there tree code texts w lay img p q part outer bound core s r l) cells' 0 None
           (as_many sc w lay i instance has_it.0 r.name number has_it.1 later) (λ set. absurd set) (λ set. absurd set) (event_keeps sc w lay i instance has_it.0 r.name number has_it.1 later)
           (refers_fewer instance.cells r.name (event later) refl) (cells_changed sc w lay i instance has_it.0 r.name number has_it.1 later) words registers frame_is next below there held comes
-          smaller able_is state base same refl after arrays_now events_now list_same refl refl awaiting refl refl refl many_states states_are lives_now state_is here
+          smaller able_is state base same refl after arrays_now events_now list_same refl refl awaiting refl refl refl refl many_states states_are lives_now state_is here
       by_number (inr other) =
           other_pictured tree code texts fragments kept order w lay img p q part outer bound core s unmade answer nameless i l.found instance (instance_there tree code texts w lay img p q part outer bound core s r l) cells' 0 None
           (as_many sc w lay i instance has_it.0 r.name number has_it.1 later) (λ set. absurd set) (λ set. absurd set) (event_keeps sc w lay i instance has_it.0 r.name number has_it.1 later)
           (refers_fewer instance.cells r.name (event later) refl) (cells_changed sc w lay i instance has_it.0 r.name number has_it.1 later) words registers frame_is next below there held comes
-          smaller able_is state base same refl after arrays_now events_now list_same refl refl awaiting refl refl refl many_states states_are lives_now state_is other
+          smaller able_is state base same refl after arrays_now events_now list_same refl refl awaiting refl refl refl refl many_states states_are lives_now state_is other

@@ -197,6 +197,7 @@ module _ (tree : PProgram) (code : Code) (texts : Texts) (w : World) (lay : Layo
           output = by.output;
           fault = by.fault;
           started = by.started;
+          counted = by.counted;
           few = by.few;
           states = by.states;
           system = by.system;

@@ -51,6 +51,7 @@ use Rattle.b67_cores.specs.Stretches.{CoreAt, Begins, BlocksBegin, FragmentsAreP
 use Rattle.b67_faithful.specs.Faithful.{IsShort}
 use Rattle.b67_faithful.specs.Weight.{tokens_around, part_weight, weight, parts_weight}
 use Rattle.b67_faithful.proofs.Contradictions.{none_some}
+use Rattle.b67_faithful.proofs.Choices.{length_set_numbered}
 use Rattle.b67_templates.specs.Nested.{LiesNested, IsText}
 use Rattle.b67_rows.proofs.Cored.{has_now, others_have, system_stays}
 use Rattle.b67_rows.proofs.EntryRow.{lower_of}
@@ -64,12 +65,12 @@ use Rattle.b67_frames.specs.Arrays.{Allotted, Layout, AreMade, AreKnown}
 use Rattle.b67_frames.specs.Frames.{IsInReach, block_controls, controls_count, most_around, CellsAre, IsChained, home_of, Framed, RoutinesStand, ItemsStand, Frame, Waits, Around, of_own, run_level}
 use Rattle.b67_frames.proofs.ArraysKept.{rows_but, rows_there, rows_other, no_elements, no_rows, arrays_joined}
 use Rattle.b67_frames.proofs.ControlWords.{block_few, routines_long, controls_many}
-use Rattle.b67_frames.proofs.Expressions.{expression_resumed}
 use Rattle.b67_frames.proofs.Formals.{LeadAll, lead_there}
 use Rattle.b67_frames.proofs.FreshCells.{fresh_are, fresh_lead, simple_many, words_long}
 use Rattle.b67_frames.proofs.Knowing.{KeepsArrays, Remain, denotes_lasts, keeps_same}
 use Rattle.b67_frames.proofs.Linked.{all_each, shown_chained}
-use Rattle.b67_frames.proofs.Lying.{StayBelow, shape_on, runs_at, top_still, frame_remains}
+use Rattle.b67_frames.proofs.Resumed.{frame_resumed}
+use Rattle.b67_frames.proofs.Lying.{StayBelow, runs_at, top_still, frame_remains}
 use Rattle.b67_frames.proofs.Onward.{StandOn}
 use Rattle.b67_frames.proofs.Facts.{HasFacts, facts_of}
 use Rattle.b67_frames.proofs.Zeros.{zero_word, cells_length}
@@ -483,26 +484,7 @@ module _ (tree : PProgram) (code : Code) (texts : Texts) (nested : LiesNested tr
           }
 
       abbrev frame_around : Frame tree code texts w' lay' p part' outer core.below
-      frame_around =
-          record {
-            lower = still.frame.lower;
-            mark = still.frame.mark;
-            control = still.frame.control;
-            cells = still.frame.cells;
-            words_are = still.frame.words_are;
-            instance = still.frame.instance;
-            is = still.frame.is;
-            known = still.frame.known;
-            home = still.frame.home;
-            df = still.frame.df;
-            mark_is = still.frame.mark_is;
-            back = still.frame.back;
-            control_is = still.frame.control_is;
-            level_is = still.frame.level_is;
-            gives = still.frame.gives;
-            text = keeps.resumed sc ((instance_at w' i).block) part.rest entered still.frame.text tt;
-            shape = shape_on tree code texts w' lay' p part outer (length still.frame.lower) still.frame.mark still.frame.control still.frame.cells still.frame.home still.frame.gives part'.rest (sym behind.unmade ∙ sym (order.resumed sc ((instance_at w' i).block) part.rest entered still.frame.text)) (expression_resumed sc part.rest entered) still.frame.shape;
-          }
+      frame_around = frame_resumed tree code texts w' lay' p keeps order part outer core.below core.below still.frame refl behind.unmade entered tt
 
       -- ---- what waits
 
@@ -653,7 +635,7 @@ module _ (tree : PProgram) (code : Code) (texts : Texts) (nested : LiesNested tr
           (arrays_joined sc w w' lay lay' made refl (no_elements (simple_cells sc b) (fresh_cells b given) (taken ++ zeros) cells_are) (no_rows (simple_cells sc b) (fresh_cells b given) (taken ++ zeros) cells_are) (λ k. refl)
           img.rows s.by.arrays)
           (events_joined sc w w' lay lay' made refl (cells_length (simple_cells sc b) (fresh_cells b given) (taken ++ zeros) cells_are)
-          (λ k f other laid. numbered_earlier lay.places (place p at) k f (λ (e : k ≡ length lay.places + 1). other (omega (arith, e, s.by.laid))) laid) img.events s.by.events) refl refl refl refl (λ m there listed. listed) alike s.by.output refl refl refl refl (system_stays img p core new s.has refl q w s.at)
+          (λ k f other laid. numbered_earlier lay.places (place p at) k f (λ (e : k ≡ length lay.places + 1). other (omega (arith, e, s.by.laid))) laid) img.events s.by.events) refl refl refl refl (λ m there listed. listed) alike s.by.output refl refl refl (length_set_numbered img.regs p new.registers) refl (system_stays img p core new s.has refl q w s.at)
           (state_stays sc w w' lay lay' events_stay places_stay q.state (numbered img.states p) able_p) (others_have img p core new s.has refl) living_now
 
     table_is : table code img p ≡ outcomes.gives (with_core img p new)

@@ -27,12 +27,12 @@ use Rattle.b67_table.specs.Table.{raw, table, plain}
 use Rattle.b67_table.specs.Effect.{gives}
 use Rattle.b67_templates.specs.Programs.{Texts}
 use Rattle.b67_standing.specs.Standing.{Gives}
-use Rattle.b67_cores.specs.Cores.{Core, IsCore, HasCore, with_core}
+use Rattle.b67_cores.specs.Cores.{Core, IsCore, HasCore}
 use Rattle.b67_cores.specs.Stretches.{FragmentsArePerformed}
 use Rattle.b67_faithful.proofs.Contradictions.{some_same}
 use Rattle.b67_faithful.proofs.Choices.{length_set_numbered}
-use Rattle.b67_rows.proofs.Cored.{has_now, others_have, system_stays}
-use Rattle.b67_rows.proofs.LeaveRow.{Leaves, after, outer_is}
+use Rattle.b67_rows.proofs.Cored.{system_stays}
+use Rattle.b67_rows.proofs.LeaveRow.{Leaves, after, outer_is, left_has, left_others}
 use Rattle.b67_rows.proofs.Numbers.{numbered_set}
 use Rattle.b67_rows.proofs.Parting.{IsSameBut, parted, same_but, same_ancestors, others_stay}
 use Rattle.b67_rows.proofs.Spelled.{HaveTexts}
@@ -159,14 +159,10 @@ module _ (tree : PProgram) (code : Code) (texts : Texts) (stand : HaveTexts tree
       now = after code img p core s.has over u.below u.words s.stands.frame.mark s.stands.frame.control s.stands.frame.cells b display e given
 
       has_here : HasCore now p new
-      has_here =
-          let h : HasCore (with_core img p new) p new = has_now img p core new s.has refl is_core in
-          record { live = h.live; registers = h.registers; own = h.own; stack = h.stack; is = h.is }
+      has_here = left_has code img p core s.has over u.below u.words s.stands.frame.mark s.stands.frame.control s.stands.frame.cells b display e given is_core
 
       others : (m : ℕ) (other : Core) → m ≢ p → HasCore img m other → HasCore now m other
-      others m other apart has =
-          let h : HasCore (with_core img p new) m other = others_have img p core new s.has refl m other apart has in
-          record { live = h.live; registers = h.registers; own = h.own; stack = h.stack; is = h.is }
+      others = left_others code img p core s.has over u.below u.words s.stands.frame.mark s.stands.frame.control s.stands.frame.cells b display e given
 
       here : IsLater → Living tree code texts w' lay now p q'
       here after_it =
@@ -195,7 +191,7 @@ module _ (tree : PProgram) (code : Code) (texts : Texts) (stand : HaveTexts tree
       pictured after_it =
           goes_on tree code texts w lay img s.by p q s.at w' lay now q' refl able_is as_many
           (subst (λ (rows : Rows). ArraysAre sc w' lay rows) (sym (rows_are tree code texts w lay img p q part next parts bound core s shut.rows shut.changes)) (arrays_unchanged sc (leave w (i ∷ [])) w' lay shut.rows refl shut.are)) events_now refl refl refl refl (λ m there listed. fewer_closed core.registers.stack (length (u.below ++ reverse u.words)) img.events m there listed) (alike after_it)
-          s.by.output refl refl refl refl (system_stays img p core new s.has refl q w s.at)
+          s.by.output refl refl refl (length_set_numbered img.regs p new.registers) refl (system_stays img p core new s.has refl q w s.at)
           (tasks.state_stays sc w w' lay lay (tasks.events_left w w' same_now) (λ j f laid. laid) q.state (numbered img.states p) able_p) others (here after_it)
 
       chosen : some_depends w.processes i ≡ false → ask part.rest ≡ leaves r → choice sc w p ≡ record { action = Leave; world = w'; released = []; started = None }

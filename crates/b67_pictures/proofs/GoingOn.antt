@@ -30,9 +30,9 @@ use Rattle.b67_cores.specs.Stretches.{CoreAt, FragmentsArePerformed}
 use Rattle.b67_faithful.specs.Weight.{weight}
 use Rattle.b67_frames.specs.Arrays.{Layout, AreKnown}
 use Rattle.b67_frames.specs.Frames.{IsInReach, most_around, IsChained, Frame, run_level}
-use Rattle.b67_frames.proofs.Expressions.{expression_resumed}
 use Rattle.b67_frames.proofs.Facts.{facts_of}
-use Rattle.b67_frames.proofs.Lying.{StayBelow, shape_on}
+use Rattle.b67_frames.proofs.Resumed.{frame_resumed}
+use Rattle.b67_frames.proofs.Lying.{StayBelow}
 use Rattle.b67_frames.proofs.Onward.{StandOn}
 use Rattle.b67_scenes.specs.Depending.{CriticalIs, TaskIs}
 use Rattle.b67_scenes.specs.Pictures.{Living}
@@ -87,27 +87,7 @@ module _ (tree : PProgram) (code : Code) (texts : Texts) (fragments : FragmentsA
       (resume (scopes_of tree) part.rest a) pc slots
 
   abbrev frame' : Frame tree code texts w' lay' p part' outer new.below
-  frame' =
-      record {
-        lower = still.frame.lower;
-        mark = still.frame.mark;
-        control = still.frame.control;
-        cells = still.frame.cells;
-        words_are = below ∙ still.frame.words_are;
-        instance = still.frame.instance;
-        is = still.frame.is;
-        known = still.frame.known;
-        home = still.frame.home;
-        df = still.frame.df;
-        mark_is = still.frame.mark_is;
-        back = still.frame.back;
-        control_is = still.frame.control_is;
-        level_is = still.frame.level_is;
-        gives = still.frame.gives;
-        text = keeps.resumed (scopes_of tree) ((instance_at w' part.instance).block) part.rest a still.frame.text (subst (λ (b : ℕ). InAnswer (IsSeen (scopes_of tree) b) a) block_is nameless);
-        shape = shape_on tree code texts w' lay' p part outer (length still.frame.lower) still.frame.mark still.frame.control still.frame.cells still.frame.home still.frame.gives part'.rest
-            (sym unmade ∙ sym (order.resumed (scopes_of tree) ((instance_at w' part.instance).block) part.rest a still.frame.text)) (expression_resumed (scopes_of tree) part.rest a) still.frame.shape;
-      }
+  frame' = frame_resumed tree code texts w' lay' p keeps order part outer core.below new.below still.frame below unmade a (subst (λ (b : ℕ). InAnswer (IsSeen (scopes_of tree) b) a) block_is nameless)
 
   light' : bound + 3 ≤ weight tree w' p
   light' =

@@ -31,16 +31,17 @@ use Rattle.b67_cores.specs.Cores.{Core, size, HasCore, with_core}
 use Rattle.b67_cores.specs.Slots.{Known}
 use Rattle.b67_cores.specs.Stretches.{CoreAt, FragmentsArePerformed}
 use Rattle.b67_cores.proofs.Moving.{slots_length}
+use Rattle.b67_faithful.proofs.Choices.{length_set_numbered}
 use Rattle.b67_rows.proofs.Cored.{has_now, others_have, system_stays}
 use Rattle.b67_rows.proofs.Numbers.{numbered_set, most_or_more}
 use Rattle.b67_frames.specs.Arrays.{Layout, AreKnown}
 use Rattle.b67_frames.specs.Frames.{IsInReach, IsChained, Frame}
 use Rattle.b67_frames.proofs.ArraysKept.{arrays_unchanged}
 use Rattle.b67_frames.proofs.EventsKept.{events_unchanged}
-use Rattle.b67_frames.proofs.Expressions.{expression_resumed}
 use Rattle.b67_frames.proofs.Facts.{HasFacts, facts_of}
 use Rattle.b67_frames.proofs.Knowing.{keeps_same}
-use Rattle.b67_frames.proofs.Lying.{StayBelow, shape_on}
+use Rattle.b67_frames.proofs.Resumed.{frame_resumed}
+use Rattle.b67_frames.proofs.Lying.{StayBelow}
 use Rattle.b67_frames.proofs.Onward.{StandOn}
 use Rattle.b67_scenes.specs.Pictures.{Pictures, PicturesBy}
 use Rattle.b67_scenes.specs.Reaches as reaching
@@ -124,26 +125,7 @@ module _ (tree : PProgram) (code : Code) (texts : Texts) (fragments : FragmentsA
         (omega (arith, frame_low tree code texts w lay p part outer core.below s.stands.frame))
 
     abbrev frame' : Frame tree code texts w' lay p part' outer new.below
-    frame' =
-        record {
-          lower = still.frame.lower;
-          mark = still.frame.mark;
-          control = still.frame.control;
-          cells = still.frame.cells;
-          words_are = below ∙ still.frame.words_are;
-          instance = still.frame.instance;
-          is = still.frame.is;
-          known = still.frame.known;
-          home = still.frame.home;
-          df = still.frame.df;
-          mark_is = still.frame.mark_is;
-          back = still.frame.back;
-          control_is = still.frame.control_is;
-          level_is = still.frame.level_is;
-          gives = still.frame.gives;
-          text = keeps.resumed (scopes_of tree) ((instance_at w part.instance).block) part.rest a s.stands.frame.text nameless;
-          shape = shape_on tree code texts w' lay p part outer (length still.frame.lower) still.frame.mark still.frame.control still.frame.cells still.frame.home still.frame.gives part'.rest (sym unmade ∙ sym (order.resumed (scopes_of tree) ((instance_at w part.instance).block) part.rest a s.stands.frame.text)) (expression_resumed (scopes_of tree) part.rest a) still.frame.shape;
-        }
+    frame' = frame_resumed tree code texts w' lay p keeps order part outer core.below new.below still.frame below unmade a nameless
 
     light' : bound + 3 ≤ weight tree w' p
     light' =
@@ -159,7 +141,7 @@ module _ (tree : PProgram) (code : Code) (texts : Texts) (fragments : FragmentsA
 
     pub in_frame : size new ≤ stack_limit → PicturesBy tree code texts w' lay after
     in_frame small =
-        goes_on_so tree code texts w lay img s.by p q s.at w' lay after q' refl able_is s.by.laid (arrays_unchanged (scopes_of tree) w w' lay img.rows refl s.by.arrays) (events_unchanged (scopes_of tree) w w' lay img.events refl s.by.events) waits_then (λ r other. alike_by (scopes_of tree) w w' lay r (leaves_alone (scopes_of tree) w w' lay lay p facts after_it (λ j st later. keeps_same (scopes_of tree) w w' lay lay j refl refl) (λ j f there. there) laid (dependent_but w.processes p q q' s.at refl (λ e. e)) r other) refl) refl refl refl refl refl
+        goes_on_so tree code texts w lay img s.by p q s.at w' lay after q' refl able_is s.by.laid (arrays_unchanged (scopes_of tree) w w' lay img.rows refl s.by.arrays) (events_unchanged (scopes_of tree) w w' lay img.events refl s.by.events) waits_then (λ r other. alike_by (scopes_of tree) w w' lay r (leaves_alone (scopes_of tree) w w' lay lay p facts after_it (λ j st later. keeps_same (scopes_of tree) w w' lay lay j refl refl) (λ j f there. there) laid (dependent_but w.processes p q q' s.at refl (λ e. e)) r other) refl) refl refl refl refl (length_set_numbered img.regs p new.registers) refl
         (system_stays img p core new s.has same_stack q w s.at)
         (state_stays (scopes_of tree) w w' lay lay (λ j. events_same w w' j refl) (λ j f laid. laid) q.state (numbered img.states p) able_p) others
         (living_of tree code texts w' lay after after_it.climb (all_laid w' lay after_it.climb.facts s.by.laid) fragments p q' part' outer bound new new (record {

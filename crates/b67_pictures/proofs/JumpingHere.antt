@@ -46,6 +46,7 @@ use Rattle.b67_standing.specs.Standing.{ActionAt, AreNumbers, ComesTo}
 use Rattle.b67_cores.specs.Cores.{Core, size, IsCore, HasCore, with_core, stack_of}
 use Rattle.b67_cores.specs.Stretches.{CoreAt, FragmentsArePerformed}
 use Rattle.b67_faithful.specs.Weight.{weight}
+use Rattle.b67_faithful.proofs.Choices.{length_set_numbered}
 use Rattle.b67_templates.specs.Names.{HasNames}
 use Rattle.b67_templates.specs.Nested.{LiesNested}
 use Rattle.b67_rows.proofs.Cored.{has_now, others_have, system_stays}
@@ -465,7 +466,7 @@ module _ (tree : PProgram) (code : Code) (texts : Texts) (lies : LiesNested tree
     pictured =
         goes_on tree code texts w lay img s.by p q s.at w' lay now q' (ap (λ (qs : List Process). set_numbered qs p q') (leave_processes left w)) able_is as_many
         (arrays_unchanged sc (leave w left) w' lay closed.rows refl closed.are) events_now refl refl refl refl (λ m there listed. fewer_left core.registers.stack down.passed img.events m there listed) alike
-        (s.by.output ∙ sym (leave_output left w)) (leave_fault left w) refl refl refl (system_stays img p core new s.has refl q w s.at)
+        (s.by.output ∙ sym (leave_output left w)) (leave_fault left w) refl refl (length_set_numbered img.regs p new.registers) refl (system_stays img p core new s.has refl q w s.at)
         (state_stays sc w w' lay lay (leave_events w lay p (length down.front) left q') (λ k f laid. laid) q.state (numbered img.states p) able_p) others living_now
 
   -- the label's instance stands in the process's own stack

@@ -38,6 +38,7 @@ use Rattle.b67_pictures.proofs.SameEvents.{AllOwned, position_there}
 use Rattle.b67_pictures.proofs.SameShape.{IsSameShape, shape_self, shape_on, event_moves, event_later, states_set, states_self, states_on, AreSameButStates, states_back, stays_shape}
 use Rattle.b67_pictures.proofs.Walking.{walked, walked_all, all_changed, step_fewer, left_fewer, left_gone}
 use Rattle.algol_standing.specs.Worlds.{IsOwn}
+use Rattle.b67_scenes.proofs.Kept.{living_there}
 
 -- ---- worlds
 
@@ -274,23 +275,7 @@ module _ (tree : PProgram) (code : Code) (texts : Texts) (lay : Layout) where
     same_picture : (m : ℕ) (q : Process) → Pictured tree code texts w lay img m q → Pictured tree code texts w lay (with_events img es) m q
     same_picture m q (dead e s) = dead e s
     same_picture m q (living a s l) =
-        living a s
-        (record {
-          core = l.core;
-          has = same_core m l.core l.has;
-          critical = l.critical;
-          task = l.task;
-          sees = l.sees;
-          small = l.small;
-          settled = l.settled;
-          bound = l.bound;
-          count = l.count;
-          steps = l.steps;
-          frames = l.frames;
-          reaches = l.reaches;
-          room = l.room;
-          light = l.light;
-        })
+        living a s (living_there tree code texts w lay img (with_events img es) m q q.state q.woken l (same_core m l.core l.has))
 
     pub events_swapped : EventsAre (scopes_of tree) w lay es → AreAwaiting (with_events img es) → PicturesBy tree code texts w lay (with_events img es)
     events_swapped are awaiting =
@@ -302,6 +287,7 @@ module _ (tree : PProgram) (code : Code) (texts : Texts) (lay : Layout) where
           output = by.output;
           fault = by.fault;
           started = by.started;
+          counted = by.counted;
           few = by.few;
           states = by.states;
           system = by.system;

@@ -27,6 +27,7 @@ pub mod Selecting
 pub mod Failing
 pub mod FrameEntering
 pub mod BlockEntering
+pub mod CalledProcedure
 pub mod ProcedureEntering
 pub mod LeavingWords
 pub mod LeftInstances

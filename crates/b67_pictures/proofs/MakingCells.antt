@@ -310,7 +310,7 @@ module _ (tree : PProgram) (code : Code) (texts : Texts) (nested : AreNested (sc
     pictured may small =
         goes_on tree code texts w lay img s.by p q s.at w' lay' after q' refl able_is as_many arrays_now events_now refl refl refl refl fewer
         (alike (after_so may) (low_so may))
-        s.by.output refl refl refl refl (system_stays img p core new s.has refl q w s.at)
+        s.by.output refl refl refl (length_set_numbered img.regs p new.registers) refl (system_stays img p core new s.has refl q w s.at)
         (state_stays sc w w' lay lay' (frames.events_stay tree code texts nested keeps order w lay img p q part outer bound core s owns ms makes new_cells allotted descriptors added (on (after_so may) (low_so may))) (λ j f laid. laid)
         q.state (numbered img.states p) able_p) others (living_now (after_so may) (low_so may) small)
 

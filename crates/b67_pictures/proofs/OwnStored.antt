@@ -38,10 +38,10 @@ use Rattle.b67_faithful.specs.Weight.{weight}
 use Rattle.b67_rows.proofs.Numbers.{numbered_set}
 use Rattle.b67_frames.specs.Arrays.{Layout, AreMade, AreKnown}
 use Rattle.b67_frames.specs.Frames.{IsInReach, CellsAre, most_around, IsChained, Frame, Stands, run_level}
-use Rattle.b67_frames.proofs.Expressions.{expression_resumed}
 use Rattle.b67_frames.proofs.Facts.{HasFacts}
 use Rattle.b67_frames.proofs.Knowing.{KeepsArrays}
-use Rattle.b67_frames.proofs.Lying.{StayBelow, shape_on, known_after}
+use Rattle.b67_frames.proofs.Resumed.{frame_resumed}
+use Rattle.b67_frames.proofs.Lying.{StayBelow, known_after}
 use Rattle.b67_frames.proofs.Onward.{StandOn}
 use Rattle.b67_scenes.specs.Depending.{CriticalIs, TaskIs}
 use Rattle.b67_scenes.specs.Pictures.{Living}
@@ -159,27 +159,7 @@ module _ (tree : PProgram) (code : Code) (texts : Texts) (fragments : FragmentsA
     still = frame_still tree code texts stored w' lay lay p (suc (length frames.frame.lower)) stay part outer new.below frames.frame frames.around frame_low
 
     abbrev frame' : Frame tree code texts w' lay p part' outer new.below
-    frame' =
-        record {
-          lower = still.frame.lower;
-          mark = still.frame.mark;
-          control = still.frame.control;
-          cells = still.frame.cells;
-          words_are = still.frame.words_are;
-          instance = still.frame.instance;
-          is = still.frame.is;
-          known = still.frame.known;
-          home = still.frame.home;
-          df = still.frame.df;
-          mark_is = still.frame.mark_is;
-          back = still.frame.back;
-          control_is = still.frame.control_is;
-          level_is = still.frame.level_is;
-          gives = still.frame.gives;
-          text = kept.resumed sc ((instance_at w' part.instance).block) part.rest answer still.frame.text (subst (λ (m : ℕ). InAnswer (IsSeen (scopes_of tree) m) answer) block_is nameless);
-          shape = shape_on tree code texts w' lay p part outer (length still.frame.lower) still.frame.mark still.frame.control still.frame.cells still.frame.home still.frame.gives part'.rest
-              (sym unmade ∙ sym (order.resumed sc ((instance_at w' part.instance).block) part.rest answer still.frame.text)) (expression_resumed sc part.rest answer) still.frame.shape;
-        }
+    frame' = frame_resumed tree code texts w' lay p kept order part outer new.below new.below still.frame refl unmade answer (subst (λ (m : ℕ). InAnswer (IsSeen (scopes_of tree) m) answer) block_is nameless)
 
     -- what is known of descriptors and references holds as it did
     known_now : AreKnown sc w' lay (IsInReach w' (part' ∷ outer)) part.instance st.held

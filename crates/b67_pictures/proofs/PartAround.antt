@@ -36,8 +36,8 @@ use Rattle.b67_rows.proofs.Spelled.{HasText, HaveTexts}
 use Rattle.b67_rows.proofs.Unmade.{makes, unmade}
 use Rattle.b67_frames.specs.Arrays.{Layout, AreKnown}
 use Rattle.b67_frames.specs.Frames.{IsInReach, IsChained, most_around, Frame, Waits, run_level}
-use Rattle.b67_frames.proofs.Expressions.{expression_resumed}
-use Rattle.b67_frames.proofs.Lying.{StayBelow, known_after, shape_on}
+use Rattle.b67_frames.proofs.Resumed.{frame_resumed}
+use Rattle.b67_frames.proofs.Lying.{StayBelow, known_after}
 use Rattle.b67_scenes.specs.Pictures.{Living}
 use Rattle.b67_scenes.specs.Reaches as reaching
 use Rattle.b67_scenes.proofs.Ancestors.{all_laid}
@@ -49,7 +49,7 @@ use Rattle.b67_scenes.proofs.Stage.{weight_of}
 use Rattle.b67_scenes.proofs.Staying.{text_in, level_in, most_in, FrameStill, frame_still, still_low, same_weight, context_in, names_in}
 use Rattle.b67_scenes.proofs.Stuffed.{known_both}
 use Rattle.b67_pictures.proofs.LeavingWords as leaving
-use Rattle.b67_pictures.proofs.LeavingWords.{IsGiven, known_given, same_f, low, height, top, hung, shown_home, nameless, words_are, same_newest, one_more, few}
+use Rattle.b67_pictures.proofs.LeavingWords.{IsGiven, known_given, low, height, top, hung, shown_home, nameless, words_are, same_newest, one_more, few}
 
 module _ (tree : PProgram) (code : Code) (texts : Texts) (stand : HaveTexts tree code texts) (fragments : FragmentsArePerformed) (keeps : RestsKeepToTheirText) (order : AllIsMadeInOrder)
     (w : World) (lay : Layout) (img : Image) (p : ℕ) (q : Process) (part next : Part) (parts : List Part) (bound : ℕ) (core : Core)
@@ -150,27 +150,7 @@ module _ (tree : PProgram) (code : Code) (texts : Texts) (stand : HaveTexts tree
         (λ up h. (hung tree code texts w lay img p q part next parts bound core s).chained up h ∙ ap (λ (j : ℕ). numbered lay.places j) (sym (same_up up next.instance)))
 
     abbrev frame_there : Frame tree code texts w' lay p part' parts u.below
-    frame_there =
-        record {
-          lower = still.frame.lower;
-          mark = still.frame.mark;
-          control = still.frame.control;
-          cells = still.frame.cells;
-          words_are = still.frame.words_are;
-          instance = still.frame.instance;
-          is = still.frame.is;
-          known = still.frame.known;
-          home = still.frame.home;
-          df = still.frame.df;
-          mark_is = still.frame.mark_is;
-          back = still.frame.back;
-          control_is = still.frame.control_is;
-          level_is = still.frame.level_is;
-          gives = still.frame.gives;
-          text = keeps.resumed sc ((instance_at w' next.instance).block) next.rest r still.frame.text (nameless tree code texts w lay img p q part next parts bound core s r given g (IsSeen sc ((instance_at w' next.instance).block)));
-          shape = shape_on tree code texts w' lay p next parts (length still.frame.lower) still.frame.mark still.frame.control still.frame.cells still.frame.home still.frame.gives part'.rest
-              (sym (unmade next.rest (ap makes u.waits)) ∙ sym (order.resumed sc ((instance_at w' next.instance).block) next.rest r still.frame.text)) (expression_resumed sc next.rest r) still.frame.shape;
-        }
+    frame_there = frame_resumed tree code texts w' lay p keeps order next parts u.below u.below still.frame refl (unmade next.rest (ap makes u.waits)) r (nameless tree code texts w lay img p q part next parts bound core s r given g (IsSeen sc ((instance_at w' next.instance).block)))
 
     top_now : place_at display (level_in tree w' next) ≡ Some (place p (length still.frame.lower))
     top_now =

@@ -1,17 +1,16 @@
 -- A procedure is entered.
-use Rattle.std.proofs.Common.{◌≡◌, ◌⊎◌, inl, inr, refl, sym, ap, ◌∙◌, subst, ℕ, suc, ◌+◌, ◌*◌, ◌≤◌, ◌<◌, List, ◌∷◌, ◌++◌, length, Option, Some, None, true, false, arith}
-use Rattle.std.specs.Prelude.{slice_get}
+use Rattle.std.proofs.Common.{◌≡◌, ◌⊎◌, inl, inr, refl, sym, ap, ◌∙◌, ℕ, ◌+◌, ◌*◌, ◌≤◌, ◌<◌, List, ◌∷◌, length, Some, None, true, false, arith}
 use Rattle.b67_list.specs.Numbered.{numbered}
 use Rattle.algol_tree.specs.declared.tree.Kind.{Kind}
 use Rattle.algol_tree.specs.declared.tree.Named.{Named}
 use Rattle.algol_tree.specs.Plain.{PProgram, PBody}
 use Rattle.algol_tree.specs.Sorts.{Sort, is_variable, is_formal}
-use Rattle.algol_tree.specs.Blocks.{Block, block_numbered, number_at, around}
+use Rattle.algol_tree.specs.Blocks.{Block, block_numbered}
 use Rattle.algol_tree.specs.Cells.{level_of}
 use Rattle.algol_tree.specs.Scopes.{Scopes, scopes_of, use_of}
 use Rattle.algol_meaning.specs.Rest.{Answer, Given, entered}
 use Rattle.algol_meaning.specs.Value.{Cell}
-use Rattle.algol_meaning.specs.World.{Instance, Process, Part, procedure, lives, World, instance_at, or_no_instance, ancestor}
+use Rattle.algol_meaning.specs.World.{Process, Part, procedure, lives, World, instance_at, ancestor}
 use Rattle.algol_meaning.specs.Asks.{Ask, nothing, enters, ask, resume}
 use Rattle.algol_meaning.specs.Choice.{choice_of, entered_procedure, given_cells}
 use Rattle.algol_meaning.specs.Settle.{block_of}
@@ -20,21 +19,16 @@ use Rattle.algol_paths.specs.Laws.{RestsKeepToTheirText, AllIsMadeInOrder}
 use Rattle.algol_paths.specs.Segments.{is_procedure, segment_of}
 use Rattle.b67_word.specs.Word.{Word}
 use Rattle.b67_control.specs.declared.Pcw.{Pcw}
-use Rattle.b67_control.specs.Control.{Fits_pcw, as_irw, as_sirw, pcw_word}
+use Rattle.b67_control.specs.Control.{as_irw, as_sirw, pcw_word}
 use Rattle.b67_control.proofs.ControlLaws.{as_sirw-other, as_pcw-pcw_word, kind_of-pcw_word}
 use Rattle.b67_ops.specs.declared.Couple.{Couple}
-use Rattle.b67_ops.specs.declared.TheConstants.{OUTER_LEVEL}
 use Rattle.b67_segment.specs.declared.code.Code.{Code}
-use Rattle.b67_segment.specs.declared.code.Segment.{Segment}
-use Rattle.b67_store.specs.Store.{word_at}
 use Rattle.b67_scenes.specs.States.{StateIs}
 use Rattle.algol_paths.specs.Arrays.{DeclaredArray, Shape, shape_of}
-use Rattle.b67_word.specs.declared.Place.{Place}
-use Rattle.b67_table.specs.Chains.{place}
 use Rattle.b67_table.specs.Image.{Image}
-use Rattle.b67_table.specs.Private.{frame, display_at}
+use Rattle.b67_table.specs.Private.{frame}
 use Rattle.b67_templates.specs.Contexts.{Yields, yields_of, Context}
-use Rattle.b67_templates.specs.Cells.{Simple, parameter_cells, parameter_wants, simple_cells, procedures, made_base, Agrees, IsVariable, IsDeclaredArray, IsDeclaredEvent, IsProcedure}
+use Rattle.b67_templates.specs.Cells.{Simple, parameter_cells, parameter_wants, procedures, Agrees, IsVariable, IsDeclaredArray, IsDeclaredEvent, IsProcedure}
 use Rattle.b67_templates.specs.Depths.{decls_depth, stmts_depth}
 use Rattle.b67_templates.specs.Fragments.{code_at}
 use Rattle.b67_templates.proofs.Few.{actuals_are_few}
@@ -44,32 +38,25 @@ use Rattle.b67_standing.specs.Stepping.{Slot, reference, mark}
 use Rattle.b67_standing.specs.Standing.{ActionAt, Entered, Gives, pushed, ComesTo, CallsAt}
 use Rattle.b67_cores.specs.Cores.{Core}
 use Rattle.b67_cores.specs.Slots.{SlotIs}
-use Rattle.b67_cores.specs.Stretches.{BlocksBegin, FragmentsArePerformed, control_words}
+use Rattle.b67_cores.specs.Stretches.{BlocksBegin, FragmentsArePerformed}
 use Rattle.b67_faithful.specs.Faithful.{IsShort}
 use Rattle.b67_faithful.specs.Weight.{tokens_around}
-use Rattle.b67_templates.specs.Nested.{LiesNested, IsDeclared, AreParameters}
+use Rattle.b67_templates.specs.Nested.{LiesNested, AreParameters}
 use Rattle.b67_rows.proofs.AskedEntries.{InReferred, InEntry, enters_seen, entered_in_bound}
 use Rattle.b67_rows.proofs.EnterProcedureRow.{procedure_leads, procedure_calls}
 use Rattle.b67_rows.proofs.GivenWords.{AreFit, are_fit, fit_many, ActualsAre}
-use Rattle.b67_rows.proofs.Numbers.{get_within, get_below}
-use Rattle.b67_rows.proofs.Segmented.{before_whole, segment_low, procedure_segment, get_mapped, length_mapped}
-use Rattle.b67_rows.proofs.StackWords.{get-front, get-behind}
-use Rattle.b67_rows.proofs.Parents.{length_around}
+use Rattle.b67_rows.proofs.Numbers.{get_below}
+use Rattle.b67_rows.proofs.Segmented.{length_mapped}
 use Rattle.b67_rows.proofs.Unmade.{makes, unmade}
 use Rattle.b67_rows.proofs.Words.{reference_read}
 use Rattle.b67_frames.specs.Arrays.{Layout, named_from, LeadsTo, LeadsToEvent, LeadsToVariable, IsNamed}
 use Rattle.b67_frames.specs.Frames.{IsInReach, ArePlaced, block_controls, controls_count, most_around, IsComplete}
-use Rattle.b67_frames.proofs.ControlWords.{get_control, controls_fit}
+use Rattle.b67_frames.proofs.ControlWords.{controls_fit}
 use Rattle.b67_frames.proofs.Formals.{AreGivenCells, given_are}
-use Rattle.b67_frames.proofs.FreshCells.{simple_many, words_long}
-use Rattle.b67_frames.proofs.Linked.{Linked, level_around}
-use Rattle.b67_frames.proofs.Lying.{Lies}
+use Rattle.b67_frames.proofs.FreshCells.{simple_many}
 use Rattle.b67_frames.proofs.OwnCells.{HasCells}
-use Rattle.b67_frames.proofs.StaticParents.{IsParent}
-use Rattle.b67_scenes.proofs.Finding.{Found}
-use Rattle.b67_scenes.proofs.Led.{part_there, named_parent, named_reached, named_seen, named_shown, scene_placed}
-use Rattle.b67_scenes.proofs.Sights.{Seen, cell_below, cell_lies as seen_word}
-use Rattle.b67_pictures.proofs.ParentPlaces.{standing_linked, standing_cells, found_linked, linked_few, linked_low}
+use Rattle.b67_scenes.proofs.Led.{part_there, scene_placed}
+use Rattle.b67_pictures.proofs.ParentPlaces.{standing_cells, linked_few, linked_low}
 use Rattle.algol_standing.specs.Worlds.{IsStanding}
 use Rattle.b67_frames.proofs.NamedEvents.{event_leads}
 use Rattle.b67_frames.proofs.NamedArrays.{IsSeenMade, both_seen, up_complete, named_leads}
@@ -81,6 +68,7 @@ use Rattle.b67_scenes.proofs.Scene.{Scene}
 use Rattle.b67_scenes.proofs.Stage.{choice_is}
 use Rattle.b67_scenes.proofs.Staying.{text_in, level_in, context_in, most_in, names_in}
 use Rattle.b67_pictures.specs.Acting.{Does}
+use Rattle.b67_pictures.proofs.CalledProcedure.{CalledProcedure, called_procedure}
 use Rattle.b67_pictures.proofs.FrameEntering.{AreCells, Body, GoesOnBehind, entering}
 
 -- what makes the arrays of a procedure, and its statements, with the control words of those that it declares, need no more words than its
@@ -165,36 +153,12 @@ module _ (tree : PProgram) (code : Code) (program : ProgramAt code tree) (nested
       given_in_bound (inl whole) = inl whole
       given_in_bound (inr around_it) = inr around_it.1
 
-  high : up + OUTER_LEVEL ≤ names
-  high = omega (arith, length_around sc.blocks block, get_below (block ∷ around sc.blocks block) up u seen_there)
+  -- ---- the procedure
 
-  parent : IsParent sc w lay part.instance up u
-  parent = named_parent tree code texts w lay img p q part outer bound core s n seen_there
+  called : CalledProcedure tree code program nested w lay img p q part outer bound core s n callee couple named seen_there
+  called = called_procedure tree code program nested w lay img p q part outer bound core s n callee couple named seen_there
 
-  in_reach : IsInReach w (part ∷ outer) h
-  in_reach = named_reached tree code texts w lay img p q part outer bound core s n seen_there
-
-  -- its frame, in whatever stack
-  seen_frame : Seen tree code texts w lay img p q part outer bound core s h
-  seen_frame = named_seen tree code texts w lay img p q part outer bound core s n seen_there
-
-  abbrev found : Found tree code texts w lay img h
-  found = seen_frame.found
-
-  abbrev lies : Lies tree code texts w lay found.number (found.part ∷ found.outer) h found.settled
-  lies = found.lies
-
-  linked : Linked sc w lay img.stacks h
-  linked = standing_linked tree code texts w lay img s.by s.ok h parent.stands
-
-  abbrev x : Instance
-  x = seen_frame.found.lies.owned.framed.instance
-
-  block_is : x.block ≡ u
-  block_is = ap (λ (o : Option Instance). (or_no_instance o).block) (sym lies.owned.framed.is) ∙ ap (λ (k : ℕ). (instance_at w k).block) lies.instance_is ∙ parent.block
-
-  u_known : u < length sc.blocks
-  u_known = subst (λ (k : ℕ). k < length sc.blocks) block_is lies.owned.framed.known
+  open called use {parent, in_reach, linked, u_known, known, around_is, is_own, fits, segment_there, entry_lies, shown, level_low}
 
   -- It has made all its arrays: no bound of an array calls a procedure of its own block.
   complete : IsComplete sc w lay h
@@ -209,108 +173,13 @@ module _ (tree : PProgram) (code : Code) (program : ProgramAt code tree) (nested
           far (inr (inl variable)) = absurd (let clash : false ≡ true = sym (ap is_variable named.sort_is) ∙ variable in cc)
           far (inr (inr formal)) = absurd (let clash : false ≡ true = sym (ap is_formal named.sort_is) ∙ formal in cc)
 
-  -- ---- the procedure
-
-  declared : IsDeclared sc u named.declared
-  declared = (nested.nested.each u u_known).procedure named.number named.declared named.there
-
-  known : callee < length sc.blocks
-  known = subst (λ (k : ℕ). k < length sc.blocks) named.callee_is declared.known
-
-  around_u : around sc.blocks callee ≡ u ∷ around sc.blocks u
-  around_u = subst (λ (k : ℕ). around sc.blocks k ≡ u ∷ around sc.blocks u) named.callee_is declared.around_is
-
-  around_is : around sc.blocks callee ≡ (instance_at w h).block ∷ around sc.blocks ((instance_at w h).block)
-  around_is = subst (λ (k : ℕ). around sc.blocks callee ≡ k ∷ around sc.blocks k) (sym parent.block) around_u
-
-  is_own : is_procedure (block_numbered sc.blocks callee) ≡ true
-  is_own = subst (λ (k : ℕ). is_procedure (block_numbered sc.blocks k) ≡ true) named.callee_is declared.procedure
-
   abbrev b : Block
   b = block_numbered sc.blocks callee
-
-  level_new : level_of b ≡ level_of (block_numbered sc.blocks u) + 1
-  level_new = omega (arith, level_around sc.blocks callee, ap length around_u, level_around sc.blocks u)
 
   abbrev c : Pcw
   c = code_at (segment_of sc.blocks callee) 0 (level_of b)
 
-  fits : Fits_pcw c
-  fits = (
-    omega (arith, segment_low sc.blocks (callee ∷ around sc.blocks callee) 1023 nested.nested.procedures_few),
-    (omega arith, (omega arith, (omega (arith, (nested.nested.each callee known).low), (omega arith, tt)))),
-  )
-
-  -- its segment
-  segment_there : (x : Segment) × (slice_get code.segments (segment_of sc.blocks callee) ≡ Some x)
-  segment_there =
-      get_within code.segments (segment_of sc.blocks callee)
-      (omega (arith, program.many, procedure_segment sc.blocks callee is_own, before_whole sc.blocks (suc callee)))
-
-  -- ---- its control word
-
-  abbrev far : ℕ
-  far = length (simple_cells sc (block_numbered sc.blocks u)) + named.number
-
-  abbrev controls_there : List Word
-  controls_there = control_words (block_controls sc x.block lies.owned.framed.ats)
-
-  control_lies : slice_get controls_there named.number ≡ Some (pcw_word c)
-  control_lies =
-      ap (λ (k : ℕ). slice_get (control_words (block_controls sc k lies.owned.framed.ats)) named.number) block_is
-      ∙ get_control sc u lies.owned.framed.ats named.number
-      (segment_of sc.blocks (number_at sc.blocks named.declared.spot))
-      (get_mapped (λ (m : Named). segment_of sc.blocks (number_at sc.blocks m.spot)) (procedures (block_numbered sc.blocks u).decls) named.number named.declared named.there)
-      ∙ ap (λ (k : ℕ). Some (pcw_word (code_at (segment_of sc.blocks k) 0 (level_of (block_numbered sc.blocks u) + 1)))) named.callee_is
-      ∙ ap (λ (l : ℕ). Some (pcw_word (code_at (segment_of sc.blocks callee) 0 l))) (sym level_new)
-
-  -- it lies after the values, before the descriptors of arrays
-  cells_lie : slice_get lies.frame.cells far ≡ Some (pcw_word c)
-  cells_lie =
-      ap (λ (ws : List Word). slice_get ws far) lies.owned.framed.cells_is
-      ∙ get-behind lies.owned.framed.values (controls_there ++ lies.owned.framed.descriptors) named.number far
-      (omega (
-        arith,
-        words_long (simple_cells sc (block_numbered sc.blocks x.block)) lies.owned.framed.simple lies.owned.framed.values lies.owned.framed.simple_are,
-        ap (λ (k : ℕ). length (simple_cells sc (block_numbered sc.blocks k))) block_is,
-      ))
-      ∙ get-front controls_there lies.owned.framed.descriptors named.number (pcw_word c) control_lies
-
-  far_low : 2 + far < made_base sc (block_numbered sc.blocks ((instance_at w h).block))
-  far_low =
-      omega (
-        arith,
-        ap (λ (k : ℕ). made_base sc (block_numbered sc.blocks k)) parent.block,
-        get_below (procedures (block_numbered sc.blocks u).decls) named.number named.declared named.there,
-      )
-
-  below : length lies.frame.lower + (2 + far) < length found.core.below
-  below = cell_below tree code texts w lay img p q part outer bound core s h seen_frame far (get_below lies.frame.cells far (pcw_word c) cells_lie) far_low
-
-  linked_at : linked.at ≡ place found.number (length lies.frame.lower)
-  linked_at = found_linked tree code texts w lay img s.by s.ok h parent.stands linked found
-
-  entry_lies : word_at img.stacks (record { stack = (linked.at).stack; at = (linked.at).at + couple.index }) ≡ Some (pcw_word c)
-  entry_lies =
-      ap (λ (g : Place). word_at img.stacks (record { stack = g.stack; at = g.at + couple.index })) linked_at
-      ∙ ap (λ (k : ℕ). word_at img.stacks (place found.number (length lies.frame.lower + k))) index_far
-      ∙ seen_word tree code texts w lay img p q part outer bound core s h seen_frame far (pcw_word c) cells_lie below
-    where
-      index_far : couple.index ≡ 2 + far
-      index_far = omega (arith, named.index_is)
-
-  shown : display_at core.registers couple.level ≡ Some linked.at
-  shown = named_shown tree code texts w lay img p q part outer bound core s n seen_there couple.level (omega (arith, named.level_is)) seen_frame ∙ ap (λ (g : Place). Some g) (sym linked_at)
-
   -- ---- its reference
-
-  level_low : names ≤ 31
-  level_low =
-      omega (
-        arith,
-        ap (λ (o : Option Instance). level_of (block_numbered sc.blocks ((or_no_instance o).block))) s.stands.frame.is,
-        (nested.nested.each s.stands.frame.instance.block s.stands.frame.known).low,
-      )
 
   abbrev IsReference : Word → Type 0
   IsReference y = SlotIs sc s.stands.held level (frame core.registers) (length core.below) (mark ∷ a.2) (reference couple) y

@@ -81,7 +81,7 @@ use Rattle.b67_scenes.proofs.StartCalling.{Refers}
 use Rattle.b67_scenes.proofs.StartingProcess.{started_world, started_layout, rows_before, HasGoneOn, starts_by}
 use Rattle.b67_scenes.proofs.Tasks.{events_before}
 use Rattle.b67_scenes.proofs.Staying.{text_in, level_in, context_in, most_in}
-use Rattle.b67_pictures.specs.Acting.{Does, counted_gave, failed_by}
+use Rattle.b67_pictures.specs.Acting.{Does, gave, failed_by}
 use Rattle.b67_pictures.proofs.Alone.{IsAfter, after_choice}
 use Rattle.b67_pictures.proofs.GoingOn.{goes_along}
 use Rattle.b67_pictures.proofs.StartingFree.{all_stand_on, left_alone}
@@ -228,7 +228,7 @@ module _ (tree : PProgram) (code : Code) (texts : Texts) (fragments : FragmentsA
     pub record IsBegun : Type 0 where
       pub cell_words : List Word
       pub cells : CellsAre (simple_cells (scopes_of tree) (block_numbered (scopes_of tree).blocks a.0)) made.cells cell_words
-      pub lives_so : length img.regs ≡ img.started → IsAfter (scopes_of tree) w world_after p → Living tree code texts world_after (started_layout w lay) (with_process image_onward registers words) (length w.processes + 1) begun_process
+      pub lives_so : IsAfter (scopes_of tree) w world_after p → Living tree code texts world_after (started_layout w lay) (with_process image_onward registers words) (length w.processes + 1) begun_process
 
     new_small : size new ≤ stack_limit
     new_small = omega (arith, s.small, ap length e.calls.called.words, length-append arguments (e.reference ∷ e.marked ∷ e.others))
@@ -250,8 +250,8 @@ module _ (tree : PProgram) (code : Code) (texts : Texts) (fragments : FragmentsA
     abbrev lay' : Layout
     lay' = started_layout w lay
 
-    gone : length img.regs ≡ img.started → HasGoneOn w img image_onward p
-    gone counted =
+    gone : HasGoneOn w img image_onward p
+    gone =
         record {
           output = refl;
           fault = refl;
@@ -261,12 +261,12 @@ module _ (tree : PProgram) (code : Code) (texts : Texts) (fragments : FragmentsA
           lists = refl;
           numbers = refl;
           system = system_stays img p core new s.has refl q w s.at;
-          many = omega (arith, length_set_numbered img.regs p new.registers, counted, s.by.started, s.by.states);
+          many = omega (arith, length_set_numbered img.regs p new.registers, s.by.counted, s.by.started, s.by.states);
           others = λ k other apart has.
               let h = others_have img p core new s.has refl k other apart has in record { live = h.live; registers = h.registers; own = h.own; stack = h.stack; is = h.is };
         }
 
-    module _ (room : length w.processes < most_processes) (counted : length img.regs ≡ img.started) (b : IsBegun) (after_it : IsAfter (scopes_of tree) w world_after p) where
+    module _ (room : length w.processes < most_processes) (b : IsBegun) (after_it : IsAfter (scopes_of tree) w world_after p) where
       newest : (older : List ℕ) × (own_instances q.todo ≡ newest_own (part ∷ outer) ∷ older)
       newest = newest_there sc w s.ok p q part outer s.at s.todo
 
@@ -294,7 +294,7 @@ module _ (tree : PProgram) (code : Code) (texts : Texts) (fragments : FragmentsA
       has_new : HasCore after p new
       has_new =
           let h = has_now img p core new s.has refl (e.after_at next).is in
-          others_stay image_onward registers words (omega (arith, s.by.started, s.by.states)) (gone counted).many p new (record { live = h.live; registers = h.registers; own = h.own; stack = h.stack; is = h.is })
+          others_stay image_onward registers words (omega (arith, s.by.started, s.by.states)) gone.many p new (record { live = h.live; registers = h.registers; own = h.own; stack = h.stack; is = h.is })
 
       starter : Living tree code texts world_after lay' after p q'
       starter =
@@ -304,19 +304,19 @@ module _ (tree : PProgram) (code : Code) (texts : Texts) (fragments : FragmentsA
 
       pictured : PicturesBy tree code texts world_after lay' after
       pictured =
-          starts_by tree code texts w lay img s.by p q q' s.at made begun_process image_onward registers words (omega (arith, s.by.started)) room (gone counted) refl refl refl refl able_is able_p apart
+          starts_by tree code texts w lay img s.by p q q' s.at made begun_process image_onward registers words (omega (arith, s.by.started)) room gone refl refl refl refl able_is able_p apart
           (arrays_joined sc w world_after lay lay' made refl (no_elements (simple_cells sc (block_numbered sc.blocks callee)) made.cells b.cell_words b.cells)
           (no_rows (simple_cells sc (block_numbered sc.blocks callee)) made.cells b.cell_words b.cells) (λ k. refl) img.rows s.by.arrays)
           (events_joined sc w world_after lay lay' made refl (cells_length (simple_cells sc (block_numbered sc.blocks callee)) made.cells b.cell_words b.cells)
           (λ k f other laid. numbered_earlier lay.places (place (length w.processes + 1) 0) k f (λ (i : k ≡ length lay.places + 1). other (omega (arith, i, s.by.laid))) laid) img.events s.by.events)
-          starter (b.lives_so counted after_it)
+          starter (b.lives_so after_it)
 
     begun_done : length w.processes < most_processes → IsBegun → Does tree code texts w img p
     begun_done room b =
-        counted_gave after
+        gave after
         (action_not_plain code img p core s.has (ops.Plain kinds.Entr) next there (enter_class code img p core s.has next there Start arguments e.reference e.marked e.others e.calls)) table_is
         (action_is code img p core s.has (ops.Plain kinds.Entr) next there (outcomes.gives after) table_is ∙ e.action ∙ ap (λ (c : Choice). Some c.action) (sym chosen))
-        (λ may counted. subst (λ (v : World). Pictures tree code texts v after) (sym same) (lay', pictured room counted b (after_choice sc w world_after p q facts may s.at same)))
+        (λ may. subst (λ (v : World). Pictures tree code texts v after) (sym same) (lay', pictured room b (after_choice sc w world_after p q facts may s.at same)))
       where
         table_is : table code img p ≡ outcomes.gives after
         table_is =

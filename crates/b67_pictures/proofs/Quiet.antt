@@ -18,7 +18,7 @@ use Rattle.b67_cores.specs.Stretches.{StepsArePerformed, StepsComeToLimit}
 use Rattle.b67_frames.specs.Arrays.{Layout}
 use Rattle.b67_scenes.specs.Pictures.{Living, PicturesBy}
 use Rattle.b67_scenes.proofs.Plainly.{steps_fit, stepped, within_or_beyond, Nearer, step_made, pictured_nearer, plain_pictured}
-use Rattle.b67_pictures.specs.Acting.{Does, gave, failed_by, counted_gave, stopped}
+use Rattle.b67_pictures.specs.Acting.{Does, gave, failed_by, stopped}
 use Rattle.b67_pictures.proofs.Releasing.{IsReleased}
 
 -- Its operator is its action, and releases whom that releases.
@@ -56,7 +56,6 @@ module _ (tree : PProgram) (code : Code) (texts : Texts) (performed : StepsArePe
   pub not_plain : {img : Image} {p : ℕ} → Does tree code texts w img p → plain code img p ≡ false
   not_plain (gave after np t act by) = np
   not_plain (failed_by kind np t act by) = np
-  not_plain (counted_gave after np t act by) = np
   not_plain (stopped np t heavy) = np
 
   -- a settled process's operator is not plain

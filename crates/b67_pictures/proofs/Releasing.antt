@@ -23,7 +23,7 @@ use Rattle.b67_letters.specs.Laws.{may_release}
 use Rattle.b67_letters.proofs.Mute.{few_operators_release}
 use Rattle.b67_faithful.proofs.Choices.{is_releasing, EndsIdle, ReleasesNone}
 use Rattle.b67_faithful.proofs.Contradictions.{some_same}
-use Rattle.b67_pictures.specs.Acting.{Does, gave, failed_by, counted_gave, stopped}
+use Rattle.b67_pictures.specs.Acting.{Does, gave, failed_by, stopped}
 
 -- where the operator does not come to the stack limit
 abbrev pub IsReleased : PProgram → Code → World → Image → ℕ → Type 0
@@ -80,8 +80,6 @@ fault_releases code img p kind t = ap (λ (o : Outcome Image). released_by o (re
 pub none_released : (tree : PProgram) (code : Code) (texts : Texts) (w : World) (img : Image) (p : ℕ) (r : Registers) → numbered img.regs p ≡ Some r → (task : Option Reference) → (task ≡ None → r.task ≡ None) →
     ReleasesNone task (choice (scopes_of tree) w p) → Does tree code texts w img p → IsReleased tree code w img p
 none_released tree code texts w img p r has task told none (gave after np t action by) no_limit =
-    released_none code img p r has ((choice (scopes_of tree) w p).action) (λ (e : (choice (scopes_of tree) w p).action ≡ End). told (subst (EndsIdle task) e none.idle)) action none.calm ∙ sym none.none
-none_released tree code texts w img p r has task told none (counted_gave after np t action by) no_limit =
     released_none code img p r has ((choice (scopes_of tree) w p).action) (λ (e : (choice (scopes_of tree) w p).action ≡ End). told (subst (EndsIdle task) e none.idle)) action none.calm ∙ sym none.none
 none_released tree code texts w img p r has task told none (failed_by kind np t action by) no_limit = fault_releases code img p kind t ∙ sym none.none
 none_released tree code texts w img p r has task told none (stopped np t heavy) no_limit = absurd (no_limit t)

@@ -37,12 +37,11 @@ use Rattle.b67_faithful.specs.Simulation.{AreFew, Acted, Comes, acts, stops, Sim
 use Rattle.b67_faithful.proofs.Contradictions.{true_false, gives_same, faults_same, gives_faults}
 use Rattle.b67_faithful.proofs.Counting.{simulations_are_faithful}
 use Rattle.b67_faithful.proofs.Ways.{may_lead}
-use Rattle.b67_rows.proofs.Counted.{AreCounted, table_counted}
 use Rattle.b67_rows.proofs.Numbers.{numbered_beyond}
 use Rattle.b67_frames.specs.Arrays.{Layout}
 use Rattle.b67_scenes.specs.Pictures.{Pictured, living, dead, PicturesBy, Pictures}
 use Rattle.b67_scenes.proofs.Showing.{able_acts, no_limit, IsAble, able_one, able_alike, ends_alike, is_light}
-use Rattle.b67_pictures.specs.Acting.{MayAct, Does, gave, failed_by, counted_gave, stopped}
+use Rattle.b67_pictures.specs.Acting.{MayAct, Does, gave, failed_by, stopped}
 use Rattle.b67_pictures.proofs.Quiet.{SettledAct, through_plain, Operates, plainly, acting, operates, Settles, settles}
 
 -- ---- an outcome is one
@@ -62,9 +61,9 @@ limit_interrupts x y = cc
 pub faults_limit : {A B : Type 0} {j : FaultKind} {e : Outcome A} → e ≡ faults j → e ≡ limit → B
 faults_limit x y = cc
 
--- An image pictures a world in which there is a process 1, and which is as worlds are. It has registers for as many processes as there have been.
+-- An image pictures a world in which there is a process 1, and which is as worlds are.
 abbrev pub PicturesSome : PProgram → Code → Texts → World → Image → Type 0
-PicturesSome tree code texts w img = Pictures tree code texts w img × (1 ≤ length w.processes) × IsOk (scopes_of tree) IsWhole w × AreCounted img
+PicturesSome tree code texts w img = Pictures tree code texts w img × (1 ≤ length w.processes) × IsOk (scopes_of tree) IsWhole w
 
 -- what no operator of a pictured image touches: a word in another process's private part
 abbrev pub StandApart : PProgram → Code → Texts → Type 0
@@ -75,15 +74,6 @@ StandApart tree code texts =
 abbrev pub OperatorsAreFew : PProgram → Code → Texts → Type 0
 OperatorsAreFew tree code texts =
     (w : World) (lay : Layout) (a : Image) → PicturesBy tree code texts w lay a → (b : Image) (p n : ℕ) → Plains code p a n b → AreFew code p n b
-
--- registers are not lost
-failed_counted : (img : Image) (p : ℕ) (kind : FaultKind) → AreCounted img → AreCounted (failed img p kind)
-unfolding failed
-failed_counted img p kind counted = counted
-
-first_counted : AreCounted first_image
-unfolding first_image
-first_counted = refl
 
 module _ (tree : PProgram) (code : Code) (texts : Texts) (performed : StepsArePerformed) (limits : StepsComeToLimit)
     (fit : AreTexts (scopes_of tree)) (settled_does : (w : World) → IsOk (scopes_of tree) IsWhole w → SettledAct tree code texts w) where
@@ -104,43 +94,30 @@ module _ (tree : PProgram) (code : Code) (texts : Texts) (performed : StepsArePe
     some_after some = omega (arith, some, processes_stay (scopes_of tree) w p)
 
     -- and the world is as worlds are
-    acted : {b : Image} → 1 ≤ length (choice (scopes_of tree) w p).world.processes → MayAct (scopes_of tree) w p → AreCounted a → (one : IsAble tree code texts w lay a by p) → Acts code p a b → Operator w lay a p →
+    acted : {b : Image} → 1 ≤ length (choice (scopes_of tree) w p).world.processes → MayAct (scopes_of tree) w p → (one : IsAble tree code texts w lay a by p) → Acts code p a b → Operator w lay a p →
         Acted tree code Pic w p a b
-    acted some may counted one (runs.acts np t) (plainly after e t') = true_false e np
-    acted {b} some may counted one (runs.acts np t) (acting (gave after np' t' action by') freed) =
+    acted some may one (runs.acts np t) (plainly after e t') = true_false e np
+    acted some may one (runs.acts np t) (acting (gave after np' t' action by') freed) =
         record {
           action = action;
           released = freed (λ l. gives_limit t l);
-          pictures = (subst (λ (i : Image). Pictures tree code texts ((choice (scopes_of tree) w p).world) i) (gives_same t' t) (by' may), some, may.ok, table_counted code a b p t counted);
+          pictures = (subst (λ (i : Image). Pictures tree code texts ((choice (scopes_of tree) w p).world) i) (gives_same t' t) (by' may), some, may.ok);
         }
-    acted {b} some may counted one (runs.acts np t) (acting (counted_gave after np' t' action by') freed) =
-        record {
-          action = action;
-          released = freed (λ l. gives_limit t l);
-          pictures = (
-            subst (λ (i : Image). Pictures tree code texts ((choice (scopes_of tree) w p).world) i) (gives_same t' t) (by' may counted),
-            some,
-            may.ok,
-            table_counted code a b p t counted,
-          );
-        }
-    acted some may counted one (runs.acts np t) (acting (failed_by kind np' t' action by') freed) = gives_faults t t'
-    acted some may counted one (runs.acts np t) (acting (stopped np' t' heavy) freed) = gives_limit t t'
-    acted some may counted one (runs.fails kind t) (plainly after e t') = gives_faults t' t
-    acted some may counted one (runs.fails kind t) (acting (stopped np' t' heavy) freed) = faults_limit t t'
-    acted some may counted one (runs.fails kind t) (acting (gave after np' t' action by') freed) = gives_faults t' t
-    acted some may counted one (runs.fails kind t) (acting (counted_gave after np' t' action by') freed) = gives_faults t' t
-    acted some may counted one (runs.fails kind t) (acting (failed_by kind' np' t' action by') freed) =
+    acted some may one (runs.acts np t) (acting (failed_by kind np' t' action by') freed) = gives_faults t t'
+    acted some may one (runs.acts np t) (acting (stopped np' t' heavy) freed) = gives_limit t t'
+    acted some may one (runs.fails kind t) (plainly after e t') = gives_faults t' t
+    acted some may one (runs.fails kind t) (acting (stopped np' t' heavy) freed) = faults_limit t t'
+    acted some may one (runs.fails kind t) (acting (gave after np' t' action by') freed) = gives_faults t' t
+    acted some may one (runs.fails kind t) (acting (failed_by kind' np' t' action by') freed) =
         record {
           action = action;
           released = freed (λ l. faults_limit t l);
-          pictures = (subst (λ (k : FaultKind). Pictures tree code texts ((choice (scopes_of tree) w p).world) (failed a p k)) (faults_same t' t) by', some, may.ok, failed_counted a p kind counted);
+          pictures = (subst (λ (k : FaultKind). Pictures tree code texts ((choice (scopes_of tree) w p).world) (failed a p k)) (faults_same t' t) by', some, may.ok);
         }
 
     not_tagged : (kind : InterruptKind) → Operator w lay a p → table code a p ≡ interrupts kind → ⊥
     not_tagged kind (plainly after e t) i = gives_interrupts t i
     not_tagged kind (acting (gave after np t action by') freed) i = gives_interrupts t i
-    not_tagged kind (acting (counted_gave after np t action by') freed) i = gives_interrupts t i
     not_tagged kind (acting (failed_by k np t action by') freed) i = faults_interrupts t i
     not_tagged kind (acting (stopped np t heavy) freed) i = limit_interrupts t i
 
@@ -148,7 +125,6 @@ module _ (tree : PProgram) (code : Code) (texts : Texts) (performed : StepsArePe
     heavy_one : Operator w lay a p → table code a p ≡ limit → stack_limit < weight tree w p
     heavy_one (plainly after e t) i = gives_limit t i
     heavy_one (acting (gave after np t action by') freed) i = gives_limit t i
-    heavy_one (acting (counted_gave after np t action by') freed) i = gives_limit t i
     heavy_one (acting (failed_by k np t action by') freed) i = faults_limit t i
     heavy_one (acting (stopped np t heavy) freed) i = heavy
 
@@ -166,7 +142,6 @@ module _ (tree : PProgram) (code : Code) (texts : Texts) (performed : StepsArePe
 
     comes_to : {n : ℕ} {quiet : Image} → Plains code p a n quiet → Does tree code texts w quiet p → Comes tree code Pic p a
     comes_to plains (gave after np t action by') = acts plains (runs.acts np t)
-    comes_to plains (counted_gave after np t action by') = acts plains (runs.acts np t)
     comes_to plains (failed_by kind np t action by') = acts plains (runs.fails kind t)
     comes_to plains (stopped np t heavy) = stops plains t
 
@@ -207,11 +182,11 @@ module _ (tree : PProgram) (code : Code) (texts : Texts) (performed : StepsArePe
     pub simulation : Simulates tree code (PicturesSome tree code texts)
     simulation =
         record {
-          first = (first, some_first, first_world_stands (scopes_of tree) outer, first_counted);
-          plain = λ w a b p pic e t. ((pic.0.0, through_plain tree code texts performed limits w (settled_does w pic.2) pic.0.0 a b p pic.0.1 e t), pic.1, pic.2, table_counted code a b p t pic.3);
+          first = (first, some_first, first_world_stands (scopes_of tree) outer);
+          plain = λ w a b p pic e t. ((pic.0.0, through_plain tree code texts performed limits w (settled_does w pic.2) pic.0.0 a b p pic.0.1 e t), pic.1, pic.2);
           act = λ w a b p pic may x.
               let one : IsAble tree code texts w pic.0.0 a pic.0.1 p = able_one tree code texts w pic.0.0 a pic.0.1 p (able_acts a p may) in
-              acted w pic.2 pic.0.0 a pic.0.1 p (some_after w pic.2 pic.0.0 a pic.0.1 p pic.1) (may_then w a p pic may one.able_now) pic.3 one x (operator_of w pic.2 pic.0.0 a pic.0.1 p one);
+              acted w pic.2 pic.0.0 a pic.0.1 p (some_after w pic.2 pic.0.0 a pic.0.1 p pic.1) (may_then w a p pic may one.able_now) one x (operator_of w pic.2 pic.0.0 a pic.0.1 p one);
           come = λ w a p pic may. comes w pic.2 pic.0.0 a pic.0.1 p (able_one tree code texts w pic.0.0 a pic.0.1 p (able_acts a p may));
           few = λ w a b p n pic plains. few_operators w pic.0.0 a pic.0.1 b p n plains;
           shows = shows_world;

@@ -228,7 +228,7 @@ module _ (tree : PProgram) (code : Code) (program : ProgramAt code tree) (nested
           let x = facts.there critical (facts.on_path (newest_own (part ∷ outer)) critical (top_stands sc IsWhole w s.ok.sound p q part outer s.at s.todo) critical_path) in
           omega (arith, numbered_low w.instances critical x.0 x.1, same)
 
-  module _ (counted : length img.regs ≡ img.started) (after_it : IsAfter (scopes_of tree) w w' p) where
+  module _ (after_it : IsAfter (scopes_of tree) w w' p) where
     on : StandOn sc w w' lay lay'
     on = all_stand_on sc w lay s.ok p q q' s.at refl (λ e. e) (newest_own (part ∷ outer)) newest.0 newest.1 made new critical refl critical_path after_it
 
@@ -294,7 +294,7 @@ module _ (tree : PProgram) (code : Code) (program : ProgramAt code tree) (nested
         omega (
           arith,
           length_set_numbered img.regs p (process.new tree code texts fragments keeps order w lay img p q part outer bound core s able_is able_p n gs task asks a answered linked.at more tasked.cell critical_there.0 refers).registers,
-          counted,
+          s.by.counted,
           s.by.started,
           s.by.states,
         )

@@ -1,6 +1,6 @@
 -- STOD on a cell of another stack than the process's own, which the reference under the top names.
-use Rattle.std.proofs.Common.{◌≡◌, ◌≢◌, refl, ap, ◌∙◌, ℕ, ◌+◌, ◌-◌, List, [], ◌∷◌, ◌++◌, length, take, Option, Some, None, Bool, false, Ok, arith}
-use Rattle.std.specs.Prelude.{if◌then◌else◌, ◌==◌, reverse, slice_get, slice_set}
+use Rattle.std.proofs.Common.{◌≡◌, ◌≢◌, refl, ap, ◌∙◌, ℕ, ◌+◌, ◌-◌, List, [], ◌∷◌, ◌++◌, take, Option, Some, None, Bool, false, Ok, arith}
+use Rattle.std.specs.Prelude.{if◌then◌else◌, ◌==◌, reverse, slice_set}
 use Rattle.b67_word.specs.declared.Place.{Place}
 use Rattle.b67_word.specs.Word.{Word}
 use Rattle.b67_control.specs.declared.Registers.{Registers}
@@ -27,9 +27,9 @@ use Rattle.b67_letters.specs.Letters.{told_by, element_or_not, stored_letter, op
 use Rattle.b67_cores.specs.Cores.{Core, HasCore, with_core}
 use Rattle.b67_rows.proofs.Cored.{stack_other}
 use Rattle.b67_rows.proofs.IndexRows.{without_two}
-use Rattle.b67_rows.proofs.Rows.{raw_is, words_are}
-use Rattle.b67_rows.proofs.StackWords.{word-over, word-under, cut-stack}
-use Rattle.b67_rows.proofs.StoreRow.{most_is}
+use Rattle.b67_rows.proofs.Rows.{raw_is}
+use Rattle.b67_rows.proofs.StackWords.{cut-stack}
+use Rattle.b67_rows.proofs.StoreRow.{most_is, words_whole, words_long, top_word, under_word}
 
 module _ (code : Code) (img : Image) (p : ℕ) (core : Core) (has : HasCore img p core) (next : ℕ) (at : operator_at code core.registers ≡ Ok (ops.Plain kinds.Stod, next))
     (x y old : Word) (words : List Word) (top : core.words ≡ x ∷ y ∷ words) (frame : Place) (index : ℕ) (names : cell_of core.registers y ≡ Some (record { frame = frame; index = index })) (plain_word : as_indexed y ≡ None)
@@ -43,22 +43,6 @@ module _ (code : Code) (img : Image) (p : ℕ) (core : Core) (has : HasCore img 
   abbrev tested : Program → Effect Image
   tested t = effect_of p img (asked img t)
 
-  whole : words_of img.stacks r.stack ≡ core.below ++ reverse (x ∷ y ∷ words)
-  whole = words_are img p core has ∙ ap (λ (ws : List Word). core.below ++ reverse ws) top
-
-  long : r.s ≡ length core.below + length words + 2
-  long = omega (arith, has.is.top, ap length top)
-
-  top_word : word_at img.stacks (record { stack = r.stack; at = r.s - 1 }) ≡ Some x
-  top_word =
-      ap (λ (ws : List Word). slice_get ws (r.s - 1)) whole
-      ∙ word-over core.below x (y ∷ words) (r.s - 1) (omega (arith, long))
-
-  under_word : word_at img.stacks (record { stack = r.stack; at = r.s - 2 }) ≡ Some y
-  under_word =
-      ap (λ (ws : List Word). slice_get ws (r.s - 2)) whole
-      ∙ word-under core.below (x ∷ []) y words (r.s - 2) (omega (arith, long))
-
   abbrev after : Registers
   after = record r { s = r.s - 2 + 0; place = next }
 
@@ -70,8 +54,8 @@ module _ (code : Code) (img : Image) (p : ℕ) (core : Core) (has : HasCore img 
       with_stack (with_word img.stacks (cell_place (record { frame = frame; index = index })) x) core.registers.stack (core.below ++ reverse words)
   saved =
       ap (λ (o : Option (List Word)). with_stack changed r.stack (take (r.s - 2) (words_or o))) (stack_other img.stacks frame.stack r.stack (slice_set (words_of img.stacks frame.stack) (frame.at + index) x) apart)
-      ∙ ap (λ (ws : List Word). with_stack changed r.stack (take (r.s - 2) ws)) whole
-      ∙ ap (λ (ws : List Word). with_stack changed r.stack ws) (cut-stack core.below (x ∷ y ∷ []) words (r.s - 2) (omega (arith, long)))
+      ∙ ap (λ (ws : List Word). with_stack changed r.stack (take (r.s - 2) ws)) (words_whole img p core has x y words top)
+      ∙ ap (λ (ws : List Word). with_stack changed r.stack ws) (cut-stack core.below (x ∷ y ∷ []) words (r.s - 2) (omega (arith, words_long img p core has x y words top)))
 
   abbrev two : Word → Word → Two
   two a b = record { x = a; y = b }
@@ -87,9 +71,9 @@ module _ (code : Code) (img : Image) (p : ℕ) (core : Core) (has : HasCore img 
 
   does_is : does p (store false r next) img ≡ gives (with_core (with_stacks img (with_word img.stacks (cell_place (record { frame = frame; index = index })) x)) p (without_two core words next))
   does_is =
-      ap (λ (b : Bool). tested (see ((if b then from_top r 0 else stops StackUnderflow) >-> under) >>= go_on)) (most_is (floor r + 2) r.s (omega (arith, long, has.is.bottom)))
-      ∙ ap (λ (o : Option Word). tested (see (valid o >-> under) >>= go_on)) top_word
-      ∙ ap (λ (o : Option Word). tested (see (valid o >-> (λ (b : Word). found (two x b))) >>= go_on)) under_word
+      ap (λ (b : Bool). tested (see ((if b then from_top r 0 else stops StackUnderflow) >-> under) >>= go_on)) (most_is (floor r + 2) r.s (omega (arith, words_long img p core has x y words top, has.is.bottom)))
+      ∙ ap (λ (o : Option Word). tested (see (valid o >-> under) >>= go_on)) (top_word img p core has x y words top)
+      ∙ ap (λ (o : Option Word). tested (see (valid o >-> (λ (b : Word). found (two x b))) >>= go_on)) (under_word img p core has x y words top)
       ∙ ap (λ (t : ℕ). tested (see (if t == 0 then found x else invalid) >>= (λ (a : Word). store_by false r next a y (as_indexed y)))) tag
       ∙ ap (λ (d : Option Descriptor). tested (store_by false r next x y d)) plain_word
       ∙ ap (λ (o : Option Cell). tested (see (named o) >>= put)) names
@@ -99,9 +83,9 @@ module _ (code : Code) (img : Image) (p : ℕ) (core : Core) (has : HasCore img 
 
   pub stores_elsewhere : operator_letter (ops.Plain kinds.Stod) img core.registers ≡ Some Store
   stores_elsewhere =
-      ap (λ (b : Bool). told_by stored_letter (seen img.stacks ((if b then from_top r 0 else stops StackUnderflow) >-> under))) (most_is (floor r + 2) r.s (omega (arith, long, has.is.bottom)))
-      ∙ ap (λ (o : Option Word). told_by stored_letter (seen img.stacks (valid o >-> under))) top_word
-      ∙ ap (λ (o : Option Word). told_by stored_letter (seen img.stacks (valid o >-> (λ (b : Word). found (two x b))))) under_word
+      ap (λ (b : Bool). told_by stored_letter (seen img.stacks ((if b then from_top r 0 else stops StackUnderflow) >-> under))) (most_is (floor r + 2) r.s (omega (arith, words_long img p core has x y words top, has.is.bottom)))
+      ∙ ap (λ (o : Option Word). told_by stored_letter (seen img.stacks (valid o >-> under))) (top_word img p core has x y words top)
+      ∙ ap (λ (o : Option Word). told_by stored_letter (seen img.stacks (valid o >-> (λ (b : Word). found (two x b))))) (under_word img p core has x y words top)
       ∙ ap (λ (d : Option Descriptor). Some (element_or_not ElementStore Store d)) plain_word
 
   pub store_elsewhere_raw : raw code img p ≡ gives (with_core (with_stacks img (with_word img.stacks (cell_place (record { frame = frame; index = index })) x)) p (without_two core words next))

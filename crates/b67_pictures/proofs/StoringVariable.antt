@@ -232,7 +232,7 @@ module _ (tree : PProgram) (code : Code) (texts : Texts) (fragments : FragmentsA
     pictured may =
         subst (λ (n : ℕ). PicturesBy tree code texts w' lay (with_core img p (with_cell core n x words next))) same_at
         (own_pictured tree code texts fragments kept order w lay img p q part outer bound core s (unmade part.rest (ap makes asks)) done tt i f instance instance_there cells' h.number (Some x) many (λ set. short) (λ set. low) keeps
-        (refers_fewer instance.cells r.name (simple v) refl) changes words new.registers (record { is = refl }) next below core_at held answered smaller able_is q.state img (λ m other had. had) refl (after_so may) arrays_now events_now refl refl refl s.by.waits.awaiting refl refl refl refl
+        (refers_fewer instance.cells r.name (simple v) refl) changes words new.registers (record { is = refl }) next below core_at held answered smaller able_is q.state img (λ m other had. had) refl (after_so may) arrays_now events_now refl refl refl s.by.waits.awaiting refl refl refl refl refl
         (λ m other. refl) able_is able_p here)
 
     stores_own : Does tree code texts w img p
@@ -262,7 +262,7 @@ module _ (tree : PProgram) (code : Code) (texts : Texts) (fragments : FragmentsA
     pictured_there may =
         subst (λ (n : ℕ). PicturesBy tree code texts w' lay (with_core (with_stacks img (with_word img.stacks (place f.number n) x)) p new)) same_at
         (other_pictured tree code texts fragments kept order w lay img p q part outer bound core s (unmade part.rest (ap makes asks)) done tt i f instance instance_there cells' h.number (Some x) many (λ set. short) (λ set. low) keeps
-        (refers_fewer instance.cells r.name (simple v) refl) changes words new.registers (record { is = refl }) next below core_at held answered smaller able_is q.state img (λ m other had. had) refl (after_so may) arrays_now events_now refl refl refl s.by.waits.awaiting refl refl refl refl
+        (refers_fewer instance.cells r.name (simple v) refl) changes words new.registers (record { is = refl }) next below core_at held answered smaller able_is q.state img (λ m other had. had) refl (after_so may) arrays_now events_now refl refl refl s.by.waits.awaiting refl refl refl refl refl
         (λ m other. refl) able_is able_p other)
 
     has_there : HasCore with_it p core

@@ -445,7 +445,7 @@ module _ (tree : PProgram) (code : Code) (texts : Texts) (closing : FramesClose)
         (there.arrays_after sc v lay j x own_cells r.name e.made.number found later before.rows (ending.arrays_left_world tree code texts closing w lay img p q part bound core s owns asks a)))
         (events_unchanged sc stored w' lay now.events refl
         (there.events_after sc v lay j x own_cells r.name e.made.number found later (place h.number high) laid (with_state caused) (λ z. refl) refl open_events open_before))
-        (waits_now able_now) s.by.output refl refl refl (length_set_numbered img.states p Ended) (ending.system_stays tree code texts closing w lay img p q part bound core s owns asks a) others_now
+        (waits_now able_now) s.by.output refl refl refl (length_set_numbered img.regs p _) (length_set_numbered img.states p Ended) (ending.system_stays tree code texts closing w lay img p q part bound core s owns asks a) others_now
         (dead refl (numbered_set img.states p (ending.state_now tree code texts closing w lay img p q part bound core s owns asks a).0 Ended (ending.state_now tree code texts closing w lay img p q part bound core s owns asks a).1))
 
     pictured_caused : is_able ((process_at w p).state) ≡ true → PicturesBy tree code texts (with_process (set_event v r later) p q') lay now

@@ -1,5 +1,5 @@
 -- What the operator of an action does in an image of a world.
-use Rattle.std.specs.Prelude.{◌≡◌, ℕ, ◌<◌, true, false, Some, length}
+use Rattle.std.specs.Prelude.{◌≡◌, ℕ, ◌<◌, true, false, Some}
 use Rattle.b67_letters.specs.Letters.{letter}
 use Rattle.b67_num.specs.declared.FaultKind.{FaultKind}
 use Rattle.algol_tree.specs.Plain.{PProgram}
@@ -35,7 +35,4 @@ module _ (tree : PProgram) (code : Code) (texts : Texts) (w : World) (img : Imag
         (MayAct (scopes_of tree) w p → Pictures tree code texts ((choice (scopes_of tree) w p).world) after) → Does
     failed_by : (kind : FaultKind) → plain code img p ≡ false → table code img p ≡ faults kind → letter code img p ≡ Some ((choice (scopes_of tree) w p).action) →
         Pictures tree code texts ((choice (scopes_of tree) w p).world) (failed img p kind) → Does
-    -- .. where the image has registers for as many processes as there have been
-    counted_gave : (after : Image) → plain code img p ≡ false → table code img p ≡ gives after → letter code img p ≡ Some ((choice (scopes_of tree) w p).action) →
-        (MayAct (scopes_of tree) w p → length img.regs ≡ img.started → Pictures tree code texts ((choice (scopes_of tree) w p).world) after) → Does
     stopped : plain code img p ≡ false → table code img p ≡ limit → stack_limit < weight tree w p → Does

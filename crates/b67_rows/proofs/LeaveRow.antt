@@ -1,5 +1,5 @@
 -- EXIT and RETN of a frame that is not the base frame.
-use Rattle.std.proofs.Common.{◌≡◌, refl, sym, ap, ◌∙◌, ℕ, ◌+◌, ◌≤◌, List, [], ◌∷◌, ◌++◌, length, take, drop, Option, Some, None, Bool, true, false, Ok, arith, append_assoc, length-append}
+use Rattle.std.proofs.Common.{◌≡◌, refl, sym, ap, ◌∙◌, ℕ, ◌+◌, ◌≤◌, List, [], ◌∷◌, ◌++◌, length, take, drop, Option, Some, None, Bool, true, false, Ok, arith, append_assoc, length-append, ◌≢◌}
 use Rattle.std.specs.Prelude.{if◌then◌else◌, nat_eq, reverse}
 use Rattle.b67_deeds.specs.declared.Letter.TheVariants as act
 use Rattle.b67_num.specs.declared.FaultKind.TheVariants.{CriticalBlockExit}
@@ -34,6 +34,7 @@ use Rattle.b67_letters.proofs.Looks.{then_seen, see_found}
 use Rattle.b67_rows.proofs.Rows.{raw_is, words_are, action_is}
 use Rattle.b67_rows.proofs.StackWords.{take-seam, drop-seam, stack-over, length-stack, words-set, set-set}
 use Rattle.std.proofs.lemmas.Bool.Decides.{nat_tests}
+use Rattle.b67_rows.proofs.Cored.{has_now, others_have}
 
 pub not_zero : (n : ℕ) → 1 ≤ n → nat_eq n 0 ≡ false
 not_zero n h = grind (arith, nat_tests)
@@ -124,6 +125,16 @@ module _ (code : Code) (img : Image) (p : ℕ) (core : Core) (has : HasCore img 
     -- the events of the frame are closed
     abbrev pub after : Image
     after = with_core (with_events (with_rows img e.rows) (closed_from r.stack f img.events)) p outer_core
+
+    -- the process has its outer core there, and each other its own
+    pub left_has : IsCore (without_frame core below words (length (below ++ reverse words)) (record { below = b; display = display }) given) →
+        HasCore after p (without_frame core below words (length (below ++ reverse words)) (record { below = b; display = display }) given)
+    left_has is = let h : HasCore (with_core img p outer_core) p outer_core = has_now img p core outer_core has refl is in record { live = h.live; registers = h.registers; own = h.own; stack = h.stack; is = h.is }
+
+    pub left_others : (m : ℕ) (other : Core) → m ≢ p → HasCore img m other → HasCore after m other
+    left_others m other apart had =
+        let h : HasCore (with_core img p outer_core) m other = others_have img p core outer_core has refl m other apart had in
+        record { live = h.live; registers = h.registers; own = h.own; stack = h.stack; is = h.is }
 
     changed_to : changed p gone (with_rows img e.rows) ≡ after
     changed_to = by_given given

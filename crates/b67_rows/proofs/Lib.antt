@@ -49,4 +49,3 @@ pub mod ActualsSeen
 pub mod CriticalRow
 pub mod Begun
 pub mod StartRow
-pub mod Counted

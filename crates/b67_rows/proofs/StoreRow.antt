@@ -37,6 +37,24 @@ abbrev pub with_cell : Core → ℕ → Word → List Word → ℕ → Core
 with_cell core k x words next =
     record { below = slice_set core.below k x; words = words; registers = record core.registers { s = core.registers.s - 2 + 0; place = next } }
 
+-- the two words on top of a core
+module _ (img : Image) (p : ℕ) (core : Core) (has : HasCore img p core) (x y : Word) (words : List Word) (top : core.words ≡ x ∷ y ∷ words) where
+  pub words_whole : words_of img.stacks core.registers.stack ≡ core.below ++ reverse (x ∷ y ∷ words)
+  words_whole = words_are img p core has ∙ ap (λ (ws : List Word). core.below ++ reverse ws) top
+
+  pub words_long : core.registers.s ≡ length core.below + length words + 2
+  words_long = omega (arith, has.is.top, ap length top)
+
+  pub top_word : word_at img.stacks (record { stack = core.registers.stack; at = core.registers.s - 1 }) ≡ Some x
+  top_word =
+      ap (λ (ws : List Word). slice_get ws (core.registers.s - 1)) words_whole
+      ∙ word-over core.below x (y ∷ words) (core.registers.s - 1) (omega (arith, words_long))
+
+  pub under_word : word_at img.stacks (record { stack = core.registers.stack; at = core.registers.s - 2 }) ≡ Some y
+  under_word =
+      ap (λ (ws : List Word). slice_get ws (core.registers.s - 2)) words_whole
+      ∙ word-under core.below (x ∷ []) y words (core.registers.s - 2) (omega (arith, words_long))
+
 module _ (code : Code) (img : Image) (p : ℕ) (core : Core) (has : HasCore img p core) (next : ℕ) (at : operator_at code core.registers ≡ Ok (ops.Plain kinds.Stod, next))
     (x y old : Word) (words : List Word) (top : core.words ≡ x ∷ y ∷ words)
     (index f : ℕ) (names : cell_of core.registers y ≡ Some (record { frame = record { stack = core.registers.stack; at = f }; index = index })) (plain_word : as_indexed y ≡ None)
@@ -53,25 +71,9 @@ module _ (code : Code) (img : Image) (p : ℕ) (core : Core) (has : HasCore img 
   abbrev tested : Program → Effect Image
   tested t = effect_of p img (asked img t)
 
-  whole : words_of img.stacks r.stack ≡ core.below ++ reverse (x ∷ y ∷ words)
-  whole = words_are img p core has ∙ ap (λ (ws : List Word). core.below ++ reverse ws) top
-
-  long : r.s ≡ length core.below + length words + 2
-  long = omega (arith, has.is.top, ap length top)
-
-  top_word : word_at img.stacks (record { stack = r.stack; at = r.s - 1 }) ≡ Some x
-  top_word =
-      ap (λ (ws : List Word). slice_get ws (r.s - 1)) whole
-      ∙ word-over core.below x (y ∷ words) (r.s - 1) (omega (arith, long))
-
-  under_word : word_at img.stacks (record { stack = r.stack; at = r.s - 2 }) ≡ Some y
-  under_word =
-      ap (λ (ws : List Word). slice_get ws (r.s - 2)) whole
-      ∙ word-under core.below (x ∷ []) y words (r.s - 2) (omega (arith, long))
-
   old_word : word_at img.stacks (record { stack = r.stack; at = f + index }) ≡ Some old
   old_word =
-      ap (λ (ws : List Word). slice_get ws (f + index)) whole
+      ap (λ (ws : List Word). slice_get ws (f + index)) (words_whole img p core has x y words top)
       ∙ get-front core.below (reverse (x ∷ y ∷ words)) (f + index) old lies
 
   abbrev after : Registers
@@ -80,12 +82,12 @@ module _ (code : Code) (img : Image) (p : ℕ) (core : Core) (has : HasCore img 
   -- the cell is changed and the two words are dropped
   saved : with_cut (with_word img.stacks (record { stack = r.stack; at = f + index }) x) r.stack (r.s - 2) ≡ with_stack img.stacks r.stack (slice_set core.below (f + index) x ++ reverse words)
   saved =
-      ap (λ (ws : List Word). with_cut (with_stack img.stacks r.stack (slice_set ws (f + index) x)) r.stack (r.s - 2)) whole
+      ap (λ (ws : List Word). with_cut (with_stack img.stacks r.stack (slice_set ws (f + index) x)) r.stack (r.s - 2)) (words_whole img p core has x y words top)
       ∙ ap (λ (ws : List Word). with_cut (with_stack img.stacks r.stack ws) r.stack (r.s - 2)) (set-front core.below (reverse (x ∷ y ∷ words)) (f + index) x old lies)
       ∙ ap (λ (ws : List Word). with_stack (with_stack img.stacks r.stack (slice_set core.below (f + index) x ++ reverse (x ∷ y ∷ words))) r.stack (take (r.s - 2) ws))
       (words-set img.stacks r.stack (stack_of core) (slice_set core.below (f + index) x ++ reverse (x ∷ y ∷ words)) has.stack)
       ∙ ap (λ (ws : List Word). with_stack (with_stack img.stacks r.stack (slice_set core.below (f + index) x ++ reverse (x ∷ y ∷ words))) r.stack ws)
-      (cut-stack (slice_set core.below (f + index) x) (x ∷ y ∷ []) words (r.s - 2) (omega (arith, long, length-set core.below (f + index) x)))
+      (cut-stack (slice_set core.below (f + index) x) (x ∷ y ∷ []) words (r.s - 2) (omega (arith, words_long img p core has x y words top, length-set core.below (f + index) x)))
       ∙ set-set img.stacks r.stack (slice_set core.below (f + index) x ++ reverse (x ∷ y ∷ words)) (slice_set core.below (f + index) x ++ reverse words)
 
   abbrev two : Word → Word → Two
@@ -102,9 +104,9 @@ module _ (code : Code) (img : Image) (p : ℕ) (core : Core) (has : HasCore img 
 
   does_is : does p (store false r next) img ≡ gives (with_core img p (with_cell core (f + index) x words next))
   does_is =
-      ap (λ (b : Bool). tested (see ((if b then from_top r 0 else stops StackUnderflow) >-> under) >>= go_on)) (most_is (floor r + 2) r.s (omega (arith, long, has.is.bottom)))
-      ∙ ap (λ (o : Option Word). tested (see (valid o >-> under) >>= go_on)) top_word
-      ∙ ap (λ (o : Option Word). tested (see (valid o >-> (λ (b : Word). found (two x b))) >>= go_on)) under_word
+      ap (λ (b : Bool). tested (see ((if b then from_top r 0 else stops StackUnderflow) >-> under) >>= go_on)) (most_is (floor r + 2) r.s (omega (arith, words_long img p core has x y words top, has.is.bottom)))
+      ∙ ap (λ (o : Option Word). tested (see (valid o >-> under) >>= go_on)) (top_word img p core has x y words top)
+      ∙ ap (λ (o : Option Word). tested (see (valid o >-> (λ (b : Word). found (two x b))) >>= go_on)) (under_word img p core has x y words top)
       ∙ ap (λ (t : ℕ). tested (see (if t == 0 then found x else invalid) >>= (λ (a : Word). store_by false r next a y (as_indexed y)))) tag
       ∙ ap (λ (d : Option Descriptor). tested (store_by false r next x y d)) plain_word
       ∙ ap (λ (o : Option Cell). tested (see (named o) >>= put)) names
@@ -115,9 +117,9 @@ module _ (code : Code) (img : Image) (p : ℕ) (core : Core) (has : HasCore img 
   -- the word under the top is no descriptor of an element
   pub stores_variable : operator_letter (ops.Plain kinds.Stod) img r ≡ Some Store
   stores_variable =
-      ap (λ (b : Bool). told_by stored_letter (seen img.stacks ((if b then from_top r 0 else stops StackUnderflow) >-> under))) (most_is (floor r + 2) r.s (omega (arith, long, has.is.bottom)))
-      ∙ ap (λ (o : Option Word). told_by stored_letter (seen img.stacks (valid o >-> under))) top_word
-      ∙ ap (λ (o : Option Word). told_by stored_letter (seen img.stacks (valid o >-> (λ (b : Word). found (two x b))))) under_word
+      ap (λ (b : Bool). told_by stored_letter (seen img.stacks ((if b then from_top r 0 else stops StackUnderflow) >-> under))) (most_is (floor r + 2) r.s (omega (arith, words_long img p core has x y words top, has.is.bottom)))
+      ∙ ap (λ (o : Option Word). told_by stored_letter (seen img.stacks (valid o >-> under))) (top_word img p core has x y words top)
+      ∙ ap (λ (o : Option Word). told_by stored_letter (seen img.stacks (valid o >-> (λ (b : Word). found (two x b))))) (under_word img p core has x y words top)
       ∙ ap (λ (d : Option Descriptor). Some (element_or_not ElementStore Store d)) plain_word
 
   pub store_raw : raw code img p ≡ gives (with_core img p (with_cell core (f + index) x words next))

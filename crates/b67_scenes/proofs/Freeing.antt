@@ -27,7 +27,7 @@ use Rattle.b67_scenes.specs.Waiting.{ListIs, WaitsAre}
 use Rattle.b67_frames.proofs.Facts.{HasFacts}
 use Rattle.b67_scenes.proofs.Ancestors.{all_laid}
 use Rattle.b67_scenes.proofs.StatesOnly.{alone_still}
-use Rattle.b67_scenes.proofs.Kept.{LeavesAlone, alike_by, living_alike}
+use Rattle.b67_scenes.proofs.Kept.{LeavesAlone, alike_by, living_alike, living_there}
 use Rattle.b67_scenes.proofs.Stage.{state_there, process_is, comes_to}
 use Rattle.b67_scenes.proofs.Waiting.{awaiting_beside, waits_beside}
 use Rattle.b67_scenes.proofs.Tasks.{events_same}
@@ -101,22 +101,7 @@ module _ (tree : PProgram) (code : Code) (texts : Texts) (lay : Layout) where
         living_alike tree code texts w w' lay lay m (alike_by (scopes_of tree) w w' lay m (still m) refl) img img' o at (ap (λ (x : Process). x.todo) (process_is w' m o' (numbered_set w.processes m o o' at)))
         (λ core has. same_core m core (ap is_live now ∙ live) has) l in
         living stays (subst (λ (x : Option ProcessState). StateIs (scopes_of tree) w' lay state x) (sym now) state_is)
-        (record {
-          core = later.core;
-          has = later.has;
-          critical = later.critical;
-          task = later.task;
-          sees = later.sees;
-          small = later.small;
-          settled = later.settled;
-          bound = later.bound;
-          count = later.count;
-          steps = later.steps;
-          frames = later.frames;
-          reaches = later.reaches;
-          room = later.room;
-          light = later.light;
-        })
+        (living_there tree code texts w' lay img' img' m o state woken later later.has)
 
     -- where it waits in that state for its list, and has that number
     module _ (state_is : StateIs (scopes_of tree) state_world lay state (Some machine_state)) (awaits : (there : Place) → IsListed (waiters_at there img.events) m → AwaitsAt (Some machine_state) (list_of m lists) there)
@@ -139,7 +124,7 @@ module _ (tree : PProgram) (code : Code) (texts : Texts) (lay : Layout) where
       pub state_pictured : PicturesBy tree code texts state_world lay state_image
       state_pictured =
           comes_to tree code texts w lay img by m o at w' lay img' o' refl by.laid (arrays_unchanged (scopes_of tree) w w' lay img.rows refl by.arrays) (events_unchanged (scopes_of tree) w w' lay img.events refl by.events) waits_now
-          (λ r other. alike_by (scopes_of tree) w w' lay r (still r) refl) by.output refl refl refl (length_set_numbered img.states m machine_state) (λ r other. numbered_other img.states m r machine_state (λ e. other (sym e))) refl
+          (λ r other. alike_by (scopes_of tree) w w' lay r (still r) refl) by.output refl refl refl refl (length_set_numbered img.states m machine_state) (λ r other. numbered_other img.states m r machine_state (λ e. other (sym e))) refl
           (λ r core other has. same_core r core (ap is_live (numbered_other img.states m r machine_state (λ e. other (sym e))) ∙ has.live) has) (goes_on state_is (by.each m o at))
 
   -- A process that waits is able, with this woken number, in an image with these lists and numbers, where no event lists it, and it has no list.

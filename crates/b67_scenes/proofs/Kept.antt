@@ -5,7 +5,7 @@ use Rattle.b67_list.specs.Numbered.{numbered, set_numbered}
 use Rattle.algol_tree.specs.Blocks.{block_numbered}
 use Rattle.algol_tree.specs.Plain.{PProgram}
 use Rattle.algol_tree.specs.Scopes.{Scopes, scopes_of}
-use Rattle.algol_meaning.specs.World.{Instance, Part, Process, World, instance_at, or_no_instance, process_at, or_no_process}
+use Rattle.algol_meaning.specs.World.{Instance, Part, Process, World, instance_at, or_no_instance, process_at, or_no_process, State}
 use Rattle.algol_meaning.specs.Critical.{is_evaluation, own_instances, some_depends}
 use Rattle.algol_standing.specs.Lows.{IsLow}
 use Rattle.b67_word.specs.Word.{Word}
@@ -30,6 +30,27 @@ use Rattle.b67_frames.proofs.Lying.{StayBelow, owned_frame, same_block}
 use Rattle.b67_frames.proofs.Onward.{StandOn}
 use Rattle.b67_scenes.proofs.Staying.{frames_stay, frames_weigh, frames_most}
 use Rattle.b67_scenes.proofs.Tasks.{EventsStay, critical_stays, task_stays, state_stays, events_same}
+
+-- a process lives in another image as well, in whatever state it lives, where it has its core there
+pub living_there : (tree : PProgram) (code : Code) (texts : Texts) (w : World) (lay : Layout) (img img' : Image) (p : ℕ) (q : Process) (state : State) (woken : ℕ) (l : Living tree code texts w lay img p q) → HasCore img' p l.core →
+    Living tree code texts w lay img' p (record q { state = state; woken = woken })
+living_there tree code texts w lay img img' p q state woken l has =
+    record {
+      core = l.core;
+      has = has;
+      critical = l.critical;
+      task = l.task;
+      sees = l.sees;
+      small = l.small;
+      settled = l.settled;
+      bound = l.bound;
+      count = l.count;
+      steps = l.steps;
+      frames = l.frames;
+      reaches = l.reaches;
+      room = l.room;
+      light = l.light;
+    }
 
 -- What a change of a world leaves to process r: what stands before and after it, stands on; where no process that lives depends on its newest instance, none does after it; and of its
 -- instances nobody has come to what is made in those that are low.

@@ -22,12 +22,14 @@ use Rattle.b67_cores.specs.Cores.{Core, HasCore, with_core, size, CoreStep, Core
 use Rattle.b67_cores.specs.Stretches.{StepsArePerformed, StepsComeToLimit, Performed, Above}
 use Rattle.b67_cores.proofs.Staying.{steps_stay_above}
 use Rattle.b67_faithful.proofs.Contradictions.{true_false, gives_same, none_some, some_same}
+use Rattle.b67_faithful.proofs.Choices.{length_set_numbered}
 use Rattle.b67_rows.proofs.Numbers.{same_or_not, numbered_beyond}
 use Rattle.b67_frames.specs.Arrays.{Layout}
 use Rattle.b67_scenes.specs.Depending.{CriticalIs, TaskIs}
 use Rattle.b67_scenes.specs.Reaches as reaching
 use Rattle.b67_scenes.specs.Reaches.{ReachesFor}
 use Rattle.b67_scenes.specs.Pictures.{Living, Pictured, living, dead, PicturesBy}
+use Rattle.b67_scenes.proofs.Kept.{living_there}
 
 -- one plain operator
 pub first_of : {code : Code} {p : ℕ} {a : Image} {n : ℕ} {c : Image} → Plains code p a n c → n ≡ 1 → (plain code a p ≡ true) × (table code a p ≡ gives c)
@@ -75,22 +77,7 @@ module _ (performed : StepsArePerformed) (tree : PProgram) (code : Code) (texts 
     kept : (p : ℕ) (b : Core) (q : ℕ) (r : Process) → ((core : Core) → HasCore img q core → HasCore (with_core img p b) q core) →
         Pictured tree code texts w lay img q r → Pictured tree code texts w lay (with_core img p b) q r
     kept p b q r keeps (living a s l) =
-        living a s (record {
-          core = l.core;
-          has = keeps l.core l.has;
-          critical = l.critical;
-          task = l.task;
-          sees = l.sees;
-          small = l.small;
-          settled = l.settled;
-          bound = l.bound;
-          count = l.count;
-          steps = l.steps;
-          frames = l.frames;
-          reaches = l.reaches;
-          room = l.room;
-          light = l.light;
-        })
+        living a s (living_there tree code texts w lay img (with_core img p b) q r r.state r.woken l (keeps l.core l.has))
     kept p b q r keeps (dead e s) = dead e s
 
 -- the first of these steps, where the last core is another one
@@ -166,6 +153,7 @@ module _ (performed : StepsArePerformed) (limits : StepsComeToLimit) (tree : PPr
         output = by.output;
         fault = by.fault;
         started = by.started;
+        counted = length_set_numbered a.regs p c.registers ∙ by.counted;
         few = by.few;
         states = by.states;
         system = n.system ∙ by.system;

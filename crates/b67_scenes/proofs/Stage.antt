@@ -95,10 +95,10 @@ module _ (tree : PProgram) (code : Code) (texts : Texts) (w : World) (lay : Layo
   -- process p has come to this state in an image in which each other process is pictured, and is pictured there
   pub comes_by : (w' : World) (lay' : Layout) (img' : Image) (q' : Process) → w'.processes ≡ set_numbered w.processes p q' → length lay'.places ≡ length w'.instances → ArraysAre (scopes_of tree) w' lay' img'.rows →
       EventsAre (scopes_of tree) w' lay' img'.events → WaitsAre (scopes_of tree) w' lay' img' →
-      img'.output ≡ w'.output → w'.fault ≡ w.fault → img'.fault ≡ img.fault → img'.started ≡ img.started → length img'.states ≡ length img.states → stack_at img'.stacks 0 ≡ stack_at img.stacks 0 →
+      img'.output ≡ w'.output → w'.fault ≡ w.fault → img'.fault ≡ img.fault → img'.started ≡ img.started → length img'.regs ≡ length img.regs → length img'.states ≡ length img.states → stack_at img'.stacks 0 ≡ stack_at img.stacks 0 →
       ((r : ℕ) (o : Process) → r ≢ p → numbered w.processes r ≡ Some o → numbered w'.processes r ≡ Some o → Pictured tree code texts w lay img r o → Pictured tree code texts w' lay' img' r o) →
       Pictured tree code texts w' lay' img' p q' → PicturesBy tree code texts w' lay' img'
-  comes_by w' lay' img' q' processes laid arrays events waits output world_fault fault started many system others own =
+  comes_by w' lay' img' q' processes laid arrays events waits output world_fault fault started regs many system others own =
       let same_number : length w'.processes ≡ length w.processes = ap length processes ∙ length_set_numbered w.processes p q' in
       record {
         laid = laid;
@@ -108,6 +108,7 @@ module _ (tree : PProgram) (code : Code) (texts : Texts) (w : World) (lay : Layo
         output = output;
         fault = fault ∙ by.fault ∙ ap failure_of (sym world_fault);
         started = started ∙ by.started ∙ sym same_number;
+        counted = regs ∙ by.counted ∙ sym started;
         few = omega (arith, same_number, by.few);
         states = many ∙ by.states ∙ sym same_number;
         system = system ∙ by.system;
@@ -127,35 +128,35 @@ module _ (tree : PProgram) (code : Code) (texts : Texts) (w : World) (lay : Layo
   -- .. in which each other process has its core
   pub comes_to : (w' : World) (lay' : Layout) (img' : Image) (q' : Process) → w'.processes ≡ set_numbered w.processes p q' → length lay'.places ≡ length w'.instances → ArraysAre (scopes_of tree) w' lay' img'.rows →
       EventsAre (scopes_of tree) w' lay' img'.events → WaitsAre (scopes_of tree) w' lay' img' →
-      ((r : ℕ) → r ≢ p → AreAlike (scopes_of tree) w w' lay lay' r) → img'.output ≡ w'.output → w'.fault ≡ w.fault → img'.fault ≡ img.fault → img'.started ≡ img.started → length img'.states ≡ length img.states →
+      ((r : ℕ) → r ≢ p → AreAlike (scopes_of tree) w w' lay lay' r) → img'.output ≡ w'.output → w'.fault ≡ w.fault → img'.fault ≡ img.fault → img'.started ≡ img.started → length img'.regs ≡ length img.regs → length img'.states ≡ length img.states →
       ((r : ℕ) → r ≢ p → numbered img'.states r ≡ numbered img.states r) → stack_at img'.stacks 0 ≡ stack_at img.stacks 0 →
       ((r : ℕ) (core : Core) → r ≢ p → HasCore img r core → HasCore img' r core) → Pictured tree code texts w' lay' img' p q' → PicturesBy tree code texts w' lay' img'
-  comes_to w' lay' img' q' processes laid arrays events waits alike output world_fault fault started many states system keeps own =
-      comes_by w' lay' img' q' processes laid arrays events waits output world_fault fault started many system
+  comes_to w' lay' img' q' processes laid arrays events waits alike output world_fault fault started regs many states system keeps own =
+      comes_by w' lay' img' q' processes laid arrays events waits output world_fault fault started regs many system
       (λ r o other before after pictured.
       pictured_alike tree code texts w w' lay lay' r (alike r other) img img' o before (process_is w' r o after) (states r other) (λ core has. keeps r core other has) pictured) own
 
   -- it goes on, and stands for what it has still to do
   pub goes_on_so : (w' : World) (lay' : Layout) (img' : Image) (q' : Process) → w'.processes ≡ set_numbered w.processes p q' → lives q'.state ≡ true → length lay'.places ≡ length w'.instances → ArraysAre (scopes_of tree) w' lay' img'.rows →
       EventsAre (scopes_of tree) w' lay' img'.events → WaitsAre (scopes_of tree) w' lay' img' →
-      ((r : ℕ) → r ≢ p → AreAlike (scopes_of tree) w w' lay lay' r) → img'.output ≡ w'.output → w'.fault ≡ w.fault → img'.fault ≡ img.fault → img'.started ≡ img.started → img'.states ≡ img.states →
+      ((r : ℕ) → r ≢ p → AreAlike (scopes_of tree) w w' lay lay' r) → img'.output ≡ w'.output → w'.fault ≡ w.fault → img'.fault ≡ img.fault → img'.started ≡ img.started → length img'.regs ≡ length img.regs → img'.states ≡ img.states →
       stack_at img'.stacks 0 ≡ stack_at img.stacks 0 → StateIs (scopes_of tree) w' lay' q'.state (numbered img.states p) → ((r : ℕ) (core : Core) → r ≢ p → HasCore img r core → HasCore img' r core) →
       Living tree code texts w' lay' img' p q' → PicturesBy tree code texts w' lay' img'
-  goes_on_so w' lay' img' q' processes able_is laid arrays events waits alike output world_fault fault started states system able_p keeps l =
-      comes_to w' lay' img' q' processes laid arrays events waits alike output world_fault fault started (ap length states) (λ r other. ap (λ (ss : List ProcessState). numbered ss r) states) system keeps
+  goes_on_so w' lay' img' q' processes able_is laid arrays events waits alike output world_fault fault started regs states system able_p keeps l =
+      comes_to w' lay' img' q' processes laid arrays events waits alike output world_fault fault started regs (ap length states) (λ r other. ap (λ (ss : List ProcessState). numbered ss r) states) system keeps
       (living able_is (subst (λ (ss : List ProcessState). StateIs (scopes_of tree) w' lay' q'.state (numbered ss p)) (sym states) able_p) l)
 
   -- .. where it waits for the same as before
   pub goes_on : (w' : World) (lay' : Layout) (img' : Image) (q' : Process) → w'.processes ≡ set_numbered w.processes p q' → lives q'.state ≡ true → length lay'.places ≡ length w'.instances → ArraysAre (scopes_of tree) w' lay' img'.rows →
       EventsAre (scopes_of tree) w' lay' img'.events → list_in q'.state ≡ list_in q.state → q'.woken ≡ q.woken → img'.lists ≡ img.lists → img'.numbers ≡ img.numbers →
       ((r : ℕ) (there : Place) → IsListed (waiters_at there img'.events) r → IsListed (waiters_at there img.events) r) →
-      ((r : ℕ) → r ≢ p → AreAlike (scopes_of tree) w w' lay lay' r) → img'.output ≡ w'.output → w'.fault ≡ w.fault → img'.fault ≡ img.fault → img'.started ≡ img.started → img'.states ≡ img.states →
+      ((r : ℕ) → r ≢ p → AreAlike (scopes_of tree) w w' lay lay' r) → img'.output ≡ w'.output → w'.fault ≡ w.fault → img'.fault ≡ img.fault → img'.started ≡ img.started → length img'.regs ≡ length img.regs → img'.states ≡ img.states →
       stack_at img'.stacks 0 ≡ stack_at img.stacks 0 → StateIs (scopes_of tree) w' lay' q'.state (numbered img.states p) → ((r : ℕ) (core : Core) → r ≢ p → HasCore img r core → HasCore img' r core) →
       Living tree code texts w' lay' img' p q' → PicturesBy tree code texts w' lay' img'
-  goes_on w' lay' img' q' processes able_is laid arrays events list number lists numbers fewer alike output world_fault fault started states system able_p keeps l =
+  goes_on w' lay' img' q' processes able_is laid arrays events list number lists numbers fewer alike output world_fault fault started regs states system able_p keeps l =
       goes_on_so w' lay' img' q' processes able_is laid arrays events
       (waits_still (scopes_of tree) w w' lay lay' beside.events beside.alone.on.places img img' by.waits p q q' at processes list number lists numbers (still_awaiting img img' by.waits.awaiting fewer states lists)) alike
-      output world_fault fault started states system able_p keeps l
+      output world_fault fault started regs states system able_p keeps l
     where
       -- what is so of another process is so of all
       beside : AreAlike (scopes_of tree) w w' lay lay' (suc p)
@@ -191,6 +192,7 @@ module _ (tree : PProgram) (code : Code) (texts : Texts) (w : World) (lay : Layo
         output = by.output;
         fault = refl;
         started = by.started;
+        counted = by.counted;
         few = by.few;
         states = by.states;
         system = by.system;

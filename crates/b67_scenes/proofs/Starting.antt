@@ -380,6 +380,7 @@ module _ (tree : PProgram) (code : Code) (names : HasNames tree) (nested : AreNe
       output = refl;
       fault = refl;
       started = refl;
+      counted = refl;
       few = omega arith;
       states = refl;
       system = refl;

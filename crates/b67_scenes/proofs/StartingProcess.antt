@@ -125,6 +125,7 @@ module _ (tree : PProgram) (code : Code) (texts : Texts) (w : World) (lay : Layo
           output = gone.output;
           fault = gone.fault ∙ by.fault;
           started = omega (arith, gone.started, by.started, as_many, length-append (set_numbered w.processes p q') (new ∷ []));
+          counted = omega (arith, gone.many, states_many, gone.started, by.started, length-append onward.regs (r ∷ []));
           few = omega (arith, as_many, length-append (set_numbered w.processes p q') (new ∷ []), room);
           states = omega (arith, states_many, as_many, length-append onward.states (Able ∷ []), length-append (set_numbered w.processes p q') (new ∷ []));
           system = system_kept onward r words next gone.many ∙ gone.system ∙ by.system;

@@ -218,8 +218,8 @@ module _ (tree : PProgram) (code : Code) (texts : Texts) (w : World) (lay : Layo
       -- so the image pictures the world after it, where it pictures the process that stores
       pub stored_pictured : (by : PicturesBy tree code texts w lay img) (q : Process) → numbered w.processes a ≡ Some q → ArraysAre (scopes_of tree) (with_process (stored_world w i x at with_cells) a q') lay img'.rows →
           EventsAre (scopes_of tree) (with_process (stored_world w i x at with_cells) a q') lay img'.events → WaitsAre (scopes_of tree) (with_process (stored_world w i x at with_cells) a q') lay img' → img'.output ≡ w.output →
-          img'.fault ≡ img.fault → img'.started ≡ img.started → length img'.states ≡ length img.states → stack_at img'.stacks 0 ≡ stack_at img.stacks 0 → Pictured tree code texts (with_process (stored_world w i x at with_cells) a q') lay img' a q' →
+          img'.fault ≡ img.fault → img'.started ≡ img.started → length img'.regs ≡ length img.regs → length img'.states ≡ length img.states → stack_at img'.stacks 0 ≡ stack_at img.stacks 0 → Pictured tree code texts (with_process (stored_world w i x at with_cells) a q') lay img' a q' →
           PicturesBy tree code texts (with_process (stored_world w i x at with_cells) a q') lay img'
-      stored_pictured by q at_a arrays events waits output fault started many_states system own =
-          comes_by tree code texts w lay img by a q at_a after lay img' q' refl (by.laid ∙ sym (length_set_numbered w.instances i (changed w i x at with_cells))) arrays events waits output refl fault started many_states system
+      stored_pictured by q at_a arrays events waits output fault started regs many_states system own =
+          comes_by tree code texts w lay img by a q at_a after lay img' q' refl (by.laid ∙ sym (length_set_numbered w.instances i (changed w i x at with_cells))) arrays events waits output refl fault started regs many_states system
           others_stored own

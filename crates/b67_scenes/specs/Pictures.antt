@@ -67,6 +67,8 @@ module _ (tree : PProgram) (code : Code) (texts : Texts) (w : World) (lay : Layo
     pub output : img.output ≡ w.output
     pub fault : img.fault ≡ failure_of w.fault
     pub started : img.started ≡ length w.processes
+    -- it has registers for as many processes as there have been
+    pub counted : length img.regs ≡ img.started
     pub few : length w.processes ≤ most_processes
     pub states : length img.states ≡ length w.processes
     pub system : stack_at img.stacks 0 ≡ Some system_stack
