@@ -11,23 +11,19 @@ use Rattle.b67_io.specs.Faults.{Rose}
 use Rattle.b67_io.specs.Writing.{WroteFront}
 use Rattle.b67_io.specs.declared.writing.WriteAll.{WriteAll}
 use Rattle.b67_io.specs.declared.writing.WriteAll.TheVariants as writes
-use Rattle.b67_words.specs.Grammar.{WordsMean, run as run_command, check as check_command, list as list_command, replay as replay_command, judge as judge_command, race as race_command, exec as exec_command, trial as trial_command, meant}
-use Rattle.b67_words.specs.declared.TheConstants.{MOST_BUDGET, MOST_PROCESSORS}
+use Rattle.b67_words.specs.Grammar.{WordsMean, run as run_command, check as check_command, list as list_command, replay as replay_command, judge as judge_command, race as race_command, dump as dump_command, exec as exec_command, trial as trial_command, meant}
+use Rattle.b67_limits.specs.declared.TheConstants.{MOST_BUDGET, MOST_PROCESSORS}
 use Rattle.b67_words.specs.declared.Rule.{Rule}
 use Rattle.b67_words.specs.declared.Task.{Task}
 use Rattle.b67_words.specs.declared.Words.{Words}
 use Rattle.b67_words.specs.declared.Words.TheVariants.{OnSource, Exec, Trial}
 use Rattle.b67_words.specs.declared.BadWords.{BadWords}
-use Rattle.b67_schedule.specs.declared.reading.Given.{Given}
-use Rattle.b67_schedule.specs.declared.reading.Given.TheVariants.{One, Two}
-use Rattle.b67_schedule.specs.Giving.{HasRuns, IsTextOf}
 use Rattle.b67_report.specs.declared.Report.{Report}
 use Rattle.b67_report.specs.Texts.{ReportText}
 use Rattle.b67_make.specs.Made.{made}
 use Rattle.b67_listing.specs.Listings.{ListingText}
 use Rattle.b67_segment.specs.declared.code.Code.{Code}
 use Rattle.b67_faithful.specs.Faithful.{Faithful}
-use Rattle.b67_explain.specs.Explaining.{ExplainsReplay}
 use Rattle.b67_explain.specs.Shared.{ExplainsShared}
 use Rattle.b67_explain.specs.Alone.{ExplainsAlone}
 use Rattle.b67_ready.specs.declared.order.Order.TheVariants as orders
@@ -42,8 +38,8 @@ use Rattle.b67_desk.specs.declared.asking.Job.{Job}
 use Rattle.b67_desk.specs.declared.asking.Asked.{Asked}
 use Rattle.b67_desk.specs.declared.asking.Asked.TheVariants as asked
 use Rattle.b67_desk.specs.declared.asking.Found.TheVariants as found
-use Rattle.b67_desk.specs.Answers.{order_of, usage_text, refused_text, bad_schedule_text, listing_text, status_of, Workers, by_one, by_all, Runs, ran, Lists, listed, IsBadSchedule, OrBadSchedule, bad_schedule, followed, Replays, replayed, trial_text, Tries, tried, AnswersTree, IsSourceOf, IsRefusedAt, RefusedOr, refused, accepted, IsDivided, AnswersBytes, ReadsInput, AnswersInput, long_part, divided, most_bytes, AnswersSource, too_long, too_long_text, read, Reading, Untouched, AnswersCommand, Answers, usage, answered, ReadsIfAsked, Writing, HasAnswer, write_fault}
-use Rattle.b67_desk.specs.Calls.{IsReported, Asks, settled, InRange, IsFound, SourceAsked, CommandAsked, CallAsked, CallAnswered, IsUsage, IsRefusal, IsReportAnswer, IsTrialAnswer, IsRunAnswer, IsBadAt, IsTooLong}
+use Rattle.b67_desk.specs.Answers.{order_of, usage_text, refused_text, listing_text, status_of, Workers, by_one, by_all, Runs, ran, Lists, listed, trial_text, Tries, tried, AnswersTree, IsSourceOf, IsRefusedAt, RefusedOr, refused, accepted, IsDivided, AnswersBytes, ReadsInput, AnswersInput, long_part, divided, most_bytes, AnswersSource, too_long, too_long_text, read, Reading, Untouched, AnswersCommand, Answers, usage, answered, ReadsIfAsked, Writing, HasAnswer, write_fault}
+use Rattle.b67_desk.specs.Calls.{IsReported, Asks, settled, InRange, IsFound, SourceAsked, CommandAsked, CallAsked, CallAnswered, IsUsage, IsRefusal, IsReportAnswer, IsTrialAnswer, IsRunAnswer, IsTooLong}
 
 -- ---- what is asked for
 
@@ -70,38 +66,7 @@ pub run_asks : (processors budget : ℕ) (rule : Rule) (tree : PProgram) (code :
 run_asks processors budget rule tree code faithful some budget_is =
     (record { faithful = (tree, faithful); processors = some; budget = budget_is }, λ by report is. ran report (is tree faithful))
 
--- ---- reports
-
--- what a text tells has runs
-pub has_runs : (given : Given) (text : List ℕ) → IsTextOf given text → HasRuns given
-has_runs (One old) text is = is.0
-has_runs (Two schedule) text is = is.0
-
-replayed_is : (budget : ℕ) (tree : PProgram) (given : Given) (report : Report) (a : Answer) → ExplainsReplay tree given budget report → IsReportAnswer report a →
-    Replays budget tree given a.text.items a.status
-replayed_is budget tree given report a explains is =
-    subst (λ (t : List ℕ). Replays budget tree given t a.status) (sym is.text)
-    (subst (λ (s : Status). Replays budget tree given (ReportText report) s) (sym is.status) (replayed report explains))
-
-pub replayed_answered : (budget : ℕ) (beside : Option (List ℕ)) (text : List ℕ) (input : ℕ) (tree : PProgram) (given : Given) (report : Report)
-    (result : Result Answer AllocError) → beside ≡ Some text → IsTextOf given text → ExplainsReplay tree given budget report →
-    IfOk result (IsReportAnswer report) → IfOk result (λ a. OrBadSchedule beside input (Replays budget tree) a.text.items a.status)
-replayed_answered budget beside text input tree given report (Ok a) is_text is_given explains is =
-    subst (λ (o : Option (List ℕ)). OrBadSchedule o input (Replays budget tree) a.text.items a.status) (sym is_text)
-    (followed given a.text.items a.status is_given (replayed_is budget tree given report a explains is))
-replayed_answered budget beside text input tree given report (Err e) is_text is_given explains is = is
-
--- a schedule text that is bad
-module _ (input : ℕ) (Its : Given → List ℕ → Status → Type 0) where
-  bad_is : (beside : Option (List ℕ)) (byte : ℕ) (a : Answer) → IsBadSchedule beside input byte → IsBadAt byte a → OrBadSchedule beside input Its a.text.items a.status
-  bad_is beside byte a bad is =
-      subst (λ (t : List ℕ). OrBadSchedule beside input Its t a.status) (sym is.text)
-      (subst (λ (s : Status). OrBadSchedule beside input Its (bad_schedule_text byte) s) (sym is.status) (bad_schedule byte bad))
-
-  pub bad_answered : (beside kept : Option (List ℕ)) (byte : ℕ) (result : Result Answer AllocError) → beside ≡ kept → IsBadSchedule kept input byte →
-      IfOk result (IsBadAt byte) → IfOk result (λ a. OrBadSchedule beside input Its a.text.items a.status)
-  bad_answered beside kept byte (Ok a) same bad is = bad_is beside byte a (subst (λ (o : Option (List ℕ)). IsBadSchedule o input byte) (sym same) bad) is
-  bad_answered beside kept byte (Err e) same bad is = is
+-- ---- trials and listings
 
 -- the run of a source that was made
 tried_is : (bytes : ℕ) (tree : PProgram) (report : Report) (a : Answer) → ExplainsAlone tree (place_of orders.Fifo) 1 MOST_BUDGET report → IsTrialAnswer bytes report a →
@@ -168,6 +133,7 @@ in_range words command (meant ws meaning list_command) = tt
 in_range words command (meant ws meaning (replay_command first b f)) = (f.least, f.greatest)
 in_range words command (meant ws meaning judge_command) = tt
 in_range words command (meant ws meaning race_command) = tt
+in_range words command (meant ws meaning (dump_command number k f)) = tt
 in_range words command (meant ws meaning (exec_command first b f)) = (f.least, f.greatest)
 in_range words command (meant ws meaning (trial_command first n f)) = tt
 

@@ -1,9 +1,8 @@
 -- From what is found of a report to the answer.
-use Rattle.std.proofs.Common.{arith, ◌≡◌, refl, sym, ap, ◌∙◌, subst, ℕ, ◌+◌, ◌-◌, ◌<◌, ◌≤◌, ◌^◌, List, ◌∷◌, ◌++◌, length, Option, Some, None, Result, Ok, Err}
+use Rattle.std.proofs.Common.{arith, ◌≡◌, refl, sym, ap, ◌∙◌, subst, ℕ, ◌+◌, ◌-◌, ◌≤◌, List, ◌∷◌, length, Option, Some, None, Result, Ok, Err}
 use Rattle.std.specs.Prelude.{◌≢◌, IfOk}
 use Rattle.std.specs.declared.alloc.AllocError.{AllocError}
 use Rattle.std.proofs.lemmas.List.{length-append}
-use Rattle.algol_tree.specs.declared.TheConstants.{MOST_SOURCE_BYTES}
 use Rattle.algol_tree.specs.Plain.{PProgram}
 use Rattle.algol_meaning.specs.World.{World}
 use Rattle.algol_meaning.specs.Run.{run}
@@ -59,6 +58,7 @@ most_of_all (OnSource tasks.List) = omega arith
 most_of_all (OnSource (tasks.Replay budget)) = omega arith
 most_of_all (OnSource tasks.Judge) = omega arith
 most_of_all (OnSource tasks.Race) = omega arith
+most_of_all (OnSource (tasks.Dump entries)) = omega arith
 most_of_all (Exec budget) = omega arith
 most_of_all (Trial n) = omega arith
 

@@ -9,10 +9,10 @@ use Rattle.algol_tree.specs.Codes.{rule_letter, rule_number}
 use Rattle.algol_tree.specs.Plain.{PProgram}
 use Rattle.algol_tree.specs.First.{Source, First}
 use Rattle.b67_io.specs.Faults.{Rose}
-use Rattle.b67_words.specs.declared.TheConstants.{MOST_BUDGET}
+use Rattle.b67_limits.specs.declared.TheConstants.{MOST_BUDGET}
 use Rattle.b67_words.specs.declared.Rule.{Rule}
 use Rattle.b67_words.specs.declared.Rule.TheVariants as rules
-use Rattle.b67_words.specs.declared.Task.TheVariants.{Run, Check, Replay, Judge, Race}
+use Rattle.b67_words.specs.declared.Task.TheVariants.{Run, Check, Replay, Judge, Race, Dump}
 use Rattle.b67_words.specs.declared.Task.TheVariants.{List as ListCode}
 use Rattle.b67_words.specs.declared.Words.{Words}
 use Rattle.b67_words.specs.declared.Words.TheVariants.{OnSource, Exec, Trial}
@@ -52,6 +52,7 @@ use Rattle.b67_desk.specs.declared.status.Code.TheVariants.{OfSource, OfText}
 use Rattle.b67_desk.specs.declared.status.Status.{Status}
 use Rattle.b67_desk.specs.declared.status.Status.TheVariants as status
 use Rattle.b67_desk.specs.Judging.{OrBadReport, OrUnjust, SaysJust, TellsRaces}
+use Rattle.b67_desk.specs.Showing.{Dumped}
 
 -- ---- texts
 
@@ -105,6 +106,7 @@ abbrev pub form_of : Words → Form
 form_of (OnSource (Replay budget)) = with_text (codes "%%SCHEDULE")
 form_of (OnSource Judge) = with_text (codes "%%REPORT")
 form_of (OnSource Race) = with_text (codes "%%REPORT")
+form_of (OnSource (Dump entries)) = with_text (codes "%%SCHEDULE")
 form_of command = record { mark = None; most = MOST_SOURCE_BYTES }
 
 -- the source in the bytes that are read, and the text after it: where there is a mark those of the two parts, else all is the source
@@ -203,6 +205,7 @@ AnswersTree by (OnSource ListCode) beside input tree = Lists tree
 AnswersTree by (OnSource (Replay budget)) beside input tree = OrBadSchedule beside input (Replays budget tree)
 AnswersTree by (OnSource Judge) beside input tree = OrBadReport beside input (λ report. OrUnjust tree report SaysJust)
 AnswersTree by (OnSource Race) beside input tree = OrBadReport beside input (λ report. OrUnjust tree report (TellsRaces tree report))
+AnswersTree by (OnSource (Dump entries)) beside input tree = OrBadSchedule beside input (Dumped entries tree)
 AnswersTree by (Trial n) beside input tree = Tries input tree
 AnswersTree by (Exec budget) beside input tree = λ text s. ⊥
 
@@ -262,7 +265,7 @@ AnswersInput by (Exec budget) bytes = Execs budget bytes
 AnswersInput by command bytes = AnswersBytes by command bytes
 
 -- What a source is answered by under that command, from the bytes that it has left, before and after, where it tells them: too long
--- exactly where more than 262,144 are left, or 16,777,216 under `replay`; else it is read to its end, and its bytes are all that it had left.
+-- exactly where more than 262,144 are left, or 16,777,216 where a text stands after the source; else it is read to its end, and its bytes are all that it had left.
 pub data AnswersSource (by : Workers) (command : Words) (left left_after : Option (List ℕ)) : List ℕ → Status → Type 0 where
   too_long : IfSome left (λ bytes. most_bytes command < length bytes) → AnswersSource by command left left_after too_long_text status.TooLong
   read : (bytes text : List ℕ) (s : Status) → length bytes ≤ most_bytes command → IfSome left (λ all. bytes ≡ all) → IsAtEnd left_after →

@@ -10,7 +10,7 @@ use Rattle.algol_tree.specs.Image.{program as plain}
 use Rattle.algol_tree.specs.Plain.{PProgram}
 use Rattle.algol_tree.specs.declared.token.Spot.{Spot}
 use Rattle.b67_io.specs.Faults.{Rose}
-use Rattle.b67_words.specs.declared.TheConstants.{MOST_BUDGET, MOST_PROCESSORS}
+use Rattle.b67_limits.specs.declared.TheConstants.{MOST_BUDGET, MOST_PROCESSORS}
 use Rattle.b67_words.specs.declared.Words.{Words}
 use Rattle.b67_words.specs.declared.Task.TheVariants.{Run, Replay}
 use Rattle.b67_words.specs.declared.Words.TheVariants.{OnSource, Exec}
@@ -25,6 +25,8 @@ use Rattle.b67_machine.specs.declared.replay.Replayed.{Replayed}
 use Rattle.b67_machine.specs.declared.replay.Replayed.TheVariants.{NoMemory}
 use Rattle.b67_faithful.specs.Faithful.{Faithful}
 use Rattle.b67_explain.specs.Telling.{IsReportOf}
+use Rattle.b67_dump.specs.declared.Answer.{Answer as Seen}
+use Rattle.b67_dump.specs.Dumps.{dump_text}
 use Rattle.b67_desk.specs.declared.asking.Answer.{Answer}
 use Rattle.b67_desk.specs.declared.asking.Unanswered.{Unanswered}
 use Rattle.b67_desk.specs.declared.asking.Unanswered.TheVariants as why
@@ -33,11 +35,14 @@ use Rattle.b67_desk.specs.declared.asking.Asked.{Asked}
 use Rattle.b67_desk.specs.declared.asking.Asked.TheVariants as asked
 use Rattle.b67_desk.specs.declared.asking.Found.{Found}
 use Rattle.b67_desk.specs.declared.asking.Found.TheVariants as found
+use Rattle.b67_desk.specs.declared.following.Course.{Course}
+use Rattle.b67_desk.specs.declared.following.Course.TheVariants as course
 use Rattle.b67_desk.specs.declared.status.Code.{Code as RefusalCode}
 use Rattle.b67_desk.specs.declared.status.Code.TheVariants.{OfSource}
 use Rattle.b67_desk.specs.declared.status.Status.{Status}
 use Rattle.b67_desk.specs.declared.status.Status.TheVariants as statuses
-use Rattle.b67_desk.specs.Answers.{usage_text, refused_text, too_long_text, bad_schedule_text, trial_text, status_of, Workers, ExplainsBy, IsRefusedAt, IsSourceOf, ReadsInput, AnswersSource, AnswersCommand, Answers, Reading, Untouched, ReadsIfAsked, Unreadable}
+use Rattle.b67_desk.specs.Answers.{usage_text, refused_text, too_long_text, bad_schedule_text, trial_text, status_of, Workers, ExplainsBy, IsBadSchedule, IsGiven, IsRefusedAt, IsSourceOf, ReadsInput, AnswersSource, AnswersCommand, Answers, Reading, Untouched, ReadsIfAsked, Unreadable}
+use Rattle.b67_desk.specs.Showing.{status_shown}
 
 -- ---- refusals
 
@@ -143,6 +148,16 @@ InRange command = Unit {0}
 pub record IsBadAt (byte : ℕ) (a : Answer) : Type 0 where
   pub text : a.text.items ≡ bad_schedule_text byte
   pub status : a.status ≡ statuses.BadSchedule byte
+
+-- what a text beside a source tells of a schedule; or it tells none, and then this is the refusal
+abbrev pub IsCourse : Option (List ℕ) → ℕ → Course → Type 0
+IsCourse beside input (course.Told given) = IsGiven beside given
+IsCourse beside input (course.Bad a) = (byte : ℕ) × IsBadSchedule beside input byte × IsBadAt byte a
+
+-- the answer that shows what is seen of cells
+pub record IsSeenAnswer (seen : Seen) (a : Answer) : Type 0 where
+  pub text : a.text.items ≡ dump_text seen
+  pub status : a.status ≡ status_shown seen
 
 -- the answer that is a report
 pub record IsReportAnswer (report : Report) (a : Answer) : Type 0 where

@@ -4,3 +4,4 @@ pub mod Exits
 pub mod Judged
 pub mod JudgedJust
 pub mod Judging
+pub mod Showing

@@ -3,6 +3,7 @@
 
 mod asking;
 mod exec;
+mod following;
 mod form;
 mod judging;
 mod running;

@@ -2,7 +2,7 @@
 
 ghost use Rattle.std.specs.Prelude.{◌≡◌, ◌≢◌, ◌≤◌, IfOk, length, sum};
 ghost use Rattle.algol_tree.specs.Plain.{PProgram};
-ghost use Rattle.b67_words.specs.declared.TheConstants.{MOST_BUDGET};
+ghost use Rattle.b67_limits.specs.declared.TheConstants.{MOST_BUDGET};
 ghost use Rattle.b67_ready.specs.Orders.{place_of};
 ghost use Rattle.b67_schedule.specs.Giving.{HasRuns};
 ghost use Rattle.b67_schedule.specs.Schedules.{entries};

@@ -2,23 +2,24 @@
 
 ghost use Rattle.std.specs.Prelude.{◌≡◌, ◌≤◌, IfOk, option_copied};
 ghost use Rattle.algol_tree.specs.Image.{program as plain};
-ghost use Rattle.b67_words.specs.declared.TheConstants.{MOST_BUDGET, MOST_PROCESSORS};
-ghost use Rattle.b67_desk.specs.Answers.{AnswersTree, OrBadSchedule, SaysAccepted, Runs, Lists, Replays, Tries, status_of};
-ghost use Rattle.b67_desk.specs.Calls.{Asks, InRange, IsRefusal, IsBadAt, IsReportAnswer, IsTrialAnswer};
+ghost use Rattle.b67_limits.specs.declared.TheConstants.{MOST_BUDGET, MOST_PROCESSORS};
+ghost use Rattle.b67_desk.specs.Answers.{AnswersTree, SaysAccepted, Runs, Lists, Tries, status_of};
+ghost use Rattle.b67_desk.specs.Calls.{Asks, InRange, IsRefusal, IsReportAnswer, IsTrialAnswer};
 ghost use Rattle.b67_desk.specs.Judged.{IsShort};
 
 use crate::asking::{Answer, Asked, Job, settled};
+use crate::following::{answer_dump, answer_replay};
 use crate::judging::{answer_judge, answer_race};
-use crate::running::{replay_report, run_report};
+use crate::running::run_report;
 use crate::status::{Code, Status};
-use crate::texts::{accepted_line, bad_schedule_line, listing_lines, refused_line, trial_lines};
+use crate::texts::{accepted_line, listing_lines, refused_line, trial_lines};
 use algol_front::Checked;
 use algol_tree::Spot;
 use b67_compile::compile;
+use b67_limits::MOST_BUDGET;
 use b67_listing::listing;
 use b67_report::{EndWords, Report, text as report_text};
-use b67_schedule::{ReadSchedule, read as read_schedule};
-use b67_words::{MOST_BUDGET, Rule, Task, Words};
+use b67_words::{Rule, Task, Words};
 use std::alloc::{AllocError, Global};
 
 /// The status under which a run is reported.
@@ -100,40 +101,6 @@ fn answer_list(alloc: Global, checked: &Checked) -> Result<Answer, AllocError>
     })
 }
 
-/// The refusal of a schedule text that is bad from a byte on.
-fn refuse_schedule(alloc: Global, byte: u64) -> Result<Answer, AllocError>
-    ensures { IfOk result (IsBadAt byte) }
-{
-    Ok(Answer {
-        text: bad_schedule_line(alloc, byte)?,
-        status: Status::BadSchedule { byte },
-    })
-}
-
-/// The answer to an accepted source that follows the schedule of a text, in an input of so many bytes.
-fn answer_replay(
-    alloc: Global,
-    budget: u64,
-    schedule: Option<&[u8]>,
-    input: usize,
-    checked: &Checked,
-) -> Result<Answer, AllocError>
-    requires most { budget ≤ MOST_BUDGET }
-    ensures { IfOk result (λ answer. OrBadSchedule (option_copied schedule.entry) input (Replays budget (plain checked.now.program)) answer.text.items answer.status) }
-{
-    let Some(text) = schedule else {
-        return refuse_schedule(alloc, input as u64);
-    };
-    match read_schedule(alloc, text) {
-        Ok(given) => {
-            let code = compile(alloc, checked)?;
-            tell(alloc, &replay_report(alloc, budget, &given, code)?)
-        }
-        Err(ReadSchedule::Bad(bad)) => refuse_schedule(alloc, bad.byte as u64),
-        Err(ReadSchedule::NoMemory) => Err(AllocError),
-    }
-}
-
 /// The answer that tells the run of a source that was made, which has so many bytes.
 fn tell_trial(alloc: Global, bytes: usize, report: &Report) -> Result<Answer, AllocError>
     ensures { IfOk result (IsTrialAnswer bytes report.now) }
@@ -182,5 +149,6 @@ pub fn ask_tree(
         Task::Replay { budget } => settled(answer_replay(alloc, budget, text, input, checked)),
         Task::Judge => settled(answer_judge(alloc, text, input, checked)),
         Task::Race => settled(answer_race(alloc, text, input, checked)),
+        Task::Dump { entries } => settled(answer_dump(alloc, entries, text, input, checked)),
     }
 }

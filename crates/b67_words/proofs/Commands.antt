@@ -1,15 +1,16 @@
 -- The commands by their words, and how their words can begin.
-use Rattle.std.proofs.Common.{◌≡◌, ◌≢◌, ◌⊎◌, inl, inr, ℕ, ◌+◌, ◌≤◌, List, [], ◌∷◌, ◌++◌, length, drop, get_or, refl, sym, ap, subst, ◌∙◌, arith}
+use Rattle.std.proofs.Common.{◌≡◌, ◌≢◌, ◌⊎◌, inl, inr, ℕ, ◌+◌, ◌^◌, ◌<◌, ◌≤◌, List, [], ◌∷◌, ◌++◌, length, drop, get_or, refl, sym, ap, subst, ◌∙◌, arith}
 use Rattle.std.specs.Prelude.{codes}
 use Rattle.std.proofs.lemmas.Fmt.{decimal_digit, decimal_injective}
-use Rattle.b67_words.specs.declared.TheConstants.{MOST_BUDGET, MOST_PROCESSORS, MOST_SEED, MOST_TRIAL}
+use Rattle.b67_limits.specs.declared.TheConstants.{MOST_BUDGET, MOST_PROCESSORS}
+use Rattle.b67_words.specs.declared.TheConstants.{MOST_SEED, MOST_TRIAL, MOST_ENTRIES}
 use Rattle.b67_words.specs.declared.Rule.{Rule}
 use Rattle.b67_words.specs.declared.Rule.TheVariants.{Fifo, Lifo, Seed}
 use Rattle.b67_words.specs.declared.Words.{Words}
 use Rattle.b67_words.specs.declared.Task.TheVariants as tasks
-use Rattle.b67_words.specs.declared.Task.TheVariants.{Run, Check, Replay, Judge, Race}
+use Rattle.b67_words.specs.declared.Task.TheVariants.{Run, Check, Replay, Judge, Race, Dump}
 use Rattle.b67_words.specs.declared.Words.TheVariants.{OnSource, Exec, Trial}
-use Rattle.b67_words.specs.Grammar.{IsNumber, IsFromZero, IsRule, fifo, lifo, seed, NameRule, IsCommand, run, check, list, replay, judge, race, exec, trial, BeginCommand, IsWhole}
+use Rattle.b67_words.specs.Grammar.{IsNumber, IsFromZero, IsRule, fifo, lifo, seed, NameRule, IsCommand, run, check, list, replay, judge, race, dump, exec, trial, BeginCommand, IsWhole}
 
 -- the word is a command by itself, which means this
 pub data IsAlone (name : List ℕ) (meaning : Words) : Type 0 where
@@ -23,12 +24,17 @@ pub data IsBudgeted (name : List ℕ) (b : ℕ) (meaning : Words) : Type 0 where
   is_replay : name ≡ codes "replay" → meaning ≡ OnSource (Replay b) → IsBudgeted name b meaning
   is_exec : name ≡ codes "exec" → meaning ≡ Exec b → IsBudgeted name b meaning
 
+-- the word with a number after it, from 0 to the greatest, is a command, which means this
+pub data IsNumbered (name : List ℕ) (most n : ℕ) (meaning : Words) : Type 0 where
+  is_trial : name ≡ codes "trial" → most ≡ MOST_TRIAL → meaning ≡ Trial n → IsNumbered name most n meaning
+  is_dump : name ≡ codes "dump" → most ≡ MOST_ENTRIES → meaning ≡ OnSource (Dump n) → IsNumbered name most n meaning
+
 -- the words of a command, and what they mean
 pub data Form (words : List (List ℕ)) (meaning : Words) : Type 0 where
   a_run : (processors budget : List ℕ) (last : List (List ℕ)) (p b : ℕ) (rule : Rule) → words ≡ codes "run" ∷ processors ∷ budget ∷ last →
       IsNumber MOST_PROCESSORS processors p → IsNumber MOST_BUDGET budget b → NameRule last rule → meaning ≡ OnSource (Run p b rule) → Form words meaning
   a_budget : (name budget : List ℕ) (b : ℕ) → words ≡ name ∷ budget ∷ [] → IsNumber MOST_BUDGET budget b → IsBudgeted name b meaning → Form words meaning
-  a_trial : (number : List ℕ) (n : ℕ) → words ≡ codes "trial" ∷ number ∷ [] → IsFromZero MOST_TRIAL number n → meaning ≡ Trial n → Form words meaning
+  a_from_zero : (name number : List ℕ) (most n : ℕ) → words ≡ name ∷ number ∷ [] → IsFromZero most number n → IsNumbered name most n meaning → Form words meaning
   a_word : (name : List ℕ) → words ≡ name ∷ [] → IsAlone name meaning → Form words meaning
 
 pub form_of : (words : List (List ℕ)) (meaning : Words) → IsCommand words meaning → Form words meaning
@@ -38,7 +44,8 @@ form_of _ _ list = a_word (codes "list") refl (is_list refl refl)
 form_of _ _ judge = a_word (codes "judge") refl (is_judge refl refl)
 form_of _ _ race = a_word (codes "race") refl (is_race refl refl)
 form_of _ _ (replay budget b s) = a_budget (codes "replay") budget b refl s (is_replay refl refl)
-form_of _ _ (trial number n is) = a_trial number n refl is refl
+form_of _ _ (trial number n is) = a_from_zero (codes "trial") number MOST_TRIAL n refl is (is_trial refl refl refl)
+form_of _ _ (dump number n is) = a_from_zero (codes "dump") number MOST_ENTRIES n refl is (is_dump refl refl refl)
 form_of _ _ (exec budget b s) = a_budget (codes "exec") budget b refl s (is_exec refl refl)
 
 -- ---- the names of the commands are told apart by their first two letters
@@ -57,11 +64,18 @@ apart name n k e f h = absurd (h (sym e ∙ f))
 letter : (name other : List ℕ) (i n : ℕ) → name ≡ other → get_or other i 0 ≡ n → get_or name i 0 ≡ n
 letter name other i n e f = ap (λ (w : List ℕ). get_or w i 0) e ∙ f
 
-alone_apart : {B : Type 0} (name : List ℕ) (meaning : Words) (n : ℕ) → IsAlone name meaning → weight name ≡ n → 203 ≢ n → 213 ≢ n → 223 ≢ n → 211 ≢ n → B
-alone_apart name meaning n (is_check e m) w c l j r = apart name 203 n (weigh name (codes "check") 203 e refl) w c
-alone_apart name meaning n (is_list e m) w c l j r = apart name 213 n (weigh name (codes "list") 213 e refl) w l
-alone_apart name meaning n (is_judge e m) w c l j r = apart name 223 n (weigh name (codes "judge") 223 e refl) w j
-alone_apart name meaning n (is_race e m) w c l j r = apart name 211 n (weigh name (codes "race") 211 e refl) w r
+-- the word is none of those that are a command by themselves, by its first two letters
+record NotAlone (n : ℕ) : Type 0 where
+  check : 203 ≢ n
+  list : 213 ≢ n
+  judge : 223 ≢ n
+  race : 211 ≢ n
+
+alone_apart : {B : Type 0} (name : List ℕ) (meaning : Words) (n : ℕ) → IsAlone name meaning → weight name ≡ n → NotAlone n → B
+alone_apart name meaning n (is_check e m) w not = apart name 203 n (weigh name (codes "check") 203 e refl) w not.check
+alone_apart name meaning n (is_list e m) w not = apart name 213 n (weigh name (codes "list") 213 e refl) w not.list
+alone_apart name meaning n (is_judge e m) w not = apart name 223 n (weigh name (codes "judge") 223 e refl) w not.judge
+alone_apart name meaning n (is_race e m) w not = apart name 211 n (weigh name (codes "race") 211 e refl) w not.race
 
 budget_weight : (name : List ℕ) (b : ℕ) (meaning : Words) → IsBudgeted name b meaning → (weight name ≡ 215) ⊎ (weight name ≡ 221)
 budget_weight name b meaning (is_replay e m) = inl (weigh name (codes "replay") 215 e refl)
@@ -78,15 +92,17 @@ budget_letter name b meaning (is_replay e m) = let first = letter name (codes "r
 budget_letter name b meaning (is_exec e m) = let first = letter name (codes "exec") 0 101 e refl in omega (arith, first)
 
 pub run_not_alone : {B : Type 0} (name : List ℕ) (meaning : Words) → IsAlone name meaning → name ≡ codes "run" → B
-run_not_alone name meaning is e =
-    alone_apart name meaning 231 is (weigh name (codes "run") 231 e refl) (λ p. omega arith) (λ p. omega arith) (λ p. omega arith) (λ p. omega arith)
+run_not_alone name meaning is e = alone_apart name meaning 231 is (weigh name (codes "run") 231 e refl)
+    (record { check = λ p. omega arith; list = λ p. omega arith; judge = λ p. omega arith; race = λ p. omega arith })
 
 pub budget_not_alone : {B : Type 0} (name : List ℕ) (b : ℕ) (one other : Words) → IsBudgeted name b one → IsAlone name other → B
 budget_not_alone {B = B} name b one other is also = by (budget_weight name b one is)
   where
     by : (weight name ≡ 215) ⊎ (weight name ≡ 221) → B
-    by (inl w) = alone_apart name other 215 also w (λ p. omega arith) (λ p. omega arith) (λ p. omega arith) (λ p. omega arith)
-    by (inr w) = alone_apart name other 221 also w (λ p. omega arith) (λ p. omega arith) (λ p. omega arith) (λ p. omega arith)
+    by (inl w) = alone_apart name other 215 also w
+        (record { check = λ p. omega arith; list = λ p. omega arith; judge = λ p. omega arith; race = λ p. omega arith })
+    by (inr w) = alone_apart name other 221 also w
+        (record { check = λ p. omega arith; list = λ p. omega arith; judge = λ p. omega arith; race = λ p. omega arith })
 
 -- the name of a command that a budget follows has another weight
 budget_apart : {B : Type 0} (name : List ℕ) (b : ℕ) (meaning : Words) (n : ℕ) → IsBudgeted name b meaning → weight name ≡ n → 215 ≢ n → 221 ≢ n → B
@@ -99,19 +115,57 @@ budget_apart {B = B} name b meaning n is w h k = by (budget_weight name b meanin
 pub budget_not_run : {B : Type 0} (name : List ℕ) (b : ℕ) (meaning : Words) → IsBudgeted name b meaning → name ≡ codes "run" → B
 budget_not_run name b meaning is e = budget_apart name b meaning 231 is (weigh name (codes "run") 231 e refl) (λ p. omega arith) (λ p. omega arith)
 
--- the name of a trial is none of the others
-trial_weight : (name : List ℕ) → name ≡ codes "trial" → weight name ≡ 230
-trial_weight name t = weigh name (codes "trial") 230 t refl
+-- the name of a command that a number follows is none of the others
+number_weight : (name : List ℕ) (most n : ℕ) (meaning : Words) → IsNumbered name most n meaning → (weight name ≡ 230) ⊎ (weight name ≡ 217)
+number_weight name most n meaning (is_trial e f m) = inl (weigh name (codes "trial") 230 e refl)
+number_weight name most n meaning (is_dump e f m) = inr (weigh name (codes "dump") 217 e refl)
 
-pub trial_not_run : {B : Type 0} (name : List ℕ) → name ≡ codes "trial" → name ≡ codes "run" → B
-trial_not_run name t e = apart name 230 231 (trial_weight name t) (weigh name (codes "run") 231 e refl) (λ p. omega arith)
+pub number_letter : (name : List ℕ) (most n : ℕ) (meaning : Words) → IsNumbered name most n meaning → 100 ≤ get_or name 0 0
+number_letter name most n meaning (is_trial e f m) = let first = letter name (codes "trial") 0 116 e refl in omega (arith, first)
+number_letter name most n meaning (is_dump e f m) = let first = letter name (codes "dump") 0 100 e refl in omega (arith, first)
 
-pub trial_not_budgeted : {B : Type 0} (name : List ℕ) (b : ℕ) (meaning : Words) → IsBudgeted name b meaning → name ≡ codes "trial" → B
-trial_not_budgeted name b meaning is t = budget_apart name b meaning 230 is (trial_weight name t) (λ p. omega arith) (λ p. omega arith)
+pub number_not_run : {B : Type 0} (name : List ℕ) (most n : ℕ) (meaning : Words) → IsNumbered name most n meaning → name ≡ codes "run" → B
+number_not_run {B = B} name most n meaning is e = by (number_weight name most n meaning is)
+  where
+    by : (weight name ≡ 230) ⊎ (weight name ≡ 217) → B
+    by (inl v) = apart name 230 231 v (weigh name (codes "run") 231 e refl) (λ p. omega arith)
+    by (inr v) = apart name 217 231 v (weigh name (codes "run") 231 e refl) (λ p. omega arith)
 
-pub trial_not_alone : {B : Type 0} (name : List ℕ) (meaning : Words) → IsAlone name meaning → name ≡ codes "trial" → B
-trial_not_alone name meaning is t =
-    alone_apart name meaning 230 is (trial_weight name t) (λ p. omega arith) (λ p. omega arith) (λ p. omega arith) (λ p. omega arith)
+pub number_not_budgeted : {B : Type 0} (name : List ℕ) (b most n : ℕ) (one other : Words) → IsBudgeted name b one → IsNumbered name most n other → B
+number_not_budgeted {B = B} name b most n one other is also = by (number_weight name most n other also)
+  where
+    by : (weight name ≡ 230) ⊎ (weight name ≡ 217) → B
+    by (inl v) = budget_apart name b one 230 is v (λ p. omega arith) (λ p. omega arith)
+    by (inr v) = budget_apart name b one 217 is v (λ p. omega arith) (λ p. omega arith)
+
+pub number_not_alone : {B : Type 0} (name : List ℕ) (most n : ℕ) (one other : Words) → IsNumbered name most n one → IsAlone name other → B
+number_not_alone {B = B} name most n one other is also = by (number_weight name most n one is)
+  where
+    by : (weight name ≡ 230) ⊎ (weight name ≡ 217) → B
+    by (inl v) = alone_apart name other 230 also v
+        (record { check = λ p. omega arith; list = λ p. omega arith; judge = λ p. omega arith; race = λ p. omega arith })
+    by (inr v) = alone_apart name other 217 also v
+        (record { check = λ p. omega arith; list = λ p. omega arith; judge = λ p. omega arith; race = λ p. omega arith })
+
+-- the greatest number after such a name is below what a word of 64 bits holds, and there is one for each name
+pub number_small : (name : List ℕ) (most n : ℕ) (meaning : Words) → IsNumbered name most n meaning → most < 2 ^ 64
+number_small name most n meaning (is_trial e f m) = rw f (omega arith)
+number_small name most n meaning (is_dump e f m) = rw f (omega arith)
+
+trial_or_dump : {B : Type 0} (name : List ℕ) → name ≡ codes "trial" → name ≡ codes "dump" → B
+trial_or_dump name e f = apart name 230 217 (weigh name (codes "trial") 230 e refl) (weigh name (codes "dump") 217 f refl) (λ p. omega arith)
+
+pub same_greatest : (name : List ℕ) (most greatest n k : ℕ) (one other : Words) → IsNumbered name most n one → IsNumbered name greatest k other → most ≡ greatest
+same_greatest name most greatest n k one other (is_trial e f m) (is_trial g h l) = f ∙ sym h
+same_greatest name most greatest n k one other (is_trial e f m) (is_dump g h l) = trial_or_dump name e g
+same_greatest name most greatest n k one other (is_dump e f m) (is_trial g h l) = trial_or_dump name g e
+same_greatest name most greatest n k one other (is_dump e f m) (is_dump g h l) = f ∙ sym h
+
+pub same_numbered : (name : List ℕ) (most greatest n k : ℕ) (one other : Words) → n ≡ k → IsNumbered name most n one → IsNumbered name greatest k other → one ≡ other
+same_numbered name most greatest n k one other same (is_trial e f m) (is_trial g h l) = m ∙ ap (λ (x : ℕ). Trial x) same ∙ sym l
+same_numbered name most greatest n k one other same (is_trial e f m) (is_dump g h l) = trial_or_dump name e g
+same_numbered name most greatest n k one other same (is_dump e f m) (is_trial g h l) = trial_or_dump name g e
+same_numbered name most greatest n k one other same (is_dump e f m) (is_dump g h l) = m ∙ ap (λ (x : ℕ). OnSource (Dump x)) same ∙ sym l
 
 pub same_budgeted : (name : List ℕ) (b k : ℕ) (one other : Words) → b ≡ k → IsBudgeted name b one → IsBudgeted name k other → one ≡ other
 same_budgeted name b k one other same (is_replay e m) (is_replay f n) = m ∙ ap (λ (x : ℕ). OnSource (Replay x)) same ∙ sym n
@@ -159,7 +213,7 @@ run_form : (rest : List (List ℕ)) (meaning : Words) → Form (codes "run" ∷ 
 run_form rest meaning (a_run processors budget last p b rule e f s n m) =
     record { processors = processors; budget = budget; last = last; p = p; b = b; rule = rule; are = cc; first = f; second = s; named = n }
 run_form rest meaning (a_budget name budget b e s is) = budget_not_run name b meaning is (let same : name ≡ codes "run" = cc in same)
-run_form rest meaning (a_trial number n e is m) = trial_not_run (codes "run") (let same : codes "run" ≡ codes "trial" = cc in same) refl
+run_form rest meaning (a_from_zero name number most n e f is) = number_not_run name most n meaning is (let same : name ≡ codes "run" = cc in same)
 run_form rest meaning (a_word name e is) = run_not_alone name meaning is (let same : name ≡ codes "run" = cc in same)
 
 pub after_run : (rest : List (List ℕ)) (meaning : Words) → IsCommand (codes "run" ∷ rest) meaning → AfterRun rest
@@ -175,35 +229,43 @@ pub record AfterName (rest : List (List ℕ)) : Type 0 where
 budget_form : (name : List ℕ) (k : ℕ) (one : Words) → IsBudgeted name k one → (rest : List (List ℕ)) (meaning : Words) → Form (name ∷ rest) meaning → AfterName rest
 budget_form name k one is rest meaning (a_run processors budget last p b rule e f s n m) = budget_not_run name k one is (let same : name ≡ codes "run" = cc in same)
 budget_form name k one is rest meaning (a_budget other budget b e s also) = record { budget = budget; b = b; are = cc; first = s }
-budget_form name k one is rest meaning (a_trial number n e also m) = trial_not_budgeted name k one is (let same : name ≡ codes "trial" = cc in same)
+budget_form name k one is rest meaning (a_from_zero other number most n e f also) =
+    let same : other ≡ name = cc in number_not_budgeted name k most n one meaning is (subst (λ w. IsNumbered w most n meaning) same also)
 budget_form name k one is rest meaning (a_word other e also) =
     let same : other ≡ name = cc in budget_not_alone name k one meaning is (subst (λ w. IsAlone w meaning) same also)
 
 pub after_name : (name : List ℕ) (k : ℕ) (one : Words) → IsBudgeted name k one → (rest : List (List ℕ)) (meaning : Words) → IsCommand (name ∷ rest) meaning → AfterName rest
 after_name name k one is rest meaning also = budget_form name k one is rest meaning (form_of (name ∷ rest) meaning also)
 
--- the word after `trial`
-pub record AfterTrial (rest : List (List ℕ)) : Type 0 where
+-- the word after a name that a number follows
+pub record AfterNumbered (most : ℕ) (rest : List (List ℕ)) : Type 0 where
   pub number : List ℕ
   pub n : ℕ
   pub are : rest ≡ number ∷ []
-  pub first : IsFromZero MOST_TRIAL number n
+  pub first : IsFromZero most number n
 
-trial_form : (rest : List (List ℕ)) (meaning : Words) → Form (codes "trial" ∷ rest) meaning → AfterTrial rest
-trial_form rest meaning (a_run processors budget last p b rule e f s n m) = trial_not_run (codes "trial") refl (let same : codes "trial" ≡ codes "run" = cc in same)
-trial_form rest meaning (a_budget name budget b e s is) = trial_not_budgeted name b meaning is (let same : name ≡ codes "trial" = cc in same)
-trial_form rest meaning (a_trial number n e is m) = record { number = number; n = n; are = cc; first = is }
-trial_form rest meaning (a_word name e is) = trial_not_alone name meaning is (let same : name ≡ codes "trial" = cc in same)
+number_form : (name : List ℕ) (most k : ℕ) (one : Words) → IsNumbered name most k one → (rest : List (List ℕ)) (meaning : Words) → Form (name ∷ rest) meaning → AfterNumbered most rest
+number_form name most k one is rest meaning (a_run processors budget last p b rule e f s n m) = number_not_run name most k one is (let same : name ≡ codes "run" = cc in same)
+number_form name most k one is rest meaning (a_budget other budget b e s also) =
+    let same : other ≡ name = cc in number_not_budgeted name b most k meaning one (subst (λ w. IsBudgeted w b meaning) same also) is
+number_form name most k one is rest meaning (a_from_zero other number greatest n e first also) =
+    let named : other ≡ name = cc in
+    let same : greatest ≡ most = sym (same_greatest name most greatest k n one meaning is (subst (λ w. IsNumbered w greatest n meaning) named also)) in
+    record { number = number; n = n; are = cc; first = subst (λ m. IsFromZero m number n) same first }
+number_form name most k one is rest meaning (a_word other e also) =
+    let same : other ≡ name = cc in number_not_alone name most k one meaning is (subst (λ w. IsAlone w meaning) same also)
 
-pub after_trial : (rest : List (List ℕ)) (meaning : Words) → IsCommand (codes "trial" ∷ rest) meaning → AfterTrial rest
-after_trial rest meaning is = trial_form rest meaning (form_of (codes "trial" ∷ rest) meaning is)
+pub after_numbered : (name : List ℕ) (most k : ℕ) (one : Words) → IsNumbered name most k one → (rest : List (List ℕ)) (meaning : Words) → IsCommand (name ∷ rest) meaning →
+    AfterNumbered most rest
+after_numbered name most k one is rest meaning also = number_form name most k one is rest meaning (form_of (name ∷ rest) meaning also)
 
 -- no word follows a command that is one word
 alone_form : (name word : List ℕ) (rest : List (List ℕ)) (one meaning : Words) → IsAlone name one → Form (name ∷ word ∷ rest) meaning → ⊥
 alone_form name word rest one meaning is (a_run processors budget last p b rule e f s n m) = run_not_alone name one is cc
 alone_form name word rest one meaning is (a_budget other budget b e s also) =
     let same : other ≡ name = cc in budget_not_alone name b meaning one (subst (λ w. IsBudgeted w b meaning) same also) is
-alone_form name word rest one meaning is (a_trial number n e also m) = trial_not_alone name one is cc
+alone_form name word rest one meaning is (a_from_zero other number most n e f also) =
+    let same : other ≡ name = cc in number_not_alone name most n meaning one (subst (λ w. IsNumbered w most n meaning) same also) is
 alone_form name word rest one meaning is (a_word other e also) = cc
 
 -- ---- how the words of a command can begin
@@ -221,8 +283,9 @@ begin_check = ([], OnSource Check, check)
 pub begin_run : (processors : List ℕ) (p : ℕ) → IsNumber MOST_PROCESSORS processors p → BeginCommand (codes "run" ∷ processors ∷ [])
 begin_run processors p is = (codes "1" ∷ [], OnSource (Run p 1 Fifo), run processors (codes "1") [] p 1 Fifo is (one MOST_BUDGET (omega arith)) refl)
 
-pub begin_trial : BeginCommand (codes "trial" ∷ codes "1" ∷ [])
-begin_trial = ([], Trial 1, trial (codes "1") 1 (record { written = sym (decimal_digit 1 (omega arith)); greatest = omega arith }))
+-- so is 1 from 0 on
+pub one_from_zero : (most : ℕ) → 1 ≤ most → IsFromZero most (codes "1") 1
+one_from_zero most p = record { written = sym (decimal_digit 1 (omega arith)); greatest = p }
 
 -- ---- whole commands
 
@@ -257,9 +320,9 @@ pub whole_budget : (name budget : List ℕ) (b : ℕ) (meaning : Words) → IsBu
 whole_budget name budget b meaning budgeted is =
     record { is = is; last = λ word (more, m, also). let e = (after_name name b meaning budgeted (budget ∷ word ∷ more) m also).are in cc }
 
-pub whole_trial : (number : List ℕ) (n : ℕ) → IsFromZero MOST_TRIAL number n → IsWhole (codes "trial" ∷ number ∷ []) (Trial n)
-whole_trial number n is =
-    record { is = trial number n is; last = λ word (more, m, also). let e = (after_trial (number ∷ word ∷ more) m also).are in cc }
+pub whole_number : (name number : List ℕ) (most n : ℕ) (meaning : Words) → IsNumbered name most n meaning → IsCommand (name ∷ number ∷ []) meaning → IsWhole (name ∷ number ∷ []) meaning
+whole_number name number most n meaning numbered is =
+    record { is = is; last = λ word (more, m, also). let e = (after_numbered name most n meaning numbered (number ∷ word ∷ more) m also).are in cc }
 
 -- ---- the rules of dispatch are told apart by a letter
 

@@ -3,17 +3,17 @@ use Rattle.std.proofs.Common.{◌≡◌, ℕ, ◌+◌, ◌^◌, ◌<◌, ◌≤�
 use Rattle.std.specs.Prelude.{codes}
 use Rattle.std.proofs.lemmas.List.{append_assoc, append-nil}
 use Rattle.std.proofs.lemmas.Fmt.{decimal_injective}
-use Rattle.b67_words.specs.declared.TheConstants.{MOST_BUDGET, MOST_PROCESSORS, MOST_TRIAL}
+use Rattle.b67_limits.specs.declared.TheConstants.{MOST_BUDGET, MOST_PROCESSORS}
 use Rattle.b67_words.specs.declared.Rule.{Rule}
 use Rattle.b67_words.specs.declared.Words.{Words}
 use Rattle.b67_words.specs.declared.Task.TheVariants.{Run}
-use Rattle.b67_words.specs.declared.Words.TheVariants.{OnSource, Trial}
+use Rattle.b67_words.specs.declared.Words.TheVariants.{OnSource}
 use Rattle.b67_words.specs.declared.UsageKind.{UsageKind}
 use Rattle.b67_words.specs.declared.UsageKind.TheVariants.{Missing, Unknown, BadNumber, BadRule, Extra}
 use Rattle.b67_words.specs.declared.BadWords.{BadWords}
 use Rattle.b67_words.specs.declared.BadWords.TheVariants.{Usage}
 use Rattle.b67_words.specs.Grammar.{IsNumber, IsFromZero, IsRule, NameRule, IsCommand, BeginCommand, Wants, command, numeral, named as rule_named, nothing, Breaks, missing, wrong, WordsMean, meant, broken}
-use Rattle.b67_words.proofs.Commands.{IsAlone, IsBudgeted, Form, a_run, a_budget, a_trial, a_word, form_of, alone_letter, budget_letter, run_not_alone, budget_not_alone, budget_not_run, trial_not_run, trial_not_budgeted, trial_not_alone, same_budgeted, same_alone, begin_check, rule_first, same_name}
+use Rattle.b67_words.proofs.Commands.{IsAlone, IsBudgeted, IsNumbered, Form, a_run, a_budget, a_from_zero, a_word, form_of, alone_letter, budget_letter, number_letter, run_not_alone, budget_not_alone, budget_not_run, number_not_run, number_not_budgeted, number_not_alone, number_small, same_budgeted, same_numbered, same_alone, begin_check, rule_first, same_name}
 use Rattle.b67_words.proofs.Reading.{begins}
 use Rattle.b67_words.proofs.Numbers.{first_digit, digit_first}
 
@@ -22,8 +22,8 @@ use Rattle.b67_words.proofs.Numbers.{first_digit, digit_first}
 same_number : (most : ℕ) (word : List ℕ) (n k : ℕ) → most < 2 ^ 64 → IsNumber most word n → IsNumber most word k → n ≡ k
 same_number most word n k small a b = decimal_injective n k (omega (arith, a.greatest)) (omega (arith, b.greatest)) (sym a.written ∙ b.written)
 
-same_from_zero : (most : ℕ) (word : List ℕ) (n k : ℕ) → most < 2 ^ 64 → IsFromZero most word n → IsFromZero most word k → n ≡ k
-same_from_zero most word n k small a b = decimal_injective n k (omega (arith, a.greatest)) (omega (arith, b.greatest)) (sym a.written ∙ b.written)
+same_from_zero : (most greatest : ℕ) (word : List ℕ) (n k : ℕ) → most < 2 ^ 64 → greatest < 2 ^ 64 → IsFromZero most word n → IsFromZero greatest word k → n ≡ k
+same_from_zero most greatest word n k small little a b = decimal_injective n k (omega (arith, a.greatest)) (omega (arith, b.greatest)) (sym a.written ∙ b.written)
 
 same_form : (words : List (List ℕ)) (a b : Words) → Form words a → Form words b → a ≡ b
 same_form words a b (a_run processors budget last p n rule e f s u m) (a_run others other more q k by also g t v l) =
@@ -37,8 +37,8 @@ same_form words a b (a_run processors budget last p n rule e f s u m) (a_run oth
     m ∙ ap (λ x. OnSource (Run x n rule)) one ∙ ap (λ x. OnSource (Run q x rule)) two ∙ ap (λ (x : Rule). OnSource (Run q k x)) named ∙ sym l
 same_form words a b (a_run processors budget last p n rule e f s u m) (a_budget name other k also t is) =
     let same = sym e ∙ also in budget_not_run name k b is (let word : name ≡ codes "run" = cc in word)
-same_form words a b (a_run processors budget last p n rule e f s u m) (a_trial number k also is l) =
-    let same = sym e ∙ also in trial_not_run (codes "run") (let word : codes "run" ≡ codes "trial" = cc in word) refl
+same_form words a b (a_run processors budget last p n rule e f s u m) (a_from_zero name number most k also g is) =
+    let same = sym e ∙ also in number_not_run name most k b is (let word : name ≡ codes "run" = cc in word)
 same_form words a b (a_run processors budget last p n rule e f s u m) (a_word name also is) =
     let same = sym e ∙ also in run_not_alone name b is (let word : name ≡ codes "run" = cc in word)
 same_form words a b (a_budget name budget n e s is) (a_run others other more q k by also g t v l) =
@@ -49,31 +49,41 @@ same_form words a b (a_budget name budget n e s is) (a_budget word other k also 
     let one : n ≡ k = same_number MOST_BUDGET budget n k (omega arith) s (subst (λ w. IsNumber MOST_BUDGET w k) first t) in
     let named : word ≡ name = cc in
     same_budgeted name n k a b one is (subst (λ w. IsBudgeted w k b) named too)
-same_form words a b (a_budget name budget n e s is) (a_trial number k also too l) =
-    let same = sym e ∙ also in trial_not_budgeted name n a is (let word : name ≡ codes "trial" = cc in word)
+same_form words a b (a_budget name budget n e s is) (a_from_zero other number most k also t too) =
+    let same = sym e ∙ also in
+    let named : other ≡ name = cc in
+    number_not_budgeted name n most k a b is (subst (λ w. IsNumbered w most k b) named too)
 same_form words a b (a_budget name budget n e s is) (a_word other also too) =
     let same = sym e ∙ also in
     let named : other ≡ name = cc in
     budget_not_alone name n a b is (subst (λ w. IsAlone w b) named too)
-same_form words a b (a_trial number n e is m) (a_run others other more q k by also g t v l) =
-    let same = sym e ∙ also in trial_not_run (codes "trial") refl (let word : codes "trial" ≡ codes "run" = cc in word)
-same_form words a b (a_trial number n e is m) (a_budget name budget k also t too) =
-    let same = sym e ∙ also in trial_not_budgeted name k b too (let word : name ≡ codes "trial" = cc in word)
-same_form words a b (a_trial number n e is m) (a_trial other k also too l) =
+same_form words a b (a_from_zero name number most n e f is) (a_run others other more q k by also g t v l) =
+    let same = sym e ∙ also in number_not_run name most n a is (let word : name ≡ codes "run" = cc in word)
+same_form words a b (a_from_zero name number most n e f is) (a_budget other budget k also t too) =
     let same = sym e ∙ also in
-    let word : other ≡ number = cc in
-    let one : n ≡ k = same_from_zero MOST_TRIAL number n k (omega arith) is (subst (λ w. IsFromZero MOST_TRIAL w k) word too) in
-    m ∙ ap (λ (x : ℕ). Trial x) one ∙ sym l
-same_form words a b (a_trial number n e is m) (a_word name also too) =
-    let same = sym e ∙ also in trial_not_alone name b too (let word : name ≡ codes "trial" = cc in word)
+    let named : name ≡ other = cc in
+    number_not_budgeted other k most n b a too (subst (λ w. IsNumbered w most n a) named is)
+same_form words a b (a_from_zero name number most n e f is) (a_from_zero other digits greatest k also g too) =
+    let same = sym e ∙ also in
+    let named : other ≡ name = cc in
+    let word : digits ≡ number = cc in
+    let of_name = subst (λ w. IsNumbered w greatest k b) named too in
+    let one : n ≡ k = same_from_zero most greatest number n k (number_small name most n a is) (number_small name greatest k b of_name) f (subst (λ w. IsFromZero greatest w k) word g) in
+    same_numbered name most greatest n k a b one is of_name
+same_form words a b (a_from_zero name number most n e f is) (a_word other also too) =
+    let same = sym e ∙ also in
+    let named : other ≡ name = cc in
+    number_not_alone name most n a b is (subst (λ w. IsAlone w b) named too)
 same_form words a b (a_word name e is) (a_run others other more q k by also g t v l) =
     let same = sym e ∙ also in run_not_alone name a is (let word : name ≡ codes "run" = cc in word)
 same_form words a b (a_word name e is) (a_budget other budget k also t too) =
     let same = sym e ∙ also in
     let named : name ≡ other = cc in
     budget_not_alone other k b a too (subst (λ w. IsAlone w a) named is)
-same_form words a b (a_word name e is) (a_trial number k also too l) =
-    let same = sym e ∙ also in trial_not_alone name a is (let word : name ≡ codes "trial" = cc in word)
+same_form words a b (a_word name e is) (a_from_zero other number most k also g too) =
+    let same = sym e ∙ also in
+    let named : name ≡ other = cc in
+    number_not_alone other most k b a too (subst (λ w. IsAlone w a) named is)
 same_form words a b (a_word name e is) (a_word other also too) =
     let same = sym e ∙ also in let named : other ≡ name = cc in same_alone name a b is (subst (λ w. IsAlone w b) named too)
 
@@ -91,9 +101,10 @@ number_form word rest meaning low (a_budget name budget b e s is) =
     let first : get_or word 0 0 ≡ get_or name 0 0 = ap (λ (w : List ℕ). get_or w 0 0) same in
     let high = budget_letter name b meaning is in
     absurd (omega arith)
-number_form word rest meaning low (a_trial number n e is m) =
-    let same : word ≡ codes "trial" = cc in
-    let high : get_or word 0 0 ≡ 116 = rw same refl in
+number_form word rest meaning low (a_from_zero name number most n e f is) =
+    let same : word ≡ name = cc in
+    let first : get_or word 0 0 ≡ get_or name 0 0 = ap (λ (w : List ℕ). get_or w 0 0) same in
+    let high = number_letter name most n meaning is in
     absurd (omega arith)
 number_form word rest meaning low (a_word name e is) =
     let same : word ≡ name = cc in
@@ -124,19 +135,19 @@ rule_place (a ∷ []) word rest meaning rule is (a_run processors budget last p 
     let same : processors ≡ word = cc in no_rule MOST_PROCESSORS word p rule (omega arith) (subst (λ w. IsNumber MOST_PROCESSORS w p) same f) is
 rule_place (a ∷ []) word rest meaning rule is (a_budget name budget b e s also) =
     let same : budget ≡ word = cc in no_rule MOST_BUDGET word b rule (omega arith) (subst (λ w. IsNumber MOST_BUDGET w b) same s) is
-rule_place (a ∷ []) word rest meaning rule is (a_trial number n e also m) =
-    let same : number ≡ word = cc in no_rule_from_zero MOST_TRIAL word n rule (omega arith) (subst (λ w. IsFromZero MOST_TRIAL w n) same also) is
+rule_place (a ∷ []) word rest meaning rule is (a_from_zero name number most n e f also) =
+    let same : number ≡ word = cc in no_rule_from_zero most word n rule (number_small name most n meaning also) (subst (λ w. IsFromZero most w n) same f) is
 rule_place (a ∷ []) word rest meaning rule is (a_word name e also) = cc
 rule_place (a ∷ c ∷ []) word rest meaning rule is (a_run processors budget last p b by e f s n m) =
     let same : budget ≡ word = cc in no_rule MOST_BUDGET word b rule (omega arith) (subst (λ w. IsNumber MOST_BUDGET w b) same s) is
 rule_place (a ∷ c ∷ []) word rest meaning rule is (a_budget name budget b e s also) = cc
-rule_place (a ∷ c ∷ []) word rest meaning rule is (a_trial number n e also m) = cc
+rule_place (a ∷ c ∷ []) word rest meaning rule is (a_from_zero name number most n e f also) = cc
 rule_place (a ∷ c ∷ []) word rest meaning rule is (a_word name e also) = cc
 rule_place (a ∷ c ∷ d ∷ []) word rest meaning rule is form = refl
 rule_place (a ∷ c ∷ d ∷ x ∷ more) word rest meaning rule is (a_run processors budget last p b by e f s n m) =
     let same : last ≡ x ∷ (more ++ word ∷ rest) = cc in absurd (none_after x more word rest by (subst (λ (ws : List (List ℕ)). NameRule ws by) same n))
 rule_place (a ∷ c ∷ d ∷ x ∷ more) word rest meaning rule is (a_budget name budget b e s also) = cc
-rule_place (a ∷ c ∷ d ∷ x ∷ more) word rest meaning rule is (a_trial number n e also m) = cc
+rule_place (a ∷ c ∷ d ∷ x ∷ more) word rest meaning rule is (a_from_zero name number most n e f also) = cc
 rule_place (a ∷ c ∷ d ∷ x ∷ more) word rest meaning rule is (a_word name e also) = cc
 
 named_fourth : {B : Type 0} (word : List ℕ) (rest : List (List ℕ)) (n : ℕ) (by : Rule) → IsNumber MOST_BUDGET word n → NameRule (word ∷ rest) by → B
@@ -151,7 +162,7 @@ number_not_fourth (a ∷ c ∷ []) word rest meaning n is three form = absurd (o
 number_not_fourth (a ∷ c ∷ d ∷ []) word rest meaning n is three (a_run processors budget last p b by e f s u m) =
     let same : last ≡ word ∷ rest = cc in named_fourth word rest n by is (subst (λ (ws : List (List ℕ)). NameRule ws by) same u)
 number_not_fourth (a ∷ c ∷ d ∷ []) word rest meaning n is three (a_budget name budget b e s also) = cc
-number_not_fourth (a ∷ c ∷ d ∷ []) word rest meaning n is three (a_trial number k e also m) = cc
+number_not_fourth (a ∷ c ∷ d ∷ []) word rest meaning n is three (a_from_zero name number most k e f also) = cc
 number_not_fourth (a ∷ c ∷ d ∷ []) word rest meaning n is three (a_word name e also) = cc
 number_not_fourth (a ∷ c ∷ d ∷ x ∷ more) word rest meaning n is three form = absurd (omega (arith, three))
 

@@ -4,18 +4,19 @@ use Rattle.std.specs.Prelude.{slice_get, codes}
 use Rattle.std.proofs.lemmas.List.{append_assoc, append-nil, length-append, take-append-drop, length-take-le}
 use Rattle.std.proofs.lemmas.Option.{get_or_from_slice_get, slice_get_within}
 use Rattle.std.proofs.Math.Seq.{get_or-append_seam, take-append_seam, take-length}
-use Rattle.b67_words.specs.declared.TheConstants.{MOST_BUDGET, MOST_PROCESSORS, MOST_TRIAL}
+use Rattle.b67_limits.specs.declared.TheConstants.{MOST_BUDGET, MOST_PROCESSORS}
+use Rattle.b67_words.specs.declared.TheConstants.{MOST_TRIAL, MOST_ENTRIES}
 use Rattle.b67_words.specs.declared.Rule.{Rule}
 use Rattle.b67_words.specs.declared.Rule.TheVariants.{Fifo}
 use Rattle.b67_words.specs.declared.Words.{Words}
 use Rattle.b67_words.specs.declared.Task.TheVariants as tasks
-use Rattle.b67_words.specs.declared.Task.TheVariants.{Run, Check, Replay, Judge, Race}
+use Rattle.b67_words.specs.declared.Task.TheVariants.{Run, Check, Replay, Judge, Race, Dump}
 use Rattle.b67_words.specs.declared.Words.TheVariants.{OnSource, Exec, Trial}
 use Rattle.b67_words.specs.declared.BadWords.{BadWords}
 use Rattle.b67_words.specs.declared.BadWords.TheVariants.{Usage}
 use Rattle.b67_words.specs.declared.UsageKind.TheVariants.{Missing, Unknown, BadNumber, BadRule, Extra}
-use Rattle.b67_words.specs.Grammar.{IsNumber, IsFromZero, IsRule, fifo, NameRule, IsCommand, run, replay, exec, BeginCommand, IsWhole, BeginWhole, command, numeral, named as rule_named, nothing, missing, wrong, WordsMean, meant, broken, NumberStandsAt, IsRuleOrNone, RuleStandsAt}
-use Rattle.b67_words.proofs.Commands.{Form, a_run, a_budget, a_trial, a_word, IsAlone, is_check, is_list, is_judge, is_race, IsBudgeted, is_replay, is_exec, form_of, begin_nothing, begin_run, begin_trial, one, after_run, after_name, after_trial, whole_run, whole_budget, whole_trial, whole_check, whole_list, whole_judge, whole_race}
+use Rattle.b67_words.specs.Grammar.{IsNumber, IsFromZero, IsRule, fifo, NameRule, IsCommand, run, replay, dump, exec, trial, BeginCommand, IsWhole, BeginWhole, command, numeral, named as rule_named, nothing, missing, wrong, WordsMean, meant, broken, NumberStandsAt, IsRuleOrNone, RuleStandsAt}
+use Rattle.b67_words.proofs.Commands.{Form, a_run, a_budget, a_from_zero, a_word, IsAlone, is_check, is_list, is_judge, is_race, IsBudgeted, is_replay, is_exec, IsNumbered, is_trial, is_dump, form_of, begin_nothing, begin_run, one, one_from_zero, after_run, after_name, after_numbered, whole_run, whole_budget, whole_number, whole_check, whole_list, whole_judge, whole_race}
 
 -- the words begin with these
 abbrev pub GoOn : List (List ℕ) → List (List ℕ) → Type 0
@@ -156,24 +157,41 @@ pub begin_exec_whole : (words : List (List ℕ)) (b : ℕ) → slice_get words 0
     BeginWhole words 2 (Exec b)
 begin_exec_whole = begin_budget_whole (codes "exec") (λ b. Exec b) (λ b. is_exec refl refl) exec
 
--- the number of a trial
-awaits_trial : Awaits (codes "trial" ∷ []) (IsFromZero MOST_TRIAL)
-awaits_trial = record {
-  unfinished = λ m is. let e = (after_trial [] m is).are in cc;
-  begun = begin_trial;
-  only = λ word (more, m, is). let words = after_trial (word ∷ more) m is in let e = words.are in let same : words.number ≡ word = cc in
-      (words.n, subst (λ w. IsFromZero MOST_TRIAL w words.n) same words.first);
-}
+-- a command of a name and a number from 0 on
+module _ (name : List ℕ) (most : ℕ) (some : 1 ≤ most) (meaning : ℕ → Words) (named : (n : ℕ) → IsNumbered name most n (meaning n))
+    (command_of : (number : List ℕ) (n : ℕ) → IsFromZero most number n → IsCommand (name ∷ number ∷ []) (meaning n)) where
+  awaits_number : Awaits (name ∷ []) (IsFromZero most)
+  awaits_number = record {
+    unfinished = λ m is. let e = (after_numbered name most 1 (meaning 1) (named 1) [] m is).are in cc;
+    begun = ([], meaning 1, command_of (codes "1") 1 (one_from_zero most some));
+    only = λ word (more, m, is). let words = after_numbered name most 1 (meaning 1) (named 1) (word ∷ more) m is in let e = words.are in let same : words.number ≡ word = cc in
+        (words.n, subst (λ w. IsFromZero most w words.n) same words.first);
+  }
+
+  from_zero_broken : (words : List (List ℕ)) (bad : BadWords) → slice_get words 0 ≡ Some name → NumberStandsAt (IsFromZero most) words 1 (Err bad) → WordsMean words (Err bad)
+  from_zero_broken words bad h n = number_broken (name ∷ []) words (IsFromZero most) bad awaits_number (starts name words h) n
+
+  begin_from_zero_whole : (words : List (List ℕ)) (n : ℕ) → slice_get words 0 ≡ Some name → NumberStandsAt (IsFromZero most) words 1 (Ok n) → BeginWhole words 2 (meaning n)
+  begin_from_zero_whole words n h f =
+      let first = number_read (name ∷ []) words (IsFromZero most) n (starts name words h) f in
+      begin_whole (name ∷ first.word ∷ []) words (meaning n) first.on
+      (whole_number name first.word most n (meaning n) (named n) (command_of first.word n first.is))
 
 pub trial_broken : (words : List (List ℕ)) (bad : BadWords) → slice_get words 0 ≡ Some (codes "trial") → NumberStandsAt (IsFromZero MOST_TRIAL) words 1 (Err bad) →
     WordsMean words (Err bad)
-trial_broken words bad h n = number_broken (codes "trial" ∷ []) words (IsFromZero MOST_TRIAL) bad awaits_trial (starts (codes "trial") words h) n
+trial_broken = from_zero_broken (codes "trial") MOST_TRIAL (omega arith) (λ n. Trial n) (λ n. is_trial refl refl refl) trial
 
-pub begin_trial_whole : (words : List (List ℕ)) (k : ℕ) → slice_get words 0 ≡ Some (codes "trial") → NumberStandsAt (IsFromZero MOST_TRIAL) words 1 (Ok k) →
-    BeginWhole words 2 (Trial k)
-begin_trial_whole words k h f =
-    let first = number_read (codes "trial" ∷ []) words (IsFromZero MOST_TRIAL) k (starts (codes "trial") words h) f in
-    begin_whole (codes "trial" ∷ first.word ∷ []) words (Trial k) first.on (whole_trial first.word k first.is)
+pub dump_broken : (words : List (List ℕ)) (bad : BadWords) → slice_get words 0 ≡ Some (codes "dump") → NumberStandsAt (IsFromZero MOST_ENTRIES) words 1 (Err bad) →
+    WordsMean words (Err bad)
+dump_broken = from_zero_broken (codes "dump") MOST_ENTRIES (omega arith) (λ n. OnSource (Dump n)) (λ n. is_dump refl refl refl) dump
+
+pub begin_trial_whole : (words : List (List ℕ)) (n : ℕ) → slice_get words 0 ≡ Some (codes "trial") → NumberStandsAt (IsFromZero MOST_TRIAL) words 1 (Ok n) →
+    BeginWhole words 2 (Trial n)
+begin_trial_whole = begin_from_zero_whole (codes "trial") MOST_TRIAL (omega arith) (λ n. Trial n) (λ n. is_trial refl refl refl) trial
+
+pub begin_dump_whole : (words : List (List ℕ)) (n : ℕ) → slice_get words 0 ≡ Some (codes "dump") → NumberStandsAt (IsFromZero MOST_ENTRIES) words 1 (Ok n) →
+    BeginWhole words 2 (OnSource (Dump n))
+begin_dump_whole = begin_from_zero_whole (codes "dump") MOST_ENTRIES (omega arith) (λ n. OnSource (Dump n)) (λ n. is_dump refl refl refl) dump
 
 pub begin_check_whole : (words : List (List ℕ)) → slice_get words 0 ≡ Some (codes "check") → BeginWhole words 1 (OnSource Check)
 begin_check_whole words h = begin_whole (codes "check" ∷ []) words (OnSource Check) (starts (codes "check") words h) whole_check
@@ -307,6 +325,7 @@ pub record NamesNone (word : List ℕ) : Type 0 where
   pub not_replay : word ≢ codes "replay"
   pub not_judge : word ≢ codes "judge"
   pub not_race : word ≢ codes "race"
+  pub not_dump : word ≢ codes "dump"
   pub not_exec : word ≢ codes "exec"
   pub not_trial : word ≢ codes "trial"
 
@@ -320,10 +339,15 @@ not_budgeted : (word : List ℕ) (b : ℕ) (meaning : Words) → NamesNone word 
 not_budgeted word b meaning none (is_replay e m) = none.not_replay e
 not_budgeted word b meaning none (is_exec e m) = none.not_exec e
 
+not_numbered : (word : List ℕ) (most n : ℕ) (meaning : Words) → NamesNone word → IsNumbered word most n meaning → ⊥
+not_numbered word most n meaning none (is_trial e f m) = none.not_trial e
+not_numbered word most n meaning none (is_dump e f m) = none.not_dump e
+
 no_command : (word : List ℕ) (rest : List (List ℕ)) (meaning : Words) → NamesNone word → Form (word ∷ rest) meaning → ⊥
 no_command word rest meaning none (a_run processors budget last p b rule e f s n m) = none.not_run cc
 no_command word rest meaning none (a_budget name budget b e s is) = let same : name ≡ word = cc in not_budgeted word b meaning none (subst (λ w. IsBudgeted w b meaning) same is)
-no_command word rest meaning none (a_trial number n e is m) = none.not_trial cc
+no_command word rest meaning none (a_from_zero name number most n e f is) =
+    let same : name ≡ word = cc in not_numbered word most n meaning none (subst (λ w. IsNumbered w most n meaning) same is)
 no_command word rest meaning none (a_word name e is) = let same : name ≡ word = cc in not_alone word meaning none (subst (λ w. IsAlone w meaning) same is)
 
 unknown_given : (word : List ℕ) (rest : List (List ℕ)) → NamesNone word → WordsMean (word ∷ rest) (Err (Usage 1 Unknown))
@@ -333,7 +357,7 @@ unknown_given word rest none =
 no_words : (meaning : Words) → Form [] meaning → ⊥
 no_words meaning (a_run processors budget last p b rule e f s n m) = cc
 no_words meaning (a_budget name budget b e s is) = cc
-no_words meaning (a_trial number n e is m) = cc
+no_words meaning (a_from_zero name number most n e f is) = cc
 no_words meaning (a_word name e is) = cc
 
 none_given : WordsMean [] (Err (Usage 1 Missing))

@@ -3,26 +3,21 @@
 
 ghost use Rattle.std.specs.Prelude.{◌≡◌, ◌≢◌, ◌+◌, ◌^◌, ◌<◌, ◌≤◌, ℕ, List, Result, map, length, codes, slice_get, slice_index, Some, IsTrue, ◌↔◌};
 ghost use Rattle.std.specs.String.{string_bytes};
-ghost use Rattle.b67_words.specs.declared.TheConstants.{MOST_BUDGET, MOST_STRETCH, MOST_PROCESSORS, MOST_SEED, MOST_TRIAL};
+ghost use Rattle.b67_limits.specs.declared.TheConstants.{MOST_BUDGET, MOST_PROCESSORS};
+ghost use Rattle.b67_words.specs.declared.TheConstants.{MOST_SEED, MOST_TRIAL, MOST_ENTRIES};
 ghost use Rattle.b67_words.specs.Grammar.{WordsMean, BeginWhole, IsNumber, IsNumberOrNone, IsFromZero, IsFromZeroOrNone, NumberStandsAt, IsRuleOrNone, RuleStandsAt};
 
+use b67_limits::{MOST_BUDGET, MOST_PROCESSORS};
 use thiserror::Error;
-
-/// The greatest budget of a run, in operators.
-pub const MOST_BUDGET: u64 = 4_194_304;
-
-/// A run whose budget is spent has performed fewer operators than its budget and these together. Every other end of a run comes with at
-/// most as many operators as the budget.
-pub const MOST_STRETCH: u64 = 64;
-
-/// The greatest number of processors of a run.
-pub const MOST_PROCESSORS: u64 = 8;
 
 /// The greatest number of a rule that spreads the takes.
 pub const MOST_SEED: u32 = 4_294_967_295;
 
 /// The greatest number that a source is made from.
 pub const MOST_TRIAL: u32 = 500;
+
+/// The greatest number of entries after which a dump can be asked for.
+pub const MOST_ENTRIES: u32 = 999_999_999;
 
 /// A rule of dispatch: which of those who wait for a processor is taken.
 #[derive(Clone, Copy, PartialEq, Eq, Debug)]
@@ -57,6 +52,10 @@ pub enum Task {
     Judge,
     /// `race`: say, of the report that stands after it, which entries of its schedule race, where it is a report of the source.
     Race,
+    /// `dump K`: show its cells after the first K entries of the schedule that stands after it, K from 0 to [`MOST_ENTRIES`].
+    Dump {
+        entries: u32,
+    },
 }
 
 /// A command with what its words say.
@@ -115,6 +114,7 @@ pub fn read_words(words: &[String]) -> Result<Words, BadWords>
         "replay" => read_replay(words),
         "judge" => whole(words, 1, Words::OnSource(Task::Judge)),
         "race" => whole(words, 1, Words::OnSource(Task::Race)),
+        "dump" => read_dump(words),
         "exec" => read_exec(words),
         "trial" => read_trial(words),
         _ => Err(BadWords::Usage {
@@ -168,8 +168,17 @@ fn read_trial(words: &[String]) -> Result<Words, BadWords>
     requires { slice_get (map string_bytes words.now) 0 ≡ Some (codes "trial") }
     ensures { WordsMean (map string_bytes words.now) result }
 {
-    let n = trial_at(words)?;
+    let n = from_zero_at(words, MOST_TRIAL)?;
     whole(words, 2, Words::Trial { n })
+}
+
+/// `dump K`, where the first word is `dump`.
+fn read_dump(words: &[String]) -> Result<Words, BadWords>
+    requires { slice_get (map string_bytes words.now) 0 ≡ Some (codes "dump") }
+    ensures { WordsMean (map string_bytes words.now) result }
+{
+    let entries = from_zero_at(words, MOST_ENTRIES)?;
+    whole(words, 2, Words::OnSource(Task::Dump { entries }))
 }
 
 /// The command that so many of the first words are, if no other word follows them.
@@ -204,9 +213,9 @@ fn number_at(words: &[String], before: u32, most: u64) -> Result<u64, BadWords>
     })
 }
 
-/// The number of a trial, which is the word after the first.
-fn trial_at(words: &[String]) -> Result<u32, BadWords>
-    ensures { NumberStandsAt (IsFromZero MOST_TRIAL) (map string_bytes words.now) 1 result }
+/// The number from 0 to `most` that is the word after the first.
+fn from_zero_at(words: &[String], most: u32) -> Result<u32, BadWords>
+    ensures { NumberStandsAt (IsFromZero most) (map string_bytes words.now) 1 result }
 {
     let Some(word) = words.get(1) else {
         return Err(BadWords::Usage {
@@ -214,7 +223,7 @@ fn trial_at(words: &[String]) -> Result<u32, BadWords>
             kind: UsageKind::Missing,
         });
     };
-    from_zero(word.as_str(), MOST_TRIAL).ok_or(BadWords::Usage {
+    from_zero(word.as_str(), most).ok_or(BadWords::Usage {
         word: 2,
         kind: UsageKind::BadNumber,
     })
@@ -292,13 +301,10 @@ fn from_zero(text: &str, most: u32) -> Option<u32>
     }
 }
 
-/// Law: the numbers of this crate, which the words of a command and the ends of a run are defined with: the greatest budget, the room of a
-/// run whose budget is spent, the most processors and the greatest number of a trial by this project's profile, as docs/LANGUAGE.md has them;
-/// the greatest seed has 32 bits.
+/// Law: the numbers of this crate, which the words of a command are defined with: the greatest seed has 32 bits; the greatest numbers of a trial and of a
+/// dump are of this project's profile, as docs/LANGUAGE.md has them.
 pub fn numbers_are_told()
-    ensures budget { MOST_BUDGET ≡ 4194304 }
-    ensures stretch { MOST_STRETCH ≡ 64 }
-    ensures processors { MOST_PROCESSORS ≡ 8 }
     ensures seed { MOST_SEED + 1 ≡ 2 ^ 32 }
     ensures trial { MOST_TRIAL ≡ 500 }
+    ensures entries { MOST_ENTRIES ≡ 999999999 }
 {}

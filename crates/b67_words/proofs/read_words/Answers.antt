@@ -15,6 +15,7 @@ returns-in_default-as_str c =
       not_replay = λ e. c.in_default-as_str.not-replay (c.as_str.ensures.value ∙ e);
       not_judge = λ e. c.in_default-as_str.not-judge (c.as_str.ensures.value ∙ e);
       not_race = λ e. c.in_default-as_str.not-race (c.as_str.ensures.value ∙ e);
+      not_dump = λ e. c.in_default-as_str.not-dump (c.as_str.ensures.value ∙ e);
       not_exec = λ e. c.in_default-as_str.not-exec (c.as_str.ensures.value ∙ e);
       not_trial = λ e. c.in_default-as_str.not-trial (c.as_str.ensures.value ∙ e);
     })

@@ -51,3 +51,12 @@ returns-in-Race c =
     task_asks c.args.task tasks.Race beside c.args.input tree c.settled-in-Race.result c.in-Race.is
     (settled_asks (λ by. AnswersTree by (OnSource tasks.Race) beside c.args.input tree) c.answer_race.result c.settled-in-Race.result c.settled-in-Race.ensures
     (λ by. c.answer_race.ensures))
+
+pub returns-in-Dump : goal.returns-in-Dump
+returns-in-Dump c =
+    let beside = option_copied c.args.text in
+    let tree = plain c.args.checked.now.program in
+    let task : Task = tasks.Dump c.in-Dump.entries in
+    task_asks c.args.task task beside c.args.input tree c.settled-in-Dump.result c.in-Dump.is
+    (settled_asks (λ by. AnswersTree by (OnSource task) beside c.args.input tree) c.answer_dump.result c.settled-in-Dump.result c.settled-in-Dump.ensures
+    (λ by. c.answer_dump.ensures))
