@@ -1,0 +1,5 @@
+mod Leading
+mod Lines
+mod Moving
+mod Notes
+mod Tried

@@ -1,0 +1,2 @@
+mod Enumerating
+mod Tried
