@@ -59,6 +59,11 @@ entry_one code p a b c n m x y =
     let same = plains_one code p a x.quiet y.quiet n m x.plains (stuck code p x.quiet b x.action) y.plains (stuck code p y.quiet c y.action) in
     acts_one code p x.quiet b c x.action (subst (λ (z : Image). Acts code p z c) (sym same) y.action)
 
+-- it comes to it in one image only
+pub stops_one : (code : Code) (p : ℕ) (a b c : Image) → Stops code p a b → Stops code p a c → b ≡ c
+stops_one code p a b c s t =
+    plains_one code p a b c s.count t.count s.plains (at_limit code b p s.at_limit) t.plains (at_limit code c p t.at_limit)
+
 acts_not_limit : (code : Code) (p : ℕ) (a b : Image) (A : Type 0) → Acts code p a b → table code a p ≡ limit → A
 acts_not_limit code p a b A (acts e t) l = differ_limit b A (sym t ∙ l)
 acts_not_limit code p a b A (fails kind t) l = fault_limit (table code a p) kind A t l

@@ -1,7 +1,9 @@
 -- A state has one history, and its entries are performed one after another.
 use Rattle.std.proofs.Common.{◌≡◌, refl, sym, ap, subst, ◌∙◌, ℕ, zero, suc, ◌+◌, ◌-◌, ◌<◌, ◌≤◌, Bool, true, false, List, [], ◌∷◌, ◌++◌, length, drop, Some, append_assoc, append-nil, arith}
 use Rattle.std.specs.Prelude.{slice_get}
+use Rattle.std.specs.List.{All}
 use Rattle.std.proofs.lemmas.List.{drop_all}
+use Rattle.std.proofs.lemmas.List.Elements.{All-cons}
 use Rattle.std.proofs.lemmas.Option.{slice_get_within, same_Some, none-some}
 use Rattle.b67_segment.specs.declared.code.Code.{Code}
 use Rattle.b67_table.specs.Image.{Image}
@@ -9,7 +11,7 @@ use Rattle.b67_table.specs.Beginning.{first_image}
 use Rattle.b67_table.specs.Ending.{may_act}
 use Rattle.b67_table.specs.Runs.{Entry, Runs, begin, entry}
 use Rattle.b67_outcomes.specs.declared.found.Step.{Step}
-use Rattle.b67_outcomes.specs.Entering.{Enters, LeadsTo, Leads}
+use Rattle.b67_outcomes.specs.Entering.{Enters, IsNumber, LeadsTo, Leads}
 use Rattle.b67_outcomes.specs.Finding.{History, first, later, IsLed}
 use Rattle.b67_outcomes.proofs.Determined.{entry_one, no_entry, led_one}
 
@@ -81,6 +83,26 @@ walk_ended steps number k done h none is all =
     let zero_is : k ≡ 0 = omega (arith, none) in
     subst (λ (z : List ℕ). History steps number z)
     (ap (λ (z : List ℕ). done ++ z) (no_steps steps h (subst (λ (z : ℕ). History steps z h) zero_is is)) ∙ append-nil done) all
+
+-- a history has no more entries than states were found before it
+pub history_short : (steps : List Step) (k : ℕ) (h : List ℕ) → History steps k h → length h ≤ k
+history_short steps k h first = omega arith
+history_short steps k h (later {step = s} {h = r} there before rest) = let short = history_short steps s.before r rest in omega (arith, before, short)
+
+-- ---- the numbers of processes
+
+drop_next : (h : List ℕ) (i p : ℕ) → slice_get h i ≡ Some p → drop i h ≡ p ∷ drop (suc i) h
+drop_next [] i p e = absurd (none-some p e)
+drop_next (q ∷ h) zero p e = ap (λ (z : ℕ). z ∷ h) (same_Some q p e)
+drop_next (q ∷ h) (suc i) p e = drop_next h i p e
+
+pub numbers_begun : (h : List ℕ) → All IsNumber (drop (length h) h)
+numbers_begun h = subst (λ (z : List ℕ). All IsNumber z) (sym (drop_all (length h) h (omega arith))) (λ k d below. absurd (omega (arith, below)))
+
+pub numbers_next : (h : List ℕ) (i left p : ℕ) → suc i ≡ left → slice_get h i ≡ Some p → IsNumber p → All IsNumber (drop left h) → All IsNumber (drop i h)
+numbers_next h i left p on there number all =
+    subst (λ (z : List ℕ). All IsNumber z) (sym (drop_next h i p there))
+    (All-cons IsNumber p (drop (suc i) h) number (subst (λ (k : ℕ). All IsNumber (drop k h)) (sym on) all))
 
 -- ---- runs of histories
 

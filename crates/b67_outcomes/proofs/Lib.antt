@@ -1,4 +1,4 @@
-mod Determined
-mod Histories
+pub mod Determined
+pub mod Histories
 mod Keeping
 mod Closing

@@ -1,10 +1,14 @@
 -- What an entry of a process leads to, and what a history of entries.
-use Rattle.std.specs.Prelude.{◌≡◌, ℕ, Bool, true, false, List}
+use Rattle.std.specs.Prelude.{◌≡◌, ℕ, ◌<◌, ◌≤◌, ◌^◌, Bool, true, false, List}
 use Rattle.b67_segment.specs.declared.code.Code.{Code}
 use Rattle.b67_table.specs.Image.{Image}
 use Rattle.b67_table.specs.Outcome.{limit}
 use Rattle.b67_table.specs.Table.{table}
 use Rattle.b67_table.specs.Runs.{Runs, Entry, Plains}
+
+-- the number of a process is from 1 on, and has 16 bits
+abbrev pub IsNumber : ℕ → Type 0
+IsNumber p = (1 ≤ p) × (p < 2 ^ 16)
 
 -- the process comes to the stack limit before its action, in this image
 pub record Stops (code : Code) (p : ℕ) (a quiet : Image) : Type 0 where

@@ -15,3 +15,4 @@ mod walking;
 pub use found::{Found, Limit, Step};
 pub use search::explore;
 pub use walker::Walker;
+pub use walking::{history_of, perform};

@@ -8,7 +8,7 @@ pub trait Walker: Drop {
     ghost use Rattle.b67_table.specs.Image.{Image};
     ghost use Rattle.b67_table.specs.Beginning.{first_image};
     ghost use Rattle.b67_table.specs.Ending.{may_act};
-    ghost use Rattle.b67_outcomes.specs.Entering.{Enters, IsReached};
+    ghost use Rattle.b67_outcomes.specs.Entering.{Enters, IsNumber, IsReached};
 
     ghost code: { Self → Code };
 
@@ -34,6 +34,7 @@ pub trait Walker: Drop {
         requires may { may_act (image self.old) process ≡ true }
         requires reached { IsReached (code self.old) (image self.old) }
         ensures code { code self.new ≡ code self.old }
+        ensures number { IsNumber process }
         ensures entered { IfOk result (λ entered. Enters (code self.old) process (image self.old) entered (image self.new)) };
 
     /// Tests that the images are the same. `false` says nothing.

@@ -1,6 +1,6 @@
 // From a state that is kept back to its schedule, and from there to its image.
-ghost use Rattle.std.specs.Prelude.{◌≡◌, ◌-◌, ◌<◌, ◌≤◌, ℕ, List, length, IfOk, Some, slice_get};
-ghost use Rattle.b67_outcomes.specs.Entering.{LeadsTo, Leads};
+ghost use Rattle.std.specs.Prelude.{◌≡◌, ◌-◌, ◌<◌, ◌≤◌, ℕ, List, length, IfOk, All, Some, slice_get};
+ghost use Rattle.b67_outcomes.specs.Entering.{IsNumber, LeadsTo, Leads};
 ghost use Rattle.b67_outcomes.specs.Finding.{History};
 
 use crate::{Step, Walker};
@@ -35,6 +35,7 @@ pub fn perform<W: Walker>(walker: &mut W, history: &[u32]) -> Result<(), AllocEr
     requires leads { Leads (W.code walker.old) history.now }
     ensures code { W.code walker.new ≡ W.code walker.old }
     ensures led { IfOk result (λ u. LeadsTo (W.code walker.old) history.now (W.image walker.new)) }
+    ensures numbers { IfOk result (λ u. All IsNumber history.now) }
 {
     walker.restart()?;
     let mut left = history.len();
