@@ -6,7 +6,7 @@
 //! own parcel again; the second takes. The last line is of another run, whose plant is behind a lock: how many operators the first
 //! processor took, worked and landed, and how many are process 1's then.
 
-ghost use Rattle.std.specs.Prelude.{◌≡◌, ℕ, ◌≤◌, All, length};
+ghost use Rattle.std.specs.Prelude.{◌≡◌, ℕ, ◌≤◌, [], All, length, replicate};
 ghost use Rattle.b67_segment.specs.declared.TheConstants.{MOST_SEGMENT_WORDS};
 ghost use Rattle.b67_table.specs.Sound.{Sound};
 ghost use Rattle.b67_machine.specs.Beginning.{IsFresh};
@@ -24,6 +24,7 @@ use b67_plant::{Named, Plant, PlantLanding, Post, SharedPlant};
 use b67_processors::{Landing, Shop, Work};
 use b67_ready::{Order, Rule};
 use b67_segment::Code;
+use b67_tally::Tally;
 use case_sheet::{cases_of, number, say};
 use std::alloc::{AllocError, Global};
 use std::marker::Brand;
@@ -93,7 +94,8 @@ fn landed<N: Named + Send + Sync, L: Ledger + Send + Sync, R: Threads + Wait + S
     shop: &SharedPlant<N, L, FlatCore, Order>,
     post: &mut Post<N, L>,
 ) -> u32
-    requires { 1 ≤ N.processors }
+    requires some { 1 ≤ N.processors }
+    requires whose { post.old.seat.mark.place ≡ 0 }
 {
     let Work::Parcel = shop.take(rt, 1, &mut post.parcel, &mut post.seat) else {
         return 0;
@@ -113,15 +115,17 @@ fn push_shared<N: Named + Send + Sync, L: Ledger + Send + Sync, R: Threads + Wai
     text: &mut Vec<u8>,
     rt: &R,
     plant: Plant<N, L, FlatCore, Order>,
+    tally: Tally,
     code: Code,
     post: &mut Post<N, L>,
 )
     requires named { code ≡ N.code }
-    requires processors { (1 ≤ N.processors) × (N.processors ≤ 8) }
-    requires budget { N.budget ≤ 4194304 }
+    requires processors { 1 ≤ N.processors }
+    requires tally { (tally.name ≡ N.tally) × (tally.numbers ≡ replicate N.processors 0) }
+    requires whose { post.old.seat.mark.place ≡ 0 }
     requires first { IsFirst N.code plant }
 {
-    let shop = SharedPlant::new(plant, code);
+    let shop = SharedPlant::new(plant, tally, code);
     let count = landed(rt, &shop, post);
     let plant = shop.into_plant();
     number(text, b"SHARED ", u64::from(count));
@@ -136,17 +140,19 @@ fn push_either<N: Named + Send + Sync, L: Ledger + Send + Sync, R: Threads + Wai
     rt: &R,
     is_shared: bool,
     plant: Plant<N, L, FlatCore, Order>,
+    tally: Tally,
     code: Code,
     first: &mut Post<N, L>,
     second: &mut Post<N, L>,
 )
     requires named { code ≡ N.code }
-    requires processors { (1 ≤ N.processors) × (N.processors ≤ 8) }
-    requires budget { N.budget ≤ 4194304 }
+    requires processors { 1 ≤ N.processors }
+    requires tally { (tally.name ≡ N.tally) × (tally.numbers ≡ replicate N.processors 0) }
+    requires whose { first.old.seat.mark.place ≡ 0 }
     requires first { IsFirst N.code plant }
 {
     if is_shared {
-        push_shared(text, rt, plant, code, first);
+        push_shared(text, rt, plant, tally, code, first);
         return;
     }
     let mut plant = plant;
@@ -164,6 +170,7 @@ fn push_plant<N: Named + Send + Sync, L: Ledger + Send + Sync, R: Threads + Wait
     machine: Machine<FlatCore>,
     acts: Blank,
     leaves: Blank,
+    tally: Tally,
 ) -> Result<(), AllocError>
     requires fresh { IsFresh machine }
     requires code { machine.code ≡ N.code }
@@ -173,8 +180,10 @@ fn push_plant<N: Named + Send + Sync, L: Ledger + Send + Sync, R: Threads + Wait
     requires processors { 2 ≡ N.processors }
     requires acts { (acts.name ≡ N.name) × (acts.parts ≡ N.parts) × (acts.parts ≡ 2) }
     requires leaves { (leaves.name ≡ L.name) × (leaves.parts ≡ L.parts) × (leaves.parts ≡ 2) }
+    requires tally { (tally.name ≡ N.tally) × (tally.numbers ≡ []) }
     requires rule { (n takes : ℕ) → 0 ≡ N.pick n takes }
 {
+    let mut tally = tally;
     let mut posts = Vec::with_capacity(alloc, 2)?;
     let code = machine.code().copy()?;
     let plant = Plant::<N, L, FlatCore, Order>::new(
@@ -185,6 +194,7 @@ fn push_plant<N: Named + Send + Sync, L: Ledger + Send + Sync, R: Threads + Wait
         2,
         acts,
         leaves,
+        &mut tally,
         &mut posts,
     )?;
     let (first, second) = posts.as_mut_slice().split_at_mut(1);
@@ -193,6 +203,7 @@ fn push_plant<N: Named + Send + Sync, L: Ledger + Send + Sync, R: Threads + Wait
         rt,
         is_shared,
         plant,
+        tally,
         code,
         &mut first[0],
         &mut second[0],
@@ -217,6 +228,7 @@ fn push_run<R: Threads + Wait + Sync>(
         machine,
         Blank::new(2),
         Blank::new(2),
+        Tally::new(),
     )
 }
 

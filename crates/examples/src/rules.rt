@@ -6,7 +6,7 @@
 //! the act of the first, and, after all further takes and acts, the last take. Then come the lines that were written, how the run ended,
 //! and its schedule.
 
-ghost use Rattle.std.specs.Prelude.{◌≡◌, ℕ, ◌≤◌, All, IfOk, length};
+ghost use Rattle.std.specs.Prelude.{◌≡◌, ℕ, ◌≤◌, [], All, IfOk, length};
 ghost use Rattle.b67_segment.specs.declared.TheConstants.{MOST_SEGMENT_WORDS};
 ghost use Rattle.b67_table.specs.Sound.{Sound};
 ghost use Rattle.b67_machine.specs.Beginning.{IsFresh};
@@ -21,6 +21,7 @@ use b67_plant::{Named, Plant, Post, Taken};
 use b67_processors::Acted;
 use b67_ready::{Dispatcher, Order, Rule};
 use b67_report::{EndWords, push_end};
+use b67_tally::Tally;
 use case_sheet::{Case, lines, number, say};
 use language_cases::{Front, front_of};
 use std::alloc::{AllocError, Global};
@@ -155,6 +156,7 @@ fn push_run<N: Named, L: Ledger, P: Rule>(
     rule: P,
     acts: Blank,
     leaves: Blank,
+    tally: Tally,
 ) -> Result<(), AllocError>
     requires fresh { IsFresh machine }
     requires code { machine.code ≡ N.code }
@@ -164,11 +166,13 @@ fn push_run<N: Named, L: Ledger, P: Rule>(
     requires processors { 1 ≡ N.processors }
     requires acts { (acts.name ≡ N.name) × (acts.parts ≡ N.parts) × (acts.parts ≡ 1) }
     requires leaves { (leaves.name ≡ L.name) × (leaves.parts ≡ L.parts) × (leaves.parts ≡ 1) }
+    requires tally { (tally.name ≡ N.tally) × (tally.numbers ≡ []) }
     requires rule { (n takes : ℕ) → P.pick rule n takes ≡ N.pick n takes }
 {
+    let mut tally = tally;
     let mut posts = Vec::with_capacity(alloc, 1)?;
     let mut plant = Plant::<N, L, FlatCore, P>::new(
-        alloc, machine, rule, 1_000, 1, acts, leaves, &mut posts,
+        alloc, machine, rule, 1_000, 1, acts, leaves, &mut tally, &mut posts,
     )?;
     push_calls(text, &mut plant, &mut posts[0]);
     lines(text, plant.machine().output());
@@ -199,6 +203,7 @@ fn told<P: Rule + Copy>(alloc: Global, checked: &Checked, rule: P) -> Result<Vec
         rule,
         Blank::new(1),
         Blank::new(1),
+        Tally::new(),
     )?;
     Ok(text)
 }

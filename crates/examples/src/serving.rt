@@ -36,9 +36,10 @@ impl Bench {
     }
 }
 
-/// How often a processor acted, and how often it was told that there is nothing more to do.
+/// Whose it is, how often that processor acted, and how often it was told that there is nothing more to do.
 #[derive(Drop)]
 struct Stool {
+    whose: u32,
     acts: u64,
     leaves: u64,
 }
@@ -63,6 +64,8 @@ impl Shop for Bench {
     ghost leaves = { λ stool. stool.leaves };
 
     ghost parts = { λ stool. 1 };
+
+    ghost whose = { λ stool. stool.whose };
 
     fn take<R: Threads + Wait + Sync>(
         &self,
@@ -130,7 +133,11 @@ fn acts_of<R: Threads + Wait + Sync, G: Gate>(rt: &R, bench: &Bench, gate: &G, m
     requires { (1 ≤ me) × (me ≤ 2) }
 {
     let mut parcel = 0;
-    let mut seat = Stool { acts: 0, leaves: 0 };
+    let mut seat = Stool {
+        whose: me,
+        acts: 0,
+        leaves: 0,
+    };
     serve(rt, bench, gate, me, &mut parcel, &mut seat)
 }
 

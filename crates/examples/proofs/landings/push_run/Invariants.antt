@@ -1,7 +1,7 @@
 use Rattle.examples.proofs.landings.push_run.Given as goal
 
 abbrev pub ghosts-push_plant-N-Named : goal.ghosts-push_plant-N-Named
-ghosts-push_plant-N-Named g a = record { code = a.machine.code; budget = 1000; processors = 2; pick = λ n takes. 0 }
+ghosts-push_plant-N-Named g a = record { code = a.machine.code; budget = 1000; processors = 2; pick = λ n takes. 0; tally = a.tally.name }
 
 abbrev pub ghosts-push_plant-N-Ledger : goal.ghosts-push_plant-N-Ledger
 ghosts-push_plant-N-Ledger g a = record { name = a.acts.name; parts = a.acts.parts }
