@@ -1,0 +1,15 @@
+pub mod Own
+pub mod Others
+pub mod Owned
+pub mod Tails
+pub mod Determined
+pub mod Moving
+pub mod Passing
+pub mod Criticals
+pub mod Stacks
+pub mod Earlier
+pub mod Coming
+pub mod Keeping
+pub mod Quiet
+pub mod Turning
+pub mod Reading

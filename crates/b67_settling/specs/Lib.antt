@@ -1,0 +1,4 @@
+pub mod Own
+pub mod Local
+pub mod Settling
+pub mod Laws
