@@ -16,6 +16,7 @@ use Rattle.algol_tree.specs.Plain as tree
 use Rattle.algol_tree.specs.Plain.{PExpr}
 use Rattle.algol_tree.specs.Sites.{is_of_value, name_part, actual_part}
 use Rattle.algol_tree.specs.Surroundings.{Surroundings, class_of}
+use Rattle.b67_fitting.specs.Typing.{IsArrayActual, IsEventActual}
 use Rattle.b67_fitting.proofs.Clean.{IsClean, IsPlain, simple, array, file, label, event, task, procedure, KnowsPlain, plain_first, misnamed, event_alone}
 
 -- ---- arrays of which a parameter can be one
@@ -46,10 +47,6 @@ such_class k rank c spot (procedure g b) h = absurd (let clash : spot ∷ [] ≡
 
 -- ---- actuals
 
-abbrev pub IsArrayActual : Surroundings → Formal → PExpr → Type 0
-IsArrayActual a f (tree.variable (tree.subscripted n tree.none)) = (k : Kind) × (rank : ℕ) × (f.class ≡ class.array k rank) × (class_of a n ≡ class.array k rank)
-IsArrayActual a f _ = ⊥
-
 module _ (blocks : List Block) (a : Surroundings) (plain : KnowsPlain a) (k : Kind) (rank : ℕ) (v : Bool) where
   abbrev wanted : Formal
   wanted = record { class = class.array k rank; by_value = v }
@@ -72,10 +69,6 @@ pub name_alone : (n : Named) (f : Formal) (k : Kind) (rank : ℕ) → f.class �
 name_alone n f k rank is = ap (λ (c : Class). name_part n (is_of_value c)) is
 
 -- ---- events
-
-abbrev pub IsEventActual : Surroundings → Formal → PExpr → Type 0
-IsEventActual a f (tree.variable (tree.subscripted n tree.none)) = (f.class ≡ class.event) × (class_of a n ≡ class.event)
-IsEventActual a f _ = ⊥
 
 module _ (blocks : List Block) (a : Surroundings) (plain : KnowsPlain a) (v : Bool) where
   abbrev wanted_event : Formal

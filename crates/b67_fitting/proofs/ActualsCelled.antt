@@ -9,7 +9,7 @@ use Rattle.algol_tree.specs.declared.tree.Named.{Named}
 use Rattle.algol_tree.specs.Ascending.{spots_of_names}
 use Rattle.algol_tree.specs.Blocks.{Block, same_spot, block_numbered, number_at, procedure_block}
 use Rattle.algol_tree.specs.Cells as cells
-use Rattle.algol_tree.specs.Cells.{Cell, Content, content_number, cells_for, cells_at, cells_of, holding, first_spot, index_from, level_of, couple_in, couple_at}
+use Rattle.algol_tree.specs.Cells.{Cell, content_number, cells_for, cells_at, cells_of, holding, index_from, level_of, couple_in}
 use Rattle.algol_tree.specs.Couples.{couple_of_cells, actual_cells}
 use Rattle.algol_tree.specs.Plain as tree
 use Rattle.algol_tree.specs.Plain.{PDecls}
@@ -20,7 +20,7 @@ use Rattle.b67_templates.specs.Fitting.{Told}
 use Rattle.b67_fitting.proofs.ActualCells.{actual_cell, cells_in_bounds, cells_in_stmts}
 use Rattle.b67_fitting.proofs.ActualsFound.{SiteTells, cells_for as cells_of_actuals, joined, acts_stmts, acts_decls}
 use Rattle.b67_fitting.proofs.Among.{Among, nothing, skip, keep, apart_among}
-use Rattle.b67_fitting.proofs.Apart.{IsIn, each_in, in_each, in_map, in_front, in_back, IsApart, Apart, same_self, same_place, apart_sym}
+use Rattle.b67_fitting.proofs.Apart.{IsIn, each_in, in_each, in_map, in_front, in_back, IsApart, Apart, same_place, apart_sym}
 use Rattle.b67_fitting.proofs.Blocked.{block_spots, numbered, HasCells}
 use Rattle.b67_fitting.proofs.Coupled.{IsProgram, AreTold, scopes, acts_of, act_far, frame_of, simples_of, coupled, holds, of_actual}
 use Rattle.b67_fitting.proofs.CoupledArrays.{HaveActs}
@@ -33,6 +33,7 @@ use Rattle.b67_fitting.proofs.Lists.{each_front, each_back, each_both}
 use Rattle.b67_fitting.proofs.LowsFound.{placed, act_placed, acts_past}
 use Rattle.b67_fitting.proofs.Made.{one_there, in_kept}
 use Rattle.b67_fitting.proofs.Placed.{IsCelled, AreCelled, Actuals}
+use Rattle.b67_fitting.proofs.Numbering.{same_self}
 
 -- ---- lists
 
@@ -42,15 +43,15 @@ got_in [] k x e = absurd (let clash : None ≡ Some x = e in cc)
 got_in (y ∷ xs) zero x e = inl (let same : x ≡ y = cc in same)
 got_in (y ∷ xs) (suc k) x e = inr (got_in xs k x e)
 
-got_map : {X Y : Type 0} (f : X → Y) (xs : List X) (k : ℕ) (x : X) → slice_get xs k ≡ Some x → slice_get (map f xs) k ≡ Some (f x)
+pub got_map : {X Y : Type 0} (f : X → Y) (xs : List X) (k : ℕ) (x : X) → slice_get xs k ≡ Some x → slice_get (map f xs) k ≡ Some (f x)
 got_map f [] k x e = absurd (let clash : None ≡ Some x = e in cc)
 got_map f (y ∷ xs) zero x e = ap Some (let same : y ≡ x = cc in ap f same)
 got_map f (y ∷ xs) (suc k) x e = got_map f xs k x e
 
 -- what holds of each at its number
-by_number : {X : Type 0} (P : X → Type 0) (xs : List X) → ((k : ℕ) (x : X) → slice_get xs k ≡ Some x → P x) → AllByRecursion P xs
-by_number P [] f = tt
-by_number P (x ∷ xs) f = (f 0 x refl, by_number P xs (λ k y e. f (suc k) y e))
+pub each_by : {X : Type 0} (P : X → Type 0) (xs : List X) → ((k : ℕ) (x : X) → slice_get xs k ≡ Some x → P x) → AllByRecursion P xs
+each_by P [] f = tt
+each_by P (x ∷ xs) f = (f 0 x refl, each_by P xs (λ k y e. f (suc k) y e))
 
 -- ---- cells that stand apart
 
@@ -255,7 +256,7 @@ module _ (blocks : List Block) (all : List Site) (is : IsProgram blocks all) whe
           }
 
       block_celled : AreCelled sc told (level_of b) k (actuals_of sc b)
-      block_celled = by_number (IsCelled sc told (level_of b) k) (actuals_of sc b) one_celled
+      block_celled = each_by (IsCelled sc told (level_of b) k) (actuals_of sc b) one_celled
 
     pub all_celled : (told : Told) → AreTold blocks all told → Actuals blocks sc told blocks
     all_celled told are b t = block_celled told are b t

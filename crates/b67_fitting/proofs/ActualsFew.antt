@@ -8,16 +8,16 @@ use Rattle.algol_tree.specs.declared.tree.Heading.{Heading}
 use Rattle.algol_tree.specs.declared.tree.Named.{Named}
 use Rattle.algol_tree.specs.Blocks.{of_statement, of_procedure, block_numbered, number_at}
 use Rattle.algol_tree.specs.Cells as cells
-use Rattle.algol_tree.specs.Cells.{Cell, cells_of, cells_at, has_cell, is_simple_name}
+use Rattle.algol_tree.specs.Cells.{Cell, cells_of, has_cell, is_simple_name}
 use Rattle.algol_tree.specs.Classes.{Class, Formal, is_simple}
 use Rattle.algol_tree.specs.Names.{if_so}
 use Rattle.algol_tree.specs.Plain as tree
 use Rattle.algol_tree.specs.Plain.{name_alone, PExpr, PExprs, PPair, PStmt, PStmts, PDecls}
 use Rattle.algol_tree.specs.Scopes.{Scopes, Use, use_by, used, if_named, use_of}
 use Rattle.algol_tree.specs.Sites as parts
-use Rattle.algol_tree.specs.Sites.{Site, here, sites, first_formal, other_formals, actual_part, inside_expr, inside_list, inside_actuals, here_stmt, inside_stmt, sites_in_pairs, sites_in_stmts, sites_in_decls, has_decls}
+use Rattle.algol_tree.specs.Sites.{Site, here, sites, first_formal, other_formals, actual_part, inside_expr, inside_list, inside_actuals, here_stmt, inside_stmt, sites_in_pairs, sites_in_stmts, sites_in_decls}
 use Rattle.algol_tree.specs.Sorts as sort
-use Rattle.algol_tree.specs.Sorts.{Sort, Declared, Parameter, is_variable, is_named_in, sort_in, class_in, procedure_in, parameters_of, formals_of}
+use Rattle.algol_tree.specs.Sorts.{Sort, Declared, Parameter, is_named_in, procedure_in, formals_of}
 use Rattle.algol_tree.specs.Surroundings.{Surroundings, class_of, class_of_declared, formals_of_class, formals_at, declared_as, knowing, inside_procedure}
 use Rattle.algol_meaning.specs.Settle.{block_of}
 use Rattle.b67_templates.specs.Cells.{Simple, Wanted, value, by_name, array, event, other, parameter_cells, parameter_wants, parameters_around, Actual, own_actual, wants_of, actuals_in, actuals_among, actuals_given, actuals_in_pairs, actuals_in_stmt, actuals_in_stmts}

@@ -14,18 +14,17 @@ use Rattle.algol_tree.specs.Plain as tree
 use Rattle.algol_tree.specs.Plain.{name_alone, PExpr, PExprs, PPair, PStmt, PStmts, PDecls}
 use Rattle.algol_tree.specs.Scopes.{Scopes, use_of}
 use Rattle.algol_tree.specs.Sites.{Part, Site, here, sites, actual_part, is_of_value, inside_expr, inside_list, inside_actuals, here_stmt, inside_stmt, inside_decl, sites_in_pairs, sites_in_stmts, sites_in_decls}
-use Rattle.algol_tree.specs.Sorts.{Declared, procedure_in, is_named_in, formals_of, class_in}
+use Rattle.algol_tree.specs.Sorts.{Declared, procedure_in, is_named_in, formals_of}
 use Rattle.algol_tree.specs.Surroundings.{Surroundings, class_of, formals_of_class, formals_at, knowing}
 use Rattle.algol_tree.specs.Types.{taken_by}
 use Rattle.b67_templates.specs.Cells.{Wanted, by_name, Actual, own_actual, wants_of, actuals_in, actuals_among, actuals_given, actuals_in_pairs, actuals_in_decls, actuals_in_stmt, actuals_in_stmts}
+use Rattle.b67_fitting.specs.Typing.{TypedStmt, TypedStmts, TypedDecls, IsOf, TypedExpr, TypedActual, TypedActuals, TypedLine, TypedPairs}
 use Rattle.b67_fitting.proofs.ActualCells.{actual_cell, cell_given, cells_in, cells_among, cells_given, cells_in_pairs, cells_in_stmt, cells_in_stmts, cells_in_bounds}
 use Rattle.b67_fitting.proofs.Given.{wants_in}
 use Rattle.b67_fitting.proofs.Listed.{reads_in}
 use Rattle.b67_fitting.proofs.Lists.{each_front, each_back}
 use Rattle.b67_fitting.proofs.Specified.{IsSpecified, as_value, as_name, as_array, as_event, AreSpecified, specified}
-use Rattle.b67_fitting.proofs.Stated.{TypedStmt, TypedStmts, TypedDecls}
-use Rattle.b67_fitting.proofs.Typed.{IsOf, TypedExpr, TypedActual, TypedActuals, TypedLine, as_formal, actual_part_is}
-use Rattle.b67_fitting.proofs.TypedBounds.{TypedPairs}
+use Rattle.b67_fitting.proofs.Typed.{as_formal, actual_part_is}
 use Rattle.b67_fitting.proofs.Wanting.{wanted_of, wanted_value, wanted_name, wanted_array, wanted_event}
 
 module _ (blocks : List Block) (sc : Scopes) where
@@ -76,9 +75,6 @@ module _ (blocks : List Block) (sc : Scopes) where
     own_by k m (tree.not e spot) t g = refl
     own_by k m (tree.two op x y) t g = refl
     own_by k m (tree.if c x y spot) t g = refl
-
-    abbrev given_by_name : Heading → Named → Bool
-    given_by_name h n = is_simple (class_in h.specs n.name) && not (is_named_in h.values n.name)
 
     abbrev AreOwn : Heading → Named → PExpr → Type 0
     AreOwn h n e = Are (cell_given a e (Some (as_formal h n))) (own_actual sc (wanted_of h n) e)

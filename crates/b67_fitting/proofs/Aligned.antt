@@ -15,9 +15,10 @@ use Rattle.algol_tree.specs.Plain.{PDecls}
 use Rattle.algol_tree.specs.Sorts as sort
 use Rattle.algol_tree.specs.Sorts.{same_name, Declared, look_up, declare}
 use Rattle.b67_templates.specs.Cells.{Simple, Wanted, value, of_kind, result_of, procedures, found_from}
-use Rattle.b67_fitting.proofs.Apart.{IsIn, each_in, IsApart, Apart, same_self, same_place}
+use Rattle.b67_fitting.proofs.Apart.{IsIn, each_in, IsApart, Apart, same_place}
 use Rattle.b67_fitting.proofs.Declaring.{IsOther}
 use Rattle.b67_fitting.proofs.Frames.{control_cells, result_cell}
+use Rattle.b67_fitting.proofs.Numbering.{same_self}
 
 -- ---- numbers
 

@@ -8,6 +8,7 @@ use Rattle.algol_tree.specs.Accepted.{is_before}
 use Rattle.algol_tree.specs.Ascending.{IsAhead, Ascends}
 use Rattle.algol_tree.specs.Blocks.{same_spot}
 use Rattle.b67_fitting.proofs.Lists.{each_front, each_back, each_both, each_of}
+use Rattle.b67_fitting.proofs.Numbering.{before_on}
 
 abbrev pub IsIn : {X : Type 0} → X → List X → Type 0
 IsIn x [] = ⊥
@@ -60,9 +61,6 @@ abbrev pub Apart : List Spot → Type 0
 Apart [] = Unit {0}
 Apart (s ∷ spots) = AllByRecursion (IsApart s) spots × Apart spots
 
-pub same_self : (s : Spot) → same_spot s s ≡ true
-same_self s = grind (arith, nat_tests)
-
 pub same_place : (s t : Spot) → same_spot s t ≡ true → s ≡ t
 same_place s t h =
     let parts = and_parts (s.column == t.column) (s.line == t.line) h in
@@ -70,9 +68,6 @@ same_place s t h =
 
 pub apart_sym : (s t : Spot) → IsApart s t → IsApart t s
 apart_sym s t h = grind (arith, nat_tests)
-
-before_on : (a b c : Spot) → is_before a b ≡ true → is_before b c ≡ true → is_before a c ≡ true
-before_on a b c p q = grind (arith, nat_tests)
 
 ahead_on : (a b : Spot) (spots : List Spot) → is_before a b ≡ true → IsAhead b spots → IsAhead a spots
 ahead_on a b [] p q = tt

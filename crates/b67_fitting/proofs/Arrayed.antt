@@ -17,12 +17,14 @@ use Rattle.algol_tree.specs.Plain as tree
 use Rattle.algol_tree.specs.Plain.{PPair, PStmt, PDecl, PDecls}
 use Rattle.algol_tree.specs.Sorts as sort
 use Rattle.algol_tree.specs.Sorts.{same_name, Sort, Declared, look_up, declare}
+use Rattle.algol_meaning.proofs.Naming.{same_name-is}
 use Rattle.algol_paths.specs.Arrays.{Made, an_array, an_event, made_in, Lows, shape_in, lows_of, stands_among, lows_in, or_lows, lows_among, lows_declared}
 use Rattle.b67_templates.specs.Cells.{made_name, made_of, made_from}
-use Rattle.b67_fitting.proofs.Apart.{IsIn, each_in, in_back, in_front, in_either, IsApart, Apart, same_self, apart_sym, apart_front, apart_from, apart_across}
-use Rattle.b67_fitting.proofs.Declaring.{same_is, one_more}
+use Rattle.b67_fitting.proofs.Apart.{IsIn, each_in, in_back, in_front, in_either, IsApart, Apart, apart_sym, apart_front, apart_from, apart_across}
+use Rattle.b67_fitting.proofs.Declaring.{one_more}
 use Rattle.b67_fitting.proofs.Frames.{made_cells}
 use Rattle.b67_fitting.proofs.Lists.{each_front, each_back, each_of}
+use Rattle.b67_fitting.proofs.Numbering.{same_self}
 
 -- the places of the arrays
 abbrev pub array_spots : PDecls → List Spot
@@ -91,7 +93,7 @@ made_over names spots (x ∷ xs) ys (c ∷ cs) ds name spot made n i h r =
     by : (b : Bool) → same_name (made_name x) name ≡ b → b ≡ false
     by false e = refl
     by true e =
-        let clash : true ≡ false = sym h.0 ∙ ap (is_one_of names) (same_is (made_name x) name e) ∙ n in
+        let clash : true ≡ false = sym h.0 ∙ ap (is_one_of names) (same_name-is (made_name x) name e) ∙ n in
         clash
 made_over names spots [] ys (c ∷ cs) ds name spot made n i h r = absurd h
 made_over names spots (x ∷ xs) ys [] ds name spot made n i h r = absurd h
@@ -155,7 +157,7 @@ module _ (make : Named → Made) (named : (n : Named) → made_name (make n) ≡
           depth_is = refl;
           inside = inl refl;
           one = n;
-          name_is = same_is n.name name h;
+          name_is = same_name-is n.name name h;
           made = record {
             number = 0;
             found =

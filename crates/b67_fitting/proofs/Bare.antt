@@ -6,7 +6,7 @@ use Rattle.algol_tree.specs.Plain as tree
 use Rattle.algol_tree.specs.Plain.{PStmt}
 use Rattle.algol_tree.specs.Sites.{inside_stmt}
 use Rattle.algol_tree.specs.Surroundings.{Surroundings}
-use Rattle.b67_fitting.proofs.Stated.{TypedStmt}
+use Rattle.b67_fitting.specs.Typing.{TypedStmt}
 
 abbrev pub IsNoBegin : PStmt → Type 0
 IsNoBegin (tree.block b) = ⊥

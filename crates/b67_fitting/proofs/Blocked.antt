@@ -14,19 +14,17 @@ use Rattle.algol_tree.specs.Cells.{Cell, cells_for, cells_at}
 use Rattle.algol_tree.specs.Scopes.{names_in}
 use Rattle.algol_tree.specs.Sites.{Site}
 use Rattle.b67_fitting.proofs.Among.{in_among}
-use Rattle.b67_fitting.proofs.Apart.{IsIn, each_in, in_map, in_front, in_back, in_either, IsApart, Apart, same_self, apart_sym, apart_front, apart_back, apart_after, apart_across}
+use Rattle.b67_fitting.proofs.Apart.{IsIn, each_in, in_map, in_front, in_back, in_either, IsApart, Apart, apart_sym, apart_front, apart_back, apart_after, apart_across}
 use Rattle.b67_fitting.proofs.Frames.{IsOwn, only, only_own, only_other, front_own, control_cell, result_cell, named_of, front_cells}
 use Rattle.b67_fitting.proofs.Listed.{IsBlock, Listed, over, passed, turned, site, given, left, declared, both, block, procedure, AllThere}
 use Rattle.b67_fitting.proofs.Lists.{each_front, each_back}
 use Rattle.b67_fitting.proofs.Looked.{all_blocks}
+use Rattle.b67_fitting.proofs.Numbering.{block_is, same_self}
 
 abbrev pub block_spots : List Block → List Spot
 block_spots bs = map (λ (b : Block). b.spot) bs
 
 -- ---- numbers
-
-block_is : (bs : List Block) (i : ℕ) (b : Block) → slice_get bs i ≡ Some b → block_numbered bs i ≡ b
-block_is bs i b h = rw h refl
 
 one_on : (c : Block) (bs : List Block) (i : ℕ) → slice_get (c ∷ bs) (i + 1) ≡ slice_get bs i
 one_on c bs i = ap (slice_get (c ∷ bs)) (add-one i)

@@ -15,7 +15,8 @@ use Rattle.algol_tree.specs.Sorts.{Sort, Declared, is_variable, is_formal, decla
 use Rattle.algol_tree.specs.Surroundings.{Surroundings, declared_as, knowing, knowing_all, inside_procedure}
 use Rattle.algol_paths.specs.Blocks.{IsSeenAround}
 use Rattle.algol_paths.specs.Texts.{InPairs}
-use Rattle.b67_fitting.proofs.Headings.{HeadingSpecified, DeclsSpecified, StmtSpecified}
+use Rattle.b67_fitting.specs.Typing.{HeadingSpecified}
+use Rattle.b67_fitting.proofs.Headings.{DeclsSpecified, StmtSpecified}
 use Rattle.b67_fitting.proofs.Lists.{each_front, each_back, each_both, each_of, nil_front}
 use Rattle.b67_fitting.proofs.Numbering.{IsThere}
 use Rattle.b67_fitting.proofs.Specified.{IsSpecified, as_value, as_name, as_array, as_event, AreSpecified, specified}

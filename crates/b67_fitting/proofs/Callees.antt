@@ -13,7 +13,8 @@ use Rattle.algol_tree.specs.Plain.{PStmt, PDecls}
 use Rattle.algol_tree.specs.Sites.{Site, sites_in_pairs, here_stmt, inside_stmt, sites_in_decls}
 use Rattle.algol_tree.specs.Sorts.{same_name, Declared, parameters_of}
 use Rattle.algol_tree.specs.Surroundings.{Surroundings, body_of, heading_or, announced, knowing, inside_procedure}
-use Rattle.b67_fitting.proofs.Headings.{HeadingSpecified, DeclSpecified, DeclsSpecified}
+use Rattle.b67_fitting.specs.Typing.{HeadingSpecified}
+use Rattle.b67_fitting.proofs.Headings.{DeclSpecified, DeclsSpecified}
 use Rattle.b67_fitting.proofs.Lists.{each_back, nil_front}
 use Rattle.b67_fitting.proofs.Numbering.{IsNumbered, block_is}
 

@@ -20,7 +20,7 @@ use Rattle.algol_tree.specs.Sites.{Site}
 use Rattle.algol_tree.specs.Sorts.{Declared, look_up}
 use Rattle.algol_tree.specs.Surroundings.{Surroundings, class_of, class_of_declared, declared_as}
 use Rattle.algol_tree.specs.Types.{read_type, type_of}
-use Rattle.b67_fitting.proofs.Headings.{HeadingSpecified}
+use Rattle.b67_fitting.specs.Typing.{HeadingSpecified, IsEventful}
 use Rattle.b67_fitting.proofs.Lists.{nil_front}
 
 pub record IsClean (blocks : List Block) (x : Site) : Type 0 where
@@ -73,10 +73,6 @@ label_of c spot file h = absurd (let clash : spot ∷ [] ≡ [] = h in cc)
 label_of c spot event h = absurd (let clash : spot ∷ [] ≡ [] = h in cc)
 label_of c spot task h = absurd (let clash : spot ∷ [] ≡ [] = h in cc)
 label_of c spot (procedure g b) h = absurd (let clash : spot ∷ [] ≡ [] = h in cc)
-
--- .. for an event, that or a task
-abbrev pub IsEventful : Class → Type 0
-IsEventful c = (c ≡ class.event) ⊎ (c ≡ class.task)
 
 pub event_alone : (c : Class) (spot : Spot) → IsPlain c → misnamed is_event c spot ≡ [] → c ≡ class.event
 event_alone c spot event h = refl

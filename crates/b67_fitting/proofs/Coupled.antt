@@ -25,8 +25,8 @@ use Rattle.b67_ops.specs.declared.Couple.{Couple}
 use Rattle.b67_templates.specs.Cells.{Simple, Wanted, value, by_name, parameters_in, parameter_cells, simple_cells, variables, result_of, procedures, found_from, IsVariable, IsFormalName, of_variable, of_formal, IsProcedure}
 use Rattle.b67_templates.specs.Fitting as fitting
 use Rattle.b67_templates.specs.Fitting.{Told, is_event, a_variable, a_name, a_procedure, is_name, is_by_name, couple_on_left, ReadFits, PlaceFits, resolved, NameActualFits, refers_to, passes_on}
-use Rattle.b67_fitting.proofs.Headings.{HeadingSpecified}
 use Rattle.b67_fitting.specs.Fitted.{spelled, meant_as, target_of}
+use Rattle.b67_fitting.specs.Typing.{HeadingSpecified, is_around}
 use Rattle.b67_fitting.proofs.Aligned.{IsAt}
 use Rattle.b67_fitting.proofs.Apart.{IsIn, each_in, in_each, in_map, in_front, in_back, in_flat, IsApart, Apart}
 use Rattle.b67_fitting.proofs.Blocked.{block_spots, numbered, number_none, HasCells}
@@ -41,7 +41,6 @@ use Rattle.b67_fitting.proofs.Known.{given_cells, given_places, IsVariableOf, Is
 use Rattle.b67_fitting.proofs.Looked.{use_found, known_found}
 use Rattle.b67_fitting.proofs.Made.{places_in}
 use Rattle.b67_fitting.proofs.Specified.{IsSpecified, as_value, as_name, as_array, as_event, AreSpecified, specified}
-use Rattle.b67_fitting.proofs.Stated.{is_around}
 use Rattle.b67_fitting.proofs.Typed.{as_formal}
 use Rattle.b67_fitting.proofs.Wanting.{wanted_of, wanted_value, wanted_name, wanted_array, wanted_event}
 

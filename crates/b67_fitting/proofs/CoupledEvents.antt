@@ -13,6 +13,7 @@ use Rattle.algol_tree.specs.Sites.{Site}
 use Rattle.algol_tree.specs.Sorts as sort
 use Rattle.algol_tree.specs.Sorts.{Sort, Declared, same_name}
 use Rattle.algol_tree.specs.Surroundings.{Surroundings}
+use Rattle.algol_meaning.proofs.Naming.{same_name-itself}
 use Rattle.algol_paths.specs.Arrays.{an_event}
 use Rattle.algol_paths.specs.Segments.{segment_of}
 use Rattle.b67_templates.specs.Cells.{Simple, event, simple_cells, found_from}
@@ -20,13 +21,12 @@ use Rattle.b67_templates.specs.Labels.{labels_in, labels_before, label_from, lab
 use Rattle.b67_templates.specs.Fitting as fitting
 use Rattle.b67_templates.specs.Fitting.{Target, Told, EventFits, its_own, its_actual, LabelFits, TaskFits}
 use Rattle.b67_fitting.specs.Fitted.{meant_as, target_numbered}
+use Rattle.b67_fitting.specs.Typing.{IsEventful}
 use Rattle.b67_fitting.proofs.Aligned.{IsAt}
 use Rattle.b67_fitting.proofs.Apart.{IsIn}
 use Rattle.b67_fitting.proofs.Blocked.{numbered}
-use Rattle.b67_fitting.proofs.Clean.{IsEventful}
 use Rattle.b67_fitting.proofs.Coupled.{the_use, AreTold, IsProgram, scopes, simples_of, acts_of, frame_of, own_couple}
 use Rattle.b67_fitting.proofs.CoupledArrays.{HaveActs, made_fits}
-use Rattle.b67_fitting.proofs.Declaring.{same_name_self}
 use Rattle.b67_fitting.proofs.Framing.{simple_is, framed_parameter}
 use Rattle.b67_fitting.proofs.Known as known
 use Rattle.b67_fitting.proofs.Known.{IsEvented, IsLabelled}
@@ -40,7 +40,7 @@ label_among k (n ∷ ns) one name i e = by (same_name n.name name) refl i (λ j.
         (number : ℕ) × ((if b then Some k else label_from (k + 1) ns name) ≡ Some number)
     by true g j later = (k, refl)
     by false g (inl same) later =
-        let clash : true ≡ false = sym (same_name_self name) ∙ ap (λ (z : List ℕ). same_name z name) (sym e ∙ ap (λ (z : Named). z.name) same) ∙ g in
+        let clash : true ≡ false = sym (same_name-itself name) ∙ ap (λ (z : List ℕ). same_name z name) (sym e ∙ ap (λ (z : Named). z.name) same) ∙ g in
         absurd cc
     by false g (inr j) later = later j
 

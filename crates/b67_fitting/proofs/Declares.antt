@@ -18,22 +18,22 @@ use Rattle.algol_tree.specs.Counted.{exprs_count}
 use Rattle.algol_tree.specs.Couples.{Known, known_by, known_names}
 use Rattle.algol_tree.specs.Names.{specified}
 use Rattle.algol_tree.specs.Plain as tree
-use Rattle.algol_tree.specs.Plain.{PExpr, PExprs, PPair, PStmt, PStmts, PDecl, PDecls}
+use Rattle.algol_tree.specs.Plain.{PExpr, PExprs, PPair, PStmt, PStmts, PDecls}
 use Rattle.algol_tree.specs.Scopes.{Use, use_by, left_use, left_uses, used, names_in_stmt, stmt_uses}
 use Rattle.algol_tree.specs.Sites as parts
-use Rattle.algol_tree.specs.Sites.{Part, Site, here, sites, is_of_value, actual_part, inside_expr, inside_actuals, has_decls, here_stmt, inside_list, inside_stmt, inside_decl, sites_in_pairs, sites_in_stmts, sites_in_decls}
+use Rattle.algol_tree.specs.Sites.{Part, Site, here, sites, is_of_value, actual_part, inside_expr, inside_actuals, here_stmt, inside_list, sites_in_pairs}
 use Rattle.algol_tree.specs.Sorts as sort
 use Rattle.algol_tree.specs.Sorts.{Sort, Declared, formals_of}
 use Rattle.algol_tree.specs.Surroundings.{Surroundings, class_of, class_of_declared, formals_of_class, formals_at, declared_as, knowing, knowing_all, inside_procedure}
 use Rattle.algol_tree.specs.Types.{taken_by}
 use Rattle.algol_paths.specs.Arrays.{Lows, or_lows, lows_among, lows_declared}
+use Rattle.b67_fitting.specs.Typing.{IsArrayActual, IsEventActual, TypedPairs, TypedDecls, HasElements, TypedExpr, TypedActual, TypedActuals, TypedLine}
 use Rattle.b67_fitting.proofs.ActualCells.{actual_cell, cell_given, cells_in, cells_among as cells_in_list, cells_given, cells_in_pairs}
 use Rattle.b67_fitting.proofs.ActualPlaces.{others_of, begins, no_part, both_places, places_inside}
-use Rattle.b67_fitting.proofs.Actuals.{IsArrayActual, name_alone, IsEventActual, event_name}
+use Rattle.b67_fitting.proofs.Actuals.{name_alone, event_name}
 use Rattle.b67_fitting.proofs.Among.{Among, nothing, skip, keep, none_among, join}
 use Rattle.b67_fitting.proofs.Apart.{IsIn, in_each, in_map, in_front, in_back, Apart, apart_back}
 use Rattle.b67_fitting.proofs.Arrayed.{none_lows, from_first, AreLastLows, last_lows}
-use Rattle.b67_fitting.proofs.TypedBounds.{TypedPairs}
 use Rattle.b67_fitting.proofs.Frames.{each_own_for, control_cell, named_of, result_cell}
 use Rattle.b67_fitting.proofs.Given.{AreLastNamed, last_named, found_named, named_is}
 use Rattle.b67_fitting.proofs.Lists.{nil_back}
@@ -44,8 +44,7 @@ use Rattle.b67_fitting.proofs.Made.{places_in, all_places}
 use Rattle.b67_fitting.proofs.Meant.{IsArrayAs, of_block, of_parameter, arrayed_of}
 use Rattle.b67_fitting.proofs.Passing.{leading}
 use Rattle.b67_fitting.proofs.Started.{IsCalleeOf, HasCallees, IsStarted, step}
-use Rattle.b67_fitting.proofs.Stated.{TypedDecls}
-use Rattle.b67_fitting.proofs.Typed.{HasElements, TypedExpr, TypedActual, TypedActuals, TypedLine, actual_part_is}
+use Rattle.b67_fitting.proofs.Typed.{actual_part_is}
 
 -- the block of a BEGIN with these declarations and statements
 abbrev pub begun : Spot → List Spot → PDecls → PStmts → Block

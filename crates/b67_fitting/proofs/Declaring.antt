@@ -1,6 +1,6 @@
 -- Names that are declared once: where a name is found among what the declarations of a block make known.
 use Rattle.std.proofs.Common.{◌≡◌, ◌⊎◌, inl, inr, ℕ, ◌==◌, Bool, true, false, cond, List, [], ◌∷◌, ◌++◌, map, filter, Some, None, refl, sym, ap, ◌∙◌, subst, if◌then◌else◌}
-use Rattle.std.proofs.lemmas.Bool.{and_parts, eqb-true, eq-eqb}
+use Rattle.std.proofs.lemmas.Bool.{eq-eqb}
 use Rattle.std.proofs.lemmas.List.{map-append}
 use Rattle.std.proofs.lemmas.List.Elements.{filter-append}
 use Rattle.std.specs.List.{AllByRecursion}
@@ -8,26 +8,13 @@ use Rattle.algol_tree.specs.declared.tree.Named.{Named}
 use Rattle.algol_tree.specs.Classes.{Class}
 use Rattle.algol_tree.specs.Names.{if_so, is_one_of, repeated}
 use Rattle.algol_tree.specs.Sorts.{Sort, same_name, Declared, look_up, declare}
+use Rattle.algol_meaning.proofs.Naming.{same_name-is}
 use Rattle.b67_fitting.proofs.Lists.{nil_front, nil_back, not_so}
 
 -- ---- names
 
 abbrev pub IsOther : List ℕ → Named → Type 0
 IsOther name n = same_name n.name name ≡ false
-
-pub same_is : (xs ys : List ℕ) → same_name xs ys ≡ true → xs ≡ ys
-same_is [] [] h = refl
-same_is [] (y ∷ ys) h = absurd (let clash : false ≡ true = h in cc)
-same_is (x ∷ xs) [] h = absurd (let clash : false ≡ true = h in cc)
-same_is (x ∷ xs) (y ∷ ys) h =
-    let parts = and_parts (x == y) (same_name xs ys) h in
-    let first : x ≡ y = eqb-true x y parts.0 in
-    let rest : xs ≡ ys = same_is xs ys parts.1 in
-    cc
-
-pub same_name_self : (name : List ℕ) → same_name name name ≡ true
-same_name_self [] = refl
-same_name_self (x ∷ xs) = rw (eq-eqb x x refl) (same_name_self xs)
 
 -- what is found in joined lists
 pub found_either : (new known : List Declared) (name : List ℕ) (d : Declared) → look_up (new ++ known) name ≡ Some d → (look_up new name ≡ Some d) ⊎ (look_up known name ≡ Some d)
@@ -135,6 +122,6 @@ module _ (block depth : ℕ) (s : Sort) (c : Class) where
       by : (b : Bool) → same_name n.name name ≡ b → (look_up (declare block depth s c ns) name ≡ Some d → (if same_name n.name name then true else is_one_of seen name) ≡ false) →
           (if b then Some (entry n) else look_up (declare block depth s c ns) name) ≡ Some d → is_one_of seen name ≡ false
       by true e later f =
-          subst (λ (z : List ℕ). is_one_of seen z ≡ false) (same_is n.name name e)
+          subst (λ (z : List ℕ). is_one_of seen z ≡ false) (same_name-is n.name name e)
           (not_so (is_one_of seen n.name) n.spot (nil_front (if_so (is_one_of seen n.name) n.spot) (repeated (n.name ∷ seen) ns) h))
       by false e later f = subst (λ (b : Bool). (if b then true else is_one_of seen name) ≡ false) e (later f)

@@ -4,8 +4,8 @@ use Rattle.std.proofs.lemmas.Bool.Decides.{nat_tests}
 use Rattle.std.specs.List.{flat_map, AllByRecursion}
 use Rattle.algol_tree.specs.declared.token.Spot.{Spot}
 use Rattle.algol_tree.specs.declared.tree.Named.{Named}
-use Rattle.algol_tree.specs.Accepted.{scope_faults, scope_faults_in, check_faults}
-use Rattle.algol_tree.specs.Ascending.{spots_of_decls, spots_of_stmts}
+use Rattle.algol_tree.specs.Accepted.{Accepted, scope_faults, scope_faults_in, check_faults}
+use Rattle.algol_tree.specs.Ascending.{IsInOrder, spots_of_decls, spots_of_stmts}
 use Rattle.algol_tree.specs.Blocks.{Block, block_numbered, blocks_of_program, blocks_in_decls, blocks_in_stmts, number_at}
 use Rattle.algol_tree.specs.Cells.{cells_at, cells_of, level_of}
 use Rattle.algol_tree.specs.Couples.{declaration_at, result_at, actual_at}
@@ -17,18 +17,22 @@ use Rattle.algol_tree.specs.Scopes.{Scopes, scopes_of, scopes_by}
 use Rattle.algol_tree.specs.Sites.{Site, sites_by, sites_in_decls, sites_in_stmts, has_decls}
 use Rattle.algol_tree.specs.Sorts.{same_name}
 use Rattle.algol_tree.specs.Surroundings.{Surroundings, outermost, knowing_all}
+use Rattle.algol_meaning.proofs.Naming.{same_name-is}
 use Rattle.algol_paths.specs.Segments.{segment_of}
 use Rattle.b67_ops.specs.declared.TheConstants.{MOST_LEVEL}
 use Rattle.b67_templates.specs.Labels.{labels_in, labels_before, label_from, label_in}
 use Rattle.b67_templates.specs.Fitting.{Told, DeclsFit, StmtsFit}
 use Rattle.b67_fitting.specs.Fitted.{declared_at, AcceptedProgramsFit}
 use Rattle.b67_fitting.specs.Labelled.{LabelsStand}
+use Rattle.b67_fitting.specs.Texts.{HasPlainTexts}
+use Rattle.b67_fitting.specs.Typing.{AcceptedProgramsAreTyped, TypedStmts, TypedDecls}
+use Rattle.b67_fitting.specs.Wholes.{HasWholeNumbers}
 use Rattle.b67_fitting.proofs.ActualCells.{cells_in_decls, text_plain, text_held}
 use Rattle.b67_fitting.proofs.ActualsCelled.{have_acts, all_celled}
 use Rattle.b67_fitting.proofs.ActualsFound.{SiteTells}
 use Rattle.b67_fitting.proofs.Lists.{each_front, each_back, each_both, each_of}
 use Rattle.b67_fitting.proofs.Among.{apart_among}
-use Rattle.b67_fitting.proofs.Apart.{IsIn, each_in, in_each, in_front, in_back, IsApart, Apart, same_self, ascending_apart, apart_front, apart_back}
+use Rattle.b67_fitting.proofs.Apart.{IsIn, each_in, in_each, in_front, in_back, IsApart, Apart, ascending_apart, apart_front, apart_back}
 use Rattle.b67_fitting.proofs.Blocked.{block_spots, number_within, numbered, AreOf, HasCells, cells_are}
 use Rattle.b67_fitting.proofs.Clean.{IsClean, AreClean}
 use Rattle.b67_fitting.proofs.AtHome as home
@@ -37,13 +41,12 @@ use Rattle.b67_fitting.proofs.Cleaned.{cleaned, unlabelled}
 use Rattle.b67_fitting.proofs.Coupled.{IsProgram, AreTold, plain_is}
 use Rattle.b67_fitting.proofs.CoupledArrays.{HaveActs}
 use Rattle.b67_fitting.proofs.Declares.{begun, callees, behind_decls}
-use Rattle.b67_fitting.proofs.Declaring.{same_is}
 use Rattle.b67_fitting.proofs.Frames.{decl_cells}
 use Rattle.b67_fitting.proofs.Given.{AreWhole}
 use Rattle.b67_fitting.proofs.Headings.{DeclsSpecified, StmtsSpecified}
 use Rattle.b67_fitting.proofs.HeadingsTyped.{IsTyped, in_decls as specified_decls, in_stmts as specified_stmts}
-use Rattle.b67_fitting.proofs.Nesting.{whole, blocks_apart as numbers_apart}
-use Rattle.b67_fitting.proofs.Numbering.{IsNumbered, all_numbered, number_is}
+use Rattle.b67_fitting.proofs.Nesting.{whole, blocks_apart as numbers_apart, there_numbered}
+use Rattle.b67_fitting.proofs.Numbering.{IsNumbered, all_numbered, number_is, same_self}
 use Rattle.b67_fitting.proofs.Homed.{IsHome, all_homes, all_far}
 use Rattle.b67_fitting.proofs.Known.{Stands, around_outermost, knows_plain}
 use Rattle.b67_fitting.proofs.LabelsFound.{IsWithin, all_within, all_read, label_stands}
@@ -55,16 +58,10 @@ use Rattle.b67_fitting.proofs.Made.{all_places}
 use Rattle.b67_fitting.proofs.Placed.{same_number, Keep, BlockFits, all_fit}
 use Rattle.b67_fitting.proofs.Reached.{all_tell, all_placed}
 use Rattle.b67_fitting.proofs.Started.{HasCallees, IsStarted, start}
-use Rattle.b67_fitting.proofs.Stated.{TypedStmts, TypedDecls, all_stated, all_declared}
+use Rattle.b67_fitting.proofs.Stated.{all_stated, all_declared}
 
 less_is_other : (m n : ℕ) → m < n → (m == n) ≡ false
 less_is_other m n h = grind (arith, nat_tests)
-
--- a block of such a number is one of them
-in_numbered : (bs : List Block) (j : ℕ) → j < length bs → IsIn (block_numbered bs j) bs
-in_numbered [] j h = absurd (omega (arith, h))
-in_numbered (b ∷ bs) zero h = inl refl
-in_numbered (b ∷ bs) (suc j) h = inr (in_numbered bs j (omega (arith, h)))
 
 module _ (spot : Spot) (ds : PDecls) (ss : PStmts) (blocks : List Block) where
   abbrev program : PProgram
@@ -203,7 +200,7 @@ module _ (spot : Spot) (ds : PDecls) (ss : PStmts) (blocks : List Block) where
             let sites = all_placed blocks all is_program many told are listed (λ x i. i) in
             let celled = all_celled blocks all is_program told_cells told are in
             let fits = all_fit blocks sc told refl (keeps faults) celled listed sites in
-            each_in (BlockFits blocks sc told refl (keeps faults) celled) (block_numbered blocks j) in_text fits (back (block_numbered blocks j) (in_numbered blocks j h))
+            each_in (BlockFits blocks sc told refl (keeps faults) celled) (block_numbered blocks j) in_text fits (back (block_numbered blocks j) (there_numbered blocks j h))
 
         label_there : bad_labels all ≡ [] → AreClean blocks all → AllByRecursion (AtHome blocks) all → (b : Block) → IsIn b blocks → (n : Named) → IsIn n (labels_in b.decls) →
             (label : Named) × (label_in b.stmts n.name ≡ Some label)
@@ -212,10 +209,48 @@ module _ (spot : Spot) (ds : PDecls) (ss : PStmts) (blocks : List Block) where
             label_stands blocks all is_program.known_apart good clean stand (all_read blocks all listed) (λ c k. numbered blocks c all_apart k)
             (in_each (IsWithin blocks all) blocks (λ c k. each_in (IsWithin blocks all) c in_text (all_within blocks all listed (λ x m. m)) (back c k))) b i n j
 
-got_numbered : (bs : List Block) (j : ℕ) → j < length bs → slice_get bs j ≡ Some (block_numbered bs j)
+pub got_numbered : (bs : List Block) (j : ℕ) → j < length bs → slice_get bs j ≡ Some (block_numbered bs j)
 got_numbered [] j h = absurd (omega (arith, h))
 got_numbered (b ∷ bs) zero h = refl
 got_numbered (b ∷ bs) (suc j) h = got_numbered bs j (omega (arith, h))
+
+-- what holds of an accepted program: its places are apart, no rule is broken at a part of it, its blocks are whole, and it is typed
+module _ (spot : Spot) (ds : PDecls) (ss : PStmts) where
+  abbrev read : PProgram
+  read = tree.program (tree.body spot ds ss)
+
+  record IsRight : Type 0 where
+    pub apart : Apart (spots spot ds ss (blocks_of_program read))
+    pub clean : AreClean (blocks_of_program read) (sites_by read (blocks_of_program read))
+    pub whole : AreWhole (blocks_of_program read)
+    pub decls : TypedDecls (blocks_of_program read) outermost [] ds
+    pub stmts : TypedStmts (blocks_of_program read) (knowing_all (blocks_of_program read) ds outermost) ss
+
+  right : Accepted read → IsInOrder read → HasWholeNumbers read → HasPlainTexts read → IsRight
+  unfolding blocks_of_program scope_faults check_faults
+  right accepted order numbers texts =
+      let blocks = blocks_of_program read in
+      let around_all = knowing_all blocks ds outermost in
+      let decl_sites = sites_in_decls blocks ds outermost [] in
+      let stmt_sites = sites_in_stmts blocks ss (has_decls ds) around_all in
+      let apart = ascending_apart (spots spot ds ss blocks) order in
+      let clean = cleaned read blocks (sites_by read blocks) accepted.scoped accepted.checked in
+      let typed_sites = each_of (IsClean blocks) (IsTyped blocks) (decl_sites ++ stmt_sites) (λ x c. c.typed) clean in
+      let decls_right : DeclsSpecified ds = specified_decls blocks ds outermost [] (each_front (IsTyped blocks) decl_sites stmt_sites typed_sites) in
+      let stmts_right : StmtsSpecified ss = specified_stmts blocks ss (has_decls ds) around_all (each_back (IsTyped blocks) decl_sites stmt_sites typed_sites) in
+      let plain = knows_plain blocks outermost (around_outermost blocks) in
+      let once = each_of (IsClean blocks) (λ (x : Site). declared_twice blocks x ≡ []) (decl_sites ++ stmt_sites) (λ x c. c.once) clean in
+      let whole_blocks : AreWhole blocks = whole spot ds ss order decls_right stmts_right once in
+      let decls_typed : TypedDecls blocks outermost [] ds = all_declared blocks outermost [] plain plain ds decls_right numbers.0 texts.0 (each_front (IsClean blocks) decl_sites stmt_sites clean) in
+      let stands_behind : Stands blocks (begun spot [] ds ss) around_all = behind spot ds ss blocks refl apart whole_blocks decls_typed in
+      let typed : TypedStmts blocks around_all ss =
+      all_stated blocks around_all (knows_plain blocks around_all stands_behind.around) ss (has_decls ds) stmts_right numbers.1 texts.1 (each_back (IsClean blocks) decl_sites stmt_sites clean) in
+      record { apart = apart; clean = clean; whole = whole_blocks; decls = decls_typed; stmts = typed }
+
+pub accepted_typed : AcceptedProgramsAreTyped
+accepted_typed (tree.program (tree.body spot ds ss)) accepted order numbers texts =
+    let r = right spot ds ss accepted order numbers texts in
+    (r.decls, r.stmts)
 
 pub accepted_fit : AcceptedProgramsFit
 unfolding scopes_of blocks_of_program scope_faults check_faults declaration_at result_at actual_at declared_at
@@ -224,21 +259,10 @@ accepted_fit (tree.program (tree.body spot ds ss)) told accepted order numbers t
     let blocks = blocks_of_program p in
     let decl_sites = sites_in_decls blocks ds outermost [] in
     let stmt_sites = sites_in_stmts blocks ss (has_decls ds) (knowing_all blocks ds outermost) in
-    let apart = ascending_apart (spots spot ds ss blocks) order in
-    let clean = cleaned p blocks (sites_by p blocks) accepted.scoped accepted.checked in
-    let typed_sites = each_of (IsClean blocks) (IsTyped blocks) (decl_sites ++ stmt_sites) (λ x c. c.typed) clean in
-    let decls_right : DeclsSpecified ds = specified_decls blocks ds outermost [] (each_front (IsTyped blocks) decl_sites stmt_sites typed_sites) in
-    let stmts_right : StmtsSpecified ss = specified_stmts blocks ss (has_decls ds) (knowing_all blocks ds outermost) (each_back (IsTyped blocks) decl_sites stmt_sites typed_sites) in
-    let plain = knows_plain blocks outermost (around_outermost blocks) in
-    let once = each_of (IsClean blocks) (λ (x : Site). declared_twice blocks x ≡ []) (decl_sites ++ stmt_sites) (λ x c. c.once) clean in
-    let whole_blocks : AreWhole blocks = whole spot ds ss order decls_right stmts_right once in
-    let decls_typed : TypedDecls blocks outermost [] ds = all_declared blocks outermost [] plain plain ds decls_right numbers.0 texts.0 (each_front (IsClean blocks) decl_sites stmt_sites clean) in
-    let stands_behind : Stands blocks (begun spot [] ds ss) (knowing_all blocks ds outermost) = behind spot ds ss blocks refl apart whole_blocks decls_typed in
-    let typed : TypedStmts blocks (knowing_all blocks ds outermost) ss =
-    all_stated blocks (knowing_all blocks ds outermost) (knows_plain blocks (knowing_all blocks ds outermost) stands_behind.around) ss (has_decls ds) stmts_right numbers.1 texts.1 (each_back (IsClean blocks) decl_sites stmt_sites clean) in
+    let r = right spot ds ss accepted order numbers texts in
     let these : AreTold blocks (decl_sites ++ stmt_sites) told =
     record { couples = are.couples; results = are.results; lows = are.lows; meant = are.meant; labels = are.labels; actuals = are.actuals } in
-    let fits = fit_by spot ds ss blocks refl apart whole_blocks decls_typed typed told these accepted.scoped j h in
+    let fits = fit_by spot ds ss blocks refl r.apart r.whole r.decls r.stmts told these accepted.scoped j h in
     let block = block_numbered blocks j in
     let number : number_at blocks block.spot ≡ j = number_is blocks j block (numbers_apart spot ds ss order) (got_numbered blocks j h) in
     record {
@@ -253,7 +277,7 @@ numbered_label k (n ∷ ns) name number h = by (same_name n.name name) refl (num
   where
     by : (b : Bool) → same_name n.name name ≡ b → (label_from (k + 1) ns name ≡ Some number → (m : Named) × IsIn m ns × (m.name ≡ name)) → (if b then Some k else label_from (k + 1) ns name) ≡ Some number →
         (m : Named) × IsIn m (n ∷ ns) × (m.name ≡ name)
-    by true e later g = (n, inl refl, same_is n.name name e)
+    by true e later g = (n, inl refl, same_name-is n.name name e)
     by false e later g = let r = later g in (r.0, inr r.1, r.2)
 
 pub labels_stand : LabelsStand
@@ -264,18 +288,7 @@ labels_stand (tree.program (tree.body spot ds ss)) accepted order numbers texts 
     let around_all = knowing_all blocks ds outermost in
     let decl_sites = sites_in_decls blocks ds outermost [] in
     let stmt_sites = sites_in_stmts blocks ss (has_decls ds) around_all in
-    let apart = ascending_apart (spots spot ds ss blocks) order in
-    let clean = cleaned p blocks (sites_by p blocks) accepted.scoped accepted.checked in
-    let typed_sites = each_of (IsClean blocks) (IsTyped blocks) (decl_sites ++ stmt_sites) (λ x c. c.typed) clean in
-    let decls_right : DeclsSpecified ds = specified_decls blocks ds outermost [] (each_front (IsTyped blocks) decl_sites stmt_sites typed_sites) in
-    let stmts_right : StmtsSpecified ss = specified_stmts blocks ss (has_decls ds) around_all (each_back (IsTyped blocks) decl_sites stmt_sites typed_sites) in
-    let plain = knows_plain blocks outermost (around_outermost blocks) in
-    let once = each_of (IsClean blocks) (λ (x : Site). declared_twice blocks x ≡ []) (decl_sites ++ stmt_sites) (λ x c. c.once) clean in
-    let whole_blocks : AreWhole blocks = whole spot ds ss order decls_right stmts_right once in
-    let decls_typed : TypedDecls blocks outermost [] ds = all_declared blocks outermost [] plain plain ds decls_right numbers.0 texts.0 (each_front (IsClean blocks) decl_sites stmt_sites clean) in
-    let stands_behind : Stands blocks (begun spot [] ds ss) around_all = behind spot ds ss blocks refl apart whole_blocks decls_typed in
-    let typed : TypedStmts blocks around_all ss =
-    all_stated blocks around_all (knows_plain blocks around_all stands_behind.around) ss (has_decls ds) stmts_right numbers.1 texts.1 (each_back (IsClean blocks) decl_sites stmt_sites clean) in
+    let right_there = right spot ds ss accepted order numbers texts in
     let right : AllByRecursion (IsNumbered blocks) blocks = all_numbered blocks (numbers_apart spot ds ss order) in
     let decl_blocks = blocks_in_decls ds (spot ∷ []) in
     let stmt_blocks = blocks_in_stmts ss (spot ∷ []) in
@@ -286,5 +299,5 @@ labels_stand (tree.program (tree.body spot ds ss)) accepted order numbers texts 
     (each_back (IsNumbered blocks) decl_blocks stmt_blocks right.1)) in
     let b = block_numbered blocks j in
     let n = numbered_label (labels_before (scopes_by p blocks) (segment_of blocks j) j) (labels_in b.decls) name number e in
-    let r = label_there spot ds ss blocks refl apart whole_blocks decls_typed typed (unlabelled p blocks (sites_by p blocks) accepted.checked) clean stand b (in_numbered blocks j h) n.0 n.1 in
+    let r = label_there spot ds ss blocks refl right_there.apart right_there.whole right_there.decls right_there.stmts (unlabelled p blocks (sites_by p blocks) accepted.checked) right_there.clean stand b (there_numbered blocks j h) n.0 n.1 in
     (r.0, subst (λ (z : List ℕ). label_in b.stmts z ≡ Some r.0) n.2 r.1)

@@ -101,19 +101,6 @@ pub each_own_for : (block : ℕ) (k : Content) (ns : List Named) → AllByRecurs
 each_own_for block k [] = tt
 each_own_for block k (n ∷ ns) = (refl, each_own_for block k ns)
 
-pub each_own : (block : ℕ) (ds : PDecls) → AllByRecursion (IsOwn block) (decl_cells block ds)
-each_own block tree.no_decls = tt
-each_own block (tree.decls (tree.simple kind ns) ds) =
-    each_both (IsOwn block) (cells_for block cells.variable ns) (decl_cells block ds) (each_own_for block cells.variable ns) (each_own block ds)
-each_own block (tree.decls (tree.arrays kind ns pairs) ds) =
-    each_both (IsOwn block) (cells_for block cells.made ns) (decl_cells block ds) (each_own_for block cells.made ns) (each_own block ds)
-each_own block (tree.decls (tree.events ns) ds) =
-    each_both (IsOwn block) (cells_for block cells.made ns) (decl_cells block ds) (each_own_for block cells.made ns) (each_own block ds)
-each_own block (tree.decls (tree.tasks ns) ds) =
-    each_both (IsOwn block) (cells_for block cells.made ns) (decl_cells block ds) (each_own_for block cells.made ns) (each_own block ds)
-each_own block (tree.decls (tree.procedure h s) ds) = (refl, each_own block ds)
-each_own block (tree.decls d ds) = each_own block ds
-
 pub result_own : (o : Option Kind) (block : ℕ) (spot : Spot) → AllByRecursion (IsOwn block) (result_cell o block spot)
 result_own None block spot = tt
 result_own (Some kind) block spot = (refl, tt)

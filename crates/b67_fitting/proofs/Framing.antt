@@ -17,11 +17,12 @@ use Rattle.algol_tree.specs.Scopes.{Use}
 use Rattle.algol_tree.specs.Sorts.{same_name}
 use Rattle.b67_templates.specs.Cells.{Simple, Wanted, value, Found, found_from, of_kind, variables, result_of, simple_cells, procedures}
 use Rattle.b67_fitting.proofs.Aligned.{AreOthers, Aligned, aligned_over, index_on, aligned_on, aligned_result, index_past, IsControl, control}
-use Rattle.b67_fitting.proofs.Apart.{IsIn, each_in, in_front, in_back, in_either, IsApart, Apart, same_self, apart_sym, apart_back, apart_from}
+use Rattle.b67_fitting.proofs.Apart.{IsIn, each_in, in_front, in_back, in_either, IsApart, Apart, apart_sym, apart_back, apart_from}
 use Rattle.b67_fitting.proofs.Frames.{named_of, named_long, variable_cells, control_cells, made_cells, decl_cells, result_cell}
 use Rattle.b67_fitting.proofs.Homed.{IsHome}
 use Rattle.b67_fitting.proofs.Known.{given_cells, given_places, variable_spots, headings}
 use Rattle.b67_fitting.proofs.Lists.{each_front, each_back, each_both, each_of}
+use Rattle.b67_fitting.proofs.Numbering.{same_self}
 
 -- ---- places
 

@@ -9,7 +9,6 @@ use Rattle.algol_tree.specs.Blocks.{Block, block_numbered, number_at}
 use Rattle.algol_tree.specs.Cells as cells
 use Rattle.algol_tree.specs.Cells.{Cell, cells_for, index_from}
 use Rattle.algol_tree.specs.Classes as class
-use Rattle.algol_tree.specs.Classes.{Class}
 use Rattle.algol_tree.specs.Plain as tree
 use Rattle.algol_tree.specs.Plain.{PStmt, PDecl, PDecls}
 use Rattle.algol_tree.specs.Sorts as sort
@@ -17,11 +16,13 @@ use Rattle.algol_tree.specs.Sorts.{same_name, Declared, look_up, is_named_in, so
 use Rattle.algol_paths.specs.Arrays.{Shape, Lows, shape_in, lows_in, lows_among}
 use Rattle.b67_templates.specs.Cells.{Simple, Wanted, value, by_name, array, event, found_from, parameters_around}
 use Rattle.b67_fitting.specs.Wholes.{HaveDimensions}
+use Rattle.b67_fitting.specs.Typing.{SpecsWhole}
 use Rattle.b67_fitting.proofs.Aligned.{Aligned, aligned_over}
-use Rattle.b67_fitting.proofs.Apart.{IsIn, each_in, in_back, IsApart, Apart, same_self, apart_from}
+use Rattle.b67_fitting.proofs.Apart.{IsIn, each_in, in_back, IsApart, Apart, apart_from}
 use Rattle.b67_fitting.proofs.Frames.{named_declared, named_around, named_of}
 use Rattle.b67_fitting.proofs.Wanting.{wanted_of, wanted_value, wanted_name, wanted_array, wanted_event}
-use Rattle.b67_fitting.proofs.Specified.{IsSpecified, as_value, as_name, as_array, as_event, AreSpecified, SpecsWhole, no_shape, dimensions_in}
+use Rattle.b67_fitting.proofs.Specified.{IsSpecified, as_value, as_name, as_array, as_event, AreSpecified, no_shape, dimensions_in}
+use Rattle.b67_fitting.proofs.Numbering.{same_self}
 
 -- ---- what is known of them
 

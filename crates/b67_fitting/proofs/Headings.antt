@@ -1,17 +1,7 @@
 -- The headings of a tree: each parameter is specified, as in each accepted program (rule WrongType).
-use Rattle.std.proofs.Common.{◌≡◌, ◌⊎◌, true}
-use Rattle.std.specs.List.{All}
-use Rattle.algol_tree.specs.declared.tree.Heading.{Heading}
-use Rattle.algol_tree.specs.declared.tree.Named.{Named}
 use Rattle.algol_tree.specs.Plain as tree
 use Rattle.algol_tree.specs.Plain.{PStmt, PStmts, PDecl, PDecls}
-use Rattle.algol_tree.specs.Classes.{is_simple, is_array, is_event}
-use Rattle.algol_tree.specs.Sorts.{class_in}
-
--- each parameter is specified as a simple one, as an array or as an event
-abbrev pub HeadingSpecified : Heading → Type 0
-HeadingSpecified h =
-    All (λ (n : Named). (is_simple (class_in h.specs n.name) ≡ true) ⊎ ((is_array (class_in h.specs n.name) ≡ true) ⊎ (is_event (class_in h.specs n.name) ≡ true))) h.params
+use Rattle.b67_fitting.specs.Typing.{HeadingSpecified}
 
 abbrev mutual
   pub DeclSpecified : PDecl → Type 0

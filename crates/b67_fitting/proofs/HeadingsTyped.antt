@@ -15,7 +15,8 @@ use Rattle.algol_tree.specs.Plain.{PStmt, PStmts, PDecl, PDecls}
 use Rattle.algol_tree.specs.Sites.{Site, declaration, sites, has_decls, here_stmt, inside_stmt, inside_decl, sites_in_stmts, sites_in_decls}
 use Rattle.algol_tree.specs.Sorts.{Declared, specified_by, class_by, class_in}
 use Rattle.algol_tree.specs.Surroundings.{Surroundings, knowing, knowing_all, inside, inside_procedure}
-use Rattle.b67_fitting.proofs.Headings.{HeadingSpecified, DeclSpecified, DeclsSpecified, StmtSpecified, StmtsSpecified}
+use Rattle.b67_fitting.specs.Typing.{HeadingSpecified}
+use Rattle.b67_fitting.proofs.Headings.{DeclSpecified, DeclsSpecified, StmtSpecified, StmtsSpecified}
 use Rattle.b67_fitting.proofs.Lists.{each_front, each_back, nil_front, nil_back, not_so}
 
 -- a simple one, an array or an event

@@ -22,17 +22,17 @@ use Rattle.algol_paths.specs.Arrays.{DeclaredArray, Shape, an_array, an_event, l
 use Rattle.b67_templates.specs.Cells.{Simple, Wanted, value, by_name, array as array_of, event as event_of, variables, made_of, parameters_in, parameters_around}
 use Rattle.b67_templates.specs.Labels.{labels_in}
 use Rattle.b67_templates.specs.Code.{AreDimensions}
-use Rattle.b67_fitting.proofs.Headings.{HeadingSpecified}
 use Rattle.b67_fitting.specs.Wholes.{HaveDimensions}
+use Rattle.b67_fitting.specs.Typing.{HeadingSpecified, IsEventful, SpecsWhole}
 use Rattle.b67_fitting.proofs.Aligned.{Aligned, AreOthers}
 use Rattle.b67_fitting.proofs.Apart.{IsIn, Apart}
 use Rattle.b67_fitting.proofs.Arrayed.{made_spots, own_lows, IsMade}
 use Rattle.b67_fitting.proofs.TypedBounds.{LowsWhole}
-use Rattle.b67_fitting.proofs.Clean.{IsPlain, simple, array, file, label, event, task, procedure, KnowsPlain, IsEventful}
+use Rattle.b67_fitting.proofs.Clean.{IsPlain, simple, array, file, label, event, task, procedure, KnowsPlain}
 use Rattle.b67_fitting.proofs.Declaring.{found_either}
 use Rattle.b67_fitting.proofs.Frames.{named_around, named_of, variable_cells, made_cells}
 use Rattle.b67_fitting.proofs.Given.{lows_wanted, IsParameter, by_value, as_one, an_array as given_array, an_event as given_event, IsGiven, given}
-use Rattle.b67_fitting.proofs.Specified.{specified, SpecsWhole}
+use Rattle.b67_fitting.proofs.Specified.{specified}
 
 -- the places of the simple variables, and the headings of the procedures
 abbrev pub variable_spots : PDecls → List Spot

@@ -12,10 +12,10 @@ use Rattle.algol_tree.specs.Plain.{PDecl, PDecls}
 use Rattle.algol_tree.specs.Sorts.{Sort, same_name, Declared, look_up, declare}
 use Rattle.algol_tree.specs.Surroundings.{Surroundings, made_known, knowing}
 use Rattle.b67_templates.specs.Cells.{Simple, value, of_kind, variables}
+use Rattle.b67_fitting.specs.Typing.{TypedDecls}
 use Rattle.b67_fitting.proofs.Declaring.{names_of, names_both, one_more, entry}
 use Rattle.b67_fitting.proofs.Lists.{each_both, each_map}
 use Rattle.b67_fitting.proofs.ResultsApart.{none_named}
-use Rattle.b67_fitting.proofs.Stated.{TypedDecls}
 
 -- of what is declared in a block the block has the name
 pub declared_name : (block depth : ℕ) (s : Sort) (c : Class) (ns : List Named) (name : List ℕ) (d : Declared) → look_up (declare block depth s c ns) name ≡ Some d →

@@ -17,16 +17,16 @@ use Rattle.b67_fitting.proofs.Frames.{plain, named_of, front_cells, decl_cells, 
 use Rattle.b67_fitting.proofs.Apart.{IsIn, each_in}
 use Rattle.b67_fitting.proofs.Lists.{nil_front, nil_back, nil_map, nil_each, not_so}
 
-no_longer : {X : Type 0} (xs : List X) (k : ℕ) → slice_get xs k ≡ None → length xs ≤ k
+pub no_longer : {X : Type 0} (xs : List X) (k : ℕ) → slice_get xs k ≡ None → length xs ≤ k
 no_longer [] k h = omega arith
 no_longer (x ∷ xs) zero h = absurd (let clash : Some x ≡ None = h in cc)
 no_longer (x ∷ xs) (suc k) h = omega (arith, no_longer xs k h)
 
-not_found : (o : Option Spot) → found_place o ≡ [] → o ≡ None
+pub not_found : (o : Option Spot) → found_place o ≡ [] → o ≡ None
 not_found None h = refl
 not_found (Some s) h = absurd (let clash : s ∷ [] ≡ [] = h in cc)
 
-none_beyond : (most : ℕ) (spots : List Spot) → place_beyond most spots ≡ [] → length spots ≤ most
+pub none_beyond : (most : ℕ) (spots : List Spot) → place_beyond most spots ≡ [] → length spots ≤ most
 none_beyond most spots h = no_longer spots most (not_found (slice_get spots most) h)
 
 -- declarations have as many cells as simple variables, procedures, arrays, events and tasks

@@ -14,13 +14,13 @@ use Rattle.algol_tree.specs.Scopes.{used, names_in, uses_at}
 use Rattle.algol_tree.specs.Sites as parts
 use Rattle.algol_tree.specs.Sites.{Part, Site, here_stmt, sites_in_stmts, sites_in_decls}
 use Rattle.algol_tree.specs.Surroundings.{Surroundings}
+use Rattle.b67_fitting.specs.Typing.{TypedStmts, TypedDecls}
 use Rattle.b67_fitting.proofs.ActualCells.{cells_in_bounds, cells_in_stmts}
 use Rattle.b67_fitting.proofs.Among.{Among}
 use Rattle.b67_fitting.proofs.Apart.{IsIn, Apart}
 use Rattle.b67_fitting.proofs.Frames.{IsOwn, plain, control_cell, named_of, front_cells, decl_cells}
 use Rattle.b67_fitting.proofs.Known.{Stands}
 use Rattle.b67_fitting.proofs.Started.{HasCallees}
-use Rattle.b67_fitting.proofs.Stated.{TypedStmts, TypedDecls}
 
 -- all of these are blocks of the program
 abbrev pub AllThere : List Block → List Block → Type 0

@@ -7,14 +7,15 @@ use Rattle.algol_tree.specs.declared.tree.Named.{Named}
 use Rattle.algol_tree.specs.Ascending.{spots_of_names, spots_of_expr, spots_of_exprs, spots_of_task, spots_of_heading, spots_of_stmt, spots_of_stmts, spots_of_decl, spots_of_decls}
 use Rattle.algol_tree.specs.Blocks.{Block, of_statement, of_procedure, stmts_of, procedure_block, number_at, blocks_of, blocks_in_decl, blocks_in_stmts, blocks_in_decls}
 use Rattle.algol_tree.specs.Cells as cells
-use Rattle.algol_tree.specs.Cells.{Cell, cells_for, holding}
+use Rattle.algol_tree.specs.Cells.{cells_for, holding}
 use Rattle.algol_tree.specs.Names.{specified}
 use Rattle.algol_tree.specs.Plain as tree
-use Rattle.algol_tree.specs.Plain.{PExpr, PExprs, PStmt, PStmts, PDecl, PDecls}
+use Rattle.algol_tree.specs.Plain.{PStmt, PStmts, PDecls}
 use Rattle.algol_tree.specs.Sites as parts
-use Rattle.algol_tree.specs.Sites.{Site, here, sites, has_decls, here_stmt, inside_list, inside_stmt, inside_decl, sites_in_pairs, sites_in_stmts, sites_in_decls}
+use Rattle.algol_tree.specs.Sites.{Site, has_decls, here_stmt, inside_stmt, sites_in_stmts, sites_in_decls}
 use Rattle.algol_tree.specs.Sorts.{Declared, formals_of}
 use Rattle.algol_tree.specs.Surroundings.{Surroundings, knowing, knowing_all, inside_procedure}
+use Rattle.b67_fitting.specs.Typing.{TypedStmt, TypedStmts, TypedDecls}
 use Rattle.b67_fitting.proofs.ActualCells.{cells_in, cells_in_stmt, cells_in_stmts, cells_in_decls, cells_in_bounds, text_plain, text_held}
 use Rattle.b67_fitting.proofs.Apart.{IsIn, in_front, in_back, IsApart, Apart, apart_front, apart_back, apart_across}
 use Rattle.b67_fitting.proofs.Among.{skip, keep, join, apart_among}
@@ -29,7 +30,6 @@ use Rattle.b67_fitting.proofs.Listed.{AllThere, IsProcedure, IsBlock, Listed, ov
 use Rattle.b67_templates.specs.Cells.{Simple, parameters_in}
 use Rattle.b67_fitting.proofs.Lists.{each_front}
 use Rattle.b67_fitting.proofs.Started.{HasCallees, Passed, none_passed, IsStarted, start, step}
-use Rattle.b67_fitting.proofs.Stated.{TypedStmt, TypedStmts, TypedDecls}
 use Rattle.b67_fitting.proofs.UsesOnce.{task_places}
 
 there_front : (blocks bs cs : List Block) → AllThere blocks (bs ++ cs) → AllThere blocks bs

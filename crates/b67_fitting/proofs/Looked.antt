@@ -16,9 +16,10 @@ use Rattle.algol_tree.specs.Sorts as sort
 use Rattle.algol_tree.specs.Sorts.{Sort, Declared}
 use Rattle.algol_tree.specs.Surroundings.{Surroundings, declared_as}
 use Rattle.b67_fitting.proofs.Among.{Among, nothing, skip, keep, none_among, turn_after, join}
-use Rattle.b67_fitting.proofs.Apart.{IsIn, each_in, in_map, Apart, same_self}
+use Rattle.b67_fitting.proofs.Apart.{IsIn, each_in, in_map, Apart}
 use Rattle.b67_fitting.proofs.Declares.{names_among}
 use Rattle.b67_fitting.proofs.Listed.{Listed, over, passed, turned, site, given, left, declared, both, block, procedure}
+use Rattle.b67_fitting.proofs.Numbering.{same_self}
 
 -- ---- what is found
 

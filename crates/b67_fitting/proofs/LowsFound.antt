@@ -10,14 +10,14 @@ use Rattle.algol_tree.specs.declared.tree.Spec.{Spec}
 use Rattle.algol_tree.specs.Ascending.{spots_of_names}
 use Rattle.algol_tree.specs.Blocks.{Block, same_spot, block_numbered, number_at, procedure_block}
 use Rattle.algol_tree.specs.Cells as cells
-use Rattle.algol_tree.specs.Cells.{Cell, Content, cells_for, cells_at, cells_of}
+use Rattle.algol_tree.specs.Cells.{Cell, Content, cells_for, cells_at}
 use Rattle.algol_tree.specs.Plain as tree
 use Rattle.algol_tree.specs.Plain.{PDecls}
 use Rattle.algol_tree.specs.Sites.{Site}
 use Rattle.algol_tree.specs.Sorts.{Declared}
 use Rattle.algol_paths.specs.Arrays.{Lows, shape_in, stands_among, lows_in, or_lows, lows_among, lows_declared, lows_at}
 use Rattle.b67_templates.specs.Cells.{value}
-use Rattle.b67_fitting.proofs.Apart.{IsIn, each_in, in_map, in_front, in_back, IsApart, same_self, same_place}
+use Rattle.b67_fitting.proofs.Apart.{IsIn, each_in, in_map, in_front, in_back, IsApart, same_place}
 use Rattle.b67_fitting.proofs.Arrayed.{array_spots, made_spots, array_made, own_lows}
 use Rattle.b67_fitting.proofs.Blocked.{block_spots, numbered}
 use Rattle.b67_fitting.proofs.Coupled.{given_cell, IsProgram, one_of, acts_of, act_there}
@@ -28,6 +28,7 @@ use Rattle.b67_fitting.proofs.Known.{variable_spots, headings, IsVariableOf, IsP
 use Rattle.b67_fitting.proofs.Listed.{has_own_place}
 use Rattle.b67_fitting.proofs.Made.{one_there, in_kept}
 use Rattle.b67_fitting.proofs.Started.{IsCalleeOf}
+use Rattle.b67_fitting.proofs.Numbering.{same_self}
 
 -- ---- where lower bounds are declared
 

@@ -15,9 +15,10 @@ use Rattle.algol_tree.specs.Cells.{Cell, cells_for, cells_at}
 use Rattle.algol_tree.specs.Scopes.{names_in}
 use Rattle.algol_tree.specs.Sites.{Site}
 use Rattle.b67_fitting.proofs.Among.{Among, nothing, skip, keep, none_among, turn_after, join}
-use Rattle.b67_fitting.proofs.Apart.{IsIn, each_in, in_map, IsApart, Apart, same_self}
+use Rattle.b67_fitting.proofs.Apart.{IsIn, each_in, in_map, IsApart, Apart}
 use Rattle.b67_fitting.proofs.Frames.{control_cell, result_cell, named_of, front_cells}
 use Rattle.b67_fitting.proofs.Listed.{has_own_place, own_places, Listed, over, passed, turned, site, given, left, declared, both, block, procedure}
+use Rattle.b67_fitting.proofs.Numbering.{same_self}
 
 -- of the cells of a heading those of the parameters have places of their own
 result_places : (o : Option Kind) (k : ℕ) (spot : Spot) (cs : List Cell) → own_places (result_cell o k spot ++ cs) ≡ own_places cs

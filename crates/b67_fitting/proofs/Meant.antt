@@ -10,9 +10,8 @@ use Rattle.algol_tree.specs.Classes.{Class}
 use Rattle.algol_tree.specs.Sorts.{Declared}
 use Rattle.algol_tree.specs.Surroundings.{Surroundings, class_of, class_of_declared, declared_as}
 use Rattle.algol_paths.specs.Arrays.{Shape}
+use Rattle.b67_fitting.specs.Typing.{IsEventful, IsOf}
 use Rattle.b67_fitting.proofs.Known.{IsHeld, IsName, IsRowed, IsFormal, IsEvented, IsFormalEvent, IsLabelled, IsOwned, IsKnown, known_file, known_variable, known_name, known_array, known_formal, known_event, known_formal_event, known_label, known_procedure}
-use Rattle.b67_fitting.proofs.Clean.{IsEventful}
-use Rattle.b67_fitting.proofs.Typed.{IsOf}
 
 pub record IsDeclared (a : Surroundings) (c : Class) (n : Named) : Type 0 where
   pub as_one : Declared

@@ -11,7 +11,7 @@ use Rattle.algol_tree.specs.Ascending.{IsInOrder, spots_of, spots_of_decls, spot
 use Rattle.algol_tree.specs.Blocks.{Block, block_numbered, blocks_of_program, blocks_in_decls, blocks_in_stmts, number_at, around}
 use Rattle.algol_tree.specs.Cells.{Cell, cells_of, level_of}
 use Rattle.algol_tree.specs.Checks.{wrong_types, not_assignable}
-use Rattle.algol_tree.specs.Names.{Segment, if_so, is_too_deep, declared_twice, found_place, place_beyond, cells_beyond, procedures, procedures_beyond, deep_blocks, segments, long_segments, unknown_names}
+use Rattle.algol_tree.specs.Names.{Segment, if_so, is_too_deep, declared_twice, place_beyond, cells_beyond, procedures, procedures_beyond, deep_blocks, segments, long_segments, unknown_names}
 use Rattle.algol_tree.specs.Plain as tree
 use Rattle.algol_tree.specs.Plain.{PDecls, PStmts, PProgram}
 use Rattle.algol_tree.specs.Scopes.{Scopes, scopes_of, scopes_by, uses_at}
@@ -42,20 +42,9 @@ use Rattle.b67_fitting.proofs.Bounds.{in_bounds}
 use Rattle.b67_fitting.proofs.CellsFew.{cells_both, FewBounds, as_many, parameters_many}
 use Rattle.b67_fitting.proofs.OneBlock.{the_block, IsFine, AreFine, ArePart, front, back, IsTextOf, is_text}
 use Rattle.b67_fitting.proofs.TextsNested.{callees, in_stmts, in_decls}
+use Rattle.b67_fitting.proofs.Limits.{none_beyond}
 
 -- ---- limits that are kept
-
-no_longer : {X : Type 0} (xs : List X) (k : ℕ) → slice_get xs k ≡ None → length xs ≤ k
-no_longer [] k h = omega arith
-no_longer (x ∷ xs) zero h = absurd (let clash : Some x ≡ None = h in cc)
-no_longer (x ∷ xs) (suc k) h = omega (arith, no_longer xs k h)
-
-not_found : (o : Option Spot) → found_place o ≡ [] → o ≡ None
-not_found None h = refl
-not_found (Some s) h = absurd (let clash : s ∷ [] ≡ [] = h in cc)
-
-none_beyond : (most : ℕ) (spots : List Spot) → place_beyond most spots ≡ [] → length spots ≤ most
-none_beyond most spots h = no_longer spots most (not_found (slice_get spots most) h)
 
 not_over : (most n : ℕ) → nat_lt most n ≡ false → n ≤ most
 not_over most n h = grind (arith, nat_tests)
@@ -106,7 +95,7 @@ all_kept blocks [] w n = tt
 all_kept blocks (x ∷ xs) w n = (record { right = w.0; assignable = n.0 }, all_kept blocks xs w.1 n.1)
 
 -- a block of such a number is one of them
-there_numbered : (bs : List Block) (j : ℕ) → j < length bs → IsIn (block_numbered bs j) bs
+pub there_numbered : (bs : List Block) (j : ℕ) → j < length bs → IsIn (block_numbered bs j) bs
 there_numbered [] j h = absurd (omega (arith, h))
 there_numbered (b ∷ bs) zero h = inl refl
 there_numbered (b ∷ bs) (suc j) h = inr (there_numbered bs j (omega (arith, h)))

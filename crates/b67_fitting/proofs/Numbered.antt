@@ -14,7 +14,7 @@ use Rattle.algol_tree.specs.Headings.{IsNames}
 use Rattle.algol_tree.specs.Operators.{Part}
 use Rattle.algol_tree.specs.Plain.{PExpr, call, called, PExprs, PPair, PStmt, PStmts, PDecls, no_decls, decls, PBody, PProgram}
 use Rattle.algol_tree.specs.Programs as programs
-use Rattle.algol_tree.specs.Programs.{IsProgram, Reads}
+use Rattle.algol_tree.specs.Programs.{IsProgram}
 use Rattle.algol_tree.specs.Statements as statements
 use Rattle.algol_tree.specs.Statements.{decls_and, IsWholes, IsActuals, IsSubscripts, IsItems, IsPair, IsPairs, IsSegments, IsStmt, IsStmts, IsDecl, IsDecls, IsBody}
 use Rattle.b67_templates.specs.Fragments.{IsWhole}

@@ -39,7 +39,7 @@ places_both s xs ys = times_both (λ (t : Spot). t) s xs ys
 pub same_self : (s : Spot) → same_spot s s ≡ true
 same_self s = grind (arith, nat_tests)
 
-before_on : (a b c : Spot) → is_before a b ≡ true → is_before b c ≡ true → is_before a c ≡ true
+pub before_on : (a b c : Spot) → is_before a b ≡ true → is_before b c ≡ true → is_before a c ≡ true
 before_on a b c p q = grind (arith, nat_tests)
 
 before_apart : (a b : Spot) → is_before a b ≡ true → same_spot a b ≡ false

@@ -8,8 +8,9 @@ use Rattle.algol_tree.specs.Blocks.{Block, block_numbered, number_at}
 use Rattle.algol_tree.specs.Plain as tree
 use Rattle.algol_tree.specs.Plain.{PStmt, PDecl, PDecls}
 use Rattle.b67_templates.specs.Cells.{parameters_in, parameters_declared, parameters_around}
-use Rattle.b67_fitting.proofs.Apart.{IsIn, in_each, in_back, IsApart, Apart, same_self, apart_from}
+use Rattle.b67_fitting.proofs.Apart.{IsIn, in_each, in_back, IsApart, Apart, apart_from}
 use Rattle.b67_fitting.proofs.Lists.{each_back}
+use Rattle.b67_fitting.proofs.Numbering.{same_self}
 
 -- ---- where the heading is found
 

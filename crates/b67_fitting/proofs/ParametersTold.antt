@@ -4,9 +4,9 @@ use Rattle.algol_tree.specs.declared.tree.Heading.{Heading}
 use Rattle.algol_tree.specs.declared.tree.Named.{Named}
 use Rattle.algol_tree.specs.Sorts.{Parameter, is_variable, is_named_in, sort_in, parameters_of}
 use Rattle.b67_templates.specs.Cells.{Simple, parameters_in}
-use Rattle.b67_fitting.proofs.Headings.{HeadingSpecified}
 use Rattle.b67_templates.specs.Nested as told
 use Rattle.b67_templates.specs.Nested.{IsTold, AreTold}
+use Rattle.b67_fitting.specs.Typing.{HeadingSpecified}
 use Rattle.b67_fitting.proofs.Specified.{IsSpecified, as_value, as_name, as_array, as_event, AreSpecified, specified}
 use Rattle.b67_fitting.proofs.Wanting.{wanted_of, wanted_value, wanted_name, wanted_array, wanted_event}
 

@@ -28,18 +28,15 @@ use Rattle.b67_ops.specs.declared.TheConstants.{MOST_LEVEL, OUTER_LEVEL}
 use Rattle.algol_paths.specs.Arrays.{Shape, shape_in}
 use Rattle.b67_templates.specs.Cells.{Simple, Wanted, by_name, parameters_in, parameter_cells, parameter_wants, variables, procedures, made_of, Actual, own_actual, wants_of, actuals_in, actuals_among, actuals_given, actuals_in_pairs, actuals_in_decls, actuals_in_stmt, actuals_in_stmts, actuals_in_block, actuals_of, actual_base}
 use Rattle.b67_templates.specs.Fitting.{Told, is_event, EventFits, LabelFits, TaskFits, ReadFits, PlaceFits, NameActualFits, names, ProcedureFits, CallFits, ArrayFits, ExprFits, SubscriptsFit, ActualsFit, LineFits, ElementAssignFits, BoundsFit, DeclsFit, StmtFits, StmtsFit}
-use Rattle.b67_fitting.proofs.Headings.{HeadingSpecified}
 use Rattle.b67_fitting.specs.Wholes.{HaveDimensions}
-use Rattle.b67_fitting.proofs.Actuals.{IsArrayActual, name_alone, IsEventActual, event_name}
+use Rattle.b67_fitting.specs.Typing.{HeadingSpecified, IsArrayActual, IsEventActual, IsEventful, TypedPairs, IsResult, IsLeft, TypedStmt, TypedStmts, TypedDecls, AreEventful, IsOf, IsFunction, IsTasked, TypedExpr, TypedActual, TypedActuals, TypedLine}
+use Rattle.b67_fitting.proofs.Actuals.{name_alone, event_name}
 use Rattle.b67_fitting.proofs.Apart.{IsIn, in_front, in_back}
-use Rattle.b67_fitting.proofs.Clean.{IsEventful}
-use Rattle.b67_fitting.proofs.TypedBounds.{TypedPairs}
 use Rattle.b67_fitting.proofs.Declares.{begun}
 use Rattle.b67_fitting.proofs.Listed as listing
 use Rattle.b67_fitting.proofs.Listed.{AllThere, reads_in, lefts_in, IsBlock, Listed, over, passed, turned, site, declared, both, block, procedure}
 use Rattle.b67_fitting.proofs.Lists.{each_front, each_back, each_both, map_none}
-use Rattle.b67_fitting.proofs.Stated.{IsResult, IsLeft, TypedStmt, TypedStmts, TypedDecls}
-use Rattle.b67_fitting.proofs.Typed.{AreEventful, IsOf, IsFunction, IsTasked, TypedExpr, TypedActual, TypedActuals, TypedLine, as_formal, actual_part_is}
+use Rattle.b67_fitting.proofs.Typed.{as_formal, actual_part_is}
 use Rattle.b67_fitting.proofs.Wanting.{wanted_of, wanted_value, wanted_name, wanted_array, wanted_event}
 use Rattle.b67_fitting.proofs.Given.{wants_in}
 use Rattle.b67_fitting.proofs.Specified.{IsSpecified, as_value, as_name, as_array, as_event, AreSpecified, specified}

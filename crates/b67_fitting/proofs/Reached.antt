@@ -28,7 +28,7 @@ use Rattle.b67_fitting.proofs.CoupledFormals.{formal_fits}
 use Rattle.b67_fitting.proofs.Blocked.{numbered}
 use Rattle.b67_fitting.proofs.Known.{IsOwned, Stands}
 use Rattle.b67_fitting.proofs.Listed as listing
-use Rattle.b67_fitting.proofs.Listed.{reads_in, lefts_in, IsFair, Listed, over, passed, turned, site, declared, both, block, procedure}
+use Rattle.b67_fitting.proofs.Listed.{IsFair, Listed, over, passed, turned, site, declared, both, block, procedure}
 use Rattle.b67_fitting.proofs.Lists.{each_both}
 use Rattle.b67_fitting.proofs.LowsFound.{held_none, named_none, owned_none}
 use Rattle.b67_fitting.proofs.Meant as meant

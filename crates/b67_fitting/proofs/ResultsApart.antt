@@ -12,8 +12,8 @@ use Rattle.algol_tree.specs.Plain.{PStmt, PStmts, PDecls, PBody}
 use Rattle.algol_tree.specs.Sites.{Site, sites, here_stmt, inside_stmt, inside_decl, sites_in_stmts, sites_in_decls, sites_in_body, has_decls}
 use Rattle.algol_tree.specs.Sorts.{Parameter, Declared, same_name, is_named_in, sort_in}
 use Rattle.algol_tree.specs.Surroundings.{Surroundings, declared_as, knowing, knowing_all, inside, inside_procedure}
+use Rattle.algol_meaning.proofs.Naming.{same_name-itself, same_name-is}
 use Rattle.b67_templates.specs.Cells.{Simple, found_from}
-use Rattle.b67_fitting.proofs.Declaring.{same_is, same_name_self}
 use Rattle.b67_fitting.proofs.Lists.{each_front, each_back, each_both, each_map, nil_front, nil_back, not_so}
 
 -- ---- one heading
@@ -29,7 +29,7 @@ none_named seen (n ∷ ns) name s e =
     by false f = refl
     by true f =
         let other : is_one_of seen n.name ≡ false = not_so (is_one_of seen n.name) n.spot (nil_front (if_so (is_one_of seen n.name) n.spot) (repeated (n.name ∷ seen) ns) e) in
-        let clash : true ≡ false = sym s ∙ ap (is_one_of seen) (sym (same_is n.name name f)) ∙ other in
+        let clash : true ≡ false = sym s ∙ ap (is_one_of seen) (sym (same_name-is n.name name f)) ∙ other in
         clash
 
     either : (b : Bool) → (if b then true else is_one_of seen name) ≡ true
@@ -54,7 +54,7 @@ IsClear b = (kind : Kind) → b.result ≡ Some kind → AreOther b.name b.param
 clear_heading : (h : Heading) (t : PStmt) (outer : List Spot) → twice_in_heading h ≡ [] → IsClear (procedure_block h t outer)
 clear_heading h t outer e kind typed =
     each_map (λ (p : Parameter). same_name p.name h.name.name ≡ false) (λ (n : Named). record { name = n.name; sort = sort_in h.specs (is_named_in h.values n.name) n.name }) h.params
-    (result_other h kind h.name.name typed (same_name_self h.name.name) e)
+    (result_other h kind h.name.name typed (same_name-itself h.name.name) e)
 
 -- so the name is not found among the cells of the same names
 pub none_found : (from : ℕ) (own : List ℕ) (ps : List Parameter) (ss : List Simple) → map (λ (p : Parameter). p.name) ps ≡ map (λ (c : Simple). c.name) ss → AreOther own ps → found_from from ss own ≡ None

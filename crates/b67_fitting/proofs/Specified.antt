@@ -12,8 +12,8 @@ use Rattle.algol_tree.specs.Classes.{is_simple, is_array, is_event}
 use Rattle.algol_tree.specs.Sorts as sort
 use Rattle.algol_tree.specs.Sorts.{is_named_in, specified_by, sort_by, sort_in, class_by, class_in}
 use Rattle.algol_paths.specs.Arrays.{Shape, shape_by, shape_in}
-use Rattle.b67_fitting.proofs.Headings.{HeadingSpecified}
 use Rattle.b67_fitting.specs.Wholes.{HaveDimensions, SpecWhole}
+use Rattle.b67_fitting.specs.Typing.{HeadingSpecified}
 
 -- ---- specifications
 
@@ -169,9 +169,6 @@ no_shape (s ∷ ss) name kind e = by (specified_by s name) (no_shape ss name kin
         (if b then shape_by s else shape_in ss name) ≡ None
     by true later g = no_shape_by s kind g
     by false later g = later g
-
-abbrev pub SpecsWhole : Heading → Type 0
-SpecsWhole h = AllByRecursion SpecWhole h.specs
 
 dimensions_by : (s : Spec) (shape : Shape) → SpecWhole s → shape_by s ≡ Some shape → HaveDimensions shape.lows
 dimensions_by (spec.Arrays kind ns lows) shape w e =

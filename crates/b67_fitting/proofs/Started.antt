@@ -19,22 +19,21 @@ use Rattle.algol_tree.specs.Sites as parts
 use Rattle.algol_tree.specs.Sorts as sort
 use Rattle.algol_tree.specs.Sorts.{same_name, Sort, Declared, look_up, declare}
 use Rattle.algol_tree.specs.Surroundings.{Surroundings, body_of, heading_or, announced, knowing}
+use Rattle.algol_meaning.proofs.Naming.{same_name-itself, same_name-is}
 use Rattle.algol_paths.specs.Arrays.{an_array, an_event}
 use Rattle.b67_templates.specs.Cells.{Simple, value, of_kind, variables, made_of, parameters_in, parameters_around}
 use Rattle.b67_templates.specs.Labels.{labels_in}
 use Rattle.b67_templates.specs.Code.{AreDimensions}
-use Rattle.b67_fitting.proofs.Headings.{HeadingSpecified}
+use Rattle.b67_fitting.specs.Typing.{HeadingSpecified, TypedPairs, IsEventful, TypedDecls, IsDeclared}
 use Rattle.b67_fitting.proofs.Aligned.{AreOthers, Aligned, aligned_over, hit}
 use Rattle.b67_fitting.proofs.Apart.{IsIn, each_in, in_front, in_back, IsApart, Apart, apart_front, apart_across}
 use Rattle.b67_fitting.proofs.Arrayed.{IsMade, event_of, made_names, AreMadePassed, made_begin, made_step, IsThere, array_there, event_there, task_there}
-use Rattle.b67_fitting.proofs.TypedBounds.{TypedPairs, lows_whole}
-use Rattle.b67_fitting.proofs.Clean.{IsClean, IsEventful}
-use Rattle.b67_fitting.proofs.Declaring.{same_name_self, same_is, one_of_front, one_of_back, names_of, names_both, one_more, one_front, entry, declared_is, found_one, fresh}
+use Rattle.b67_fitting.proofs.TypedBounds.{lows_whole}
+use Rattle.b67_fitting.proofs.Declaring.{one_of_front, one_of_back, names_of, names_both, one_more, one_front, entry, declared_is, found_one, fresh}
 use Rattle.b67_fitting.proofs.Frames.{named_around, variable_cells, made_cells}
 use Rattle.b67_fitting.proofs.Known.{given_cells, given_places, variable_spots, headings, IsKnown, known_file, known_variable, known_array, known_event, known_label, known_procedure, around_with, Stands, HasLows}
 use Rattle.b67_fitting.proofs.Later.{declared_name, later}
 use Rattle.b67_fitting.proofs.Lists.{each_back, each_both, nil_front}
-use Rattle.b67_fitting.proofs.Stated.{TypedDecls}
 
 -- ---- names that the block has already
 
@@ -68,7 +67,7 @@ other_named names name x n h = by (same_name x.name name) refl
     by : (b : Bool) → same_name x.name name ≡ b → b ≡ false
     by false e = refl
     by true e =
-        let clash : true ≡ false = sym h ∙ ap (is_one_of names) (same_is x.name name e) ∙ n in
+        let clash : true ≡ false = sym h ∙ ap (is_one_of names) (same_name-is x.name name e) ∙ n in
         clash
 
 passed_named : (names : List (List ℕ)) (spots : List Spot) (name : List ℕ) (xs : List Simple) (cs : List Cell) → is_one_of names name ≡ false → Passed names spots xs cs →
@@ -103,7 +102,7 @@ named_new block depth s c (m ∷ ns) n i =
     by : (b : Bool) → same_name m.name n.name ≡ b → (IsIn n ns → is_one_of (names_of block (declare block depth s c ns)) n.name ≡ true) → IsIn n (m ∷ ns) →
         (if b then true else is_one_of (names_of block (declare block depth s c ns)) n.name) ≡ true
     by true e later j = refl
-    by false e later (inl same) = absurd (let clash : true ≡ false = sym (same_name_self n.name) ∙ ap (λ (z : Named). same_name z.name n.name) same ∙ e in cc)
+    by false e later (inl same) = absurd (let clash : true ≡ false = sym (same_name-itself n.name) ∙ ap (λ (z : Named). same_name z.name n.name) same ∙ e in cc)
     by false e later (inr j) = later j
 
 -- ---- declarations
@@ -151,9 +150,9 @@ label_hit block depth (n ∷ ns) name d h = by (same_name n.name name) refl (lab
           sort_is = refl;
           block_is = refl;
           depth_is = refl;
-          name_is = same_is n.name name e;
+          name_is = same_name-is n.name name e;
           one = n;
-          one_name = same_is n.name name e;
+          one_name = same_name-is n.name name e;
           one_spot = refl;
           among = inl refl;
         })
@@ -210,7 +209,7 @@ module _ (blocks : List Block) where
   stands_with b a new s f = record { there = s.there; block_is = s.block_is; depth_is = s.depth_is; outer = s.outer; around = around_with blocks a new s.around f }
 
   step_simple : (b : Block) (a : Surroundings) (kind : Kind) (ns : List Named) (ds : PDecls) → IsStarted b a (tree.decls (tree.simple kind ns) ds) →
-      IsClean blocks (record { part = parts.declaration (tree.simple kind ns) ds; around = a }) → Apart (spots_of_names ns ++ spots_of_decls ds) → IsStarted b (knowing blocks (tree.simple kind ns) ds a) ds
+      IsDeclared blocks (record { part = parts.declaration (tree.simple kind ns) ds; around = a }) → Apart (spots_of_names ns ++ spots_of_decls ds) → IsStarted b (knowing blocks (tree.simple kind ns) ds a) ds
   step_simple b a kind ns ds s c p =
       record {
         stands = stands_with b a new s.stands found;
@@ -338,7 +337,7 @@ module _ (blocks : List Block) where
       (each_both (λ (x : Simple). same_name x.name name ≡ false) passed (variables ds) (passed_named (names_of a.block a.known) spots name passed cells_passed other those) later_ones)
 
   array_known : (b : Block) (a : Surroundings) (first : List Declared) (kind : Kind) (ns : List Named) (pairs : List PPair) (ds : PDecls) → IsStarted b a (tree.decls (tree.arrays kind ns pairs) ds) →
-      IsClean blocks (record { part = parts.declaration (tree.arrays kind ns pairs) ds; around = a }) → AreDimensions pairs × TypedPairs (record a { known = first }) pairs × (1 ≤ length ns) →
+      IsDeclared blocks (record { part = parts.declaration (tree.arrays kind ns pairs) ds; around = a }) → AreDimensions pairs × TypedPairs (record a { known = first }) pairs × (1 ≤ length ns) →
       TypedDecls blocks (knowing blocks (tree.arrays kind ns pairs) ds a) first ds → Apart ((spots_of_names ns ++ spots_of_pairs pairs) ++ spots_of_decls ds) → (name : List ℕ) (d : Declared) →
       look_up (declare a.block a.depth sort.array (class.array kind (length pairs)) ns) name ≡ Some d → IsKnown blocks a.depth name d
   array_known b a first kind ns pairs ds s c t behind p name d h =

@@ -1,94 +1,34 @@
 -- Statements and declarations at which no rule is broken, where each parameter is specified.
-use Rattle.std.proofs.Common.{◌≡◌, ◌⊎◌, inl, inr, ℕ, ◌+◌, ◌≤◌, ◌==◌, ◌&&◌, not, Bool, true, false, List, [], ◌∷◌, ◌++◌, map, length, is_some, Option, Some, None, refl, sym, ap, subst, if◌then◌else◌}
-use Rattle.std.specs.List.{list_any}
+use Rattle.std.proofs.Common.{◌≡◌, ◌⊎◌, inl, inr, ℕ, ◌+◌, ◌&&◌, not, Bool, true, false, List, [], ◌∷◌, ◌++◌, map, length, is_some, Option, Some, None, refl, sym, ap, subst, if◌then◌else◌}
 use Rattle.algol_tree.specs.declared.token.Spot.{Spot}
 use Rattle.algol_tree.specs.declared.tree.Heading.{Heading}
 use Rattle.algol_tree.specs.declared.tree.Kind.{Kind}
 use Rattle.algol_tree.specs.declared.tree.Kind.TheVariants as types
 use Rattle.algol_tree.specs.declared.tree.Named.{Named}
-use Rattle.algol_tree.specs.Blocks.{Block, Begin, of_statement, of_procedure, number_at, around}
+use Rattle.algol_tree.specs.Blocks.{Block, Begin, of_statement, of_procedure, number_at}
 use Rattle.algol_tree.specs.Checks.{wrong_types, not_assignable}
 use Rattle.algol_tree.specs.Classes as class
-use Rattle.algol_tree.specs.Classes.{Class, is_simple, is_array, is_file, is_procedure}
+use Rattle.algol_tree.specs.Classes.{Class, is_simple, is_array, is_file}
 use Rattle.algol_tree.specs.Counted.{exprs_count}
 use Rattle.algol_tree.specs.Names.{if_so}
 use Rattle.algol_tree.specs.Plain as tree
 use Rattle.algol_tree.specs.Plain.{PExpr, PExprs, PStmt, PStmts, PDecl, PDecls}
-use Rattle.algol_tree.specs.Sites as parts
 use Rattle.algol_tree.specs.Sites.{sites, has_decls, here_stmt, inside_list, inside_actuals, inside_stmt, inside_decl, sites_in_stmts, sites_in_decls}
 use Rattle.algol_tree.specs.Sorts as sort
 use Rattle.algol_tree.specs.Sorts.{same_name, Sort, Declared, look_up, declare, is_named_in, sort_in, class_in, declared_parameters}
 use Rattle.algol_tree.specs.Surroundings.{Surroundings, class_of, declared_as, formals_of_class, body_of, heading_or, announced, knowing, knowing_all, inside, inside_procedure}
 use Rattle.algol_tree.specs.Types.{element_type}
-use Rattle.b67_segment.specs.declared.code.Phrase.{Phrase}
-use Rattle.b67_templates.specs.Code as code
-use Rattle.b67_templates.specs.Code.{AreParts, AreDimensions, numbers_in}
-use Rattle.b67_templates.specs.Fitting.{PhrasesFit}
-use Rattle.b67_fitting.proofs.Headings.{HeadingSpecified, DeclSpecified, DeclsSpecified, StmtSpecified, StmtsSpecified}
+use Rattle.b67_fitting.specs.Typing.{HeadingSpecified, IsTasked, is_around, IsLeft, TypedStmt, TypedStmts, TypedDecl, TypedDecls}
+use Rattle.b67_fitting.proofs.Headings.{DeclSpecified, DeclsSpecified, StmtSpecified, StmtsSpecified}
 use Rattle.b67_fitting.specs.Texts.{StmtPlain, StmtsPlain, DeclPlain, DeclsPlain}
 use Rattle.b67_fitting.specs.Wholes.{AllWhole, StmtWhole, StmtsWhole, DeclWhole, DeclsWhole}
-use Rattle.b67_fitting.proofs.TypedBounds.{TypedPairs, typed_pairs}
+use Rattle.b67_fitting.proofs.TypedBounds.{typed_pairs}
 use Rattle.b67_fitting.proofs.Lists.{each_front, each_back, nil_front, nil_back}
-use Rattle.b67_fitting.proofs.Clean.{IsClean, AreClean, IsPlain, simple, array, file, label, event, task, procedure, KnowsPlain, plain_first, misnamed, label_of, IsEventful, eventful_of, as_many, call_of, task_alone, is_untyped, untyped_of, wrong, wrong_for, wrong_if, wrong_list}
+use Rattle.b67_fitting.proofs.Clean.{IsClean, AreClean, IsPlain, simple, array, file, label, event, task, procedure, KnowsPlain, plain_first, misnamed, label_of, eventful_of, as_many, call_of, task_alone, is_untyped, untyped_of, wrong, wrong_for, wrong_if, wrong_list}
 use Rattle.b67_fitting.proofs.Declaring.{found_either, declared_is}
 use Rattle.b67_fitting.proofs.Formats.{fitting_line, fitting_phrases}
-use Rattle.b67_fitting.proofs.Typed.{IsOf, IsCalled, IsTasked, IsStartOf, HasElements, TypedExpr, TypedLine, HasKind, of_kind, elements, typed, typed_actuals, typed_line}
-use Rattle.b67_fitting.proofs.Specified.{IsSpecified, as_value, as_name, as_array, as_event, AreSpecified, specified, SpecsWhole}
-
-module _ (blocks : List Block) where
-  -- the place is inside the procedure
-  abbrev pub is_around : Heading → Surroundings → Bool
-  is_around h a = list_any (λ (i : ℕ). i == number_at blocks h.name.spot) (a.block ∷ around blocks a.block)
-
-  -- on the left stands a variable, or the typed procedure around
-  abbrev pub IsResult : Surroundings → Kind → Named → Type 0
-  IsResult a k n = (h : Heading) × (class_of a n ≡ class.procedure h) × (h.kind ≡ Some k) × (is_around h a ≡ true)
-
-  abbrev pub IsLeft : Surroundings → Kind → Named → Type 0
-  IsLeft a k n = IsOf a k n ⊎ IsResult a k n
-
-  abbrev mutual
-    pub TypedStmt : Begin → Surroundings → PStmt → Type 0
-    TypedStmt begin a tree.empty = Unit {0}
-    TypedStmt begin a (tree.assign (tree.subscripted n tree.none) e) = (k : Kind) × IsLeft a k n × TypedExpr a k e
-    TypedStmt begin a (tree.assign (tree.subscripted n (tree.more i is)) e) = (k : Kind) × HasElements a k n (tree.more i is) × TypedLine a (tree.more i is) × TypedExpr a k e
-    TypedStmt begin a (tree.call_of (tree.called n es)) = IsCalled a n es
-    TypedStmt begin a (tree.block (tree.body spot ds ss)) =
-        TypedDecls (inside blocks begin (tree.body spot ds ss) a) (inside blocks begin (tree.body spot ds ss) a).known ds
-        × TypedStmts (knowing_all blocks ds (inside blocks begin (tree.body spot ds ss) a)) ss
-    TypedStmt begin a (tree.if_then c x) = TypedExpr a types.Truth c × TypedStmt of_statement a x
-    TypedStmt begin a (tree.if_else c x y) = TypedExpr a types.Truth c × TypedStmt of_statement a x × TypedStmt of_statement a y
-    TypedStmt begin a (tree.while c b) = TypedExpr a types.Truth c × TypedStmt of_statement a b
-    TypedStmt begin a (tree.until b c) = TypedStmt of_statement a b × TypedExpr a types.Truth c
-    TypedStmt begin a (tree.for v x s l b) =
-        IsOf a types.Number v × TypedExpr a types.Number x × TypedExpr a types.Number s × TypedExpr a types.Number l × TypedStmt of_statement a b
-    TypedStmt begin a (tree.thru e b) = TypedExpr a types.Number e × TypedStmt of_statement a b
-    TypedStmt begin a (tree.case e ss) = TypedExpr a types.Number e × TypedStmts a ss
-    TypedStmt begin a (tree.write n spot phrases es) =
-        PhrasesFit phrases × ((parts : List Phrase) → AreParts phrases parts → numbers_in parts ≡ code.exprs_count es) × TypedLine a es
-    TypedStmt begin a (tree.label n s) = (class_of a n ≡ class.label) × TypedStmt of_statement a s
-    TypedStmt begin a (tree.go_to n) = class_of a n ≡ class.label
-    TypedStmt begin a (tree.event act e) = IsEventful (class_of a e.name)
-    TypedStmt begin a (tree.process (tree.called n es) named) = IsStartOf a n es named
-
-    pub TypedStmts : Surroundings → PStmts → Type 0
-    TypedStmts a tree.no_stmts = Unit {0}
-    TypedStmts a (tree.stmts s ss) = TypedStmt of_statement a s × TypedStmts a ss
-
-    -- the place is after the declaration; these are known at the begin of its block
-    pub TypedDecl : Surroundings → List Declared → PDecl → Type 0
-    TypedDecl a first (tree.simple kind ns) = Unit {0}
-    TypedDecl a first (tree.files ns) = Unit {0}
-    TypedDecl a first (tree.arrays kind ns pairs) = AreDimensions pairs × TypedPairs (record a { known = first }) pairs × (1 ≤ length ns)
-    TypedDecl a first (tree.forward h) = HeadingSpecified h
-    TypedDecl a first (tree.procedure h s) = HeadingSpecified h × TypedStmt of_procedure (inside_procedure blocks h a) s × SpecsWhole h
-    TypedDecl a first _ = Unit {0}
-
-    -- the place is in front of them
-    pub TypedDecls : Surroundings → List Declared → PDecls → Type 0
-    TypedDecls a first tree.no_decls = Unit {0}
-    TypedDecls a first (tree.decls d ds) =
-        IsClean blocks (record { part = parts.declaration d ds; around = a }) × TypedDecl (knowing blocks d ds a) first d × TypedDecls (knowing blocks d ds a) first ds
+use Rattle.b67_fitting.proofs.Typed.{HasKind, of_kind, elements, typed, typed_actuals, typed_line}
+use Rattle.b67_fitting.proofs.Specified.{IsSpecified, as_value, as_name, as_array, as_event, AreSpecified, specified}
 
 abbrev wrong_control : Class → Named → List Spot
 wrong_control (class.simple types.Truth) v = v.spot ∷ []
@@ -338,7 +278,7 @@ module _ (blocks : List Block) where
         let plain_behind = plain_knowing d ds a b.0 b.1 plain in
         let within = inside_decl blocks d behind first in
         let others = sites_in_decls blocks ds behind first in (
-          i.0,
+          record { known = i.0.known; once = i.0.once },
           declared behind first plain_behind at_begin d b.0 w.0 t.0 (each_front (IsClean blocks) within others i.1),
           all_declared behind first plain_behind at_begin ds b.1 w.1 t.1 (each_back (IsClean blocks) within others i.1),
         )

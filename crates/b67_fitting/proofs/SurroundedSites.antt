@@ -11,18 +11,17 @@ use Rattle.algol_tree.specs.Classes.{Formal}
 use Rattle.algol_tree.specs.Names.{unknown_names}
 use Rattle.algol_tree.specs.Plain as tree
 use Rattle.algol_tree.specs.Plain.{PExpr, PExprs, PPair, PStmt, PStmts, PDecls, PProgram}
-use Rattle.algol_tree.specs.Scopes.{scopes_of}
 use Rattle.algol_tree.specs.Sites.{Site, sites, other_formals, inside_expr, inside_list, inside_actuals, sites_in_pairs, here_stmt, inside_stmt, sites_in_stmts, sites_in_decls, has_decls}
 use Rattle.algol_tree.specs.Sorts.{Declared}
 use Rattle.algol_tree.specs.Surroundings.{Surroundings, outermost, formals_at, knowing, knowing_all, inside_begin, inside_procedure}
 use Rattle.b67_fitting.proofs.Headings.{DeclsSpecified, StmtSpecified, StmtsSpecified}
 use Rattle.b67_fitting.proofs.HeadingsTyped.{IsTyped, in_decls as specified_decls, in_stmts as specified_stmts}
-use Rattle.b67_fitting.proofs.Lists.{each_front, each_back, each_both, nil_front, nil_back, nil_map, nil_each}
+use Rattle.b67_fitting.proofs.Lists.{each_front, each_back, each_both, nil_front, nil_map, nil_each}
 use Rattle.b67_fitting.proofs.Numbering.{IsNumbered, block_is, all_numbered, number_is}
 use Rattle.b67_fitting.proofs.Callees.{IsNamed, AreNamed, AreCallees, are_callees}
-use Rattle.b67_fitting.proofs.Surrounded.{AreGood, AreKept, IsKnown, IsAround, knows_one, knows_all, enters, enters_procedure}
+use Rattle.b67_fitting.proofs.Surrounded.{IsKnown, IsAround, knows_one, knows_all, enters, enters_procedure}
 use Rattle.b67_fitting.proofs.OneBlock.{the_block}
-use Rattle.b67_fitting.proofs.Nesting.{blocks_apart, starts, good_by, all_kept}
+use Rattle.b67_fitting.proofs.Nesting.{blocks_apart, starts}
 
 -- The block of the place has this number, and as many blocks are around it as the depth says. What is known there is of it or of those.
 pub record IsSurrounded (blocks : List Block) (a : Surroundings) : Type 0 where
@@ -256,25 +255,9 @@ each_surrounded (tree.program (tree.body spot ds ss)) accepted order =
     joined blocks declared stated (in_decls blocks first outer outermost ds [] begun begun decls_right called known numbered_decls)
     (in_stmts blocks first outer after ss (has_decls ds) (knows_all blocks first outer ds outermost decls_right called begun) stmts_right (each_back IsNamed declared stated named) numbered_stmts)
 
--- the names of each part are known, and their uses are found at their places
-pub each_good : (p : PProgram) → Accepted p → IsInOrder p → AreGood (scopes_of p) (sites_of p)
-unfolding scopes_of blocks_of_program scope_faults
-each_good (tree.program (tree.body spot ds ss)) accepted order =
-    let up_to_levels = nil_front _ _ (nil_front _ _ (nil_front _ _ accepted.scoped)) in
-    good_by spot ds ss order (nil_map _ _ (nil_front _ _ (nil_front _ _ up_to_levels)))
-
 -- a block has its number by its place
 pub each_number : (p : PProgram) → IsInOrder p → (j : ℕ) (b : Block) → slice_get (blocks_of_program p) j ≡ Some b →
     number_at (blocks_of_program p) b.spot ≡ j
 unfolding blocks_of_program
 each_number (tree.program (tree.body spot ds ss)) order j b h =
     number_is (the_block spot [] ds ss ∷ (blocks_in_decls ds (spot ∷ []) ++ blocks_in_stmts ss (spot ∷ []))) j b (blocks_apart spot ds ss order) h
-
--- no rule of types and of assignments is broken at a part
-pub each_kept : (p : PProgram) → Accepted p → AreKept (blocks_of_program p) (sites_of p)
-unfolding check_faults
-each_kept p accepted =
-    let up_to_assigned = nil_front _ _ (nil_front _ _ (nil_front _ _ accepted.checked)) in
-    let wrong = nil_map _ _ (nil_front _ _ (nil_front _ _ up_to_assigned)) in
-    let assigned = nil_map _ _ (nil_back _ _ up_to_assigned) in
-    all_kept (blocks_of_program p) (sites_of p) (nil_each _ (sites_of p) wrong) (nil_each _ (sites_of p) assigned)

@@ -26,10 +26,7 @@ use Rattle.b67_fitting.proofs.Surrounded.{IsAround, knows_one, knows_all, enters
 use Rattle.b67_fitting.proofs.Bounds.{early_inside, early_procedure, in_bounds, in_body}
 use Rattle.b67_fitting.proofs.CellsFew.{cells_both, declaring, FewBounds, FewInBody, as_many, procedure_many}
 use Rattle.b67_fitting.proofs.OneBlock.{the_block, IsFine, AreFine, fine_numbered, ArePart, part_named, front, back, rest, IsTextOf, AreTexts, is_there, outer_is, is_text, is_inner}
-
-same_number : (blocks : List Block) (ds : PDecls) (a : Surroundings) → (knowing_all blocks ds a).block ≡ a.block
-same_number blocks tree.no_decls a = refl
-same_number blocks (tree.decls d ds) a = same_number blocks ds (knowing blocks d ds a)
+use Rattle.b67_fitting.proofs.Placed.{same_number}
 
 heading_long : (h : Heading) → length (parameters_of h) ≡ length h.params
 heading_long h = length-map {B = Parameter} h.params (λ (n : Named). record { name = n.name; sort = sort_in h.specs (is_named_in h.values n.name) n.name })

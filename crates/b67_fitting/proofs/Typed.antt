@@ -1,6 +1,5 @@
 -- Expressions at which no rule is broken are of a kind, and so are the parts of them.
 use Rattle.algol_tree.proofs.Alone.{named_alone}
-use Rattle.std.specs.List.{AllByRecursion}
 use Rattle.b67_limits.specs.declared.TheConstants.{MOST_EVENTS}
 use Rattle.b67_deeds.specs.declared.EventTest.{EventTest}
 use Rattle.b67_deeds.specs.Deeds.{tests, is_of_several}
@@ -23,17 +22,16 @@ use Rattle.algol_tree.specs.Names.{places_if, if_so}
 use Rattle.algol_tree.specs.Plain as tree
 use Rattle.algol_tree.specs.Plain.{name_alone, PExpr, PExprs}
 use Rattle.algol_tree.specs.Sites.{Part, expression, here, sites, is_of_value, wants_value, name_part, actual_part, actual_part_by, inside_expr, inside_list, inside_actuals}
-use Rattle.algol_tree.specs.Sorts.{is_named_in, class_in, formals_of}
+use Rattle.algol_tree.specs.Sorts.{is_named_in, class_in}
 use Rattle.algol_tree.specs.Surroundings.{Surroundings, class_of, formals_of_class, declared_as}
 use Rattle.algol_tree.specs.Types.{given_by, taken_by, told_by, element_type, result_type, type_of}
-use Rattle.b67_templates.specs.Fragments.{IsWhole}
 use Rattle.b67_templates.specs.Events.{names_of, AreSoMany}
-use Rattle.b67_fitting.proofs.Headings.{HeadingSpecified}
 use Rattle.b67_fitting.specs.Wholes.{AreNamed, NumbersWhole, AllWhole}
+use Rattle.b67_fitting.specs.Typing.{IsOf, IsFunction, HasElements, AreEventful, TypedExpr, TypedActuals, TypedLine, TypedActual}
 use Rattle.b67_fitting.proofs.Lists.{each_front, each_back, nil_front, nil_back}
-use Rattle.b67_fitting.proofs.Actuals.{IsArrayActual, array_actual, IsEventActual, event_actual}
+use Rattle.b67_fitting.proofs.Actuals.{array_actual, event_actual}
 use Rattle.b67_fitting.proofs.Specified.{IsSpecified, as_value, as_name, as_array, as_event, AreSpecified, specified}
-use Rattle.b67_fitting.proofs.Clean.{IsClean, AreClean, KnowsPlain, plain_first, misnamed, IsEventful, eventful_of, array_of, has_others, subscripts_as_many, as_many, none_taken, function_of, IsRead, read_kind, read_as, wrong, wrong_for, wrong_list, kind_wanted, wrong_if}
+use Rattle.b67_fitting.proofs.Clean.{IsClean, AreClean, KnowsPlain, plain_first, misnamed, eventful_of, array_of, has_others, subscripts_as_many, as_many, none_taken, function_of, IsRead, read_kind, read_as, wrong, wrong_for, wrong_list, kind_wanted, wrong_if}
 
 -- a parameter as its call sees it
 abbrev pub as_formal : Heading → Named → Formal
@@ -63,73 +61,13 @@ so_many x es spot h w = by (is_of_several (tests x)) h (few (length es == 0) (na
     by false k m = (omega (arith, k, length-map es (λ (e : EventName). e.name)), omega (arith, k, length-map es (λ (e : EventName). e.name)))
 
 module _ (a : Surroundings) where
-  abbrev pub IsOf : Kind → Named → Type 0
-  IsOf k n = class_of a n ≡ class.simple k
-
-  -- the name of a typed procedure without parameters
-  abbrev pub IsFunction : Kind → Named → Type 0
-  IsFunction k n = (h : Heading) × (class_of a n ≡ class.procedure h) × (h.kind ≡ Some k) × (h.params ≡ [])
-
-  -- the name of an array with elements of this kind and as many bounds as these subscripts
-  abbrev pub HasElements : Kind → Named → PExprs → Type 0
-  HasElements k n es = class_of a n ≡ class.array k (exprs_count es)
-
-  -- names of events and of tasks
-  abbrev pub AreEventful : List Named → Type 0
-  AreEventful ns = AllByRecursion (λ (n : Named). IsEventful (class_of a n)) ns
-
-  abbrev mutual
-    pub TypedExpr : Kind → PExpr → Type 0
-    TypedExpr k (tree.number z spot) = (k ≡ types.Number) × IsWhole z
-    TypedExpr k (tree.truth b spot) = k ≡ types.Truth
-    TypedExpr k (tree.variable (tree.subscripted n tree.none)) = IsOf k n ⊎ IsFunction k n
-    TypedExpr k (tree.variable (tree.subscripted n (tree.more e es))) = HasElements k n (tree.more e es) × TypedLine (tree.more e es)
-    TypedExpr k (tree.paren e spot) = TypedExpr k e
-    TypedExpr k (tree.plus e spot) = (k ≡ types.Number) × TypedExpr types.Number e
-    TypedExpr k (tree.neg e spot) = (k ≡ types.Number) × TypedExpr types.Number e
-    TypedExpr k (tree.not e spot) = (k ≡ types.Truth) × TypedExpr types.Truth e
-    TypedExpr k (tree.two op x y) = (k ≡ given_by op) × TypedExpr (taken_by op) x × TypedExpr (taken_by op) y
-    TypedExpr k (tree.if c x y spot) = TypedExpr types.Truth c × TypedExpr k x × TypedExpr k y
-    TypedExpr k (tree.call (tree.called n es)) =
-        (h : Heading) × (class_of a n ≡ class.procedure h) × HeadingSpecified h × (h.kind ≡ Some k) × TypedActuals (formals_of h) es
-    TypedExpr k (tree.tested x es spot) = (k ≡ told_by x) × AreSoMany (tests x) (names_of es) × AreEventful (names_of es)
-
-    -- actuals of these parameters: of simple ones values, and names of arrays and of events
-    pub TypedActuals : List Formal → PExprs → Type 0
-    TypedActuals [] tree.none = Unit {0}
-    TypedActuals (f ∷ fs) (tree.more e es) =
-        (((k : Kind) × (f.class ≡ class.simple k) × TypedExpr k e) ⊎ (IsArrayActual a f e ⊎ IsEventActual a f e)) × TypedActuals fs es
-    TypedActuals _ _ = ⊥
-
-    pub TypedLine : PExprs → Type 0
-    TypedLine tree.none = Unit {0}
-    TypedLine (tree.more e es) = TypedExpr types.Number e × TypedLine es
-
-  -- an actual of this parameter
-  abbrev pub TypedActual : Formal → PExpr → Type 0
-  TypedActual f e = ((k : Kind) × (f.class ≡ class.simple k) × TypedExpr k e) ⊎ (IsArrayActual a f e ⊎ IsEventActual a f e)
-
-  -- a call that a statement makes
-  abbrev pub IsCalled : Named → PExprs → Type 0
-  IsCalled n es = (h : Heading) × (class_of a n ≡ class.procedure h) × HeadingSpecified h × TypedActuals (formals_of h) es
-
-  -- a task, where there is one
-  abbrev pub IsTasked : Option Named → Type 0
-  IsTasked None = Unit {0}
-  IsTasked (Some n) = class_of a n ≡ class.task
-
-  -- the start of a process, of a procedure without a result
-  abbrev pub IsStartOf : Named → PExprs → Option Named → Type 0
-  IsStartOf n es task =
-      (h : Heading) × (class_of a n ≡ class.procedure h) × HeadingSpecified h × TypedActuals (formals_of h) es × (h.kind ≡ None) × IsTasked task
-
   pub record HasKind (e : PExpr) : Type 0 where
     pub kind : Kind
     pub is : type_of e a ≡ Some kind
-    pub typed : TypedExpr kind e
+    pub typed : TypedExpr a kind e
 
-  pub of_kind : (m : Kind) (e : PExpr) → HasKind e → wrong m e a ≡ [] → TypedExpr m e
-  of_kind m e h w = subst (λ (k : Kind). TypedExpr k e) (kind_wanted m h.kind e a h.is w) h.typed
+  pub of_kind : (m : Kind) (e : PExpr) → HasKind e → wrong m e a ≡ [] → TypedExpr a m e
+  of_kind m e h w = subst (λ (k : Kind). TypedExpr a k e) (kind_wanted m h.kind e a h.is w) h.typed
 
 module _ (blocks : List Block) (a : Surroundings) (plain : KnowsPlain a) where
   read_is : (n : Named) (k : Kind) → IsRead (class_of a n) k → wrong_counts (here (tree.variable (tree.subscripted n tree.none)) a) ≡ [] → IsOf a k n ⊎ IsFunction a k n

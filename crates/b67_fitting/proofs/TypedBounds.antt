@@ -10,13 +10,10 @@ use Rattle.b67_templates.specs.Fragments.{IsWhole}
 use Rattle.algol_paths.specs.Arrays.{lows_of}
 use Rattle.b67_templates.specs.Code.{AreDimensions}
 use Rattle.b67_fitting.specs.Wholes.{HaveDimensions, NumbersWhole}
+use Rattle.b67_fitting.specs.Typing.{TypedPairs}
 use Rattle.b67_fitting.proofs.Clean.{IsClean, AreClean, KnowsPlain}
 use Rattle.b67_fitting.proofs.Lists.{each_front, each_back}
-use Rattle.b67_fitting.proofs.Typed.{TypedExpr, of_kind, typed}
-
-abbrev pub TypedPairs : Surroundings → List PPair → Type 0
-TypedPairs a [] = Unit {0}
-TypedPairs a (p ∷ ps) = IsWhole p.low × TypedExpr a types.Number p.high × TypedPairs a ps
+use Rattle.b67_fitting.proofs.Typed.{of_kind, typed}
 
 -- the lower bounds are whole
 abbrev pub LowsWhole : List PPair → Type 0

@@ -1,4 +1,4 @@
-//! Accepted programs have code: what the rules of the language leave of their trees is what the templates have code
+//! Accepted programs are typed and have code: what the rules of the language leave of their trees is what the templates have code
 //! for. And their blocks lie in one another: each name is seen from the block in whose text it stands, within the limits of a block and
 //! of a segment.
 #![tactic(auto)]
@@ -8,7 +8,14 @@ ghost use Rattle.b67_fitting.specs.Labelled.{LabelsStand};
 ghost use Rattle.b67_templates.specs.Nested.{ProgramsLieNested};
 ghost use Rattle.b67_fitting.specs.Numbers.{SourcesHaveWholeNumbers};
 ghost use Rattle.b67_fitting.specs.Texts.{SourcesHavePlainTexts};
+ghost use Rattle.b67_fitting.specs.Typing.{AcceptedProgramsAreTyped};
 ghost use Rattle.b67_templates.specs.Names.{SourcesHaveNames};
+
+/// Law: an accepted program is typed. Each expression is of the kind that its place wants, each name stands for what its use needs, each
+/// call and each PROCESS has for each parameter an actual of its class, and each declaration has names that are declared once in their block.
+pub fn accepted_programs_are_typed()
+    ensures { AcceptedProgramsAreTyped }
+{}
 
 /// Law: the texts of an accepted program fit, so they have code. Each expression has the kind that its place wants, each
 /// name is a simple variable, a parameter, an array, an event or a procedure whose couple a right table has, or a label, each element has a subscript for each of its
